@@ -1,41 +1,49 @@
-//! The words for a fault in a function's body. The scope at the fault is the checker's own: it stops there. The forms of the body are walked
-//! in the order of the text, each behind its parts, and asked where they stand at the fault.
+//! The words for a fault in a function's body. The scope at the fault is the checker's own: it stops there. The forms of the body are asked
+//! in the order of the text, each behind its parts, where they stand at the fault.
 use crate::calls::explain_call;
 use crate::expressions::{
-    explain_assigned, explain_binary, explain_chain, explain_fields, explain_key, explain_name,
-    explain_prefixed, explain_unique_region,
+    explain_address, explain_binary, explain_chain, explain_key, explain_name, explain_place,
+    explain_target,
 };
+use crate::forms::{Form, forms_of};
 use crate::homes::Origin;
-use crate::names::{explain_region_twice, explain_twice};
+use crate::messages::Message;
+use crate::names::explain_region_twice;
+use crate::objects::explain_made;
 use crate::statements::{
-    explain_alias, explain_exception, explain_local, explain_opened, explain_return, explain_swap,
+    explain_alias, explain_exception, explain_opened, explain_return, explain_swap,
+    explain_written_here,
 };
 use crate::teller::Teller;
-use crate::wanted::{Wanted, explain_value, wanted_by, wanted_of};
+use crate::values::explain_value;
 use cyc_check::scope_at_fault;
-use cyc_forms::span_of;
 use cyc_heads::{heads, members};
 use cyc_scope::{Program, Scope};
 use cyc_syntax::{
-    Block, Clause, Declaration, Expr, Ident, Initial, Item, Member, Postfix, Stmt, Tree,
+    Block, Clause, Declaration, Expr, Ident, Item, Member, PrefixOperator, Stmt, Tree,
 };
 use cyc_words::Span;
 
 // ---- functions
 
 /// The words for a fault in the body of a declaration, if it stands there.
-pub(crate) fn explain_body(teller: &mut Teller<'_>, tree: &Tree, declaration: &Declaration) {
+pub(crate) fn explain_body(teller: &mut Teller, tree: &Tree, declaration: &Declaration) {
     if let Declaration::Function { body, .. } = declaration {
         if teller.is_from(body.span) && !teller.is_from(body.end) {
             if let Ok(program) = heads(teller.alloc, tree) {
-                explain_function(teller, &program, declaration);
+                explain_function(teller, &program, tree, declaration);
             }
         }
     }
 }
 
 /// The words for a fault in the body of a function, where this is known of the program.
-fn explain_function(teller: &mut Teller<'_>, program: &Program, declaration: &Declaration) {
+fn explain_function(
+    teller: &mut Teller,
+    program: &Program,
+    tree: &Tree,
+    declaration: &Declaration,
+) {
     if let Declaration::Function {
         result,
         name,
@@ -46,10 +54,47 @@ fn explain_function(teller: &mut Teller<'_>, program: &Program, declaration: &De
         let alloc = teller.alloc;
         if let Ok(mut scope) = scope_at_fault(alloc, program, result, *name, parameters, body) {
             let members = members(parameters);
-            teller.function = Some(*name);
-            teller.homes.add_parameters(scope.names(), *name, members);
-            explain_items(teller, &mut scope, &body.items, members);
+            teller.notes.function = name.name.number;
+            teller
+                .notes
+                .homes
+                .add_parameters(scope.names(), *name, members);
+            teller.unknown = Message::UnknownInBody;
+            explain_parameters(teller, members, &body.items);
+            explain_forms(teller, &mut scope, tree, body);
         }
+    }
+}
+
+/// Asks the forms of a body.
+fn explain_forms(teller: &mut Teller, scope: &mut Scope<'_>, tree: &Tree, body: &Block) {
+    let mut forms = forms_of(teller.alloc, body);
+    for _ in 0..forms.listed.len() {
+        if let Some(form) = forms.listed.pop() {
+            explain_form(teller, scope, tree, form);
+        }
+    }
+    teller.is_whole = teller.is_whole && forms.is_whole;
+}
+
+fn explain_form(teller: &mut Teller, scope: &mut Scope<'_>, tree: &Tree, form: Form<'_>) {
+    match form {
+        Form::Expression { expression, role } => {
+            explain_expression(teller, scope, tree, expression);
+            explain_value(teller, scope, tree, expression, role);
+        }
+        Form::Statement { statement, .. } => explain_statement(teller, scope, statement),
+        Form::Item { item, end } => explain_item(teller, scope, item, end),
+        Form::Items { items } => {
+            teller.declared.clear();
+            explain_declared(teller, items);
+        }
+        Form::Clause { clause } => explain_clause(teller, scope, clause),
+        Form::Begin {
+            label: Some(label),
+            ..
+        } => add_region(teller, label, Origin::Block),
+        Form::Begin { label: None, span } => teller.notes.homes.add(None, span, Origin::Block),
     }
 }
 
@@ -66,51 +111,36 @@ fn local_of(item: &Item) -> Option<Ident> {
     }
 }
 
-/// The words where an item declares a local that its block has already: by items before it, or as one of these parameters.
-fn explain_declared(teller: &mut Teller<'_>, before: &[Item], item: &Item, members: &[Member]) {
-    if let Some(name) = local_of(item) {
-        if teller.is_at(name.span) {
-            for other in before {
-                if let Some(first) = local_of(other) {
-                    explain_twice(teller, name, first);
-                }
-            }
-            for member in members {
-                explain_twice(teller, name, member.name);
-            }
+/// The words where these items declare a local that their block, or what stands around it, has already.
+fn explain_declared(teller: &mut Teller, items: &[Item]) {
+    for item in items {
+        if let Some(name) = local_of(item) {
+            teller.declare(name);
         }
     }
 }
 
-/// Asks the items of a block, which declares these parameters too.
-#[cycle(statement)]
-fn explain_items(
-    teller: &mut Teller<'_>,
-    scope: &mut Scope<'_>,
-    items: &[Item],
-    members: &[Member],
-) {
-    for i in 0..items.len() {
-        explain_declared(teller, &items[..i], &items[i], members);
-        explain_item(teller, scope, &items[i]);
+/// The words where the items of a function declare a local of the name of a parameter.
+fn explain_parameters(teller: &mut Teller, members: &[Member], items: &[Item]) {
+    teller.declared.clear();
+    for member in members {
+        teller.declare(member.name);
     }
+    explain_declared(teller, items);
 }
 
-#[cycle(statement)]
-fn explain_item(teller: &mut Teller<'_>, scope: &mut Scope<'_>, item: &Item) {
+/// Asks an item of a block that ends there.
+fn explain_item(teller: &mut Teller, scope: &mut Scope<'_>, item: &Item, end: Option<Span>) {
     match item {
-        Item::Statement { statement } => walk_statement(teller, scope, statement),
-        Item::Local { of_type, value, .. } => {
-            walk_value(teller, scope, value, Wanted::Nothing);
-            explain_local(teller, scope, of_type, value);
-        }
+        Item::Statement { .. } => {}
+        Item::Local { of_type, .. } => explain_written_here(teller, scope, of_type),
         Item::Region {
             region,
             key: Some(key),
             ..
         } => {
             explain_opened(teller, scope, *region, *key);
-            teller.note_opened(*region);
+            teller.note_opened(*region, end);
         }
         Item::Region { region, .. } => add_region(teller, *region, Origin::Item),
         Item::DynamicRegion { region, .. } => add_region(teller, *region, Origin::Dynamic),
@@ -127,229 +157,69 @@ fn explain_item(teller: &mut Teller<'_>, scope: &mut Scope<'_>, item: &Item) {
 }
 
 /// Adds a region that has a name, which is to be new.
-fn add_region(teller: &mut Teller<'_>, name: Ident, origin: Origin) {
+fn add_region(teller: &mut Teller, name: Ident, origin: Origin) {
     explain_region_twice(teller, name);
-    teller.homes.add(Some(name), name.span, origin);
+    teller.notes.homes.add(Some(name), name.span, origin);
 }
 
 // ---- statements
 
-#[cycle(statement)]
-fn walk_block(teller: &mut Teller<'_>, scope: &mut Scope<'_>, block: &Block) {
-    let around = teller.block_end;
-    teller.block_end = Some(block.end);
-    explain_items(teller, scope, &block.items, &[]);
-    teller.block_end = around;
-}
-
-#[cycle(statement)]
-fn walk_statement(teller: &mut Teller<'_>, scope: &mut Scope<'_>, statement: &Stmt) {
+fn explain_statement(teller: &mut Teller, scope: &mut Scope<'_>, statement: &Stmt) {
     match statement {
-        Stmt::Block { block } => {
-            teller.homes.add(None, block.span, Origin::Block);
-            walk_block(teller, scope, block);
-        }
-        Stmt::Labelled { label, block } => {
-            add_region(teller, *label, Origin::Block);
-            walk_block(teller, scope, block);
-        }
-        Stmt::Expression { value } => walk_expression(teller, scope, value, Wanted::Nothing),
-        Stmt::Swap { left, right } => {
-            walk_expression(teller, scope, left, Wanted::Nothing);
-            walk_expression(teller, scope, right, Wanted::Nothing);
-            explain_swap(teller, scope, left, right);
-        }
-        Stmt::If {
-            condition,
-            then,
-            otherwise,
-            ..
-        } => {
-            walk_expression(teller, scope, condition, Wanted::Tested);
-            walk_statement(teller, scope, then);
-            if let Some(other) = otherwise {
-                walk_statement(teller, scope, other);
-            }
-        }
-        Stmt::While {
-            condition,
-            body,
-            ..
-        } => {
-            walk_expression(teller, scope, condition, Wanted::Tested);
-            walk_statement(teller, scope, body);
-        }
-        Stmt::Return { span, value } => {
-            walk_value(teller, scope, value, Wanted::Nothing);
-            explain_return(teller, scope, *span, value);
-        }
-        Stmt::Throw {
-            exception,
-            value,
-            ..
-        } => {
-            explain_exception(teller, scope, *exception);
-            walk_value(teller, scope, value, Wanted::Int);
-        }
-        Stmt::Try {
-            span,
-            body,
-            clauses,
-            default,
-        } => {
-            walk_statement(teller, scope, body);
-            walk_clauses(teller, scope, clauses);
-            if let Some(items) = default {
-                let start = start_of(items, *span);
-                teller.homes.add(None, start, Origin::Block);
-                explain_items(teller, scope, items, &[]);
-            }
-        }
-        Stmt::Empty { .. } | Stmt::Break { .. } | Stmt::Continue { .. } => {}
+        Stmt::Swap { left, right } => explain_swap(teller, scope, left, right),
+        Stmt::Return { span, value } => explain_return(teller, scope, *span, value),
+        Stmt::Throw { exception, .. } => explain_exception(teller, scope, *exception),
+        _ => {}
     }
 }
 
-#[cycle(statement)]
-fn walk_clauses(teller: &mut Teller<'_>, scope: &mut Scope<'_>, clauses: &[Clause]) {
-    for clause in clauses {
-        explain_exception(teller, scope, clause.exception);
-        teller.homes.add(None, clause.exception.span, Origin::Block);
-        explain_caught(teller, clause);
-        explain_items(teller, scope, &clause.items, &[]);
-    }
-}
-
-/// The words where the items of a clause declare its variable a second time.
-fn explain_caught(teller: &mut Teller<'_>, clause: &Clause) {
+/// Asks what stands before the items of a clause, and whether they declare its variable a second time.
+fn explain_clause(teller: &mut Teller, scope: &Scope<'_>, clause: &Clause) {
+    let exception = clause.exception;
+    explain_exception(teller, scope, exception);
+    teller.notes.homes.add(None, exception.span, Origin::Block);
     if let Some(variable) = clause.variable {
-        for item in &clause.items {
-            if let Some(name) = local_of(item) {
-                explain_twice(teller, name, variable);
-            }
-        }
-    }
-}
-
-/// Where the items of a default clause begin. The clause has no place of its own; this is where its statement does.
-fn start_of(items: &[Item], around: Span) -> Span {
-    match items.first() {
-        Some(Item::Local { of_type, .. }) => of_type.span,
-        Some(
-            Item::Statement {
-                statement: Stmt::Expression { value },
-            },
-        ) => span_of(value),
-        _ => around,
+        teller.declared.clear();
+        teller.declare(variable);
+        explain_declared(teller, &clause.items);
     }
 }
 
 // ---- expressions
 
-fn walk_value(
-    teller: &mut Teller<'_>,
+/// Asks an expression, its parts and what is wanted of it apart.
+fn explain_expression(
+    teller: &mut Teller,
     scope: &mut Scope<'_>,
-    value: &Option<Expr>,
-    wanted: Wanted,
-) {
-    if let Some(value) = value {
-        walk_expression(teller, scope, value, wanted);
-    }
-}
-
-#[cycle(expression)]
-fn walk_expressions(teller: &mut Teller<'_>, scope: &mut Scope<'_>, expressions: &[Expr]) {
-    for expression in expressions {
-        walk_expression(teller, scope, expression, Wanted::Nothing);
-    }
-}
-
-/// Asks the parts of an expression, and then what is wanted of it.
-#[cycle(expression)]
-fn walk_expression(
-    teller: &mut Teller<'_>,
-    scope: &mut Scope<'_>,
+    tree: &Tree,
     expression: &Expr,
-    wanted: Wanted,
 ) {
     match expression {
-        Expr::Number { .. }
-        | Expr::Character { .. }
-        | Expr::Null { .. }
-        | Expr::HeapRegion { .. } => {}
-        Expr::UniqueRegion { span } => explain_unique_region(teller, *span),
+        Expr::UniqueRegion { span } => teller.tell(Message::UniqueRegionAlone, *span),
         Expr::Variable { name } => explain_name(teller, scope, *name),
         Expr::FreeKey { key, .. } => explain_key(teller, scope, *key),
         Expr::Call {
             function,
             arguments,
-        } => {
-            walk_expressions(teller, scope, arguments);
-            explain_call(teller, scope, *function, arguments);
+        } if teller.is_at(function.span) => {
+            explain_call(teller, scope, tree, *function, arguments, None);
         }
-        Expr::Bracketed { inner, .. } => walk_expression(teller, scope, inner, Wanted::Nothing),
-        Expr::NumberOfElements { pointer, .. } => {
-            walk_expression(teller, scope, pointer, Wanted::Fat);
-        }
-        Expr::LowByteOf { value, .. } => walk_expression(teller, scope, value, Wanted::Int),
-        Expr::FreeUnique { pointer, .. } => walk_expression(teller, scope, pointer, Wanted::Freed),
-        Expr::Chained { base, postfixes } => {
-            walk_expression(teller, scope, base, Wanted::Nothing);
-            for postfix in postfixes {
-                if let Postfix::Index { index } = postfix {
-                    walk_expression(teller, scope, index, Wanted::Int);
-                }
-            }
-            explain_chain(teller, scope, base, postfixes);
-        }
+        Expr::Chained { base, postfixes } => explain_chain(teller, scope, base, postfixes),
         Expr::Prefixed {
             span,
-            operator,
+            operator: PrefixOperator::Dereference,
             operand,
-        } => {
-            walk_expression(teller, scope, operand, wanted_of(*operator));
-            explain_prefixed(teller, scope, *operator, *span, operand);
-        }
-        Expr::New { value, .. } => walk_initial(teller, scope, value),
-        Expr::RegionNew { region, value, .. } => {
-            walk_expression(teller, scope, region, Wanted::Handle);
-            walk_initial(teller, scope, value);
-        }
-        Expr::Binary { first, rest } => {
-            walk_expression(teller, scope, first, Wanted::Nothing);
-            for operation in rest {
-                let wanted = wanted_by(operation.operator).1;
-                walk_expression(teller, scope, &operation.operand, wanted);
-            }
-            explain_binary(teller, scope, first, rest);
-        }
-        Expr::Assign { target, value } => {
-            walk_expression(teller, scope, target, Wanted::Nothing);
-            walk_expression(teller, scope, value, Wanted::Nothing);
-            explain_assigned(teller, scope, target, value);
-        }
-    }
-    explain_value(teller, scope, expression, wanted);
-}
-
-#[cycle(expression)]
-fn walk_initial(teller: &mut Teller<'_>, scope: &mut Scope<'_>, initial: &Initial) {
-    match initial {
-        Initial::Plain { value } => walk_expression(teller, scope, value, Wanted::Content),
-        Initial::Fields {
-            name,
-            regions,
-            values,
-        } => {
-            walk_expressions(teller, scope, values);
-            explain_fields(teller, scope, *name, regions, values);
-        }
-        Initial::Array {
-            length,
-            element,
+        } => explain_target(teller, scope, *span, operand),
+        Expr::Prefixed {
+            operator: PrefixOperator::AddressOf,
+            operand,
             ..
-        } => {
-            walk_expression(teller, scope, length, Wanted::Int);
-            walk_expression(teller, scope, element, Wanted::Content);
+        } => explain_address(teller, scope, operand),
+        Expr::New { value, .. } | Expr::RegionNew { value, .. } => {
+            explain_made(teller, scope, value);
         }
+        Expr::Binary { first, rest } => explain_binary(teller, scope, first, rest),
+        Expr::Assign { target, .. } => explain_place(teller, scope, target),
+        _ => {}
     }
 }

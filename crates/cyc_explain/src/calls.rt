@@ -1,15 +1,15 @@
 //! What a call asks, in the words of the caller and of the function that is called.
 use crate::conversions::{explain_conversion, say_closed, say_shorter};
 use crate::homes::Homes;
+use crate::messages::Message;
 use crate::names::{Sort, explain_unknown};
-use crate::teller::{Part, Teller};
-use crate::wanted::given;
-use crate::written::say_count;
+use crate::teller::Teller;
 use cyc_check::value_type;
 use cyc_forms::span_of;
+use cyc_forms::types::region_of;
 use cyc_heads::members;
 use cyc_scope::{Meaning, Scope};
-use cyc_syntax::{Declaration, Expr, Ident};
+use cyc_syntax::{Declaration, Expr, Ident, Tree};
 use cyc_types::typed::ValueType;
 use cyc_types::{Region, RegionNames, Signature, Ty};
 use cyc_words::Code;
@@ -18,9 +18,8 @@ use std::alloc::Global;
 // ---- regions at the call
 
 /// Notes the regions of the function of this name, as its own head names them.
-fn note_theirs(teller: &mut Teller<'_>, names: &RegionNames, function: Ident) {
-    let tree = teller.tree;
-    let mut theirs = Homes::new(teller.alloc);
+fn note_theirs(teller: &mut Teller, tree: &Tree, names: &RegionNames, function: Ident) {
+    teller.notes.theirs.all.clear();
     for declaration in &tree.declarations {
         if let Declaration::Function {
             name,
@@ -29,11 +28,11 @@ fn note_theirs(teller: &mut Teller<'_>, names: &RegionNames, function: Ident) {
         } = declaration
         {
             if name.name == function.name {
+                let theirs = &mut teller.notes.theirs;
                 theirs.add_parameters(names, *name, members(parameters));
             }
         }
     }
-    teller.theirs = theirs;
 }
 
 /// The region at the first place of a region variable.
@@ -51,25 +50,15 @@ fn region_among(variables: &[Region], given: &[Region], variable: Region) -> Opt
 fn region_in(parameter: &Ty, given: &Ty, variable: Region) -> Option<Region> {
     match (parameter, given) {
         (
-            Ty::Pointer { target, region, .. },
+            Ty::Pointer { target, .. },
             Ty::Pointer {
                 target: given_target,
-                region: given_region,
                 ..
             },
         ) => match region_in(target, given_target, variable) {
             Some(found) => Some(found),
-            None => region_among(&[*region], &[*given_region], variable),
+            None => region_outside(parameter, given, variable),
         },
-        (
-            Ty::Handle { region } | Ty::Key { region },
-            Ty::Handle {
-                region: given_region,
-            }
-            | Ty::Key {
-                region: given_region,
-            },
-        ) => region_among(&[*region], &[*given_region], variable),
         (
             Ty::Struct { regions, .. },
             Ty::Struct {
@@ -77,7 +66,19 @@ fn region_in(parameter: &Ty, given: &Ty, variable: Region) -> Option<Region> {
                 ..
             },
         ) => region_among(regions, given_regions, variable),
+        (Ty::Handle { .. } | Ty::Key { .. }, Ty::Handle { .. } | Ty::Key { .. }) => {
+            region_outside(parameter, given, variable)
+        }
         _ => None,
+    }
+}
+
+/// The same, where the variable is the region of a pointer, a handle or a key itself.
+fn region_outside(parameter: &Ty, given: &Ty, variable: Region) -> Option<Region> {
+    if region_of(parameter) == variable {
+        Some(region_of(given))
+    } else {
+        None
     }
 }
 
@@ -104,15 +105,6 @@ fn instance_of(alloc: Global, signature: &Signature, values: &[ValueType]) -> Ve
 
 // ---- what is asked
 
-/// Whether the fault is at this place or at that of an expression.
-pub(crate) fn is_among(teller: &Teller<'_>, name: Ident, expressions: &[Expr]) -> bool {
-    let mut is_here = teller.is_at(name.span);
-    for expression in expressions {
-        is_here = is_here || teller.is_at(span_of(expression));
-    }
-    is_here
-}
-
 /// The types of the values of expressions, up to one that is refused.
 fn values_of(scope: &mut Scope<'_>, expressions: &[Expr]) -> Vec<ValueType> {
     let mut values = Vec::new(scope.alloc());
@@ -128,53 +120,59 @@ fn values_of(scope: &mut Scope<'_>, expressions: &[Expr]) -> Vec<ValueType> {
     values
 }
 
+/// The name of a region, if it has one.
+fn name_of(homes: &Homes, region: Region) -> Option<usize> {
+    match homes.find(region) {
+        Some(home) => home.name,
+        None => None,
+    }
+}
+
 /// What a region of the function that is called is at the call.
-fn say_here(teller: &mut Teller<'_>, function: Ident, own: Region, here: Region) {
-    let theirs = teller.theirs.name(own);
-    let ours = teller.homes.name(here);
-    match teller.function {
-        Some(caller) if theirs.is_some() && theirs == ours => {
-            let parts = [
-                Part::Theirs(own),
-                Part::Name(function),
-                Part::Region(here),
-                Part::Name(caller),
-            ];
-            teller.say(", and % of % is % of % here", &parts);
-        }
-        _ => {
-            if let Region::Variable(_) = own {
-                let parts = [Part::Theirs(own), Part::Region(here)];
-                teller.say(", and % is % here", &parts);
-            }
-        }
+fn say_here(teller: &mut Teller, own: Region, here: Region) {
+    teller.notes.their_regions.0 = own;
+    teller.notes.regions.0 = here;
+    let theirs = name_of(&teller.notes.theirs, own);
+    let ours = name_of(&teller.notes.homes, here);
+    if theirs.is_some() && theirs == ours {
+        teller.say(", and %a of %n is %r of %f here");
+    } else if let Region::Variable(_) = own {
+        teller.say(", and %a is %r here");
     }
 }
 
 /// The words for a constraint that a call does not keep, where the regions are these.
 fn explain_constraint(
-    teller: &mut Teller<'_>,
+    teller: &mut Teller,
     scope: &Scope<'_>,
     function: Ident,
     own: (Region, Region),
     here: (Region, Region),
 ) {
     if teller.is_fault(Code::NotOutlived, function.span) && !scope.outlives(here.0, here.1) {
-        let parts = [
-            Part::Name(function),
-            Part::Theirs(own.0),
-            Part::Theirs(own.1),
-        ];
-        teller.say("% has the constraint % > %", &parts);
-        say_here(teller, function, own.0, here.0);
-        say_here(teller, function, own.1, here.1);
+        teller.notes.their_regions = own;
+        teller.say("%n has the constraint %a > %b");
+        say_here(teller, own.0, here.0);
+        say_here(teller, own.1, here.1);
         say_shorter(teller, here.0, here.1);
     }
 }
 
+/// Says the effect of a function.
+fn say_effect(teller: &mut Teller, effect: &[Region]) {
+    teller.say("the effect of %n is {");
+    let mut is_first = true;
+    for region in effect {
+        teller.notes.their_regions.0 = *region;
+        teller.say(if is_first { "%a" } else { ", %a" });
+        is_first = false;
+    }
+    teller.say("}");
+}
+
 /// The words for a region of an effect that is not live, where it is this one.
 fn explain_effect(
-    teller: &mut Teller<'_>,
+    teller: &mut Teller,
     scope: &Scope<'_>,
     function: Ident,
     effect: &[Region],
@@ -182,100 +180,99 @@ fn explain_effect(
     here: Region,
 ) {
     if teller.is_fault(Code::EffectNotCovered, function.span) && !scope.is_live(here) {
-        teller.say("the effect of % is {", &[Part::Name(function)]);
-        for i in 0..effect.len() {
-            let text = if i == 0 { "%" } else { ", %" };
-            teller.say(text, &[Part::Theirs(effect[i])]);
-        }
-        teller.say("}", &[]);
-        say_here(teller, function, own, here);
-        teller.say("\n", &[]);
+        say_effect(teller, effect);
+        say_here(teller, own, here);
+        teller.say("\n");
         say_closed(teller, here);
     }
 }
 
-/// The words for an argument that is not converted to the type of its parameter, or that is a unique pointer where that is none.
+/// The words for an argument, which is found at the fault, that is not converted to the type of its parameter, or that is a unique pointer
+/// where that is none.
 fn explain_argument(
-    teller: &mut Teller<'_>,
+    teller: &mut Teller,
     scope: &Scope<'_>,
-    function: Ident,
     argument: &Expr,
-    value: &ValueType,
     parameter: &Ty,
     instance: &[Region],
 ) {
     let span = span_of(argument);
-    if teller.is_at(span) {
-        if let Ok(wanted) = parameter.substituted(teller.alloc, instance) {
-            explain_conversion(teller, scope, given(value), &wanted, span);
-        }
-        if let Ty::Pointer { region, .. } = parameter {
-            let parts = [Part::Theirs(*region), Part::Name(function)];
-            let text =
-                "% of % would be `U\nhint: lend the pointer by let alias, or write `U in the parameter's type";
-            teller.say_of(Code::RegionOrKeyMisused, span, text, &parts);
-        }
+    if teller.want_type(parameter.substituted(teller.alloc, instance).ok()) {
+        explain_conversion(teller, scope, span);
+    }
+    if let Ty::Pointer { region, .. } = parameter {
+        teller.notes.their_regions.0 = *region;
+        teller.tell(Message::SharedNotUnique, span);
     }
 }
 
-/// The words for a call of a function with this signature, with these values.
+/// The words for what a function asks of regions, where its region variables are these.
+fn explain_asked(
+    teller: &mut Teller,
+    scope: &Scope<'_>,
+    function: Ident,
+    signature: &Signature,
+    instance: &[Region],
+) {
+    for own in &signature.constraints {
+        let here = (own.0.substituted(instance), own.1.substituted(instance));
+        explain_constraint(teller, scope, function, *own, here);
+    }
+    for own in &signature.effect {
+        let here = own.substituted(instance);
+        explain_effect(teller, scope, function, &signature.effect, *own, here);
+    }
+}
+
+/// The words for a call of a function with this signature, with these values, or for the argument of this number.
 fn explain_called(
-    teller: &mut Teller<'_>,
+    teller: &mut Teller,
     scope: &Scope<'_>,
     function: Ident,
     arguments: &[Expr],
+    number: Option<usize>,
     values: &[ValueType],
     signature: &Signature,
 ) {
     let instance = instance_of(teller.alloc, signature, values);
     let parameters = &signature.parameters;
-    if arguments.len() != parameters.len() && teller.is_fault(Code::TypeMismatch, function.span) {
-        say_count(teller, parameters.len(), arguments.len(), "argument");
-    }
-    for i in 0..arguments.len() {
-        if let (Some(value), Some(parameter)) = (values.get(i), parameters.get(i)) {
-            explain_argument(
-                teller,
-                scope,
-                function,
-                &arguments[i],
-                value,
-                parameter,
-                &instance,
-            );
+    teller.notes.name = function.name.number;
+    match number {
+        Some(number) => {
+            if let (Some(argument), Some(parameter)) = (
+                arguments.get(number),
+                parameters.get(number),
+            ) {
+                explain_argument(teller, scope, argument, parameter, &instance);
+            }
         }
-    }
-    for own in &signature.constraints {
-        let here = (own.0.substituted(&instance), own.1.substituted(&instance));
-        explain_constraint(teller, scope, function, *own, here);
-    }
-    for own in &signature.effect {
-        let here = own.substituted(&instance);
-        explain_effect(teller, scope, function, &signature.effect, *own, here);
+        None => {
+            if arguments.len() != parameters.len() && teller.fault.code == Code::TypeMismatch {
+                teller.say_count(Message::ArgumentCount, parameters.len(), arguments.len());
+            }
+            explain_asked(teller, scope, function, signature, &instance);
+        }
     }
 }
 
-/// The words for a call.
+/// The words for a call whose name, or whose argument of this number, stands at the fault.
 pub(crate) fn explain_call(
-    teller: &mut Teller<'_>,
+    teller: &mut Teller,
     scope: &mut Scope<'_>,
+    tree: &Tree,
     function: Ident,
     arguments: &[Expr],
+    number: Option<usize>,
 ) {
-    if is_among(teller, function, arguments) {
-        let values = values_of(scope, arguments);
-        note_theirs(teller, scope.names(), function);
-        match scope.meaning(function) {
-            Meaning::Unknown => explain_unknown(teller, scope, Sort::Value, function),
-            Meaning::Routine { signature, .. } => {
-                explain_called(teller, scope, function, arguments, &values, signature);
-            }
-            _ => {
-                let text =
-                    "% is a variable, and no function\nhint: only a function is called, by its name";
-                let parts = [Part::Name(function)];
-                teller.say_of(Code::TypeMismatch, function.span, text, &parts);
-            }
+    let values = values_of(scope, arguments);
+    note_theirs(teller, tree, scope.names(), function);
+    match scope.meaning(function) {
+        Meaning::Unknown => explain_unknown(teller, scope, Sort::Value, function),
+        Meaning::Routine { signature, .. } => {
+            explain_called(
+                teller, scope, function, arguments, number, &values, signature,
+            );
         }
+        _ => teller.tell_name(Message::VariableCalled, function),
     }
 }

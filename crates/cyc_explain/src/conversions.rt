@@ -1,16 +1,17 @@
 //! Words for values that are converted to a type, and for regions: that are not live, or do not outlive each other.
 use crate::homes::{Home, Origin};
-use crate::teller::{Part, Teller};
-use cyc_forms::types::is_pointer;
+use crate::teller::Teller;
+use crate::words::{Notes, given};
 use cyc_forms::{Given, convert};
 use cyc_scope::{Scope, Settled};
+use cyc_types::typed::ValueType;
 use cyc_types::{Region, Ty};
 use cyc_words::{Code, Span};
 
 // ---- regions that are not live
 
 /// The last end, before the fault, of a block that opens the dynamic region of this name.
-fn last_end(teller: &Teller<'_>, name: usize) -> Option<Span> {
+fn last_end(teller: &Teller, name: usize) -> Option<Span> {
     let mut last = None;
     for ending in &teller.endings {
         if ending.name == name && teller.is_from(ending.span) {
@@ -21,50 +22,38 @@ fn last_end(teller: &Teller<'_>, name: usize) -> Option<Span> {
 }
 
 /// Says why a region is not live.
-pub(crate) fn say_closed(teller: &mut Teller<'_>, region: Region) {
-    let own = Part::Region(region);
-    match teller.homes.find(region) {
+pub(crate) fn say_closed(teller: &mut Teller, region: Region) {
+    teller.notes.regions.0 = region;
+    match teller.notes.homes.find(region) {
         Some(
             Home {
                 origin: Origin::Caller,
                 ..
             },
-        ) => {
-            if let Some(function) = teller.function {
-                teller.say("% is not in the effect of %", &[own, Part::Name(function)]);
-            }
-        }
+        ) => teller.say("%r is not in the effect of %f"),
         Some(
             Home {
                 origin: Origin::Dynamic,
                 name: Some(name),
                 span,
-                ..
             },
         ) => {
-            let parts = [own, Part::Place(span)];
-            teller.say(
-                "%, the dynamic region declared at %, is not open here",
-                &parts,
-            );
+            teller.notes.place = span;
+            teller.say("%r, the dynamic region declared at %p, is not open here");
             if let Some(end) = last_end(teller, name) {
-                teller.say(": the block that opened it ended at %", &[Part::Place(end)]);
+                teller.notes.place = end;
+                teller.say(": the block that opened it ended at %p");
             }
         }
-        _ => teller.say("% is not live here", &[own]),
+        _ => teller.say("%r is not live here"),
     }
 }
 
-/// The words for a pointer or a handle at this place whose region is not live.
-pub(crate) fn explain_closed(
-    teller: &mut Teller<'_>,
-    scope: &Scope<'_>,
-    given: Given<'_>,
-    span: Span,
-) {
-    let region = given.region();
+/// The words for a pointer or a handle that is found at this place, whose region is not live.
+pub(crate) fn explain_closed(teller: &mut Teller, scope: &Scope<'_>, span: Span) {
+    let region = given(&teller.notes.found).region();
     if teller.is_fault(Code::RegionNotLive, span) && !scope.is_live(region) {
-        teller.say("found %\n", &[Part::Given(given)]);
+        teller.say("found %t\n");
         say_closed(teller, region);
     }
 }
@@ -76,45 +65,45 @@ fn beginning_of(region: Region, home: Option<Home>) -> &'static str {
     match home {
         Some(home) => match home.origin {
             _ if home.name.is_none() => "",
-            Origin::Caller => "% comes from the caller",
-            Origin::Block | Origin::Item => "% begins at %",
-            Origin::Dynamic => "% is a dynamic region, declared at %",
+            Origin::Caller => "%r comes from the caller",
+            Origin::Block | Origin::Item => "%r begins at %p",
+            Origin::Dynamic => "%r is a dynamic region, declared at %p",
         },
         None => match region {
-            Region::Heap => "% lives for the whole run",
-            Region::Unique => "% stands apart from all regions",
+            Region::Heap => "%r lives for the whole run",
+            Region::Unique => "%r stands apart from all regions",
             Region::Variable(_) => "",
         },
     }
 }
 
 /// Says where a region begins behind a mark, if there is anything to say.
-fn say_beginning(teller: &mut Teller<'_>, mark: &str, region: Region) -> bool {
-    let home = teller.homes.find(region);
+fn say_beginning(teller: &mut Teller, mark: &str, region: Region) -> bool {
+    let home = teller.notes.homes.find(region);
     let text = beginning_of(region, home);
-    if text.is_empty() {
-        return false;
+    if let Some(home) = home {
+        teller.notes.place = home.span;
     }
-    let span = match home {
-        Some(home) => home.span,
-        None => Span { line: 0, column: 0 },
-    };
-    teller.say(mark, &[]);
-    teller.say(text, &[Part::Region(region), Part::Place(span)]);
-    true
+    if !text.is_empty() {
+        teller.notes.regions.0 = region;
+        teller.say(mark);
+        teller.say(text);
+    }
+    !text.is_empty()
 }
 
 /// Says in a line of its own which region does not outlive which, and where each begins, and then what to do.
-pub(crate) fn say_shorter(teller: &mut Teller<'_>, region: Region, other: Region) {
-    let parts = [Part::Region(region), Part::Region(other)];
-    teller.say("\n% does not outlive %", &parts);
+pub(crate) fn say_shorter(teller: &mut Teller, region: Region, other: Region) {
+    teller.notes.regions = (region, other);
+    teller.say("\n%r does not outlive %s");
     let is_begun = say_beginning(teller, ": ", region);
     if region != other {
         say_beginning(teller, if is_begun { ", " } else { ": " }, other);
     }
-    if let Some(home) = teller.homes.find(region) {
-        let other_home = teller.homes.find(other);
-        teller.hint(advice_on_regions(home, other, other_home), &parts);
+    teller.notes.regions = (region, other);
+    if let Some(home) = teller.notes.homes.find(region) {
+        let other_home = teller.notes.homes.find(other);
+        teller.hint(advice_on_regions(home, other, other_home));
     }
 }
 
@@ -128,7 +117,7 @@ fn advice_on_regions(home: Home, other: Region, other_home: Option<Home>) -> &'s
             }
             Origin::Block => "a variable is gone when its block ends: make the object by new",
             Origin::Item | Origin::Dynamic => {
-                "what is in % is gone when its region ends: make the object by new, or write the region into the type"
+                "what is in %r is gone when its region ends: make the object by new, or write the region into the type"
             }
         },
         Region::Variable(_) => match other_home {
@@ -145,7 +134,7 @@ fn advice_between(home: Home, other: Home) -> &'static str {
     }
     match home.origin {
         Origin::Caller if home.name.is_some() && other.name.is_some() => {
-            "if it does at each call, declare so behind the parameters: % > %"
+            "if it does at each call, declare so behind the parameters: %r > %s"
         }
         Origin::Caller => {
             "name the regions of both types, as one, or as two with a constraint: `a > `b"
@@ -154,7 +143,7 @@ fn advice_between(home: Home, other: Home) -> &'static str {
             "a variable is gone when its block ends: make an object by new, or by rnew in the other region"
         }
         Origin::Item | Origin::Dynamic => {
-            "what is in % is gone when its block ends: make the object in %"
+            "what is in %r is gone when its block ends: make the object in %s"
         }
     }
 }
@@ -187,58 +176,54 @@ fn has_shape(of_type: &Ty, wanted: &Ty) -> bool {
     }
 }
 
-/// Whether a value is a pointer to what is no int and no char.
-fn leads_further(given: Given<'_>) -> bool {
-    match given {
-        Given::Value(Ty::Pointer { target, .. }) => !matches!(**target, Ty::Int | Ty::Char),
-        _ => false,
+/// What more there is to say of a value of another type than this.
+fn more_on(given: Given<'_>, wanted: &Ty) -> &'static str {
+    match (given, wanted) {
+        (Given::Void, _) => "\nhint: a function that returns no value is called by itself",
+        (Given::Value(of_type), Ty::Pointer { .. }) if has_shape(of_type, wanted) => {
+            ", with other regions inside"
+        }
+        (Given::Value(Ty::Pointer { .. }), Ty::Int | Ty::Char) => {
+            "\nhint: write *p for what p leads to"
+        }
+        (Given::Value(Ty::Pointer { target, .. }), Ty::Pointer { .. })
+            if !matches!(**target, Ty::Int | Ty::Char) => {
+            "\nhint: what a pointer leads to is not converted: put a value of that very type there"
+        }
+        (Given::Int | Given::Char | Given::Value(Ty::Int | Ty::Char), Ty::Pointer { .. }) => {
+            "\nhint: write NULL for a null pointer"
+        }
+        _ => "",
     }
 }
 
-/// What to do about a value of another type than this, if there is anything to say.
-fn advice(given: Given<'_>, wanted: &Ty) -> &'static str {
-    if given.is_void() {
-        "a function that returns no value is called by itself"
-    } else if given.is_pointer() && matches!(wanted, Ty::Int | Ty::Char) {
-        "write *p for what p leads to"
-    } else if !is_pointer(wanted) {
-        ""
-    } else if given.is_int() || given.is_char() {
-        "write NULL for a null pointer"
-    } else if leads_further(given) {
-        "what a pointer leads to is not converted: put a value of that very type there"
-    } else {
-        ""
+/// The demand that is broken where what is found is converted to what is wanted; and what more there is to say of the types.
+fn broken(notes: &Notes, scope: &Scope<'_>, span: Span) -> Option<(Code, &'static str)> {
+    if let Some(ValueType::Value { of_type }) = &notes.wanted {
+        let found = given(&notes.found);
+        let mut settled = Settled::new();
+        convert(&mut settled, scope, found, of_type, span);
+        if let Some(fault) = settled.known {
+            return Some((fault.code, more_on(found, of_type)));
+        }
     }
+    None
 }
 
-/// The words for a value at this place that is not converted to a type.
-pub(crate) fn explain_conversion(
-    teller: &mut Teller<'_>,
-    scope: &Scope<'_>,
-    given: Given<'_>,
-    wanted: &Ty,
-    span: Span,
-) {
-    let mut settled = Settled::new();
-    convert(&mut settled, scope, given, wanted, span);
-    let Some(broken) = settled.known else {
-        return;
-    };
-    if !teller.is_fault(broken.code, span) {
-        return;
-    }
-    let parts = [Part::Given(Given::Value(wanted)), Part::Given(given)];
-    teller.say("expected %, found %", &parts);
-    match (broken.code, given, wanted) {
-        (Code::TypeMismatch, Given::Value(of_type), Ty::Pointer { .. })
-            if has_shape(of_type, wanted) => {
-            teller.say(", with other regions inside", &[]);
+/// The words for a value at this place whose type, which is found, is not converted to the one that is wanted.
+pub(crate) fn explain_conversion(teller: &mut Teller, scope: &Scope<'_>, span: Span) {
+    if let Some((code, more)) = broken(&teller.notes, scope, span) {
+        if teller.is_fault(code, span) {
+            teller.say("expected %w, found %t");
+            match code {
+                Code::TypeMismatch => teller.say(more),
+                Code::NotOutlived => {
+                    let region = given(&teller.notes.found).region();
+                    let other = given(&teller.notes.wanted).region();
+                    say_shorter(teller, region, other);
+                }
+                _ => {}
+            }
         }
-        (Code::TypeMismatch, _, _) => teller.hint(advice(given, wanted), &[]),
-        (Code::NotOutlived, _, Ty::Pointer { region, .. }) => {
-            say_shorter(teller, given.region(), *region);
-        }
-        _ => {}
     }
 }

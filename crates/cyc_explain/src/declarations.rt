@@ -1,46 +1,50 @@
 //! Words for the heads of declarations, and for the values of globals.
-use crate::names::explain_twice;
-use crate::teller::{Part, Teller};
-use crate::written::{explain_region, explain_written};
+use crate::lexicon::NO_NAME;
+use crate::messages::Message;
+use crate::names::explain_region;
+use crate::teller::Teller;
+use crate::written::explain_written;
 use cyc_heads::members;
 use cyc_syntax::{
     BaseType, Constructor, Declaration, GlobalValue, Ident, Member, Parameters, Tree, WrittenType,
 };
 use cyc_words::{Code, Span};
 
-const UNKNOWN: &str = "the parameters name no region `%: write it into the type of one";
-
 /// The words for a fault in the head of a declaration, or for a `main` that is missing.
-pub(crate) fn explain_heads(teller: &mut Teller<'_>, tree: &Tree) {
-    let start = Span { line: 1, column: 1 };
-    let text = "the program has no function main";
-    teller.say_of(Code::BadMain, start, text, &[]);
-    for i in 0..tree.declarations.len() {
-        explain_head(teller, &tree.declarations[..i], &tree.declarations[i]);
+pub(crate) fn explain_heads(teller: &mut Teller, tree: &Tree) {
+    teller.tell(Message::MainMissing, Span { line: 1, column: 1 });
+    explain_names(teller, tree, true);
+    explain_names(teller, tree, false);
+    for declaration in &tree.declarations {
+        teller.declared.clear();
+        teller.notes.function = NO_NAME;
+        explain_head(teller, declaration);
     }
 }
 
-/// The words for a fault in the head of a declaration, behind these ones.
-fn explain_head(teller: &mut Teller<'_>, before: &[Declaration], declaration: &Declaration) {
-    teller.function = None;
+/// The words for structs of one name, or for globals and functions of one name.
+fn explain_names(teller: &mut Teller, tree: &Tree, is_struct: bool) {
+    teller.declared.clear();
+    for declaration in &tree.declarations {
+        match declaration {
+            Declaration::Struct { name, .. } if is_struct => teller.declare(*name),
+            Declaration::Global { name, .. } | Declaration::Function { name, .. } if !is_struct => {
+                teller.declare(*name);
+                teller.tell_name(Message::InEachProgram, *name);
+            }
+            _ => {}
+        }
+    }
+}
+
+/// The words for a fault in the head of a declaration.
+fn explain_head(teller: &mut Teller, declaration: &Declaration) {
     match declaration {
         Declaration::Struct {
-            name,
             regions,
             fields,
-        } => {
-            for other in before {
-                if let Declaration::Struct { name: other, .. } = other {
-                    explain_twice(teller, *name, *other);
-                }
-            }
-            for i in 0..regions.len() {
-                for j in 0..i {
-                    explain_twice(teller, regions[i], regions[j]);
-                }
-            }
-            explain_fields(teller, fields);
-        }
+            ..
+        } => explain_struct(teller, regions, fields),
         Declaration::Exceptions { constructors } => explain_constructors(teller, constructors),
         Declaration::Global {
             of_type,
@@ -48,122 +52,97 @@ fn explain_head(teller: &mut Teller<'_>, before: &[Declaration], declaration: &D
             value,
         } => {
             explain_global(teller, of_type, *value);
-            explain_named(teller, before, *name);
-            let text = "main is a variable, and no function";
-            teller.say_of(Code::BadMain, name.span, text, &[]);
+            teller.tell(Message::MainVariable, name.span);
         }
         Declaration::Function {
             result,
             name,
             parameters,
             ..
-        } => {
-            explain_main(teller, *name, result, parameters);
-            explain_named(teller, before, *name);
-            if let Some(written) = result {
-                explain_written(teller, written, UNKNOWN);
-            }
-            teller.function = Some(*name);
-            explain_members(teller, members(parameters));
-            explain_asked(teller, parameters);
-        }
+        } => explain_function(teller, *name, result, parameters),
     }
 }
 
-// ---- names
-
-/// The words for a global or a function whose name is there already.
-fn explain_named(teller: &mut Teller<'_>, before: &[Declaration], name: Ident) {
-    for other in before {
-        match other {
-            Declaration::Global { name: other, .. } | Declaration::Function { name: other, .. } => {
-                explain_twice(teller, name, *other);
-            }
-            Declaration::Struct { .. } | Declaration::Exceptions { .. } => {}
-        }
-    }
-    explain_built_in(teller, name);
-}
-
-/// The words for a name that is declared twice, and only once in the text.
-fn explain_built_in(teller: &mut Teller<'_>, name: Ident) {
-    let text = "`%` is there in each program";
-    teller.say_of(Code::DeclaredTwice, name.span, text, &[Part::Name(name)]);
-}
-
-fn explain_constructors(teller: &mut Teller<'_>, constructors: &[Constructor]) {
-    for i in 0..constructors.len() {
-        let name = constructors[i].name;
-        for j in 0..i {
-            explain_twice(teller, name, constructors[j].name);
-        }
-        explain_built_in(teller, name);
+fn explain_constructors(teller: &mut Teller, constructors: &[Constructor]) {
+    for constructor in constructors {
+        teller.declare(constructor.name);
+        teller.tell_name(Message::InEachProgram, constructor.name);
     }
 }
 
-/// The words for the types and names of members.
-fn explain_members(teller: &mut Teller<'_>, members: &[Member]) {
-    for i in 0..members.len() {
-        let name = members[i].name;
-        explain_written(teller, &members[i].of_type, UNKNOWN);
-        for j in 0..i {
-            explain_twice(teller, name, members[j].name);
-        }
+/// The words for a struct, its own name apart.
+fn explain_struct(teller: &mut Teller, regions: &[Ident], fields: &[Member]) {
+    for region in regions {
+        teller.declare(*region);
     }
-}
-
-/// The words for the fields of a struct.
-fn explain_fields(teller: &mut Teller<'_>, fields: &[Member]) {
+    teller.declared.clear();
+    teller.unknown = Message::UnknownInStruct;
     for field in fields {
         if let BaseType::Key { .. } = &field.of_type.base {
-            let text =
-                "a key is a variable, a parameter or a result, and no field\nhint: pass the key beside the struct";
-            teller.say_of(Code::RegionOrKeyMisused, field.of_type.span, text, &[]);
+            teller.tell(Message::KeyInField, field.of_type.span);
         }
-        let unknown = "`% is no region parameter of the struct: write it behind the struct's name";
-        explain_written(teller, &field.of_type, unknown);
     }
     explain_members(teller, fields);
 }
 
-// ---- functions
-
-/// The words for what a function's effect and its constraints name.
-fn explain_asked(teller: &mut Teller<'_>, parameters: &Parameters) {
-    let unique = "`% is no region of a constraint\nhint: leave the constraint out";
-    for constraint in &parameters.constraints {
-        explain_region(teller, constraint.longer, UNKNOWN, unique);
-        explain_region(teller, constraint.shorter, UNKNOWN, unique);
-    }
-    if let Some(effect) = &parameters.effect {
-        let misused =
-            "`% has a key in this head, or is `U: so no effect names it\nhint: leave it out of the effect";
-        for region in effect {
-            explain_region(teller, *region, UNKNOWN, misused);
-        }
+/// The words for the types and names of members.
+fn explain_members(teller: &mut Teller, members: &[Member]) {
+    for member in members {
+        explain_written(teller, &member.of_type);
+        teller.declare(member.name);
     }
 }
 
-/// The words for a `main` with a head that it may not have.
-fn explain_main(
-    teller: &mut Teller<'_>,
+// ---- functions
+
+/// The words for a function's head.
+fn explain_function(
+    teller: &mut Teller,
     name: Ident,
     returned: &Option<WrittenType>,
     parameters: &Parameters,
 ) {
-    if !teller.is_fault(Code::BadMain, name.span) {
-        return;
+    teller.tell(message_on_main(returned, parameters), name.span);
+    teller.unknown = Message::UnknownInHead;
+    if let Some(written) = returned {
+        explain_written(teller, written);
     }
-    let text = if !members(parameters).is_empty() {
-        "main has parameters"
+    teller.notes.function = name.name.number;
+    explain_members(teller, members(parameters));
+    explain_asked(teller, parameters);
+}
+
+/// The words for what a function's effect and its constraints name.
+fn explain_asked(teller: &mut Teller, parameters: &Parameters) {
+    for constraint in &parameters.constraints {
+        explain_constrained(teller, constraint.longer);
+        explain_constrained(teller, constraint.shorter);
+    }
+    if let Some(effect) = &parameters.effect {
+        for region in effect {
+            explain_region(teller, *region);
+            teller.tell_name(Message::NoEffect, *region);
+        }
+    }
+}
+
+/// The words for a region of a constraint.
+fn explain_constrained(teller: &mut Teller, region: Ident) {
+    explain_region(teller, region);
+    teller.tell_name(Message::NoConstraint, region);
+}
+
+/// What a `main` with this head has that it may not have.
+fn message_on_main(returned: &Option<WrittenType>, parameters: &Parameters) -> Message {
+    if !members(parameters).is_empty() {
+        Message::MainParameters
     } else if parameters.effect.is_some() {
-        "main has an effect"
+        Message::MainEffect
     } else if returned.is_none() {
-        "main returns no value"
+        Message::MainVoid
     } else {
-        "main returns another type than int"
-    };
-    teller.say(text, &[]);
+        Message::MainType
+    }
 }
 
 // ---- globals
@@ -171,26 +150,25 @@ fn explain_main(
 /// What a global begins with, and its place.
 fn initial(written: &WrittenType, value: Option<GlobalValue>) -> (Span, &'static str) {
     match value {
-        None => (written.span, "no value, which is NULL"),
+        None => (written.span, ", found no value, which is NULL"),
         Some(
             GlobalValue::Number { span, .. }
             | GlobalValue::Negative { span, .. }
             | GlobalValue::Character { span, .. },
-        ) => (span, "int"),
-        Some(GlobalValue::Null { span }) => (span, "NULL"),
+        ) => (span, ", found int"),
+        Some(GlobalValue::Null { span }) => (span, ", found NULL"),
     }
 }
 
 /// The words for a global of a type that none has, or that does not begin with a value of its type.
-fn explain_global(teller: &mut Teller<'_>, written: &WrittenType, value: Option<GlobalValue>) {
-    let unknown = "no region `% is in scope here: only `H and `U are";
-    explain_written(teller, written, unknown);
-    let text =
-        "a global is an int or a pointer\nhint: give the function what it needs as a parameter";
-    teller.say_of(Code::TypeMismatch, written.span, text, &[]);
+fn explain_global(teller: &mut Teller, written: &WrittenType, value: Option<GlobalValue>) {
+    teller.unknown = Message::UnknownInGlobal;
+    explain_written(teller, written);
+    teller.tell(Message::GlobalType, written.span);
     let (span, found) = initial(written, value);
-    let parts = [Part::Written(written), Part::Text(found)];
-    let text = "expected %, found %";
-    teller.say_of(Code::TypeMismatch, span, text, &parts);
-    teller.say_of(Code::NullForNonNull, span, text, &parts);
+    if teller.is_fault(Code::TypeMismatch, span) || teller.is_fault(Code::NullForNonNull, span) {
+        teller.say("expected ");
+        teller.words.put_written(&teller.notes.lexicon, written);
+        teller.say(found);
+    }
 }

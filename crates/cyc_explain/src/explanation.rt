@@ -42,5 +42,5 @@ fn words_for(alloc: Global, tree: &Tree, fault: Fault) -> Option<Vec<u8>> {
     for declaration in &tree.declarations {
         explain_body(&mut teller, tree, declaration);
     }
-    teller.into_words()
+    teller.take_words()
 }

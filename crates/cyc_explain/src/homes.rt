@@ -28,7 +28,7 @@ pub(crate) struct Home {
 /// The regions of a function up to the fault, each at the place of its number.
 #[derive(Drop)]
 pub(crate) struct Homes {
-    all: Vec<Home>,
+    pub(crate) all: Vec<Home>,
     /// Whether memory did not run out, so that none is left out.
     pub(crate) is_whole: bool,
 }
@@ -46,14 +46,6 @@ impl Homes {
         match region {
             Region::Variable(number) => self.all.get(number).copied(),
             Region::Heap | Region::Unique => None,
-        }
-    }
-
-    /// The name of a region, if it has one.
-    pub(crate) fn name(&self, region: Region) -> Option<usize> {
-        match self.find(region) {
-            Some(home) => home.name,
-            None => None,
         }
     }
 

@@ -1,8 +1,10 @@
 //! Words for names: that are not declared, where another one is near, and that are declared twice.
-use crate::teller::{Part, Teller};
+use crate::lexicon::Lexicon;
+use crate::messages::Message;
+use crate::teller::Teller;
 use cyc_scope::{Meaning, Scope};
-use cyc_syntax::{Ident, Name, Names};
-use cyc_words::{Code, Span};
+use cyc_syntax::{Ident, Name};
+use cyc_words::Code;
 
 /// What a name is wanted for.
 #[derive(Clone, Copy)]
@@ -56,20 +58,16 @@ fn is_near(a: &[u8], b: &[u8]) -> bool {
 }
 
 /// A declared name that is near to this one.
-fn near(names: &Names, scope: &Scope<'_>, sort: Sort, name: Ident) -> Option<Ident> {
-    let number = name.name.number;
-    if number >= names.len() {
-        return None;
-    }
-    let text = names.text(name.name);
-    for other in 0..names.len() {
-        let candidate = Ident {
-            name: Name { number: other },
+fn near(lexicon: &Lexicon, scope: &Scope<'_>, sort: Sort, name: Ident) -> Option<Ident> {
+    let text = lexicon.text(name.name.number);
+    for number in 0..lexicon.len() {
+        let other = Ident {
+            name: Name { number },
             span: name.span,
         };
-        if other != number && is_near(text, names.text(candidate.name)) {
-            if is_known(scope, sort, candidate) {
-                return Some(candidate);
+        if other.name != name.name && is_near(text, lexicon.text(number)) {
+            if is_known(scope, sort, other) {
+                return Some(other);
             }
         }
     }
@@ -77,45 +75,35 @@ fn near(names: &Names, scope: &Scope<'_>, sort: Sort, name: Ident) -> Option<Ide
 }
 
 /// The words for a name that is not declared.
-pub(crate) fn explain_unknown(teller: &mut Teller<'_>, scope: &Scope<'_>, sort: Sort, name: Ident) {
-    if !teller.is_fault(Code::UnknownName, name.span) {
-        return;
-    }
-    if let Some(other) = near(&teller.tree.names, scope, sort, name) {
-        teller.hint("did you mean `%`?", &[Part::Name(other)]);
-    }
-}
-
-/// The words for a name that is declared twice, where it is the name of this one before it.
-pub(crate) fn explain_twice(teller: &mut Teller<'_>, name: Ident, first: Ident) {
-    if first.name == name.name {
-        let parts = [Part::Name(name), Part::Place(first.span)];
-        let text = "`%` is first declared at %";
-        teller.say_of(Code::DeclaredTwice, name.span, text, &parts);
+pub(crate) fn explain_unknown(teller: &mut Teller, scope: &Scope<'_>, sort: Sort, name: Ident) {
+    if teller.is_fault(Code::UnknownName, name.span) {
+        if let Some(other) = near(&teller.notes.lexicon, scope, sort, name) {
+            teller.tell_name(Message::NearName, other);
+        }
     }
 }
 
 /// The words for a region that is declared in a function which has one of this name.
-pub(crate) fn explain_region_twice(teller: &mut Teller<'_>, name: Ident) {
+pub(crate) fn explain_region_twice(teller: &mut Teller, name: Ident) {
     if teller.is_fault(Code::DeclaredTwice, name.span) {
         explain_own_region(teller, name);
-        if let Some(first) = teller.homes.find_named(name.name.number) {
-            let text = "`% is first declared at %: a function declares a region's name once";
-            let parts = [Part::Name(name), Part::Place(first)];
-            teller.say_of(Code::DeclaredTwice, name.span, text, &parts);
+        if let Some(first) = teller.notes.homes.find_named(name.name.number) {
+            teller.notes.place = first;
+            teller.tell_name(Message::RegionFirstDeclared, name);
         }
-        let text = "`% is there in each function";
-        teller.say_of(Code::DeclaredTwice, name.span, text, &[Part::Name(name)]);
+        teller.tell_name(Message::RegionOfEach, name);
     }
 }
 
 /// The words for a region that is declared with the name of its function.
-pub(crate) fn explain_own_region(teller: &mut Teller<'_>, name: Ident) {
-    if let Some(function) = teller.function {
-        if function.name == name.name {
-            let parts = [Part::Name(name), Part::Name(function)];
-            let text = "`% is the region of the variables of %";
-            teller.say_of(Code::DeclaredTwice, name.span, text, &parts);
-        }
+fn explain_own_region(teller: &mut Teller, name: Ident) {
+    if teller.notes.function == name.name.number {
+        teller.tell_name(Message::RegionOfFunction, name);
     }
+}
+
+/// The words for a region that is named where it is not in scope, or where it has the name of the function at hand.
+pub(crate) fn explain_region(teller: &mut Teller, name: Ident) {
+    teller.tell_name(teller.unknown, name);
+    explain_own_region(teller, name);
 }

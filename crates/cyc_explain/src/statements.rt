@@ -1,93 +1,63 @@
 //! What items and statements ask of their parts, in words where that is the fault.
-use crate::conversions::explain_conversion;
 use crate::expressions::{explain_key, explain_name, explain_place};
-use crate::names::{Sort, explain_unknown};
-use crate::teller::{Part, Teller};
-use crate::wanted::{Wanted, explain_content, explain_value, given};
-use crate::written::{explain_region, explain_written};
-use cyc_check::{place_type, value_type};
+use crate::messages::Message;
+use crate::names::{Sort, explain_region, explain_unknown};
+use crate::teller::Teller;
+use crate::wanted::explain_content;
+use crate::written::explain_written;
+use cyc_check::place_type;
+use cyc_forms::span_of;
 use cyc_forms::types::{is_unique, region_of as region_of_type};
-use cyc_forms::{Given, span_of};
 use cyc_scope::{Meaning, Scope};
-use cyc_syntax::{BaseType, Expr, Ident, Stmt, WrittenType};
+use cyc_syntax::{BaseType, Expr, Ident, WrittenType};
 use cyc_types::formation::{region_of, type_written};
 use cyc_types::typed::Lvalue;
 use cyc_types::{Region, Ty};
 use cyc_words::{Code, Span};
 
-const UNKNOWN: &str = "no region `% is in scope here";
-
 // ---- statements
 
 /// The words for an exception that is not declared, or that is written with an int where it has none, or the other way round.
-pub(crate) fn explain_exception(teller: &mut Teller<'_>, scope: &Scope<'_>, exception: Ident) {
+pub(crate) fn explain_exception(teller: &mut Teller, scope: &Scope<'_>, exception: Ident) {
     explain_unknown(teller, scope, Sort::Exception, exception);
-    let parts = [
-        Part::Name(exception),
-        Part::Name(exception),
-        Part::Name(exception),
-    ];
     if let Some(known) = scope.exception(exception.name.number) {
-        let text = if known.has_int {
-            "% has an int\nhint: write it in brackets: throw new %(1), or case &%(n)"
+        let message = if known.has_int {
+            Message::IntWithout
         } else {
-            "% has no int\nhint: leave out the brackets: throw new %, or case &%"
+            Message::IntTooMany
         };
-        teller.say_of(Code::TypeMismatch, exception.span, text, &parts);
+        teller.tell_name(message, exception);
     }
-    let text = "a clause for % stands before this one";
-    teller.say_of(Code::DeclaredTwice, exception.span, text, &parts);
+    teller.tell_name(Message::ClauseBefore, exception);
 }
 
-/// The words for a `return` without a value at this place.
-fn explain_nothing(teller: &mut Teller<'_>, scope: &Scope<'_>, span: Span) {
-    if let Some(of_type) = scope.result_type() {
-        let text = "expected %, found no value\nhint: write a value behind return";
-        let parts = [Part::Given(Given::Value(of_type))];
-        teller.say_of(Code::TypeMismatch, span, text, &parts);
+/// The type that the function at hand returns, if it returns any.
+pub(crate) fn result_type(scope: &Scope<'_>) -> Option<Ty> {
+    match scope.result_type() {
+        Some(of_type) => of_type.share().ok(),
+        None => None,
     }
 }
 
-/// The words for a `return` at this place of another value than the function has, or of none.
+/// The words for a `return` at this place without a value, or with one where the function has none.
 pub(crate) fn explain_return(
-    teller: &mut Teller<'_>,
-    scope: &mut Scope<'_>,
+    teller: &mut Teller,
+    scope: &Scope<'_>,
     span: Span,
     value: &Option<Expr>,
 ) {
-    match value {
-        None => explain_nothing(teller, scope, span),
-        Some(written) => {
-            let here = span_of(written);
-            if teller.is_at(here) {
-                if let Some(found) = value_type(scope, written, false) {
-                    explain_returned(teller, scope, given(&found), here);
-                }
-            }
-            explain_no_result(teller, scope, span);
+    if value.is_some() {
+        if scope.result_type().is_none() {
+            teller.tell(Message::ValueTooMany, span);
         }
-    }
-}
-
-/// The words for a value at this place that is not converted to the function's result.
-fn explain_returned(teller: &mut Teller<'_>, scope: &Scope<'_>, value: Given<'_>, span: Span) {
-    if let Some(of_type) = scope.result_type() {
-        explain_conversion(teller, scope, value, of_type, span);
-    }
-}
-
-/// The words for a value that a function returns which has none.
-fn explain_no_result(teller: &mut Teller<'_>, scope: &Scope<'_>, span: Span) {
-    if let (None, Some(function)) = (scope.result_type(), teller.function) {
-        let text =
-            "% returns no value\nhint: write return alone, or a type before the function's name";
-        teller.say_of(Code::TypeMismatch, span, text, &[Part::Name(function)]);
+    } else if teller.want_type(result_type(scope)) {
+        teller.tell(Message::ValueMissing, span);
     }
 }
 
 /// The words for a swap of what are no places, or of places of two types.
 pub(crate) fn explain_swap(
-    teller: &mut Teller<'_>,
+    teller: &mut Teller,
     scope: &mut Scope<'_>,
     left: &Expr,
     right: &Expr,
@@ -95,70 +65,30 @@ pub(crate) fn explain_swap(
     explain_place(teller, scope, left);
     explain_place(teller, scope, right);
     let span = span_of(left);
-    if !teller.is_fault(Code::TypeMismatch, span) {
-        return;
-    }
-    if let (Some(first), Some(second)) = (place_type(scope, left), place_type(scope, right)) {
-        explain_content(teller, &first, span);
-        let parts = [
-            Part::Given(Given::Value(&first)),
-            Part::Given(Given::Value(&second)),
-        ];
-        let text =
-            "expected the same type, with the same regions, found % and %\nhint: swap places of one type";
-        teller.say_of(Code::TypeMismatch, span, text, &parts);
+    if teller.is_fault(Code::TypeMismatch, span) {
+        let (found, wanted) = (place_type(scope, left), place_type(scope, right));
+        if teller.find_type(found) && teller.want_type(wanted) {
+            explain_content(teller, span);
+            teller.tell(Message::SwappedTypes, span);
+        }
     }
 }
 
 // ---- items
 
 /// A written type in which this is left out.
-fn type_here(scope: &Scope<'_>, written: &WrittenType, left_out: Region) -> Option<Ty> {
+pub(crate) fn type_here(scope: &Scope<'_>, written: &WrittenType, left_out: Region) -> Option<Ty> {
     let (structs, names) = (scope.structs(), scope.names());
     type_written(scope.alloc(), structs, names, left_out, written).ok()
 }
 
-/// What is left out of the type of a local with this initial value.
-fn left_out_of(value: Given<'_>) -> Region {
-    match value {
-        Given::Value(Ty::Pointer { region, .. }) => *region,
-        _ => Region::Heap,
-    }
-}
-
-/// The words for a local.
-pub(crate) fn explain_local(
-    teller: &mut Teller<'_>,
-    scope: &mut Scope<'_>,
-    written: &WrittenType,
-    value: &Option<Expr>,
-) {
-    explain_written_here(teller, scope, written);
-    if let Some(value) = value {
-        if teller.is_at(span_of(value)) {
-            if let Some(found) = value_type(scope, value, false) {
-                explain_initial_value(teller, scope, written, given(&found), span_of(value));
-            }
-        }
-    }
-}
-
-/// The words for a value at this place that is not converted to the type of the local which it is put into.
-fn explain_initial_value(
-    teller: &mut Teller<'_>,
+/// The words for a type that is written in a body.
+pub(crate) fn explain_written_here(
+    teller: &mut Teller,
     scope: &Scope<'_>,
     written: &WrittenType,
-    value: Given<'_>,
-    span: Span,
 ) {
-    if let Some(of_type) = type_here(scope, written, left_out_of(value)) {
-        explain_conversion(teller, scope, value, &of_type, span);
-    }
-}
-
-/// The words for a type that is written in a body.
-fn explain_written_here(teller: &mut Teller<'_>, scope: &Scope<'_>, written: &WrittenType) {
-    explain_written(teller, written, UNKNOWN);
+    explain_written(teller, written);
     if let BaseType::Struct { name, .. } = &written.base {
         explain_unknown(teller, scope, Sort::Struct, *name);
     }
@@ -166,21 +96,20 @@ fn explain_written_here(teller: &mut Teller<'_>, scope: &Scope<'_>, written: &Wr
 
 /// The words for a region that is opened by a key.
 pub(crate) fn explain_opened(
-    teller: &mut Teller<'_>,
+    teller: &mut Teller,
     scope: &Scope<'_>,
     region: Ident,
     key: Ident,
 ) {
-    let text = "the key % is not of `%\nhint: a region is opened by its own key";
-    let parts = [Part::Name(key), Part::Name(region)];
-    teller.say_of(Code::RegionOrKeyMisused, region.span, text, &parts);
-    explain_region(teller, region, UNKNOWN, "");
+    teller.notes.other = key.name.number;
+    teller.tell_name(Message::KeyOfAnother, region);
+    explain_region(teller, region);
     explain_key(teller, scope, key);
 }
 
 /// The words for an alias, whose type is that of its source but for the region.
 pub(crate) fn explain_alias(
-    teller: &mut Teller<'_>,
+    teller: &mut Teller,
     scope: &Scope<'_>,
     region: Ident,
     written: &WrittenType,
@@ -194,59 +123,47 @@ pub(crate) fn explain_alias(
             ..
         } => {
             explain_lent_type(teller, scope, region, written, of_type);
-            let parts = [
-                Part::Name(source),
-                Part::Given(Given::Value(of_type)),
-                Part::Name(source),
-            ];
             if let Lvalue::Global { .. } = target {
-                let text =
-                    "% is a global: only a local is lent\nhint: swap it into a variable by :=: first";
-                teller.say_of(Code::UniqueShared, source.span, text, &parts);
+                teller.tell_name(Message::GlobalLent, source);
             }
-            if !is_unique(of_type) {
-                let text =
-                    "% is no unique pointer: found %\nhint: only a unique pointer is lent: use % itself";
-                teller.say_of(Code::RegionOrKeyMisused, source.span, text, &parts);
+            if !is_unique(of_type) && teller.find_type(of_type.share().ok()) {
+                teller.tell_name(Message::LentNotUnique, source);
             }
         }
         _ => {
             explain_name(teller, scope, source);
-            let text = "% is no unique pointer";
-            let parts = [Part::Name(source)];
-            teller.say_of(Code::RegionOrKeyMisused, source.span, text, &parts);
+            teller.tell_name(Message::LentNoPointer, source);
         }
+    }
+}
+
+/// The type of an alias with this region of a pointer of this type.
+fn type_lent(of_type: &Ty, region: Region) -> Option<Ty> {
+    match of_type.share() {
+        Ok(Ty::Pointer { kind, target, .. }) => Some(Ty::Pointer {
+            kind,
+            target,
+            region,
+        }),
+        _ => None,
     }
 }
 
 /// The words for the type of an alias of a unique pointer of this type.
 fn explain_lent_type(
-    teller: &mut Teller<'_>,
+    teller: &mut Teller,
     scope: &Scope<'_>,
     region: Ident,
     written: &WrittenType,
     of_type: &Ty,
 ) {
-    if !teller.is_fault(Code::TypeMismatch, written.span) {
-        return;
-    }
-    if let (Ok(Ty::Pointer { kind, target, .. }), Some(found)) = (
-        of_type.share(),
-        type_here(scope, written, region_of_type(of_type)),
-    ) {
-        let wanted = Ty::Pointer {
-            kind,
-            target,
-            region: region_of(scope.names(), region),
-        };
-        let parts = [
-            Part::Given(Given::Value(&wanted)),
-            Part::Given(Given::Value(&found)),
-        ];
-        teller.say("expected %, found %", &parts);
-        teller.hint(
-            "an alias has its source's type, with its own region in place of `U",
-            &[],
-        );
+    let span = written.span;
+    if teller.is_fault(Code::TypeMismatch, span) {
+        let own = region_of(scope.names(), region);
+        if teller.want_type(type_lent(of_type, own)) {
+            if teller.find_type(type_here(scope, written, region_of_type(of_type))) {
+                teller.tell(Message::AliasType, span);
+            }
+        }
     }
 }

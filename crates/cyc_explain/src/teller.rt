@@ -1,27 +1,16 @@
-//! Lines of words: a text, in whose gaps names, places, regions and types stand as a program writes them. Where memory runs out nothing is
-//! said. No call here stops, so who says something has no way out.
-use crate::homes::{Home, Homes, Origin};
-use cyc_forms::Given;
-use cyc_syntax::{BaseType, Declaration, Ident, Name, PointerKind, Tree, WrittenType};
+//! Who says why a program is refused: once, where its fault stands. What the words name is noted before.
+use crate::homes::Homes;
+use crate::lexicon::{Lexicon, NO_NAME};
+use crate::messages::{Message, code_of, text_of};
+use crate::words::{Notes, Words};
+use cyc_check::value_type;
+use cyc_scope::Scope;
+use cyc_syntax::{Expr, Ident, Tree};
+use cyc_types::typed::ValueType;
 use cyc_types::{Region, Ty};
 use cyc_words::{Code, Fault, Span};
 use std::alloc::Global;
-
-/// What a gap is filled with.
-#[derive(Clone, Copy)]
-pub(crate) enum Part<'a> {
-    Text(&'a str),
-    Number(usize),
-    Place(Span),
-    Name(Ident),
-    Given(Given<'a>),
-    /// A type as it is written, in which what is left out is the heap.
-    Written(&'a WrittenType),
-    /// A region of the function at hand, by its name or else by its place.
-    Region(Region),
-    /// The same of a function that is called, as its own head names it.
-    Theirs(Region),
-}
+use std::mem::replace;
 
 /// The end of a block that opens the dynamic region of this name.
 #[derive(Clone, Copy)]
@@ -32,67 +21,60 @@ pub(crate) struct Ending {
 
 /// The lines that are said of a fault, and what they name.
 #[derive(Drop)]
-pub(crate) struct Teller<'t> {
+pub(crate) struct Teller {
     pub(crate) alloc: Global,
-    pub(crate) tree: &'t Tree,
     pub(crate) fault: Fault,
-    /// The function at hand, if there is one.
-    pub(crate) function: Option<Ident>,
-    /// Its regions, and those of a function that is called.
-    pub(crate) homes: Homes,
-    pub(crate) theirs: Homes,
-    /// Where the block ends that stands around what is next.
-    pub(crate) block_end: Option<Span>,
+    pub(crate) notes: Notes,
+    /// What is said of the name of a region that is not in scope.
+    pub(crate) unknown: Message,
     /// Where blocks end that open a dynamic region.
     pub(crate) endings: Vec<Ending>,
-    bytes: Vec<u8>,
+    pub(crate) words: Words,
+    /// What was declared in the same scope, where something is declared twice.
+    pub(crate) declared: Vec<Ident>,
     /// Whether memory did not run out.
     pub(crate) is_whole: bool,
 }
 
-fn mark_of(kind: PointerKind) -> &'static str {
-    match kind {
-        PointerKind::Nullable => " *",
-        PointerKind::NonNull => " @",
-        PointerKind::Fat => " ?",
-    }
-}
-
-/// The name of the struct of this number.
-fn struct_name(declarations: &[Declaration], number: usize) -> Option<Ident> {
-    let mut before = 0usize;
-    for declaration in declarations {
-        if let Declaration::Struct { name, .. } = declaration {
-            if before == number {
-                return Some(*name);
-            }
-            before = before.saturating_add(1);
-        }
-    }
-    None
-}
-
-impl<'t> Teller<'t> {
-    pub(crate) fn new(alloc: Global, tree: &'t Tree, fault: Fault) -> Teller<'t> {
+impl Teller {
+    pub(crate) fn new(alloc: Global, tree: &Tree, fault: Fault) -> Teller {
+        let region = Region::Heap;
         Teller {
             alloc,
-            tree,
             fault,
-            function: None,
-            homes: Homes::new(alloc),
-            theirs: Homes::new(alloc),
-            block_end: None,
+            notes: Notes {
+                lexicon: Lexicon::of(alloc, tree),
+                function: NO_NAME,
+                homes: Homes::new(alloc),
+                theirs: Homes::new(alloc),
+                name: NO_NAME,
+                other: NO_NAME,
+                place: Span { line: 0, column: 0 },
+                found: None,
+                wanted: None,
+                regions: (region, region),
+                their_regions: (region, region),
+                counts: (0, 0),
+                text: "",
+            },
+            unknown: Message::UnknownInHead,
             endings: Vec::new(alloc),
-            bytes: Vec::new(alloc),
+            declared: Vec::new(alloc),
+            words: Words {
+                bytes: Vec::new(alloc),
+                is_whole: true,
+            },
             is_whole: true,
         }
     }
 
-    /// What was said, if anything was.
-    pub(crate) fn into_words(self) -> Option<Vec<u8>> {
-        let is_whole = self.is_whole && self.homes.is_whole && self.theirs.is_whole;
-        if is_whole && !self.bytes.is_empty() {
-            Some(self.bytes)
+    /// Takes what was said, if anything was.
+    pub(crate) fn take_words(&mut self) -> Option<Vec<u8>> {
+        let is_known = self.notes.lexicon.is_whole && self.notes.homes.is_whole;
+        let is_said = self.words.is_whole && !self.words.bytes.is_empty();
+        if self.is_whole && is_known && self.notes.theirs.is_whole && is_said {
+            let empty = Vec::new(self.alloc);
+            Some(replace(&mut self.words.bytes, empty))
         } else {
             None
         }
@@ -102,7 +84,9 @@ impl<'t> Teller<'t> {
 
     /// Whether the fault stands at this place, and nothing was said of it yet.
     pub(crate) fn is_at(&self, span: Span) -> bool {
-        self.fault.line == span.line && self.fault.column == span.column && self.bytes.is_empty()
+        self.fault.line == span.line
+            && self.fault.column == span.column
+            && self.words.bytes.is_empty()
     }
 
     /// Whether the fault is this one, and nothing was said of it yet.
@@ -116,205 +100,100 @@ impl<'t> Teller<'t> {
         span.line < fault.line || span.line == fault.line && span.column <= fault.column
     }
 
-    /// Notes that the block around what is next opens the dynamic region of this name.
-    pub(crate) fn note_opened(&mut self, name: Ident) {
-        if let Some(span) = self.block_end {
-            let ending = Ending {
-                name: name.name.number,
-                span,
-            };
-            self.is_whole = self.endings.push(ending).is_ok() && self.is_whole;
+    // ---- what is declared
+
+    /// Notes that a block opens the dynamic region of this name, and where it ends.
+    pub(crate) fn note_opened(&mut self, name: Ident, end: Option<Span>) {
+        if let Some(span) = end {
+            let name = name.name.number;
+            self.is_whole = self.endings.push(Ending { name, span }).is_ok() && self.is_whole;
         }
     }
 
-    // ---- texts
-
-    /// Says a text, in which each `%` is a gap that the next part fills.
-    pub(crate) fn say(&mut self, text: &str, parts: &[Part<'_>]) {
-        let mut next = 0usize;
-        for byte in text.as_bytes() {
-            if *byte == b'%' {
-                if let Some(part) = parts.get(next) {
-                    self.say_part(*part);
-                }
-                next = next.saturating_add(1);
-            } else {
-                self.put(&[*byte]);
+    /// Declares a name, and says where it is declared already, if that is the fault.
+    pub(crate) fn declare(&mut self, name: Ident) {
+        if self.is_fault(Code::DeclaredTwice, name.span) {
+            if let Some(first) = first_of(&self.declared, name) {
+                self.notes.place = first;
+                self.tell_name(Message::FirstDeclared, name);
             }
         }
+        if self.fault.code == Code::DeclaredTwice {
+            self.is_whole = self.declared.push(name).is_ok() && self.is_whole;
+        }
     }
 
-    /// The same, where this fault is at hand.
-    pub(crate) fn say_of(&mut self, code: Code, span: Span, text: &str, parts: &[Part<'_>]) {
-        if self.is_fault(code, span) {
-            self.say(text, parts);
+    // ---- what is said
+
+    /// Says a message, if the fault at this place is what it is about.
+    pub(crate) fn tell(&mut self, message: Message, span: Span) {
+        if self.is_fault(code_of(message), span) {
+            self.say(text_of(message));
         }
+    }
+
+    /// The same of a name that stands at the fault.
+    pub(crate) fn tell_name(&mut self, message: Message, name: Ident) {
+        if self.is_at(name.span) {
+            self.notes.name = name.name.number;
+            self.tell(message, name.span);
+        }
+    }
+
+    /// Says a text, with its gaps.
+    pub(crate) fn say(&mut self, text: &str) {
+        self.words.say(&self.notes, text);
     }
 
     /// Says what to do, if there is anything, in place of what is said of the fault's code.
-    pub(crate) fn hint(&mut self, text: &str, parts: &[Part<'_>]) {
-        if text.is_empty() {
-            return;
-        }
-        if !self.bytes.is_empty() {
-            self.put(b"\n");
-        }
-        self.put(b"hint: ");
-        self.say(text, parts);
-    }
-
-    fn put(&mut self, bytes: &[u8]) {
-        if self.bytes.extend_from_slice(bytes).is_err() {
-            self.is_whole = false;
+    pub(crate) fn hint(&mut self, text: &str) {
+        if !text.is_empty() {
+            self.say("\nhint: ");
+            self.say(text);
         }
     }
 
-    fn put_number(&mut self, number: usize) {
-        match format!(in self.alloc; "{number}") {
-            Ok(text) => self.put(text.as_bytes()),
-            Err(_) => self.is_whole = false,
-        }
+    /// Says a message on how many there are.
+    pub(crate) fn say_count(&mut self, message: Message, wanted: usize, found: usize) {
+        self.notes.counts = (wanted, found);
+        self.say(text_of(message));
     }
 
-    fn put_place(&mut self, span: Span) {
-        self.put_number(span.line as usize);
-        self.put(b":");
-        self.put_number(span.column as usize);
+    // ---- what is found and wanted
+
+    /// Notes the type of an expression as what is found, whose value is used or only looked at; whether it is known.
+    pub(crate) fn find(&mut self, scope: &mut Scope<'_>, value: &Expr, is_looked_at: bool) -> bool {
+        self.notes.found = value_type(scope, value, is_looked_at);
+        self.notes.found.is_some()
     }
 
-    fn put_name(&mut self, number: usize) {
-        let names = &self.tree.names;
-        if number < names.len() {
-            self.put(names.text(Name { number }));
-        }
+    /// Notes a type as what is found.
+    pub(crate) fn find_type(&mut self, of_type: Option<Ty>) -> bool {
+        self.notes.found = value_of(of_type);
+        self.notes.found.is_some()
     }
 
-    fn say_part(&mut self, part: Part<'_>) {
-        match part {
-            Part::Text(text) => self.put(text.as_bytes()),
-            Part::Number(number) => self.put_number(number),
-            Part::Place(span) => self.put_place(span),
-            Part::Name(name) => self.put_name(name.name.number),
-            Part::Given(Given::Void) => self.put(b"no value"),
-            Part::Given(Given::Null) => self.put(b"NULL"),
-            Part::Given(Given::Int) => self.put(b"int"),
-            Part::Given(Given::Char) => self.put(b"char"),
-            Part::Given(Given::HeapHandle) => self.put(b"region_t<`H>"),
-            Part::Given(Given::Value(of_type)) => self.say_type(of_type),
-            Part::Written(written) => self.say_written(written),
-            Part::Region(region) => {
-                let home = self.homes.find(region);
-                self.say_region(region, home);
-            }
-            Part::Theirs(region) => {
-                let home = self.theirs.find(region);
-                self.say_region(region, home);
-            }
+    /// Notes a type as what is wanted.
+    pub(crate) fn want_type(&mut self, of_type: Option<Ty>) -> bool {
+        self.notes.wanted = value_of(of_type);
+        self.notes.wanted.is_some()
+    }
+}
+
+/// A value of a type that is known.
+fn value_of(of_type: Option<Ty>) -> Option<ValueType> {
+    match of_type {
+        Some(of_type) => Some(ValueType::Value { of_type }),
+        None => None,
+    }
+}
+
+/// Where the first of these names stands that is this one.
+fn first_of(declared: &[Ident], name: Ident) -> Option<Span> {
+    for first in declared {
+        if first.name == name.name {
+            return Some(first.span);
         }
     }
-
-    // ---- regions and types
-
-    /// A region by its name, or else by its place.
-    fn say_region(&mut self, region: Region, home: Option<Home>) {
-        match home {
-            Some(
-                Home {
-                    name: None,
-                    origin,
-                    span,
-                    ..
-                },
-            ) => {
-                let text = match origin {
-                    Origin::Block => "the region that begins at ",
-                    _ => "a region left out at ",
-                };
-                self.put(text.as_bytes());
-                self.put_place(span);
-            }
-            _ => self.say_named(region, home),
-        }
-    }
-
-    /// A region by its name, if it has one.
-    fn say_named(&mut self, region: Region, home: Option<Home>) {
-        match region {
-            Region::Heap => self.put(b"`H"),
-            Region::Unique => self.put(b"`U"),
-            Region::Variable(_) => {
-                if let Some(home) = home {
-                    if let Some(name) = home.name {
-                        self.put(b"`");
-                        self.put_name(name);
-                    }
-                }
-            }
-        }
-    }
-
-    /// The regions of a type between these texts.
-    fn say_arguments(&mut self, open: &str, regions: &[Region], close: &str) {
-        self.put(open.as_bytes());
-        for i in 0..regions.len() {
-            if i > 0 {
-                self.put(b",");
-            }
-            let home = self.homes.find(regions[i]);
-            self.say_named(regions[i], home);
-        }
-        self.put(close.as_bytes());
-    }
-
-    /// A type as it is written, where a region without a name is left out.
-    fn say_type(&mut self, of_type: &Ty) {
-        match of_type {
-            Ty::Int => self.put(b"int"),
-            Ty::Char => self.put(b"char"),
-            Ty::Pointer {
-                kind,
-                target,
-                region,
-            } => {
-                self.say_type(target);
-                self.say_arguments(mark_of(*kind), &[*region], "");
-            }
-            Ty::Handle { region } => self.say_arguments("region_t<", &[*region], ">"),
-            Ty::Key { region } => self.say_arguments("uregion_key_t<", &[*region], ">"),
-            Ty::Struct { number, regions } => {
-                self.put(b"struct ");
-                if let Some(name) = struct_name(&self.tree.declarations, *number) {
-                    self.put_name(name.name.number);
-                }
-                if !regions.is_empty() {
-                    self.say_arguments("<", regions, ">");
-                }
-            }
-        }
-    }
-
-    /// A type as it is written, in which what is left out is the heap.
-    fn say_written(&mut self, written: &WrittenType) {
-        match &written.base {
-            BaseType::Int => self.put(b"int"),
-            BaseType::Char => self.put(b"char"),
-            BaseType::Struct { name, .. } => {
-                self.put(b"struct ");
-                self.put_name(name.name.number);
-            }
-            BaseType::Handle { region } | BaseType::Key { region } => {
-                self.put(b"region_t<`");
-                self.put_name(region.name.number);
-                self.put(b">");
-            }
-        }
-        for mark in &written.marks {
-            self.put(mark_of(mark.kind).as_bytes());
-            self.put(b"`");
-            match mark.region {
-                Some(region) => self.put_name(region.name.number),
-                None => self.put(b"H"),
-            }
-        }
-    }
+    None
 }

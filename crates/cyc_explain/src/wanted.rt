@@ -1,23 +1,14 @@
 //! What is asked of one value, and how that is said.
 use crate::conversions::explain_closed;
-use crate::teller::{Part, Teller};
-use cyc_check::value_type;
-use cyc_forms::types::{is_key, is_struct, is_unique};
-use cyc_forms::{Given, span_of};
+use crate::messages::Message;
+use crate::teller::Teller;
+use crate::words::given;
+use cyc_forms::Given;
+use cyc_forms::types::is_struct;
 use cyc_scope::Scope;
-use cyc_syntax::{BinaryOperator, Expr, PointerKind, PrefixOperator};
+use cyc_syntax::{BinaryOperator, PointerKind, PrefixOperator};
 use cyc_types::Ty;
-use cyc_types::typed::ValueType;
 use cyc_words::{Code, Span};
-
-/// What the rules ask of a type.
-pub(crate) fn given(value: &ValueType) -> Given<'_> {
-    match value {
-        ValueType::Void => Given::Void,
-        ValueType::Null => Given::Null,
-        ValueType::Value { of_type } => Given::Value(of_type),
-    }
-}
 
 #[derive(Clone, Copy)]
 pub(crate) enum Wanted {
@@ -85,21 +76,11 @@ impl Wanted {
 
     /// What to do about a value of another type, if there is anything to say.
     fn advice(self, given: Given<'_>) -> &'static str {
-        if given.is_void() {
-            "a function that returns no value is called by itself"
-        } else if given.is_pointer() {
-            self.advice_on_pointer(given)
-        } else if matches!(given, Given::Null) {
-            self.advice_on_null()
-        } else {
-            ""
-        }
-    }
-
-    fn advice_on_null(self) -> &'static str {
-        match self {
-            Wanted::Content => "put NULL into a variable of the type first",
-            Wanted::Tested => "compare the pointer with NULL by == or !=",
+        match (self, given) {
+            (_, Given::Void) => "a function that returns no value is called by itself",
+            (Wanted::Content, Given::Null) => "put NULL into a variable of the type first",
+            (Wanted::Tested, Given::Null) => "compare the pointer with NULL by == or !=",
+            _ if given.is_pointer() => self.advice_on_pointer(given),
             _ => "",
         }
     }
@@ -172,63 +153,37 @@ pub(crate) fn wanted_by(operator: BinaryOperator) -> (Wanted, Wanted) {
     }
 }
 
-/// The words where a value at this place is not what is wanted, or its region is not live.
-pub(crate) fn explain_given(
-    teller: &mut Teller<'_>,
+/// The words where the type that is found at this place is not what is wanted, or its region is not live.
+pub(crate) fn explain_found(
+    teller: &mut Teller,
     scope: &Scope<'_>,
     wanted: Wanted,
-    value: Given<'_>,
     span: Span,
 ) {
-    if teller.is_fault(Code::TypeMismatch, span) && !wanted.allows(value) {
-        teller.say(
-            "expected %, found %",
-            &[Part::Text(wanted.text()), Part::Given(value)],
-        );
-        teller.hint(wanted.advice(value), &[]);
+    let found = given(&teller.notes.found);
+    if teller.is_fault(Code::TypeMismatch, span) && !wanted.allows(found) {
+        let advice = wanted.advice(found);
+        teller.notes.text = wanted.text();
+        teller.tell(Message::NotWanted, span);
+        teller.hint(advice);
     }
-    let parts = [Part::Given(value)];
-    let text = match wanted {
-        Wanted::Freed => {
-            "ufree takes a unique pointer (`U), found %\nhint: make the object by rnew(unique_region) if it is to be given back"
-        }
-        _ => {
-            "no object holds a key, found %\nhint: keep the key in a variable, a parameter or a result"
-        }
+    let misused = match wanted {
+        Wanted::Freed => Message::FreedNotUnique,
+        _ => Message::KeyInObject,
     };
-    teller.say_of(Code::RegionOrKeyMisused, span, text, &parts);
-    explain_closed(teller, scope, value, span);
+    teller.tell(misused, span);
+    explain_closed(teller, scope, span);
 }
 
-/// The words where an operand is not what is wanted.
-pub(crate) fn explain_value(
-    teller: &mut Teller<'_>,
-    scope: &mut Scope<'_>,
-    expression: &Expr,
-    wanted: Wanted,
-) {
-    let span = span_of(expression);
-    if teller.is_at(span) && !matches!(wanted, Wanted::Nothing) {
-        if let Some(value) = value_type(scope, expression, wanted.is_looked_at()) {
-            explain_given(teller, scope, wanted, given(&value), span);
-        }
+/// The words for a cell of the type that is found, where it is read at this place and is a struct or a unique pointer.
+pub(crate) fn explain_content(teller: &mut Teller, span: Span) {
+    let found = given(&teller.notes.found);
+    let is_struct = matches!(found, Given::Value(Ty::Struct { .. }));
+    let is_unique = found.is_unique() || found.is_key();
+    if is_struct {
+        teller.tell(Message::StructRead, span);
     }
-}
-
-/// The words for a cell of this type that is read at this place, where it is a struct or a unique pointer.
-pub(crate) fn explain_content(teller: &mut Teller<'_>, of_type: &Ty, span: Span) {
-    if is_struct(of_type) {
-        let parts = [Part::Given(Given::Value(of_type))];
-        teller.say_of(
-            Code::TypeMismatch,
-            span,
-            "expected a value, found %\nhint: a struct is no value: read a field by ->",
-            &parts,
-        );
-    }
-    if is_unique(of_type) || is_key(of_type) {
-        let parts = [Part::Given(Given::Value(of_type))];
-        let text = "found %, which stays where it is: no second pointer leads to a unique object";
-        teller.say_of(Code::UniqueShared, span, text, &parts);
+    if is_unique {
+        teller.tell(Message::UniqueStays, span);
     }
 }

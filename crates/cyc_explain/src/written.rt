@@ -1,108 +1,68 @@
 //! Words for types as they are written.
-use crate::names::explain_own_region;
-use crate::teller::{Part, Teller};
-use cyc_syntax::{BaseType, Declaration, Ident, PointerKind, WrittenType};
+use crate::messages::Message;
+use crate::names::explain_region;
+use crate::teller::Teller;
+use cyc_syntax::{BaseType, Ident, PointerKind, WrittenType};
 use cyc_words::Code;
 
-/// How many region parameters the struct of this name has.
-fn region_count(declarations: &[Declaration], name: Ident) -> Option<usize> {
-    for declaration in declarations {
-        if let Declaration::Struct {
-            name: own,
-            regions,
-            ..
-        } = declaration
-        {
-            if own.name == name.name {
-                return Some(regions.len());
-            }
+/// The words for a struct that is written with another number of regions than it has.
+fn explain_number(teller: &mut Teller, name: Ident, found: usize) {
+    if let Some(count) = teller.notes.lexicon.region_count(name) {
+        if found > 0 && found != count {
+            teller.say_count(Message::RegionCount, count, found);
         }
     }
-    None
-}
-
-/// The words for another number of things at the fault than is wanted.
-pub(crate) fn say_count(teller: &mut Teller<'_>, wanted: usize, found: usize, thing: &str) {
-    let parts = [
-        Part::Number(wanted),
-        Part::Text(thing),
-        Part::Text(if wanted == 1 { "" } else { "s" }),
-        Part::Number(found),
-    ];
-    teller.say(
-        "expected % %%, found %\nhint: give as many as are wanted",
-        &parts,
-    );
 }
 
 /// What a type is that nothing has.
-fn explain_shape(teller: &mut Teller<'_>, written: &WrittenType) {
+fn explain_shape(teller: &mut Teller, written: &WrittenType) {
     match &written.base {
         BaseType::Int | BaseType::Char | BaseType::Handle { .. } => {}
         BaseType::Key { .. } => {
             if !written.marks.is_empty() {
-                teller.say(
-                    "no pointer leads to a key\nhint: pass the key itself, which gives it away",
-                    &[],
-                );
+                teller.tell(Message::PointerToKey, written.span);
             }
         }
         BaseType::Struct { name, regions } => {
-            if let Some(count) = region_count(&teller.tree.declarations, *name) {
-                if !regions.is_empty() && regions.len() != count {
-                    say_count(teller, count, regions.len(), "region");
-                    return;
-                }
-            }
+            explain_number(teller, *name, regions.len());
             if !matches!(written.marks.first(), Some(mark) if mark.kind != PointerKind::Fat) {
-                let text =
-                    "% is a struct: only a * or @ pointer to it is a type\nhint: make the struct by new and keep a pointer: struct % @p = new %{..};";
-                let parts = [Part::Name(*name), Part::Name(*name), Part::Name(*name)];
-                teller.say(text, &parts);
+                teller.notes.name = name.name.number;
+                teller.tell(Message::StructAlone, written.span);
             }
         }
     }
 }
 
-/// The words for a region in a type. `unknown` says what one is that is not in scope there, and `misused` one that may not stand there.
-pub(crate) fn explain_region(teller: &mut Teller<'_>, name: Ident, unknown: &str, misused: &str) {
-    let parts = [Part::Name(name)];
-    teller.say_of(Code::UnknownName, name.span, unknown, &parts);
-    teller.say_of(Code::RegionOrKeyMisused, name.span, misused, &parts);
-    explain_own_region(teller, name);
+/// The words for the region arguments of a struct.
+pub(crate) fn explain_arguments(teller: &mut Teller, regions: &[Ident]) {
+    for region in regions {
+        explain_region(teller, *region);
+        teller.tell_name(Message::NoArgument, *region);
+    }
+}
+
+/// The words for a region of a type in front of its marks.
+fn explain_base(teller: &mut Teller, base: &BaseType) {
+    match base {
+        BaseType::Int | BaseType::Char => {}
+        BaseType::Struct { regions, .. } => explain_arguments(teller, regions),
+        BaseType::Handle { region } => {
+            explain_region(teller, *region);
+            teller.tell_name(Message::NoHandle, *region);
+        }
+        BaseType::Key { region } => {
+            explain_region(teller, *region);
+            teller.tell_name(Message::AlwaysOpen, *region);
+        }
+    }
 }
 
 /// The words for a written type that is none.
-pub(crate) fn explain_written(teller: &mut Teller<'_>, written: &WrittenType, unknown: &str) {
-    match &written.base {
-        BaseType::Int | BaseType::Char => {}
-        BaseType::Struct { regions, .. } => {
-            for region in regions {
-                explain_region(
-                    teller,
-                    *region,
-                    unknown,
-                    "no struct has `% as a region argument\nhint: name another region, or leave the regions out for `H",
-                );
-            }
-        }
-        BaseType::Handle { region } => {
-            let misused =
-                "`% has no handle but the name unique_region\nhint: write rnew(unique_region) where the object is made";
-            explain_region(teller, *region, unknown, misused);
-        }
-        BaseType::Key { region } => {
-            explain_region(
-                teller,
-                *region,
-                unknown,
-                "`% is always open, and has no key\nhint: name a dynamic region",
-            );
-        }
-    }
+pub(crate) fn explain_written(teller: &mut Teller, written: &WrittenType) {
+    explain_base(teller, &written.base);
     for mark in &written.marks {
         if let Some(region) = mark.region {
-            explain_region(teller, region, unknown, "");
+            explain_region(teller, region);
         }
     }
     if teller.is_fault(Code::TypeMismatch, written.span) {

@@ -1,0 +1,329 @@
+//! The forms of a body in the order of its text, each behind its parts, as a list: so what asks them knows of no order and calls itself
+//! nowhere.
+use crate::wanted::{Wanted, wanted_by, wanted_of};
+use cyc_forms::span_of;
+use cyc_syntax::{
+    Block, Clause, Expr, Ident, Initial, Item, Operation, Postfix, Stmt, WrittenType,
+};
+use cyc_words::Span;
+use std::alloc::Global;
+
+/// More forms than any text has.
+const MOST: usize = 1_000_000;
+
+/// What becomes of the value of an expression.
+#[derive(Clone, Copy)]
+pub(crate) enum Role<'b> {
+    /// It is what this asks for.
+    Operand(Wanted),
+    /// It is assigned to this place.
+    Assigned(&'b Expr),
+    /// It is put into a local of this type.
+    Local(&'b WrittenType),
+    Returned,
+    /// It is put into the field of this number, of a struct of this name with these regions.
+    Field(Ident, &'b [Ident], usize),
+    /// It is the argument of this number, of a call of this name with these.
+    Argument(Ident, &'b [Expr], usize),
+}
+
+/// What may ask something, its parts apart.
+#[derive(Clone, Copy)]
+pub(crate) enum Form<'b> {
+    Expression {
+        expression: &'b Expr,
+        role: Role<'b>,
+    },
+    /// A statement, and where the block around it ends; that of a function is not asked for.
+    Statement {
+        statement: &'b Stmt,
+        end: Option<Span>,
+    },
+    Item {
+        item: &'b Item,
+        end: Option<Span>,
+    },
+    /// A block, in front of its items.
+    Items {
+        items: &'b [Item],
+    },
+    /// A clause, in front of its items.
+    Clause {
+        clause: &'b Clause,
+    },
+    /// A block that begins, in front of its items: its name, or else its place.
+    Begin {
+        label: Option<Ident>,
+        span: Span,
+    },
+}
+
+/// A list of forms that is being made.
+#[derive(Drop)]
+pub(crate) struct Forms<'b> {
+    /// What is still to be taken apart, the next one last.
+    pending: Vec<Form<'b>>,
+    /// What was taken apart: each form before its parts, and these from the last one to the first.
+    pub(crate) listed: Vec<Form<'b>>,
+    /// Whether memory did not run out, so that none is left out.
+    pub(crate) is_whole: bool,
+}
+
+/// The forms of a function's body.
+pub(crate) fn forms_of<'b>(alloc: Global, body: &'b Block) -> Forms<'b> {
+    let mut forms = Forms {
+        pending: Vec::new(alloc),
+        listed: Vec::new(alloc),
+        is_whole: true,
+    };
+    forms.add_items(&body.items, None);
+    for _ in 0..MOST {
+        match forms.pending.pop() {
+            Some(form) => forms.take(form),
+            None => return forms,
+        }
+    }
+    forms
+}
+
+impl<'b> Forms<'b> {
+    /// Lists a form, and adds its parts to what is pending.
+    fn take(&mut self, form: Form<'b>) {
+        self.is_whole = self.listed.push(form).is_ok() && self.is_whole;
+        match form {
+            Form::Expression { expression, .. } => self.add_parts(expression),
+            Form::Statement { statement, end } => self.add_inner(statement, end),
+            Form::Item { item, end } => self.add_in_item(item, end),
+            Form::Items { .. } | Form::Clause { .. } | Form::Begin { .. } => {}
+        }
+    }
+
+    fn add(&mut self, form: Form<'b>) {
+        self.is_whole = self.pending.push(form).is_ok() && self.is_whole;
+    }
+
+    // ---- items
+
+    fn add_items(&mut self, items: &'b [Item], end: Option<Span>) {
+        self.add(Form::Items { items });
+        for item in items {
+            self.add(Form::Item { item, end });
+        }
+    }
+
+    /// Adds the parts of an item.
+    fn add_in_item(&mut self, item: &'b Item, end: Option<Span>) {
+        match item {
+            Item::Statement { statement } => self.add(Form::Statement { statement, end }),
+            Item::Local {
+                of_type,
+                value: Some(value),
+                ..
+            } => self.add_expression(value, Role::Local(of_type)),
+            _ => {}
+        }
+    }
+
+    // ---- statements
+
+    /// Adds the parts of a statement.
+    fn add_inner(&mut self, statement: &'b Stmt, end: Option<Span>) {
+        match statement {
+            Stmt::If {
+                condition,
+                then,
+                otherwise,
+                ..
+            } => {
+                self.add_operand(condition, Wanted::Tested);
+                self.add(Form::Statement {
+                    statement: then,
+                    end,
+                });
+                if let Some(statement) = otherwise {
+                    self.add(Form::Statement { statement, end });
+                }
+            }
+            Stmt::While {
+                condition,
+                body,
+                ..
+            } => {
+                self.add_operand(condition, Wanted::Tested);
+                self.add(Form::Statement {
+                    statement: body,
+                    end,
+                });
+            }
+            Stmt::Try {
+                span,
+                body,
+                clauses,
+                default,
+            } => {
+                self.add(Form::Statement {
+                    statement: body,
+                    end,
+                });
+                self.add_clauses(clauses, end);
+                if let Some(items) = default {
+                    self.add_default(items, *span, end);
+                }
+            }
+            _ => self.add_plain(statement),
+        }
+    }
+
+    /// Adds the parts of a statement that has no other in it, or a block of them.
+    fn add_plain(&mut self, statement: &'b Stmt) {
+        match statement {
+            Stmt::Block { block } => self.add_block(None, block),
+            Stmt::Labelled { label, block } => self.add_block(Some(*label), block),
+            Stmt::Expression { value } => self.add_operand(value, Wanted::Nothing),
+            Stmt::Swap { left, right } => {
+                self.add_operand(left, Wanted::Nothing);
+                self.add_operand(right, Wanted::Nothing);
+            }
+            Stmt::Return {
+                value: Some(value),
+                ..
+            } => self.add_expression(value, Role::Returned),
+            Stmt::Throw {
+                value: Some(value),
+                ..
+            } => self.add_operand(value, Wanted::Int),
+            _ => {}
+        }
+    }
+
+    fn add_block(&mut self, label: Option<Ident>, block: &'b Block) {
+        self.add(Form::Begin {
+            label,
+            span: block.span,
+        });
+        self.add_items(&block.items, Some(block.end));
+    }
+
+    fn add_clauses(&mut self, clauses: &'b [Clause], end: Option<Span>) {
+        for clause in clauses {
+            self.add(Form::Clause { clause });
+            self.add_items(&clause.items, end);
+        }
+    }
+
+    /// Adds the items of the default clause of a statement at this place.
+    fn add_default(&mut self, items: &'b [Item], around: Span, end: Option<Span>) {
+        let span = start_of(items, around);
+        self.add(Form::Begin { label: None, span });
+        self.add_items(items, end);
+    }
+
+    // ---- expressions
+
+    fn add_expression(&mut self, expression: &'b Expr, role: Role<'b>) {
+        self.add(Form::Expression { expression, role });
+    }
+
+    fn add_operand(&mut self, expression: &'b Expr, wanted: Wanted) {
+        self.add_expression(expression, Role::Operand(wanted));
+    }
+
+    /// Adds the parts of an expression.
+    fn add_parts(&mut self, expression: &'b Expr) {
+        match expression {
+            Expr::Call {
+                function,
+                arguments,
+            } => self.add_arguments(*function, arguments),
+            Expr::Bracketed { inner, .. } => self.add_operand(inner, Wanted::Nothing),
+            Expr::NumberOfElements { pointer, .. } => self.add_operand(pointer, Wanted::Fat),
+            Expr::LowByteOf { value, .. } => self.add_operand(value, Wanted::Int),
+            Expr::FreeUnique { pointer, .. } => self.add_operand(pointer, Wanted::Freed),
+            Expr::Chained { base, postfixes } => {
+                self.add_operand(base, Wanted::Nothing);
+                self.add_indices(postfixes);
+            }
+            Expr::Prefixed {
+                operator,
+                operand,
+                ..
+            } => self.add_operand(operand, wanted_of(*operator)),
+            Expr::New { value, .. } => self.add_initial(value),
+            Expr::RegionNew { region, value, .. } => {
+                self.add_operand(region, Wanted::Handle);
+                self.add_initial(value);
+            }
+            Expr::Binary { first, rest } => {
+                self.add_operand(first, Wanted::Nothing);
+                self.add_operands(rest);
+            }
+            Expr::Assign { target, value } => {
+                self.add_operand(target, Wanted::Nothing);
+                self.add_expression(value, Role::Assigned(target));
+            }
+            _ => {}
+        }
+    }
+
+    fn add_arguments(&mut self, function: Ident, arguments: &'b [Expr]) {
+        let mut number = 0usize;
+        for argument in arguments {
+            self.add_expression(argument, Role::Argument(function, arguments, number));
+            number = number.saturating_add(1);
+        }
+    }
+
+    fn add_fields(&mut self, name: Ident, regions: &'b [Ident], values: &'b [Expr]) {
+        let mut number = 0usize;
+        for value in values {
+            self.add_expression(value, Role::Field(name, regions, number));
+            number = number.saturating_add(1);
+        }
+    }
+
+    fn add_indices(&mut self, postfixes: &'b [Postfix]) {
+        for postfix in postfixes {
+            if let Postfix::Index { index } = postfix {
+                self.add_operand(index, Wanted::Int);
+            }
+        }
+    }
+
+    fn add_operands(&mut self, operations: &'b [Operation]) {
+        for operation in operations {
+            self.add_operand(&operation.operand, wanted_by(operation.operator).1);
+        }
+    }
+
+    fn add_initial(&mut self, initial: &'b Initial) {
+        match initial {
+            Initial::Plain { value } => self.add_operand(value, Wanted::Content),
+            Initial::Fields {
+                name,
+                regions,
+                values,
+            } => self.add_fields(*name, regions, values),
+            Initial::Array {
+                length,
+                element,
+                ..
+            } => {
+                self.add_operand(length, Wanted::Int);
+                self.add_operand(element, Wanted::Content);
+            }
+        }
+    }
+}
+
+/// Where the items of a default clause begin. The clause has no place of its own; this is where its statement does.
+fn start_of(items: &[Item], around: Span) -> Span {
+    match items.first() {
+        Some(Item::Local { of_type, .. }) => of_type.span,
+        Some(
+            Item::Statement {
+                statement: Stmt::Expression { value },
+            },
+        ) => span_of(value),
+        _ => around,
+    }
+}

@@ -1,0 +1,66 @@
+//! What a new struct asks of its values, in words where that is the fault.
+use crate::messages::Message;
+use crate::names::{Sort, explain_unknown};
+use crate::teller::Teller;
+use crate::written::explain_arguments;
+use cyc_scope::Scope;
+use cyc_syntax::{Ident, Initial};
+use cyc_types::Ty;
+use cyc_types::formation::arguments_or;
+use cyc_words::Code;
+
+/// What stands behind `new` asks, the values in it apart.
+pub(crate) fn explain_made(teller: &mut Teller, scope: &Scope<'_>, initial: &Initial) {
+    if let Initial::Fields {
+        name,
+        regions,
+        values,
+    } = initial
+    {
+        explain_unknown(teller, scope, Sort::Struct, *name);
+        explain_arguments(teller, regions);
+        if teller.is_fault(Code::TypeMismatch, name.span) {
+            explain_counts(teller, scope, *name, regions.len(), values.len());
+        }
+    }
+}
+
+/// The words for a struct of this name with another number of regions or of values, which are these.
+fn explain_counts(
+    teller: &mut Teller,
+    scope: &Scope<'_>,
+    name: Ident,
+    regions: usize,
+    values: usize,
+) {
+    if let Some(count) = scope.structs().parameters(name.name.number) {
+        let number = scope.structs().number(name.name.number);
+        let wanted = scope.fields(number).len();
+        if regions > 0 && regions != count {
+            teller.say_count(Message::RegionCount, count, regions);
+        } else if wanted != values {
+            teller.say_count(Message::ValueCount, wanted, values);
+        }
+    }
+}
+
+/// The type of the field of this number, in a struct of this name with these regions.
+pub(crate) fn field_type(
+    scope: &Scope<'_>,
+    name: Ident,
+    regions: &[Ident],
+    number: usize,
+) -> Option<Ty> {
+    let of_struct = scope.structs().number(name.name.number);
+    let count = scope.structs().parameters(name.name.number);
+    match (count, scope.fields(of_struct).get(number)) {
+        (Some(count), Some(field)) => {
+            let alloc = scope.alloc();
+            match arguments_or(alloc, scope.names(), count, regions) {
+                Ok(arguments) => field.of_type.substituted(alloc, &arguments).ok(),
+                Err(_) => None,
+            }
+        }
+        _ => None,
+    }
+}

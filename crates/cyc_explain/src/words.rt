@@ -1,0 +1,260 @@
+//! Lines of words: a text, in whose gaps names, places, regions and types stand as a program writes them. Where memory runs out nothing is
+//! said. No call here stops, so who says something has no way out.
+use crate::homes::{Home, Homes, Origin};
+use crate::lexicon::{Lexicon, NO_NAME};
+use cyc_forms::Given;
+use cyc_syntax::{BaseType, Ident, PointerKind, WrittenType};
+use cyc_types::typed::ValueType;
+use cyc_types::{Region, Ty};
+use cyc_words::Span;
+
+const DIGITS: &[u8] = b"0123456789";
+
+/// What the gaps of a text are filled with, as it was noted last.
+#[derive(Drop)]
+pub(crate) struct Notes {
+    pub(crate) lexicon: Lexicon,
+    /// The number of the name of the function at hand; no name has that of none.
+    pub(crate) function: usize,
+    /// Its regions, and those of a function that is called.
+    pub(crate) homes: Homes,
+    pub(crate) theirs: Homes,
+    /// The number of a name, and of another one.
+    pub(crate) name: usize,
+    pub(crate) other: usize,
+    pub(crate) place: Span,
+    /// The type that is found, if it is known, and the one that is wanted.
+    pub(crate) found: Option<ValueType>,
+    pub(crate) wanted: Option<ValueType>,
+    /// Two regions of the function at hand, and two of the one that is called.
+    pub(crate) regions: (Region, Region),
+    pub(crate) their_regions: (Region, Region),
+    /// How many are wanted, and how many are found.
+    pub(crate) counts: (usize, usize),
+    pub(crate) text: &'static str,
+}
+
+/// The lines that are said.
+#[derive(Drop)]
+pub(crate) struct Words {
+    pub(crate) bytes: Vec<u8>,
+    /// Whether memory did not run out.
+    pub(crate) is_whole: bool,
+}
+
+/// What the rules ask of a type; one that is not known has no value.
+pub(crate) fn given(value: &Option<ValueType>) -> Given<'_> {
+    match value {
+        Some(ValueType::Value { of_type }) => Given::Value(of_type),
+        Some(ValueType::Null) => Given::Null,
+        Some(ValueType::Void) | None => Given::Void,
+    }
+}
+
+fn mark_of(kind: PointerKind) -> &'static [u8] {
+    match kind {
+        PointerKind::Nullable => b" *",
+        PointerKind::NonNull => b" @",
+        PointerKind::Fat => b" ?",
+    }
+}
+
+fn text_on_place(origin: Origin) -> &'static [u8] {
+    match origin {
+        Origin::Block => b"the region that begins at ",
+        Origin::Caller | Origin::Item | Origin::Dynamic => b"a region left out at ",
+    }
+}
+
+impl Words {
+    // ---- texts
+
+    /// Says a text, in which each `%` and the letter behind it are a gap.
+    pub(crate) fn say(&mut self, notes: &Notes, text: &str) {
+        let mut is_gap = false;
+        for byte in text.as_bytes() {
+            if is_gap {
+                self.fill(notes, *byte);
+            } else if *byte != b'%' {
+                self.put(&[*byte]);
+            }
+            is_gap = !is_gap && *byte == b'%';
+        }
+    }
+
+    /// Fills the gap of this letter.
+    fn fill(&mut self, notes: &Notes, letter: u8) {
+        match letter {
+            b'n' => self.put_name(&notes.lexicon, notes.name),
+            b'o' => self.put_name(&notes.lexicon, notes.other),
+            b'f' => self.put_name(&notes.lexicon, notes.function),
+            b'p' => self.put_place(notes.place),
+            b't' => self.put_value(notes, &notes.found),
+            b'w' => self.put_value(notes, &notes.wanted),
+            b'r' => self.put_of(notes, &notes.homes, notes.regions.0),
+            b's' => self.put_of(notes, &notes.homes, notes.regions.1),
+            b'a' => self.put_of(notes, &notes.theirs, notes.their_regions.0),
+            b'b' => self.put_of(notes, &notes.theirs, notes.their_regions.1),
+            b'c' => self.put_number(notes.counts.0),
+            b'd' => self.put_number(notes.counts.1),
+            b'e' if notes.counts.0 != 1 => self.put(b"s"),
+            b'x' => self.put(notes.text.as_bytes()),
+            _ => {}
+        }
+    }
+
+    fn put(&mut self, bytes: &[u8]) {
+        if self.bytes.extend_from_slice(bytes).is_err() {
+            self.is_whole = false;
+        }
+    }
+
+    /// A number of at most ten digits.
+    fn put_number(&mut self, number: usize) {
+        let mut unit = 1_000_000_000usize;
+        let mut is_begun = false;
+        for _ in 0..10 {
+            let digit = number.checked_div(unit).unwrap_or(0) % 10;
+            is_begun = is_begun || digit > 0 || unit == 1;
+            match DIGITS.get(digit) {
+                Some(byte) if is_begun => self.put(&[*byte]),
+                _ => {}
+            }
+            unit /= 10;
+        }
+    }
+
+    fn put_place(&mut self, span: Span) {
+        self.put_number(span.line as usize);
+        self.put(b":");
+        self.put_number(span.column as usize);
+    }
+
+    /// The name of this number.
+    fn put_name(&mut self, lexicon: &Lexicon, number: usize) {
+        self.put(lexicon.text(number));
+    }
+
+    // ---- regions
+
+    /// A region by its name, or else, where that is asked for, by its place.
+    fn put_region(&mut self, lexicon: &Lexicon, region: Region, home: Option<Home>, is_placed: bool) {
+        match (region, home) {
+            (Region::Heap, _) => self.put(b"`H"),
+            (Region::Unique, _) => self.put(b"`U"),
+            (
+                _,
+                Some(
+                    Home {
+                        name: Some(name),
+                        ..
+                    },
+                ),
+            ) => {
+                self.put(b"`");
+                self.put_name(lexicon, name);
+            }
+            (_, Some(home)) if is_placed => {
+                self.put(text_on_place(home.origin));
+                self.put_place(home.span);
+            }
+            _ => {}
+        }
+    }
+
+    /// A region of the function with these regions.
+    fn put_of(&mut self, notes: &Notes, homes: &Homes, region: Region) {
+        self.put_region(&notes.lexicon, region, homes.find(region), true);
+    }
+
+    /// The regions of a type, one behind the other.
+    fn put_regions(&mut self, notes: &Notes, regions: &[Region]) {
+        let mut is_first = true;
+        for region in regions {
+            if !is_first {
+                self.put(b",");
+            }
+            is_first = false;
+            self.put_region(&notes.lexicon, *region, notes.homes.find(*region), false);
+        }
+    }
+
+    // ---- types
+
+    fn put_value(&mut self, notes: &Notes, value: &Option<ValueType>) {
+        match value {
+            Some(ValueType::Value { of_type }) => self.put_type(notes, of_type),
+            Some(ValueType::Null) => self.put(b"NULL"),
+            Some(ValueType::Void) | None => self.put(b"no value"),
+        }
+    }
+
+    /// A type as it is written, where a region without a name is left out.
+    fn put_type(&mut self, notes: &Notes, of_type: &Ty) {
+        match of_type {
+            Ty::Pointer {
+                kind,
+                target,
+                region,
+            } => {
+                self.put_type(notes, target);
+                self.put(mark_of(*kind));
+                self.put_regions(notes, &[*region]);
+            }
+            _ => self.put_base(notes, of_type),
+        }
+    }
+
+    /// The same of what is no pointer.
+    fn put_base(&mut self, notes: &Notes, of_type: &Ty) {
+        match of_type {
+            Ty::Int | Ty::Pointer { .. } => self.put(b"int"),
+            Ty::Char => self.put(b"char"),
+            Ty::Handle { region } => self.put_listed(notes, b"region_t<", &[*region]),
+            Ty::Key { region } => self.put_listed(notes, b"uregion_key_t<", &[*region]),
+            Ty::Struct { number, regions } => {
+                self.put(b"struct ");
+                self.put_name(&notes.lexicon, notes.lexicon.struct_name(*number));
+                if !regions.is_empty() {
+                    self.put_listed(notes, b"<", regions);
+                }
+            }
+        }
+    }
+
+    fn put_listed(&mut self, notes: &Notes, open: &[u8], regions: &[Region]) {
+        self.put(open);
+        self.put_regions(notes, regions);
+        self.put(b">");
+    }
+
+    /// A type of a global as it is written, in which what is left out is the heap.
+    pub(crate) fn put_written(&mut self, lexicon: &Lexicon, written: &WrittenType) {
+        let (open, name, close) = match &written.base {
+            BaseType::Int => ("int", NO_NAME, ""),
+            BaseType::Char => ("char", NO_NAME, ""),
+            BaseType::Struct { name, .. } => ("struct ", name.name.number, ""),
+            BaseType::Handle { region } | BaseType::Key { region } => {
+                ("region_t<`", region.name.number, ">")
+            }
+        };
+        self.put(open.as_bytes());
+        self.put_name(lexicon, name);
+        self.put(close.as_bytes());
+        for mark in &written.marks {
+            self.put(mark_of(mark.kind));
+            self.put_mark_region(lexicon, mark.region);
+        }
+    }
+
+    /// The region behind a mark.
+    fn put_mark_region(&mut self, lexicon: &Lexicon, region: Option<Ident>) {
+        match region {
+            Some(region) => {
+                self.put(b"`");
+                self.put_name(lexicon, region.name.number);
+            }
+            None => self.put(b"`H"),
+        }
+    }
+}
