@@ -18,7 +18,7 @@ use Rattle.cyc_isa.specs.declared.instr.ExceptionOp.TheVariants.{Syscall}
 use Rattle.cyc_isa.specs.declared.instr.MoveFromOp.{MoveFromOp}
 use Rattle.cyc_isa.specs.declared.instr.MoveFromOp.TheVariants.{High, Low}
 use Rattle.cyc_isa.specs.declared.instr.MultiplyDivideOp.{MultiplyDivideOp}
-use Rattle.cyc_isa.specs.declared.instr.MultiplyDivideOp.TheVariants.{Divide}
+use Rattle.cyc_isa.specs.declared.instr.MultiplyDivideOp.TheVariants.{Divide, Multiply}
 use Rattle.cyc_isa.specs.declared.instr.ArithmeticOp.{ArithmeticOp}
 use Rattle.cyc_isa.specs.declared.instr.ArithmeticOp.TheVariants as arithmetic
 use Rattle.cyc_machine.specs.declared.constants.TheConstants.{ALLOCATE, ARGUMENT, CLOSE_DYNAMIC, CLOSE_LEXICAL, END_FULL, END_RETURNED, END_UNCAUGHT, FREE, GET_BYTE, OPEN_DYNAMIC, OPEN_LEXICAL, PUT_BYTE, RETURN_ADDRESS, SECOND_ANSWER, SECOND_ARGUMENT, SERVICE}
@@ -401,7 +401,8 @@ address_count frame address offset =
     if fits_signed offset then operand_count frame address else count_of_operation frame (far_plan address offset)
 
 abbrev pub divide_count : Frame → (destination : ℕ) → (left right : Operand) → ℕ
-divide_count frame destination left right = load_count left + load_count right + 6 + keep_count frame destination
+divide_count frame destination left right =
+    operand_count frame left + operand_count frame right + 6 + keep_count frame destination
 
 abbrev pub operator_count : Frame → BinaryOperator → (destination : ℕ) → (left right : Operand) → ℕ
 operator_count frame operator destination left right =
@@ -414,30 +415,28 @@ operator_count frame operator destination left right =
 abbrev pub ordinary : List Instr → List Line
 ordinary instructions = map lines.Ordinary instructions
 
--- the negated dividend is divided by 1, and behind that the dividend by the divisor
-abbrev pub quotient_code : Frame → MoveFromOp → (destination : ℕ) → List Line
-quotient_code frame which destination =
-    ordinary (
-    arithmetic_of arithmetic.SubtractUnsigned FIRST ZERO FIRST
-    ∷ small SECOND 1
-    ∷ multiply_divide_of Divide FIRST SECOND
-    ∷ move_from_of which (made_in frame destination)
-    ∷ keep_code frame destination)
-
--- dividend and divisor in their registers, and -1 in a third
-abbrev pub loads_code : Frame → (left right : Operand) → List Instr
-loads_code frame left right = load_code frame FIRST left ++ load_code frame SECOND right
-
+-- dividend and divisor in registers, and -1 in a third
 abbrev pub divided_code : Frame → (left right : Operand) → List Instr
-divided_code frame left right = loads_code frame left right ++ add_immediate THIRD ZERO (minus 1) ∷ []
+divided_code frame left right = operands_code frame left right ++ add_immediate THIRD ZERO (minus 1) ∷ []
 
--- By -1 the machine does not divide the least number, so there the
--- negated dividend is divided by 1: it has the same quotient and remainder.
+-- What has the quotient and the remainder by -1 as its words: the product of the dividend and -1, and that of 0 and 0.
+abbrev pub product_code : MoveFromOp → (left : ℕ) → Instr
+product_code High left = multiply_divide_of Multiply ZERO ZERO
+product_code Low left = multiply_divide_of Multiply left THIRD
+
+-- a division by the machine, and the word of it that is read
+abbrev pub quotient_code : Frame → MoveFromOp → (destination left right : ℕ) → List Instr
+quotient_code frame which destination left right =
+    multiply_divide_of Divide left right ∷ move_from_of which (made_in frame destination) ∷ keep_code frame destination
+
+-- By -1 the machine does not divide the least number, so there it multiplies, and the word is read in the same place.
 abbrev pub divide_code : Frame → (here : ℕ) → MoveFromOp → (destination : ℕ) → (left right : Operand) → List Line
 divide_code frame here which destination left right =
     ordinary (divided_code frame left right)
-    ++ lines.Branch (conditions.Registers branch.NotEqual (register_of SECOND) (register_of THIRD)) (here + (load_count left + load_count right) + 4)
-    ∷ quotient_code frame which destination
+    ++ lines.Branch (conditions.Registers branch.NotEqual (register_of (operand_register frame SECOND right)) (register_of THIRD)) (here + (operand_count frame left + operand_count frame right) + 4)
+    ∷ lines.Ordinary (product_code which (operand_register frame FIRST left))
+    ∷ lines.Jump (here + (operand_count frame left + operand_count frame right) + 5)
+    ∷ ordinary (quotient_code frame which destination (operand_register frame FIRST left) (operand_register frame SECOND right))
 
 -- which result of a division is read
 abbrev pub part_of : BinaryOperator → MoveFromOp

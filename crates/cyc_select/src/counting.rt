@@ -49,7 +49,10 @@ fn operator_count(frame: &Frame, operator: BinaryOperator, parts: Parts) -> usiz
     ensures { result ≡ operator_count frame.now operator parts.destination parts.left parts.right }
 {
     if is_tested(operator, parts.right) {
-        load_count(parts.left) + load_count(parts.right) + 6 + keep_count(frame, parts.destination)
+        operand_count(frame, parts.left)
+            + operand_count(frame, parts.right)
+            + 6
+            + keep_count(frame, parts.destination)
     } else {
         let plan = binary_plan(operator, parts.left, parts.right);
         plan_count(frame, plan, parts.destination)

@@ -1,6 +1,6 @@
 //! The lines of an operator, of a test, and of what else a function does with its own slots.
 ghost use Rattle.std.specs.Prelude.{◌≡◌, ◌+◌, ◌*◌, ◌<◌, ◌≤◌, ◌^◌, [], ◌∷◌, ◌++◌, OnOk};
-ghost use Rattle.cyc_select.specs.Selection.{give_code, small, syscall, arithmetic_of, immediate_of, shift_of, shift_by_of, multiply_divide_of, move_from_of, upper_of_global, at_global, operation_code, outcome_code, operands_code, operation_of, computed_code, plan_code, test_code, branch_on, branch_line, operation_count, outcome_count, count_of_operation, plan_count, test_count, ordinary, quotient_code, loads_code, divided_code, divide_code, is_tested, part_of, operator_code, move_code, branch_code, write_code, load_global, store_global, uncaught_code};
+ghost use Rattle.cyc_select.specs.Selection.{give_code, small, syscall, arithmetic_of, immediate_of, shift_of, shift_by_of, multiply_divide_of, move_from_of, upper_of_global, at_global, operation_code, outcome_code, operands_code, operation_of, computed_code, plan_code, test_code, branch_on, branch_line, operation_count, outcome_count, count_of_operation, plan_count, test_count, ordinary, product_code, quotient_code, divided_code, divide_code, is_tested, part_of, operator_code, move_code, branch_code, write_code, load_global, store_global, uncaught_code};
 ghost use Rattle.cyc_select.specs.Emission.{AddsLines, IsReached, IsFound, IsPlanFound, IsTestFound, most_lines};
 
 use crate::code::{Condition, Line};
@@ -10,9 +10,7 @@ use crate::instructions::{
     add_immediate, is_zero, minus, register, shift_amount, small, store_slot, syscall,
 };
 use crate::numbers::is_plain_divisor;
-use crate::operands::{
-    keep_count, load_count, made_in, operand_count, operand_register, value_register,
-};
+use crate::operands::{keep_count, made_in, operand_count, operand_register, value_register};
 use crate::plan::{Operation, Outcome, Plan, Test, binary_plan};
 use cyc_frame::Frame;
 use cyc_isa::{
@@ -231,6 +229,16 @@ fn part_of(operator: BinaryOperator) -> MoveFromOp
     }
 }
 
+/// What has the quotient and the remainder by -1 as its words.
+fn product(which: MoveFromOp, left: u8) -> Instr
+    ensures { result ≡ product_code which left }
+{
+    match which {
+        MoveFromOp::High => multiply_divide(MultiplyDivideOp::Multiply, ZERO, ZERO),
+        MoveFromOp::Low => multiply_divide(MultiplyDivideOp::Multiply, left, THIRD),
+    }
+}
+
 impl Emitter {
     /// An operand is copied into a slot.
     pub(crate) fn copy(
@@ -368,37 +376,7 @@ impl Emitter {
         self.line(branch_line(frame, test, label))
     }
 
-    /// The negated dividend by 1, and behind that the division of the registers as they are.
-    fn quotient(
-        &mut self,
-        frame: &Frame,
-        which: MoveFromOp,
-        destination: usize,
-    ) -> Result<(), AllocError>
-        requires { IsReached frame.now destination }
-        ensures { AddsLines result self.old self.new (quotient_code frame.now which destination) }
-    {
-        let target = made_in(frame, destination);
-        self.ordinary(&[
-            arithmetic(ArithmeticOp::SubtractUnsigned, FIRST, ZERO, FIRST),
-            small(SECOND, 1),
-            multiply_divide(MultiplyDivideOp::Divide, FIRST, SECOND),
-            move_from(which, target),
-        ])?;
-        self.keep(frame, destination)
-    }
-
-    /// Dividend and divisor come into their registers.
-    fn loads(&mut self, frame: &Frame, left: Operand, right: Operand) -> Result<(), AllocError>
-        requires left { IsFound frame.now left }
-        requires right { IsFound frame.now right }
-        ensures { AddsLines result self.old self.new (ordinary (loads_code frame.now left right)) }
-    {
-        self.load(frame, FIRST, left)?;
-        self.load(frame, SECOND, right)
-    }
-
-    /// The same, and -1 comes into a third.
+    /// Dividend and divisor are in registers, and -1 comes into a third.
     fn dividend_and_divisor(
         &mut self,
         frame: &Frame,
@@ -409,12 +387,32 @@ impl Emitter {
         requires right { IsFound frame.now right }
         ensures { AddsLines result self.old self.new (ordinary (divided_code frame.now left right)) }
     {
-        self.loads(frame, left, right)?;
+        self.operands(frame, left, right)?;
         self.ordinary(&[add_immediate(THIRD, ZERO, minus(1))])
     }
 
-    /// A quotient or a remainder. By -1 the machine does not divide the least number, so there the negated dividend is
-    /// divided by 1.
+    /// The registers are divided, and a result of it comes to a slot.
+    fn quotient(
+        &mut self,
+        frame: &Frame,
+        which: MoveFromOp,
+        destination: usize,
+        left: u8,
+        right: u8,
+    ) -> Result<(), AllocError>
+        requires { IsReached frame.now destination }
+        ensures { AddsLines result self.old self.new (ordinary (quotient_code frame.now which destination left right)) }
+    {
+        let target = made_in(frame, destination);
+        self.ordinary(&[
+            multiply_divide(MultiplyDivideOp::Divide, left, right),
+            move_from(which, target),
+        ])?;
+        self.keep(frame, destination)
+    }
+
+    /// A quotient or a remainder. By -1 the machine does not divide the least number, so there it multiplies, and the word
+    /// is read in the same place.
     fn divide(
         &mut self,
         frame: &Frame,
@@ -428,10 +426,16 @@ impl Emitter {
         requires right { IsFound frame.now parts.right }
         ensures { AddsLines result self.old self.new (divide_code frame.now here which parts.destination parts.left parts.right) }
     {
-        let before = load_count(parts.left) + load_count(parts.right);
+        let left = operand_register(frame, FIRST, parts.left);
+        let right = operand_register(frame, SECOND, parts.right);
+        let before = operand_count(frame, parts.left) + operand_count(frame, parts.right);
         self.dividend_and_divisor(frame, parts.left, parts.right)?;
-        self.branch(BranchOp::NotEqual, SECOND, THIRD, here + before + 4)?;
-        self.quotient(frame, which, parts.destination)
+        self.branch(BranchOp::NotEqual, right, THIRD, here + before + 4)?;
+        self.ordinary(&[product(which, left)])?;
+        self.line(Line::Jump {
+            label: here + before + 5,
+        })?;
+        self.quotient(frame, which, parts.destination, left, right)
     }
 
     /// An operator on two operands.

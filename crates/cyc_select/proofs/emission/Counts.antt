@@ -27,7 +27,7 @@ use Rattle.cyc_select.specs.declared.plan.Test.{Test}
 use Rattle.cyc_select.specs.declared.plan.Test.TheVariants as tests
 use Rattle.cyc_select.specs.Plans.{arithmetic_plan, immediate_plan, immediate_or, zero_plan, differs_plan, equal_plan, unary_plan, binary_plan}
 use Rattle.cyc_select.specs.Numbers.{fits_signed, negated_half, is_word, is_zero_word}
-use Rattle.cyc_select.specs.Selection.{value_register, is_kept, fetch_from, fetch_count, keep_code, keep_count, give_to, give_code, give_count_to, give_count, bring_code, bring_all, gives_count, move_to, move_count_to, move_count, moves_count, move_words_count, is_taken, passed_from, spill_from, spill, spills, spill_count_from, spill_count, spills_count, pass_from, pass, copies, pass_count_from, pass_count, copies_count, load_words, load_all, store_all, moves, all_moved, moved_code, result_registers, argument_code, argument_count, service_number, answer_code, small, or_immediate, load_upper, constant, is_tested, word_code, load_code, operand_code, operand_register, made_in, operation_code, outcome_code, operands_code, operation_of, computed_code, plan_code, test_code, loads_code, divided_code, store_slot, add_immediate, minus, word_count, load_count, operand_count, far_plan, address_code, address_count, operation_count, outcome_count, count_of_operation, plan_count, test_count, divide_count, operator_count, regions_code, regions_count}
+use Rattle.cyc_select.specs.Selection.{value_register, is_kept, fetch_from, fetch_count, keep_code, keep_count, give_to, give_code, give_count_to, give_count, bring_code, bring_all, gives_count, move_to, move_count_to, move_count, moves_count, move_words_count, is_taken, passed_from, spill_from, spill, spills, spill_count_from, spill_count, spills_count, pass_from, pass, copies, pass_count_from, pass_count, copies_count, load_words, load_all, store_all, moves, all_moved, moved_code, result_registers, argument_code, argument_count, service_number, answer_code, small, or_immediate, load_upper, constant, is_tested, word_code, load_code, operand_code, operand_register, made_in, operation_code, outcome_code, operands_code, operation_of, computed_code, plan_code, test_code, divided_code, store_slot, add_immediate, minus, word_count, load_count, operand_count, far_plan, address_code, address_count, operation_count, outcome_count, count_of_operation, plan_count, test_count, divide_count, operator_count, regions_code, regions_count}
 use Rattle.cyc_select.proofs.relation.Values.{memory_kept}
 
 -- ---- few
@@ -180,7 +180,7 @@ module _ (frame : Frame) where
 
   pub operator_small : (operator : BinaryOperator) (destination : ℕ) (left right : Operand) → operator_count frame operator destination left right ≤ 11
   operator_small operator destination left right =
-      operator_either (is_tested operator right) (divide_count frame destination left right) (plan_count frame (binary_plan operator left right) destination) (omega (arith, load_small left, load_small right, keep_few destination)) (plan_small (binary_plan operator left right) destination)
+      operator_either (is_tested operator right) (divide_count frame destination left right) (plan_count frame (binary_plan operator left right) destination) (omega (arith, operand_small left, operand_small right, keep_few destination)) (plan_small (binary_plan operator left right) destination)
 
 pub argument_small : (o : Option Operand) → argument_count o ≤ operand_size o
 argument_small None = omega arith
@@ -311,9 +311,9 @@ length_test frame (tests.Operands op left right) = length_operands frame left ri
 length_test frame (tests.Sign op operand) = length_operand frame FIRST operand
 length_test frame (tests.Computed plan) = length_operation_of frame FIRST plan
 
-pub length_divided : (frame : Frame) (left right : Operand) → length (divided_code frame left right) ≡ load_count left + load_count right + 1
+pub length_divided : (frame : Frame) (left right : Operand) → length (divided_code frame left right) ≡ operand_count frame left + operand_count frame right + 1
 length_divided frame left right =
-    omega (arith, length-append (load_code frame FIRST left) (load_code frame SECOND right), length-append (loads_code frame left right) (add_immediate THIRD ZERO (minus 1) ∷ []), length_load frame FIRST left, length_load frame SECOND right)
+    omega (arith, length-append (operands_code frame left right) (add_immediate THIRD ZERO (minus 1) ∷ []), length_operands frame left right)
 
 pub gives_small : (frame : Frame) (slot count : ℕ) → gives_count frame slot count ≤ 2 * count
 gives_small frame slot zero = omega arith

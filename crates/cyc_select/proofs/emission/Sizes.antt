@@ -11,8 +11,6 @@ use Rattle.cyc_plain.specs.declared.instruction.BinaryOperator.{BinaryOperator}
 use Rattle.cyc_plain.specs.declared.instruction.BinaryOperator.TheVariants as binary
 use Rattle.cyc_plain.specs.declared.instruction.Operand.{Operand}
 use Rattle.cyc_plain.specs.Requests.{first_operand, second_operand, answer_count, destination_of}
-use Rattle.cyc_isa.specs.declared.instr.ArithmeticOp.TheVariants as arithmetic
-use Rattle.cyc_isa.specs.declared.instr.MultiplyDivideOp.TheVariants.{Divide}
 use Rattle.cyc_isa.specs.declared.instr.MemoryOp.{MemoryOp}
 use Rattle.cyc_isa.specs.declared.instr.MemoryOp.TheVariants.{LoadWord, StoreWord, LoadByte, StoreByte}
 use Rattle.cyc_isa.specs.declared.instr.MoveFromOp.{MoveFromOp}
@@ -30,7 +28,7 @@ use Rattle.cyc_select.specs.declared.plan.Test.TheVariants as tests
 use Rattle.cyc_select.specs.Plans.{unary_plan, binary_plan, test_of}
 use Rattle.cyc_select.specs.Labelled.{Labelled, words_of, all_words}
 use Rattle.cyc_select.specs.Selected.{words_at}
-use Rattle.cyc_select.specs.Selection.{arithmetic_of, multiply_divide_of, move_from_of, slot_offset, recorded_code, caught_code, reload_count, value_register, move_to, keep_code, give_code, moved_code, reloads, opened_code, made_in, ordinary, argument_code, service_number, answer_code, unwound_code, address_code, at_address, copies, bring_all, upper_of_global, at_global, word_code, load_code, load_count, operand_code, operand_register, plan_code, test_code, branch_line, branch_code, quotient_code, divided_code, divide_code, is_tested, part_of, result_registers, ending_code, operator_code, body, behind, count_of, function_count, function_line, instruction_line, code_lines, function_lines, small, syscall, store, add_immediate, minus, push_frame, load, regions_code, load_at, store_at, spills, spills_count, calling_code}
+use Rattle.cyc_select.specs.Selection.{product_code, quotient_code, operand_count, operand_register, slot_offset, recorded_code, caught_code, reload_count, value_register, move_to, keep_code, give_code, moved_code, reloads, opened_code, made_in, ordinary, argument_code, service_number, answer_code, unwound_code, address_code, at_address, copies, bring_all, upper_of_global, at_global, word_code, load_code, load_count, operand_code, plan_code, test_code, branch_line, branch_code, divided_code, divide_code, is_tested, part_of, result_registers, ending_code, operator_code, body, behind, count_of, function_count, function_line, instruction_line, code_lines, function_lines, small, syscall, store, add_immediate, minus, push_frame, load, regions_code, load_at, store_at, spills, spills_count, calling_code}
 use Rattle.cyc_isa.specs.Decoding.{register_of}
 use Rattle.cyc_isa.specs.declared.instr.BranchOp.TheVariants as branch
 use Rattle.cyc_select.proofs.emission.Counts.{length_keep, length_give, length_move, length_moved, length_spills, spills_few, length_copies, copies_few, move_words_small, keep_few, give_small, move_small, argument_small, regions_small, gives_small, length_argument, length_answer, length_regions, length_results, length_registers, word_small, load_small, operand_small, address_small, plan_small, unary_small, test_small, length_word, length_load, length_operand, length_address, length_plan, length_test, length_divided}
@@ -51,21 +49,22 @@ words_range code a (l ∷ ls) (first, rest) =
     omega (arith, sum_by-cons (words_at code) a (range_with_len (a + 1) (length ls)), sum_by-cons words_of l ls, here, words_range code (a + 1) ls rest)
 
 module _ (program : Program) (frames : List Frame) (reads_few : (function : ℕ) → ReadsFew frames function) (few_results : (function : ℕ) → (routine_at program function).results ≤ 3) where
-  divide_words : (frame : Frame) (here : ℕ) (which : MoveFromOp) (destination : ℕ) (left right : Operand) → all_words (divide_code frame here which destination left right) ≤ 14
+  divide_words : (frame : Frame) (here : ℕ) (which : MoveFromOp) (destination : ℕ) (left right : Operand) → all_words (divide_code frame here which destination left right) ≤ 15
   divide_words frame here which destination left right =
-      let behind : List Line = lines.Branch (conditions.Registers branch.NotEqual (register_of SECOND) (register_of THIRD)) (here + (load_count left + load_count right) + 4) ∷ quotient_code frame which destination in
-      let last : List Instr =
-      arithmetic_of arithmetic.SubtractUnsigned FIRST ZERO FIRST ∷ small SECOND 1 ∷ multiply_divide_of Divide FIRST SECOND ∷ move_from_of which (made_in frame destination) ∷ keep_code frame destination in
-      omega (arith, sum_by-append words_of (ordinary (divided_code frame left right)) behind, words_ordinary (divided_code frame left right), length_divided frame left right, load_small left, load_small right, words_ordinary last, length_keep frame destination, keep_few frame destination, sum_by-cons words_of (lines.Branch (conditions.Registers branch.NotEqual (register_of SECOND) (register_of THIRD)) (here + (load_count left + load_count right) + 4)) (quotient_code frame which destination))
+      let last : List Instr = quotient_code frame which destination (operand_register frame FIRST left) (operand_register frame SECOND right) in
+      let jump : Line = lines.Jump (here + (operand_count frame left + operand_count frame right) + 5) in
+      let product : Line = lines.Ordinary (product_code which (operand_register frame FIRST left)) in
+      let test : Line = lines.Branch (conditions.Registers branch.NotEqual (register_of (operand_register frame SECOND right)) (register_of THIRD)) (here + (operand_count frame left + operand_count frame right) + 4) in
+      omega (arith, sum_by-append words_of (ordinary (divided_code frame left right)) (test ∷ product ∷ jump ∷ ordinary last), words_ordinary (divided_code frame left right), length_divided frame left right, operand_small frame left, operand_small frame right, words_ordinary last, length_keep frame destination, keep_few frame destination, sum_by-cons words_of test (product ∷ jump ∷ ordinary last), sum_by-cons words_of product (jump ∷ ordinary last), sum_by-cons words_of jump (ordinary last))
 
   plan_words : (frame : Frame) (plan : Plan) (destination : ℕ) → all_words (ordinary (plan_code frame plan destination)) ≤ 8
   plan_words frame plan destination = omega (arith, words_ordinary (plan_code frame plan destination), length_plan frame plan destination, plan_small frame plan destination)
 
-  words_either : (b : Bool) (divided planned : List Line) → all_words divided ≤ 14 → all_words planned ≤ 8 → all_words (if b then divided else planned) ≤ 14
+  words_either : (b : Bool) (divided planned : List Line) → all_words divided ≤ 15 → all_words planned ≤ 8 → all_words (if b then divided else planned) ≤ 15
   words_either true divided planned few small = few
   words_either false divided planned few small = omega (arith, small)
 
-  tested_words : (frame : Frame) (here : ℕ) (operator : BinaryOperator) (destination : ℕ) (left right : Operand) → all_words (operator_code frame here operator destination left right) ≤ 14
+  tested_words : (frame : Frame) (here : ℕ) (operator : BinaryOperator) (destination : ℕ) (left right : Operand) → all_words (operator_code frame here operator destination left right) ≤ 15
   tested_words frame here operator destination left right =
       words_either (is_tested operator right) (divide_code frame here (part_of operator) destination left right) (ordinary (plan_code frame (binary_plan operator left right) destination))
       (divide_words frame here (part_of operator) destination left right) (plan_words frame (binary_plan operator left right) destination)

@@ -20,6 +20,7 @@ use Rattle.cyc_isa.specs.declared.instr.BranchOp.TheVariants as branch
 use Rattle.cyc_isa.specs.declared.instr.MemoryOp.{MemoryOp}
 use Rattle.cyc_isa.specs.declared.instr.MemoryOp.TheVariants.{LoadWord, StoreWord, LoadByte, StoreByte}
 use Rattle.cyc_isa.specs.declared.instr.MoveFromOp.{MoveFromOp}
+use Rattle.cyc_isa.specs.declared.instr.MoveFromOp.TheVariants.{High, Low}
 use Rattle.cyc_machine.specs.declared.constants.TheConstants.{ARGUMENT, END_UNCAUGHT, PUT_BYTE, SECOND_ARGUMENT, SERVICE}
 use Rattle.cyc_plain.specs.Program.{Routine, Program, CodePlace, no_routine, routine_at}
 use Rattle.cyc_plain.specs.Step.{instruction_at}
@@ -48,7 +49,7 @@ use Rattle.cyc_select.specs.declared.plan.Test.TheVariants as tests
 use Rattle.cyc_select.specs.Plans.{unary_plan, binary_plan, test_of}
 use Rattle.cyc_select.specs.Labelled.{Labelled, IsFormed, IsFormedLine}
 use Rattle.cyc_select.specs.Numbers.{fits_signed, is_zero_word}
-use Rattle.cyc_select.specs.Selection.{value_register, passed_from, spill_from, pass_from, pass, is_kept, load_from, fetch_from, move_to, keep_code, give_to, give_code, bring_code, bring_all, load_words, reloads_from, reloads, opened_code, made_in, slot_offset, ordinary, result_registers, argument_code, service_number, answer_code, unwound_code, far_plan, address_code, near_half, at_address, copies, load_all, store_all, moves, all_moved, store_slot, pop_frame, load_upper, constant, or_immediate, is_tested, part_of, plan_count, small, syscall, add_immediate, minus, upper_of_global, at_global, word_code, load_code, load_count, operand_code, operand_register, operands_code, operation_code, outcome_code, operation_of, computed_code, plan_code, test_code, branch_line, quotient_code, loads_code, divided_code, divide_code, divide_count, ending_code, ending_count, operator_code, operator_count, body, behind, body_count, count_of, function_count, functions_count, function_line, instruction_line, code_lines, function_lines, start_lines, select_of, regions_code, load_at, store_at, spill, spills, spills_count, calling_code}
+use Rattle.cyc_select.specs.Selection.{value_register, product_code, quotient_code, passed_from, spill_from, pass_from, pass, is_kept, load_from, fetch_from, move_to, keep_code, give_to, give_code, bring_code, bring_all, load_words, reloads_from, reloads, opened_code, made_in, slot_offset, ordinary, result_registers, argument_code, service_number, answer_code, unwound_code, far_plan, address_code, near_half, at_address, copies, load_all, store_all, moves, all_moved, store_slot, pop_frame, load_upper, constant, or_immediate, is_tested, part_of, plan_count, small, syscall, add_immediate, minus, upper_of_global, at_global, word_code, load_code, load_count, operand_code, operand_register, operands_code, operation_code, outcome_code, operation_of, computed_code, plan_code, test_code, branch_line, divided_code, divide_code, divide_count, ending_code, ending_count, operator_code, operator_count, body, behind, body_count, count_of, function_count, functions_count, function_line, instruction_line, code_lines, function_lines, start_lines, select_of, regions_code, load_at, store_at, spill, spills, spills_count, calling_code, operand_count}
 use Rattle.cyc_select.proofs.layout.Lines.{line_first}
 use Rattle.cyc_select.proofs.values.Plans.{AllOfTest, all_unary, all_binary, all_test}
 use Rattle.cyc_select.proofs.emission.Counts.{operation_some, move_some, move_words_some, give_some, length_registers, answer_few, service_small}
@@ -395,11 +396,14 @@ module _ (program : Program) (well : IsWellFormed program) (words : HasWords pro
     divide_formed : (which : MoveFromOp) (destination : ℕ) (left right : Operand) (n : ℕ) → destination < slots → IsThere left → IsThere right → n + (divide_count frame destination left right) ≤ length (select_of program frames).lines
         → Formed (divide_code frame n which destination left right)
     divide_formed which destination left right n below l r long =
-        let loads = formed_append (load_code frame FIRST left) (load_code frame SECOND right) (load_formed FIRST left l) (load_formed SECOND right r) in
         all_append (IsFormedLine (length (select_of program frames).lines)) (ordinary (divided_code frame left right))
-        (lines.Branch (conditions.Registers branch.NotEqual (register_of SECOND) (register_of THIRD)) (n + (load_count left + load_count right) + 4) ∷ quotient_code frame which destination)
-        (formed_append (loads_code frame left right) (add_immediate THIRD ZERO (minus 1) ∷ []) loads ((refl, (omega arith)), tt))
-        ((omega (arith, long)), ((refl, tt), ((refl, (omega arith)), ((refl, tt), ((refl, tt), keep_formed destination below)))))
+        (lines.Branch (conditions.Registers branch.NotEqual (register_of (operand_register frame SECOND right)) (register_of THIRD)) (n + (operand_count frame left + operand_count frame right) + 4) ∷ lines.Ordinary (product_code which (operand_register frame FIRST left)) ∷ lines.Jump (n + (operand_count frame left + operand_count frame right) + 5) ∷ ordinary (quotient_code frame which destination (operand_register frame FIRST left) (operand_register frame SECOND right)))
+        (formed_append (operands_code frame left right) (add_immediate THIRD ZERO (minus 1) ∷ []) (operands_formed left right l r) ((refl, (omega arith)), tt))
+        ((omega (arith, long)), (product_formed which, ((omega (arith, long)), ((refl, tt), ((refl, tt), keep_formed destination below)))))
+      where
+        product_formed : (from : MoveFromOp) → IsFormedLine (length (select_of program frames).lines) (lines.Ordinary (product_code from (operand_register frame FIRST left)))
+        product_formed High = (refl, tt)
+        product_formed Low = (refl, tt)
 
     operator_formed : (operator : BinaryOperator) (destination : ℕ) (left right : Operand) (n : ℕ) → destination < slots → IsThere left → IsThere right → n + operator_count frame operator destination left right ≤ length (select_of program frames).lines
         → Formed (operator_code frame n operator destination left right)

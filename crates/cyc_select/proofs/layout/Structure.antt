@@ -26,7 +26,7 @@ use Rattle.cyc_select.specs.declared.code.Line.TheVariants as lines
 use Rattle.cyc_select.specs.declared.plan.Plan.{Plan}
 use Rattle.cyc_select.specs.Labelled.{Labelled}
 use Rattle.cyc_select.specs.Plans.{unary_plan, binary_plan, test_of}
-use Rattle.cyc_select.specs.Selection.{value_register, copies_count, move_to, keep_code, keep_count, give_code, give_count, moved_code, reloads, reload_count, opened_code, made_in, ordinary, argument_code, service_number, answer_code, unwound_code, address_code, at_address, copies, bring_all, small, syscall, upper_of_global, at_global, word_code, load_code, load_count, operand_code, operand_register, plan_code, plan_count, test_code, branch_line, quotient_code, divided_code, divide_code, divide_count, is_tested, part_of, result_registers, ending_code, ending_count, operator_code, operator_count, body, behind, body_count, behind_count, count_of, function_count, functions_count, function_line, instruction_line, code_lines, function_lines, start_lines, select_of, regions_code, load_at, store_at, address_count, operand_count, spills, spills_count, calling_code}
+use Rattle.cyc_select.specs.Selection.{value_register, product_code, quotient_code, copies_count, move_to, keep_code, keep_count, give_code, give_count, moved_code, reloads, reload_count, opened_code, made_in, ordinary, argument_code, service_number, answer_code, unwound_code, address_code, at_address, copies, bring_all, small, syscall, upper_of_global, at_global, word_code, load_code, load_count, operand_code, operand_register, plan_code, plan_count, test_code, branch_line, divided_code, divide_code, divide_count, is_tested, part_of, result_registers, ending_code, ending_count, operator_code, operator_count, body, behind, body_count, behind_count, count_of, function_count, functions_count, function_line, instruction_line, code_lines, function_lines, start_lines, select_of, regions_code, load_at, store_at, address_count, operand_count, spills, spills_count, calling_code}
 use Rattle.cyc_select.proofs.steps.Calls.{length_ordinary}
 use Rattle.cyc_select.proofs.emission.Counts.{length_keep, length_give, length_move, length_moved, length_spills, length_copies, length_argument, length_answer, length_regions, length_results, length_registers, length_word, length_load, length_operand, length_address, length_plan, length_test, length_divided}
 use Rattle.cyc_select.proofs.steps.Returns.{loaded, length_loaded}
@@ -44,7 +44,7 @@ module _ (program : Program) (frames : List Frame) (few_results : (function : �
 
   length_divide : (frame : Frame) (here : ℕ) (which : MoveFromOp) (destination : ℕ) (left right : Operand) → length (divide_code frame here which destination left right) ≡ divide_count frame destination left right
   length_divide frame here which destination left right =
-      let behind : List Line = lines.Branch (conditions.Registers branch.NotEqual (register_of SECOND) (register_of THIRD)) (here + (load_count left + load_count right) + 4) ∷ quotient_code frame which destination in
+      let behind : List Line = lines.Branch (conditions.Registers branch.NotEqual (register_of (operand_register frame SECOND right)) (register_of THIRD)) (here + (operand_count frame left + operand_count frame right) + 4) ∷ lines.Ordinary (product_code which (operand_register frame FIRST left)) ∷ lines.Jump (here + (operand_count frame left + operand_count frame right) + 5) ∷ ordinary (quotient_code frame which destination (operand_register frame FIRST left) (operand_register frame SECOND right)) in
       omega (arith, length-append (ordinary (divided_code frame left right)) behind, length_ordinary (divided_code frame left right), length_divided frame left right, length_ordinary (keep_code frame destination), length_keep frame destination)
 
   length_planned : (frame : Frame) (plan : Plan) (destination : ℕ) → length (ordinary (plan_code frame plan destination)) ≡ plan_count frame plan destination

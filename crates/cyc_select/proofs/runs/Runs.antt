@@ -6,11 +6,11 @@ use Rattle.std.proofs.lemmas.Bool.{cases_lt, eq-eqb, ne_eqb}
 use Rattle.cyc_machine.specs.declared.constants.TheConstants.{RETURN_ADDRESS}
 use Rattle.cyc_words.specs.Ending.{Ending}
 use Rattle.std.proofs.lemmas.List.{get_or_past}
-use Rattle.cyc_words.specs.Word.{IsWord, sub_of}
+use Rattle.cyc_words.specs.Word.{IsWord}
 use Rattle.cyc_isa.specs.declared.instr.Instr.{Instr}
 use Rattle.cyc_isa.specs.declared.instr.MoveFromOp.{MoveFromOp}
 use Rattle.cyc_isa.specs.declared.instr.MoveFromOp.TheVariants.{High, Low}
-use Rattle.cyc_isa.specs.declared.instr.MultiplyDivideOp.TheVariants.{Divide}
+use Rattle.cyc_isa.specs.declared.instr.MultiplyDivideOp.TheVariants.{Divide, Multiply}
 use Rattle.cyc_machine.specs.State.{globals_length, words_per_call}
 use Rattle.cyc_plain.specs.declared.instruction.Instruction.{Instruction}
 use Rattle.cyc_plain.specs.declared.instruction.Instruction.TheVariants as plain
@@ -44,8 +44,8 @@ use Rattle.cyc_select.proofs.layout.Lines.{line_next}
 use Rattle.cyc_select.specs.Numbers.{is_plain_divisor}
 use Rattle.cyc_select.specs.Plans.{binary_plan}
 use Rattle.cyc_select.proofs.values.Halves.{divisor_is}
-use Rattle.cyc_select.proofs.values.Operations.{negated_quotient, negated_remainder}
-use Rattle.cyc_select.proofs.values.Plans.{multiply_divide_result}
+use Rattle.cyc_select.proofs.values.Operations.{product_quotient, product_remainder}
+use Rattle.cyc_select.proofs.values.Plans.{multiply_divide_result, if_low}
 use Rattle.cyc_select.proofs.relation.Values.{Caches}
 use Rattle.cyc_select.proofs.effects.Views.{Contents}
 use Rattle.cyc_select.proofs.effects.Walks.{Stands, stands_front, stands_back, stands_until, Rises, rising_distinct, rising_inside, comes_map, Quiet, Walk}
@@ -219,7 +219,7 @@ module _ (program : Program) (well : IsWellFormed program) (words : HasWords pro
     -- a division, where the run goes on
     quotient_goes : (operator : BinaryOperator) (which : MoveFromOp) (destination : ℕ) (left right : Operand) → IsAt (plain.Binary operator destination left right) → destination < slots → IsThere left → IsThere right
         → ((b : ℕ) → b ≡ 0 → has_no_result operator b ≡ true) → ((b : ℕ) → b ≢ 0 → has_no_result operator b ≡ false)
-        → ((a b : ℕ) → binary_result operator a b ≡ multiply_divide_result Divide which a b) → ((a : ℕ) → IsWord a → multiply_divide_result Divide which (sub_of 0 a) 1 ≡ multiply_divide_result Divide which a (2 ^ 32 - 1))
+        → ((a b : ℕ) → binary_result operator a b ≡ multiply_divide_result Divide which a b) → ((a : ℕ) → IsWord a → multiply_divide_result Multiply which (if_low which a 0) (if_low which (2 ^ 32 - 1) 0) ≡ multiply_divide_result Divide which a (2 ^ 32 - 1))
         → count_of program frames c.active.function (plain.Binary operator destination left right) ≡ divide_count (frame_at frames c.active.function) destination left right
         → Stands code here (divide_code (frame_at frames c.active.function) here which destination left right) → Goes (divide_count (frame_at frames c.active.function) destination left right)
     quotient_goes operator which destination left right at below l t none some result negated counted stands =
@@ -233,9 +233,9 @@ module _ (program : Program) (well : IsWellFormed program) (words : HasWords pro
         → count_of program frames c.active.function (plain.Binary operator destination left right) ≡ divide_count (frame_at frames c.active.function) destination left right
         → Stands code here (divide_code (frame_at frames c.active.function) here (part_of operator) destination left right) → Goes (divide_count (frame_at frames c.active.function) destination left right)
     tested_goes binary.Divide d l t at a b e tested counted stands =
-        quotient_goes binary.Divide Low d l t at a b e (λ n is_zero. eq-eqb n 0 is_zero) (λ n other. ne_eqb n 0 other) (λ x y. refl) negated_quotient counted stands
+        quotient_goes binary.Divide Low d l t at a b e (λ n is_zero. eq-eqb n 0 is_zero) (λ n other. ne_eqb n 0 other) (λ x y. refl) product_quotient counted stands
     tested_goes binary.Remainder d l t at a b e tested counted stands =
-        quotient_goes binary.Remainder High d l t at a b e (λ n is_zero. eq-eqb n 0 is_zero) (λ n other. ne_eqb n 0 other) (λ x y. refl) negated_remainder counted stands
+        quotient_goes binary.Remainder High d l t at a b e (λ n is_zero. eq-eqb n 0 is_zero) (λ n other. ne_eqb n 0 other) (λ x y. refl) (λ x fits. product_remainder x) counted stands
     tested_goes operator d l t at a b e tested counted stands = absurd (let e : false ≡ true = tested in cc)
 
     not_true : (b : Bool) → not b ≡ false → b ≡ true

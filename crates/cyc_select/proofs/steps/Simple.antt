@@ -4,13 +4,14 @@ use Rattle.std.specs.Prelude.{◌==◌, ◌||◌, if◌then◌else◌}
 use Rattle.std.specs.List.{AllByRecursion}
 use Rattle.std.proofs.lemmas.Bool.{cases_eq, eq-eqb, ne_eqb, or_left, or_right}
 use Rattle.cyc_words.specs.Ending.{Ending, Uncaught}
-use Rattle.cyc_words.specs.Word.{IsWord, signed, add_of, sub_of, sign_extended}
+use Rattle.cyc_words.specs.Word.{IsWord, signed, add_of, sign_extended}
 use Rattle.cyc_isa.specs.Effect.{branch_taken, branch_zero_taken, load_upper_result, memory_address}
 use Rattle.cyc_isa.specs.declared.instr.Instr.{Instr}
 use Rattle.cyc_isa.specs.declared.instr.BranchOp.TheVariants as branch
 use Rattle.cyc_isa.specs.declared.instr.MoveFromOp.{MoveFromOp}
-use Rattle.cyc_isa.specs.declared.instr.MultiplyDivideOp.TheVariants.{Divide}
-use Rattle.cyc_isa.specs.declared.instr.ArithmeticOp.TheVariants as arithmetic
+use Rattle.cyc_isa.specs.declared.instr.MoveFromOp.TheVariants.{High, Low}
+use Rattle.cyc_isa.specs.declared.instr.MultiplyDivideOp.TheVariants.{Divide, Multiply}
+use Rattle.cyc_isa.specs.declared.instr.MultiplyDivideOp.{MultiplyDivideOp}
 use Rattle.cyc_isa.specs.declared.instr.MemoryOp.TheVariants.{LoadWord, StoreWord}
 use Rattle.cyc_isa.specs.Decoding.{register_of}
 use Rattle.cyc_machine.specs.State.{data_base, globals_length, words_per_call}
@@ -39,7 +40,6 @@ use Rattle.cyc_select.specs.declared.code.Condition.{Condition}
 use Rattle.cyc_select.specs.declared.code.Condition.TheVariants as conditions
 use Rattle.cyc_select.specs.declared.code.Line.TheVariants as lines
 use Rattle.cyc_select.specs.declared.constants.TheConstants.{FIRST, SECOND, THIRD, ZERO, CALLS, FRAME, REGIONS}
-use Rattle.cyc_select.specs.declared.plan.Operation.TheVariants as operations
 use Rattle.cyc_select.specs.declared.plan.Plan.{Plan}
 use Rattle.cyc_select.specs.declared.plan.Test.{Test}
 use Rattle.cyc_select.specs.declared.plan.Test.TheVariants as tests
@@ -47,19 +47,19 @@ use Rattle.cyc_select.specs.Plans.{unary_plan, binary_plan, test_of}
 use Rattle.cyc_select.specs.Labelled.{Labelled, IsFormed}
 use Rattle.cyc_select.specs.Machine as labelled
 use Rattle.cyc_select.specs.Machine.{State, Running, Ended, holds_of}
-use Rattle.cyc_select.specs.Selection.{copy, value_register, or_else, is_kept, keep_code, keep_count, give_to, give_code, give_count_to, give_count, move_to, move_count_to, move_count, operation_code, divide_count, add_immediate, store_slot, slot_offset, small, arithmetic_of, ordinary, syscall, upper_of_global, at_global, word_code, load_code, operand_code, operand_register, made_in, operands_code, operation_of, computed_code, plan_code, branch_on, branch_code, divided_code, divide_code, word_count, load_count, operand_count, plan_count, test_count, is_tested, body, body_count, count_of, instruction_line}
+use Rattle.cyc_select.specs.Selection.{multiply_divide_of, move_from_of, product_code, quotient_code, copy, value_register, or_else, is_kept, keep_code, keep_count, give_to, give_code, give_count_to, give_count, move_to, move_count_to, move_count, divide_count, add_immediate, store_slot, slot_offset, small, ordinary, syscall, upper_of_global, at_global, word_code, load_code, operand_code, operand_register, made_in, operands_code, operation_of, computed_code, plan_code, branch_on, branch_code, divided_code, divide_code, word_count, load_count, operand_count, plan_count, test_count, is_tested, body, body_count, count_of, instruction_line}
 use Rattle.cyc_select.proofs.values.Blocks.{AreSame, all_same, lasting, Puts, Keeps, IsScratch, puts_keeps, keeps_append, safe_append}
 use Rattle.cyc_store.specs.State.{lexical_count}
 use Rattle.cyc_select.proofs.steps.Calls.{length_ordinary}
 use Rattle.cyc_select.proofs.relation.Cells.{IsCell}
-use Rattle.cyc_select.proofs.values.Computing.{IsHeld, IsComputable, word_puts, load_puts, operand_puts, operands_put, operation_puts, operation_leaves, plan_leaves, divided_put, first_scratch, second_scratch, argument_scratch, first_aside, second_aside, argument_aside, scratch_writable, not_second, made_scratch}
+use Rattle.cyc_select.proofs.values.Computing.{IsHeld, IsComputable, word_puts, load_puts, operand_puts, operands_put, operation_leaves, plan_leaves, divided_put, first_scratch, second_scratch, argument_scratch, first_aside, second_aside, argument_aside, scratch_writable, not_second, made_scratch}
 use Rattle.cyc_select.proofs.emission.Counts.{load_some, operation_some, length_word, length_load, length_operand, length_computed, length_test, length_divided}
 use Rattle.cyc_select.proofs.effects.Effects.{byte_of}
 use Rattle.cyc_select.proofs.relation.Held.{operand_held, operand_is_word}
 use Rattle.cyc_select.proofs.values.Halves.{divisor_is}
 use Rattle.cyc_select.proofs.layout.Lines.{line_next}
 use Rattle.cyc_select.proofs.values.Operations.{add_small, global_lies}
-use Rattle.cyc_select.proofs.values.Plans.{multiply_divide_result, AllOfTest, operation_word, plan_word, unary_word, binary_word, test_taken, test_goes, all_unary, all_binary, all_test}
+use Rattle.cyc_select.proofs.values.Plans.{multiply_divide_result, if_low, AllOfTest, operation_word, plan_word, unary_word, binary_word, test_taken, test_goes, all_unary, all_binary, all_test}
 use Rattle.cyc_select.proofs.relation.Values.{Caches, memory_kept, made_is, apart_from, itself, next_led, caches_past}
 use Rattle.cyc_select.proofs.effects.Views.{Contents, written}
 use Rattle.cyc_select.proofs.effects.Walks.{Stands, stands_front, stands_back, stands_first, stands_behind, after_r, after_w, after_r-append, after_w-append, AreSafe, Walk, now_at, now_is, walk_end, walk_few, walk_from, walk_block, walk_branch, walk_jump, walk_get, walk_put, walk_uncaught}
@@ -393,16 +393,58 @@ module _ (program : Program) (well : IsWellFormed program) (frames : List Frame)
   abbrev result_of : MoveFromOp → ℕ → ℕ → ℕ
   result_of which a b = multiply_divide_result Divide which a b
 
-  abbrev divides : MoveFromOp → (destination : ℕ) → List Instr
-  divides which destination = operation_code (operations.MultiplyDivide Divide which) (made_in frame destination) FIRST SECOND
+  -- the register that it is read from
+  abbrev part : MoveFromOp → ℕ
+  part High = 32
+  part Low = 33
+
+  -- the register that it is made in gets it
+  abbrev reads_part : MoveFromOp → (destination : ℕ) → List Instr
+  reads_part which destination = move_from_of which (made_in frame destination) ∷ []
+
+  part_read : (which : MoveFromOp) (destination : ℕ) (q : Words) → Puts globals_length (words_per_call * calls) (reads_part which destination) q w (made_in frame destination % 32) (made_in frame destination % 32) (q (part which))
+  part_read High destination q = record {
+    safe = (scratch_writable globals_length (words_per_call * calls) (made_in frame destination % 32) (made_in_scratch destination), tt);
+    memory = refl;
+    result = put-same q (made_in frame destination % 32) (q 32);
+    others = λ n below other. put-other q (made_in frame destination % 32) n (q 32) other;
+  }
+  part_read Low destination q = record {
+    safe = (scratch_writable globals_length (words_per_call * calls) (made_in frame destination % 32) (made_in_scratch destination), tt);
+    memory = refl;
+    result = put-same q (made_in frame destination % 32) (q 33);
+    others = λ n below other. put-other q (made_in frame destination % 32) n (q 33) other;
+  }
+
+  -- a division or a product writes the two registers that results are read from alone
+  parts_agree : (op : MultiplyDivideOp) (a b : ℕ) (q : Words) → Agrees FIRST q → Agrees FIRST (after_r (multiply_divide_of op a b ∷ []) q w)
+  parts_agree op a b q agrees = record {
+    zero_same = agrees.zero_same;
+    base_same = agrees.base_same;
+    left_same = agrees.left_same;
+    back_same = agrees.back_same;
+    lasts_same = agrees.lasts_same;
+    values_same = λ n low high other. put-other (put q 32 _) 33 n _ (λ e. absurd (omega (arith, e, high))) ∙ (put-other q 32 n _ (λ e. absurd (omega (arith, e, high))) ∙ agrees.values_same n low high other);
+  }
+
+  part_is : (op : MultiplyDivideOp) (which : MoveFromOp) (a b : ℕ) (q : Words) → after_r (multiply_divide_of op a b ∷ []) q w (part which) ≡ multiply_divide_result op which (q (a % 32)) (q (b % 32))
+  part_is op High a b q = refl
+  part_is op Low a b q = refl
 
   module _ (operator : BinaryOperator) (which : MoveFromOp) (destination : ℕ) (left right : Operand) (at_i : IsAt (plain.Binary operator destination left right)) (below : destination < slots) (left_there : IsThere left) (right_there : IsThere right)
       (does : performed program zeros c (plain.Binary operator destination left right) ≡ gives c destination (result_of which (word_of left) (word_of right)))
       (nonzero : word_of right ≢ 0) (counted : count_of program frames c.active.function (plain.Binary operator destination left right) ≡ divide_count frame destination left right)
-      (negated : (a : ℕ) → IsWord a → result_of which (sub_of 0 a) 1 ≡ result_of which a (2 ^ 32 - 1)) where
+      (by_minus : (a : ℕ) → IsWord a → multiply_divide_result Multiply which (if_low which a 0) (if_low which (2 ^ 32 - 1) 0) ≡ result_of which a (2 ^ 32 - 1)) where
     -- the lines of the operands
     abbrev loads : ℕ
-    loads = load_count left + load_count right
+    loads = operand_count frame left + operand_count frame right
+
+    -- the registers that they are in
+    abbrev first : ℕ
+    first = operand_register frame FIRST left
+
+    abbrev second : ℕ
+    second = operand_register frame SECOND right
 
     left_held : Held left
     left_held = held (plain.Binary operator destination left right) at_i left (left_used left right) left_there
@@ -413,83 +455,105 @@ module _ (program : Program) (well : IsWellFormed program) (frames : List Frame)
     abbrev hi : ℕ
     hi = here + divide_count frame destination left right
 
-    divided : (q : Words) (d : labelled.Configuration) → At program well frames fit code formed addresses pages calls few (here + loads + 4) c.output c.input q w d → Stands code (here + loads + 4) (ordinary (divides which destination ++ keep_code frame destination))
-        → Agrees FIRST q → q SECOND ≢ 0 → (q FIRST ≡ 2 ^ 31 → q SECOND ≡ 2 ^ 32 - 1 → ⊥)
-        → result_of which (q FIRST) (q SECOND) ≡ result_of which (word_of left) (word_of right)
-        → Goes 0 (here + loads + 4) (here + divide_count frame destination left right) (Running d)
-    divided q d now_d stands agrees divisor least result =
-        let puts = operation_puts globals_length (words_per_call * calls) (operations.MultiplyDivide Divide which) q w (made_in frame destination) FIRST SECOND (scratch_writable globals_length (words_per_call * calls) (made_in frame destination % 32) (made_in_scratch destination)) (divisor, least) in
-        walk_few code formed addresses globals_length (words_per_call * calls) 0 (2 + keep_count frame destination) (here + loads + 4) hi c.output _ (Running d) (omega arith)
-        (gives_made (plain.Binary operator destination left right) at_i refl destination (result_of which (word_of left) (word_of right)) c.input (gets destination) below does s.input (here + loads + 4) (divide_count frame destination left right) q d now_d
-        (divides which destination) (but_any (made_in frame destination % 32) q agrees)
-        (puts_keeps globals_length (words_per_call * calls) (divides which destination) q w (made_in frame destination % 32) _ _ (made_in frame destination % 32) (made_in_scratch destination) (λ n low high other. other) puts)
+    -- the word is in its part
+    finished : (q : Words) (d : labelled.Configuration) → At program well frames fit code formed addresses pages calls few (here + loads + 5) c.output c.input q w d → Stands code (here + loads + 5) (ordinary (reads_part which destination ++ keep_code frame destination))
+        → Agrees FIRST q → q (part which) ≡ result_of which (word_of left) (word_of right)
+        → Goes 0 (here + loads + 5) (here + divide_count frame destination left right) (Running d)
+    finished q d now_d stands agrees result =
+        let puts = part_read which destination q in
+        walk_few code formed addresses globals_length (words_per_call * calls) 0 (1 + keep_count frame destination) (here + loads + 5) hi c.output _ (Running d) (omega arith)
+        (gives_made (plain.Binary operator destination left right) at_i refl destination (result_of which (word_of left) (word_of right)) c.input (gets destination) below does s.input (here + loads + 5) (divide_count frame destination left right) q d now_d
+        (reads_part which destination) (but_any (made_in frame destination % 32) q agrees)
+        (puts_keeps globals_length (words_per_call * calls) (reads_part which destination) q w (made_in frame destination % 32) _ _ (made_in frame destination % 32) (made_in_scratch destination) (λ n low high other. other) puts)
         (puts.result ∙ result) (omega arith) counted stands)
 
     abbrev tested : List Instr
     tested = divided_code frame left right
 
-    abbrev changed : List Instr
-    changed = arithmetic_of arithmetic.SubtractUnsigned FIRST ZERO FIRST ∷ small SECOND 1 ∷ []
-
     abbrev last : List Line
-    last = ordinary (changed ++ (divides which destination ++ keep_code frame destination))
+    last =
+        lines.Ordinary (product_code which (operand_register frame FIRST left))
+        ∷ lines.Jump (here + loads + 5)
+        ∷ ordinary (quotient_code frame which destination (operand_register frame FIRST left) (operand_register frame SECOND right))
 
     -- behind the operands, with the registers that they left
     module _ (q : Words) (d : labelled.Configuration) (later : At program well frames fit code formed addresses pages calls few (here + loads + 1) c.output c.input q w d)
-        (stands : Stands code (here + loads + 1) (lines.Branch (conditions.Registers branch.NotEqual (register_of SECOND) (register_of THIRD)) (here + loads + 4) ∷ last))
+        (stands : Stands code (here + loads + 1) (lines.Branch (conditions.Registers branch.NotEqual (register_of (operand_register frame SECOND right)) (register_of THIRD)) (here + loads + 4) ∷ last))
         (agrees : Agrees FIRST q)
-        (dividend : q FIRST ≡ word_of left) (divisor : q SECOND ≡ word_of right) (third : q THIRD ≡ 2 ^ 32 - 1) where
+        (dividend : q (operand_register frame FIRST left % 32) ≡ word_of left) (divisor : q (operand_register frame SECOND right % 32) ≡ word_of right) (third : q THIRD ≡ 2 ^ 32 - 1) where
       four : here + loads + 1 + 1 + 2 ≡ here + loads + 4
       four = omega arith
 
-      last_stands : Stands code (here + loads + 4) (ordinary (divides which destination ++ keep_code frame destination))
-      last_stands =
-          subst (λ (n : ℕ). Stands code n (ordinary (divides which destination ++ keep_code frame destination))) four
-          (stands_back code (here + loads + 1 + 1) (ordinary changed) (ordinary (divides which destination ++ keep_code frame destination)) stands.1)
+      five : here + loads + 4 + 1 ≡ here + loads + 5
+      five = omega arith
 
-      changed_agrees : Agrees FIRST (after_r changed q w)
-      changed_agrees = record {
-        zero_same = agrees.zero_same;
-        base_same = agrees.base_same;
-        left_same = agrees.left_same;
-        back_same = agrees.back_same;
-        lasts_same = agrees.lasts_same;
-        values_same = λ n low high other. put-other (put q FIRST _) SECOND n _ (λ e. absurd (omega (arith, e, high))) ∙ (put-other q FIRST n _ other ∙ agrees.values_same n low high other);
-      }
+      quotient_stands : Stands code (here + loads + 4) (ordinary (quotient_code frame which destination (operand_register frame FIRST left) (operand_register frame SECOND right)))
+      quotient_stands =
+          subst (λ (n : ℕ). Stands code n (ordinary (quotient_code frame which destination (operand_register frame FIRST left) (operand_register frame SECOND right)))) four
+          (stands_back code (here + loads + 1 + 1) (lines.Ordinary (product_code which (operand_register frame FIRST left)) ∷ lines.Jump (here + loads + 5) ∷ [])
+          (ordinary (quotient_code frame which destination (operand_register frame FIRST left) (operand_register frame SECOND right))) stands.1)
 
-      one_is : add_of (q 0) (sign_extended 1) ≡ 1
-      one_is = ap (λ (x : ℕ). add_of x (sign_extended 1)) agrees.zero_same ∙ small_is 1 (omega arith)
+      part_stands : Stands code (here + loads + 5) (ordinary (reads_part which destination ++ keep_code frame destination))
+      part_stands = subst (λ (n : ℕ). Stands code n (ordinary (reads_part which destination ++ keep_code frame destination))) five quotient_stands.1
+
+      -- the product has the result
+      multiplied : word_of right ≡ 2 ^ 32 - 1 → (from : MoveFromOp) → ((a : ℕ) → IsWord a → multiply_divide_result Multiply from (if_low from a 0) (if_low from (2 ^ 32 - 1) 0) ≡ result_of from a (2 ^ 32 - 1))
+          → after_r (product_code from (operand_register frame FIRST left) ∷ []) q w (part from) ≡ result_of from (word_of left) (word_of right)
+      multiplied same High law =
+          ap (λ (x : ℕ). multiply_divide_result Multiply High x x) (agrees.zero_same ∙ s.zero_is)
+          ∙ (law (word_of left) (is_word left left_held) ∙ ap (result_of High (word_of left)) (sym same))
+      multiplied same Low law =
+          ap (λ (x : ℕ). multiply_divide_result Multiply Low x (q THIRD)) dividend
+          ∙ (ap (multiply_divide_result Multiply Low (word_of left)) third
+          ∙ (law (word_of left) (is_word left left_held) ∙ ap (result_of Low (word_of left)) (sym same)))
+
+      product_agrees : (from : MoveFromOp) → Agrees FIRST (after_r (product_code from (operand_register frame FIRST left) ∷ []) q w)
+      product_agrees High = parts_agree Multiply ZERO ZERO q agrees
+      product_agrees Low = parts_agree Multiply (operand_register frame FIRST left) THIRD q agrees
+
+      product_safe : (from : MoveFromOp) → AreSafe globals_length (words_per_call * calls) (product_code from (operand_register frame FIRST left) ∷ []) q w
+      product_safe High = (tt, tt)
+      product_safe Low = (tt, tt)
+
+      product_memory : (from : MoveFromOp) → after_w (product_code from (operand_register frame FIRST left) ∷ []) q w ≡ w
+      product_memory High = refl
+      product_memory Low = refl
 
       by_minus_one : word_of right ≡ 2 ^ 32 - 1 → Goes 1 (here + loads + 1) hi (Running d)
       by_minus_one same =
-          let stays : (if not (q SECOND == q THIRD) then here + loads + 4 else here + loads + 1 + 1) ≡ here + loads + 1 + 1 =
-          ap (λ (b : Bool). if not b then here + loads + 4 else here + loads + 1 + 1) (eq-eqb (q SECOND) (q THIRD) (divisor ∙ (same ∙ sym third))) in
-          walk_branch code formed addresses globals_length (words_per_call * calls) 0 (here + loads + 1) (here + loads + 1) hi c.output c.input _ q w d (conditions.Registers branch.NotEqual (register_of SECOND) (register_of THIRD)) (here + loads + 4) (here + loads + 1 + 1) later stands.0 (omega arith) stays
+          let stays : (if not (q (operand_register frame SECOND right % 32) == q THIRD) then here + loads + 4 else here + loads + 1 + 1) ≡ here + loads + 1 + 1 =
+          ap (λ (b : Bool). if not b then here + loads + 4 else here + loads + 1 + 1) (eq-eqb (q (operand_register frame SECOND right % 32)) (q THIRD) (divisor ∙ (same ∙ sym third))) in
+          let product : List Instr = product_code which (operand_register frame FIRST left) ∷ [] in
+          walk_branch code formed addresses globals_length (words_per_call * calls) 0 (here + loads + 1) (here + loads + 1) hi c.output c.input _ q w d (conditions.Registers branch.NotEqual (register_of (operand_register frame SECOND right)) (register_of THIRD)) (here + loads + 4) (here + loads + 1 + 1) later stands.0 (omega arith) stays
           (λ e after.
-          walk_few code formed addresses globals_length (words_per_call * calls) 0 (2 + 0) (suc (here + loads + 1)) hi c.output _ (Running e) (omega arith)
-          (walk_block code formed addresses globals_length (words_per_call * calls) changed 0 (here + loads + 1 + 1) (suc (here + loads + 1)) hi c.output c.input _ q w e after
-          (stands_front code (here + loads + 1 + 1) (ordinary changed) (ordinary (divides which destination ++ keep_code frame destination)) stands.1) (refl, (refl, tt)) (omega arith)
+          walk_few code formed addresses globals_length (words_per_call * calls) 0 (1 + (1 + 0)) (suc (here + loads + 1)) hi c.output _ (Running e) (omega arith)
+          (walk_block code formed addresses globals_length (words_per_call * calls) product (1 + 0) (here + loads + 1 + 1) (suc (here + loads + 1)) hi c.output c.input _ q w e after
+          (stands.1.0, tt) (product_safe which) (omega arith)
           (λ f there.
-          walk_from code formed addresses globals_length (words_per_call * calls) 0 (here + loads + 1 + 1 + 2) (here + loads + 4) hi c.output _ (Running f) (omega arith)
-          (divided (after_r changed q w) f (now_at code formed addresses globals_length (words_per_call * calls) (here + loads + 1 + 1 + 2) (here + loads + 4) c.output c.input _ _ f four there) last_stands changed_agrees
-          (λ e. absurd (omega (arith, e, one_is)))
-          (λ e1 e2. absurd (omega (arith, e2, one_is)))
-          (ap (λ (x : ℕ). result_of which (sub_of x (q FIRST)) (add_of (q 0) (sign_extended 1))) (agrees.zero_same ∙ s.zero_is)
-          ∙ (ap (result_of which (sub_of 0 (q FIRST))) one_is
-          ∙ (ap (λ (x : ℕ). result_of which (sub_of 0 x) 1) dividend
-          ∙ (negated (word_of left) (is_word left left_held) ∙ ap (result_of which (word_of left)) (sym same)))))
-          ))))
+          walk_jump code formed addresses globals_length (words_per_call * calls) 0 (here + loads + 1 + 1 + 1) (here + loads + 1 + 1 + 1) hi c.output c.input _ (after_r product q w) (after_w product q w) f (here + loads + 5) there stands.1.1.0 (omega arith)
+          (λ g behind.
+          walk_from code formed addresses globals_length (words_per_call * calls) 0 (suc (here + loads + 1 + 1 + 1)) (here + loads + 5) hi c.output _ (Running g) (omega arith)
+          (finished (after_r product q w) g
+          (now_is code formed addresses globals_length (words_per_call * calls) (here + loads + 5) c.output c.input (after_r product q w) (after_w product q w) (after_r product q w) w g refl (product_memory which) behind)
+          part_stands (product_agrees which) (multiplied same which by_minus))))))
 
       by_other : word_of right ≢ 2 ^ 32 - 1 → Goes 1 (here + loads + 1) hi (Running d)
       by_other other =
-          let leaps : (if not (q SECOND == q THIRD) then here + loads + 4 else here + loads + 1 + 1) ≡ here + loads + 4 =
-          ap (λ (b : Bool). if not b then here + loads + 4 else here + loads + 1 + 1) (ne_eqb (q SECOND) (q THIRD) (λ e. other (sym divisor ∙ (e ∙ third)))) in
-          walk_branch code formed addresses globals_length (words_per_call * calls) 0 (here + loads + 1) (here + loads + 1) hi c.output c.input _ q w d (conditions.Registers branch.NotEqual (register_of SECOND) (register_of THIRD)) (here + loads + 4) (here + loads + 4) later stands.0 (omega arith) leaps
+          let leaps : (if not (q (operand_register frame SECOND right % 32) == q THIRD) then here + loads + 4 else here + loads + 1 + 1) ≡ here + loads + 4 =
+          ap (λ (b : Bool). if not b then here + loads + 4 else here + loads + 1 + 1) (ne_eqb (q (operand_register frame SECOND right % 32)) (q THIRD) (λ e. other (sym divisor ∙ (e ∙ third)))) in
+          let division : List Instr = multiply_divide_of Divide (operand_register frame FIRST left) (operand_register frame SECOND right) ∷ [] in
+          walk_branch code formed addresses globals_length (words_per_call * calls) 0 (here + loads + 1) (here + loads + 1) hi c.output c.input _ q w d (conditions.Registers branch.NotEqual (register_of (operand_register frame SECOND right)) (register_of THIRD)) (here + loads + 4) (here + loads + 4) later stands.0 (omega arith) leaps
           (λ e after.
           walk_from code formed addresses globals_length (words_per_call * calls) 0 (suc (here + loads + 1)) (here + loads + 4) hi c.output _ (Running e) (omega arith)
-          (divided q e after last_stands agrees
-          (λ e. nonzero (sym divisor ∙ e)) (λ e1 e2. other (sym divisor ∙ e2))
-          (ap (λ (x : ℕ). result_of which x (q SECOND)) dividend ∙ ap (result_of which (word_of left)) divisor)))
+          (walk_few code formed addresses globals_length (words_per_call * calls) 0 (1 + 0) (here + loads + 4) hi c.output _ (Running e) (omega arith)
+          (walk_block code formed addresses globals_length (words_per_call * calls) division 0 (here + loads + 4) (here + loads + 4) hi c.output c.input _ q w e after
+          (quotient_stands.0, tt) (((λ e1. nonzero (sym divisor ∙ e1)), (λ e1 e2. other (sym divisor ∙ e2))), tt) (omega arith)
+          (λ f there.
+          walk_from code formed addresses globals_length (words_per_call * calls) 0 (here + loads + 4 + 1) (here + loads + 5) hi c.output _ (Running f) (omega arith)
+          (finished (after_r division q w) f (now_at code formed addresses globals_length (words_per_call * calls) (here + loads + 4 + 1) (here + loads + 5) c.output c.input _ _ f five there) part_stands
+          (parts_agree Divide (operand_register frame FIRST left) (operand_register frame SECOND right) q agrees)
+          (part_is Divide which (operand_register frame FIRST left) (operand_register frame SECOND right) q
+          ∙ (ap (λ (x : ℕ). result_of which x (q (operand_register frame SECOND right % 32))) dividend ∙ ap (result_of which (word_of left)) divisor)))))))
 
       either_goes : Goes 1 (here + loads + 1) hi (Running d)
       either_goes = elim (cases_eq (word_of right) (2 ^ 32 - 1)) [
@@ -502,12 +566,13 @@ module _ (program : Program) (well : IsWellFormed program) (frames : List Frame)
         let put_all = divided_put globals_length (words_per_call * calls) frame (r FRAME) w r c.active.slots r w s.zero_is refl refl (λ n low high. refl) left right left_held right_held in
         let long : length tested ≡ loads + 1 = length_divided frame left right in
         let there : here + length tested ≡ here + loads + 1 = omega (arith, long) in
-        let behind = stands_back code here (ordinary tested) (lines.Branch (conditions.Registers branch.NotEqual (register_of SECOND) (register_of THIRD)) (here + loads + 4) ∷ last) stands in
-        let behind_here : Stands code (here + loads + 1) (lines.Branch (conditions.Registers branch.NotEqual (register_of SECOND) (register_of THIRD)) (here + loads + 4) ∷ last) =
-        subst (λ (n : ℕ). Stands code n (lines.Branch (conditions.Registers branch.NotEqual (register_of SECOND) (register_of THIRD)) (here + loads + 4) ∷ last)) (ap (λ (n : ℕ). here + n) (length_ordinary tested) ∙ there) behind in
+        let test : Line = lines.Branch (conditions.Registers branch.NotEqual (register_of (operand_register frame SECOND right)) (register_of THIRD)) (here + loads + 4) in
+        let behind = stands_back code here (ordinary tested) (test ∷ last) stands in
+        let behind_here : Stands code (here + loads + 1) (test ∷ last) =
+        subst (λ (n : ℕ). Stands code n (test ∷ last)) (ap (λ (n : ℕ). here + n) (length_ordinary tested) ∙ there) behind in
         walk_few code formed addresses globals_length (words_per_call * calls) 1 (length tested + 1) here hi c.output _ (Running run) (omega arith)
         (walk_block code formed addresses globals_length (words_per_call * calls) tested 1 here here hi c.output c.input _ r w run now
-        (stands_front code here (ordinary tested) (lines.Branch (conditions.Registers branch.NotEqual (register_of SECOND) (register_of THIRD)) (here + loads + 4) ∷ last) stands)
+        (stands_front code here (ordinary tested) (test ∷ last) stands)
         put_all.keeps.safe (omega arith)
         (λ d later.
         walk_from code formed addresses globals_length (words_per_call * calls) 1 (here + length tested) (here + loads + 1) hi c.output _ (Running d) (omega (arith, there))

@@ -1,5 +1,5 @@
 -- What the code of operands, of plans and of tests leaves in registers.
-use Rattle.std.proofs.Common.{◌≡◌, ◌≢◌, ℕ, ◌-◌, ◌/◌, ◌%◌, ◌^◌, ◌<◌, ◌≤◌, Bool, true, false, List, [], ◌∷◌, ◌++◌, Option, None, Some, refl, sym, ap, subst, ◌∙◌, arith}
+use Rattle.std.proofs.Common.{◌≡◌, ◌≢◌, ℕ, ◌-◌, ◌/◌, ◌%◌, ◌^◌, ◌<◌, ◌≤◌, Bool, true, false, List, [], ◌∷◌, Option, None, Some, refl, sym, ap, subst, ◌∙◌, arith}
 use Rattle.std.specs.Prelude.{◌==◌, nat_lt, if◌then◌else◌, bit_or}
 use Rattle.std.proofs.lemmas.Bool.{eqb-true, ne_eqb}
 use Rattle.cyc_words.specs.Word.{IsWord, add_of, sltu_of, sign_extended}
@@ -344,24 +344,32 @@ module _ (globals stack : ℕ) where
 
     -- ---- division
 
+    fetched_not_third : (o : Option ℕ) (target number : ℕ) → 24 ≤ target → target < 32 → HeldIn o frame base w r slots number → or_else o target % 32 ≢ THIRD
+    fetched_not_third None target number above below held e = omega (arith, e, above, below)
+    fetched_not_third (Some register) target number above below (low, high, is, fits) e = omega (arith, e, low, high)
+
+    word_not_third : (b : Bool) (target : ℕ) → 24 ≤ target → target < 32 → (if b then ZERO else target) % 32 ≢ THIRD
+    word_not_third true target above below e = absurd (omega (arith, e))
+    word_not_third false target above below e = omega (arith, e, above, below)
+
+    -- an operand is in another register than -1
+    not_third : (target : ℕ) → 24 ≤ target → target < 32 → (o : Operand) → IsHeld frame base w r slots o → operand_register frame target o % 32 ≢ THIRD
+    not_third target above below (operands.Slot number) held = fetched_not_third (value_register frame number) target number above below held
+    not_third target above below (operands.Word word) held = word_not_third (is_zero_word (operands.Word word)) target above below
+
     -- dividend, divisor and -1 are in registers
     pub record AreDivided (is : List Instr) (left right : Operand) : Type 0 where
       pub keeps : Keeps globals stack is q m FIRST
-      pub dividend : after_r is q m FIRST ≡ operand_word slots left
-      pub divisor : after_r is q m SECOND ≡ operand_word slots right
+      pub dividend : after_r is q m (operand_register frame FIRST left % 32) ≡ operand_word slots left
+      pub divisor : after_r is q m (operand_register frame SECOND right % 32) ≡ operand_word slots right
       pub minus_one : after_r is q m THIRD ≡ 2 ^ 32 - 1
 
     pub divided_put : (left right : Operand) → IsHeld frame base w r slots left → IsHeld frame base w r slots right → AreDivided (divided_code frame left right) left right
     divided_put left right left_held right_held =
-        let c : List Instr = load_code frame FIRST left in
-        let d : List Instr = load_code frame SECOND right in
+        let c : List Instr = operands_code frame left right in
         let e : List Instr = add_immediate THIRD ZERO (minus 1) ∷ [] in
-        let first = load_puts frame base w r slots q m zero same memory values FIRST refl left left_held in
-        let kept = puts_keeps globals stack c q m FIRST _ _ FIRST first_scratch (first_aside FIRST) first in
-        let second = load_puts frame base w r slots (after_r c q m) (after_w c q m) (kept.zero ∙ zero) (kept.base ∙ same) (kept.memory ∙ memory)
-        (λ n low high. all_same (after_r c q m) q kept.values n low high ∙ values n low high) SECOND refl right right_held in
-        let both = keeps_append globals stack c d q m FIRST kept (puts_keeps globals stack d (after_r c q m) (after_w c q m) SECOND _ _ FIRST second_scratch (second_aside FIRST) second) in
-        let third : Keeps globals stack e (after_r (c ++ d) q m) (after_w (c ++ d) q m) FIRST = record {
+        let loaded = operands_put FIRST left right left_held right_held in
+        let third : Keeps globals stack e (after_r c q m) (after_w c q m) FIRST = record {
           safe = (refl, tt);
           memory = refl;
           zero = refl;
@@ -369,15 +377,17 @@ module _ (globals stack : ℕ) where
           left = refl;
           back = refl;
           lasts = refl;
-          values = λ n low high other. put-other (after_r (c ++ d) q m) THIRD n _ (λ x. absurd (omega (arith, x, low)));
+          values = λ n low high other. put-other (after_r c q m) THIRD n _ (λ x. absurd (omega (arith, x, low)));
         } in
         record {
-          keeps = keeps_append globals stack (c ++ d) e q m FIRST both third;
+          keeps = keeps_append globals stack c e q m FIRST loaded.keeps third;
           dividend =
-              after_both globals stack (c ++ d) e q m FIRST
-              ∙ (after_both globals stack c d q m FIRST ∙ (second.others FIRST (omega arith) (λ x. absurd (omega (arith, x))) ∙ first.result));
-          divisor = after_both globals stack (c ++ d) e q m SECOND ∙ (after_both globals stack c d q m SECOND ∙ second.result);
-          minus_one = after_both globals stack (c ++ d) e q m THIRD ∙ minus_one_is (after_r (c ++ d) q m ZERO) (both.zero ∙ zero);
+              after_both globals stack c e q m (operand_register frame FIRST left % 32)
+              ∙ (put-other (after_r c q m) THIRD (operand_register frame FIRST left % 32) _ (not_third FIRST (omega arith) (omega arith) left left_held) ∙ loaded.left_is);
+          divisor =
+              after_both globals stack c e q m (operand_register frame SECOND right % 32)
+              ∙ (put-other (after_r c q m) THIRD (operand_register frame SECOND right % 32) _ (not_third SECOND (omega arith) (omega arith) right right_held) ∙ loaded.right_is);
+          minus_one = after_both globals stack c e q m THIRD ∙ minus_one_is (after_r c q m ZERO) (loaded.keeps.zero ∙ zero);
         }
 
 -- ---- what is made of a word

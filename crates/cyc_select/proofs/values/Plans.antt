@@ -44,6 +44,11 @@ use Rattle.cyc_select.specs.Selection.{branch_on, is_tested}
 use Rattle.cyc_select.proofs.values.Halves.{signed_is, negated_is, next_is, next_not_greatest, low_is, zero_is, amount_is, signed_fits, negated_fits, next_fits, low_fits, next_signed}
 use Rattle.cyc_select.proofs.values.Operations.{zero_test, not_zero_test, difference_zero, low_product}
 
+-- of two words, the one for a quotient, and that for a remainder
+abbrev pub if_low : MoveFromOp → (low high : ℕ) → ℕ
+if_low High low high = high
+if_low Low low high = low
+
 -- ---- what a plan computes
 
 abbrev pub multiply_divide_result : MultiplyDivideOp → MoveFromOp → ℕ → ℕ → ℕ
