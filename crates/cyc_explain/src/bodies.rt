@@ -188,12 +188,7 @@ fn explain_clause(teller: &mut Teller, scope: &Scope<'_>, clause: &Clause) {
 // ---- expressions
 
 /// Asks an expression, its parts and what is wanted of it apart.
-fn explain_expression(
-    teller: &mut Teller,
-    scope: &mut Scope<'_>,
-    tree: &Tree,
-    expression: &Expr,
-) {
+fn explain_expression(teller: &mut Teller, scope: &mut Scope<'_>, tree: &Tree, expression: &Expr) {
     match expression {
         Expr::UniqueRegion { span } => teller.tell(Message::UniqueRegionAlone, *span),
         Expr::Variable { name } => explain_name(teller, scope, *name),

@@ -1,4 +1,4 @@
-//! The names of a program, and its structs, apart from its tree: what holds a tree costs the prover more than twice as much.
+//! The names of a program, and its structs, apart from its tree: a struct with a reference to a tree makes whatever it is handed to dearer.
 use cyc_syntax::{Declaration, Ident, Name, Names, Tree};
 use std::alloc::Global;
 

@@ -56,12 +56,7 @@ pub(crate) fn explain_return(
 }
 
 /// The words for a swap of what are no places, or of places of two types.
-pub(crate) fn explain_swap(
-    teller: &mut Teller,
-    scope: &mut Scope<'_>,
-    left: &Expr,
-    right: &Expr,
-) {
+pub(crate) fn explain_swap(teller: &mut Teller, scope: &mut Scope<'_>, left: &Expr, right: &Expr) {
     explain_place(teller, scope, left);
     explain_place(teller, scope, right);
     let span = span_of(left);
@@ -83,11 +78,7 @@ pub(crate) fn type_here(scope: &Scope<'_>, written: &WrittenType, left_out: Regi
 }
 
 /// The words for a type that is written in a body.
-pub(crate) fn explain_written_here(
-    teller: &mut Teller,
-    scope: &Scope<'_>,
-    written: &WrittenType,
-) {
+pub(crate) fn explain_written_here(teller: &mut Teller, scope: &Scope<'_>, written: &WrittenType) {
     explain_written(teller, written);
     if let BaseType::Struct { name, .. } = &written.base {
         explain_unknown(teller, scope, Sort::Struct, *name);
@@ -95,12 +86,7 @@ pub(crate) fn explain_written_here(
 }
 
 /// The words for a region that is opened by a key.
-pub(crate) fn explain_opened(
-    teller: &mut Teller,
-    scope: &Scope<'_>,
-    region: Ident,
-    key: Ident,
-) {
+pub(crate) fn explain_opened(teller: &mut Teller, scope: &Scope<'_>, region: Ident, key: Ident) {
     teller.notes.other = key.name.number;
     teller.tell_name(Message::KeyOfAnother, region);
     explain_region(teller, region);

@@ -154,12 +154,7 @@ pub(crate) fn wanted_by(operator: BinaryOperator) -> (Wanted, Wanted) {
 }
 
 /// The words where the type that is found at this place is not what is wanted, or its region is not live.
-pub(crate) fn explain_found(
-    teller: &mut Teller,
-    scope: &Scope<'_>,
-    wanted: Wanted,
-    span: Span,
-) {
+pub(crate) fn explain_found(teller: &mut Teller, scope: &Scope<'_>, wanted: Wanted, span: Span) {
     let found = given(&teller.notes.found);
     if teller.is_fault(Code::TypeMismatch, span) && !wanted.allows(found) {
         let advice = wanted.advice(found);

@@ -138,7 +138,13 @@ impl Words {
     // ---- regions
 
     /// A region by its name, or else, where that is asked for, by its place.
-    fn put_region(&mut self, lexicon: &Lexicon, region: Region, home: Option<Home>, is_placed: bool) {
+    fn put_region(
+        &mut self,
+        lexicon: &Lexicon,
+        region: Region,
+        home: Option<Home>,
+        is_placed: bool,
+    ) {
         match (region, home) {
             (Region::Heap, _) => self.put(b"`H"),
             (Region::Unique, _) => self.put(b"`U"),
