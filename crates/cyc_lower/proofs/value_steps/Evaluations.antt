@@ -730,11 +730,11 @@ module _ (source : Program) (pages calls : ℕ) where
   in_top a k e w c o q known (is, at) stack =
       comes a k e w c (top source c.active.function k) q known at (in_temporary (omega arith) (subst (λ x. ValueStack source c.active.function e.locals (given_at source c.active.function a) x q c.frames k) is stack))
 
-  -- what stands where a char does that serves as an int
-  unwidened : (code : List Instruction) (b : Numbering) (types : Types) (known : Option Operand) (one computed : Type 0) (slot : ℕ) (o : Operand) (p q : ℕ)
+  -- an operand, without what is said beside its code
+  pub only_computed : (code : List Instruction) (b : Numbering) (types : Types) (known : Option Operand) (one computed : Type 0) (slot : ℕ) (o : Operand) (p q : ℕ)
       → OperandBy code b types known (one × computed) slot o p q → OperandBy code b types known computed slot o p q
-  unwidened code b types (Some x) one computed slot o p q at = at
-  unwidened code b types None one computed slot o p q (is, (it, at)) = (is, at)
+  only_computed code b types (Some x) one computed slot o p q at = at
+  only_computed code b types None one computed slot o p q (is, (it, at)) = (is, at)
 
   operand : (a : Expression) (k : List Entry) (e : Environment) (w : World) (c : Configuration) (o : Operand) (q : ℕ) → At_step a k e w c
       → ValueAt (code_of source c.active.function) (bounds_at source c.active.function) (types_on source c.active.function k) a (top source c.active.function k) o c.active.next q
@@ -759,7 +759,7 @@ module _ (source : Program) (pages calls : ℕ) where
   operand (typed.NumberOfElements a) k e w c o q known at stack = in_top (typed.NumberOfElements a) k e w c o q known at stack
   operand (Unary unary.Widen a) k e w c o q (well, shared, facts, holds, names) at stack =
       silently source pages calls (Running (Evaluating (Unary unary.Widen a)) k e w) (Running (Evaluating a) (Needs (Operate unary.Widen) ∷ k) e w) (plain.Running c) refl
-      (shared, facts, as_operand o q (unwidened (code_of source c.active.function) (bounds_at source c.active.function) (types_on source c.active.function k) (operand_of (starts_on source c.active.function k) a) _ _ _ o c.active.next q at) holds stack)
+      (shared, facts, as_operand o q (only_computed (code_of source c.active.function) (bounds_at source c.active.function) (types_on source c.active.function k) (operand_of (starts_on source c.active.function k) a) _ _ _ o c.active.next q at) holds stack)
       (omega arith)
   operand (Unary u a) k e w c o q known at stack = in_top (Unary u a) k e w c o q known at stack
   operand (Binary a os t) k e w c o q known at stack = in_top (Binary a os t) k e w c o q known at stack
@@ -903,7 +903,7 @@ module _ (source : Program) (pages calls : ℕ) where
           r,
           q,
           known_simple (starts_on source g k) a simple,
-          unwidened (code_of source g) (bounds_at source g) (types_on source g k) (operand_of (starts_on source g k) a) _ _ _ r c.active.next q there,
+          only_computed (code_of source g) (bounds_at source g) (types_on source g k) (operand_of (starts_on source g k) a) _ _ _ r c.active.next q there,
           beside,
         ),
       )

@@ -84,7 +84,7 @@ use Rattle.cyc_lower.proofs.relation.Paths.{Link, IsPath, end_of, by_path}
 use Rattle.cyc_lower.proofs.place_steps.WideCells.{store_links, stored, store_path, all_path, store_last, shared_stored, data_stored, IsStanding, above_stored, frames_stored, value_stays}
 use Rattle.cyc_lower.proofs.object_steps.Allocations.{plain_made, fields_made}
 use Rattle.cyc_lower.proofs.object_steps.Arrays.{array_sized, array_filled}
-use Rattle.cyc_lower.proofs.value_steps.Evaluations.{known_simple, IsStep, landed, landed_word, landed_moved, lands_at, passes_related, passes_weight, object_of_same, made_of, lands_made, landed_char, known_operand_is}
+use Rattle.cyc_lower.proofs.value_steps.Evaluations.{only_computed, known_simple, IsStep, landed, landed_word, landed_moved, lands_at, passes_related, passes_weight, object_of_same, made_of, lands_made, landed_char, known_operand_is}
 use Rattle.cyc_lower.proofs.relation.Paths.{Link, IsPath, end_of, by_path}
 use Rattle.cyc_lower.proofs.value_steps.GlobalSteps.{stored_globals, stored_elsewhere, stored_is, global_links, is_stored_by, by_links}
 use Rattle.cyc_lower.proofs.region_steps.RegionSteps.{opened_given, aliased_given}
@@ -639,12 +639,7 @@ module _ (source : Program) (pages calls : ℕ) where
       by None none = none
       by (Some x) some = absurd (let f : true ≡ false = sym (known_simple source pages calls starts b (ap is_some some)) ∙ other in cc)
 
-  -- the same of a right operand, whatever is said of the left one
-  right_alone : (code : List Instruction) (b : Numbering) (types : Types) (known : Option Operand) (left computed : Type 0) (slot : ℕ) (o : Operand) (p q : ℕ) → OperandBy code b types known (left × computed) slot o p q
-      → OperandBy code b types known computed slot o p q
-  right_alone code b types (Some x) left computed slot o p q at = at
-  right_alone code b types None left computed slot o p q (is, (there, at)) = (is, at)
-
+  -- a left operand is in its slot where the right one has code that says so
   left_there : (code : List Instruction) (b : Numbering) (types : Types) (known : Option Operand) (left computed : Type 0) (slot : ℕ) (o : Operand) (p q : ℕ) → known ≡ None → OperandBy code b types known (left × computed) slot o p q → left
   left_there code b types (Some x) left computed slot o p q none at = absurd (none-some x (sym none))
   left_there code b types None left computed slot o p q none (is, (there, at)) = there
@@ -683,10 +678,10 @@ module _ (source : Program) (pages calls : ℕ) where
           (LeftBy (code_of source g) (bounds_at source g) (types_on source g k) simple (l ≡ operands.Slot t) × ExpressionAt (code_of source g) (bounds_at source g) (types_on source g k) b (value_slot starts b (suc t)) (suc t) c.active.next m) (value_slot starts b (suc t)) r c.active.next m
           → EvaluatingAt source shared.tables b e.locals g c.active.next c.active.slots c.frames (Needs (Apply u v) ∷ Needs (Chain os) ∷ k)
       by true is_simple_right at =
-          as_right (r, m, is_simple_right, subst Right next (right_alone (code_of source g) (bounds_at source g) (types_on source g k) (operand_of starts b) _ _ _ r c.active.next m at), (l, is, low, inl (holds, applied)))
+          as_right (r, m, is_simple_right, subst Right next (only_computed source pages calls (code_of source g) (bounds_at source g) (types_on source g k) (operand_of starts b) _ _ _ r c.active.next m at), (l, is, low, inl (holds, applied)))
       by false other at =
           let there = left_there (code_of source g) (bounds_at source g) (types_on source g k) (operand_of starts b) _ _ _ r c.active.next m (unknown starts b other) at in
-          as_operand r m (subst Right next (right_alone (code_of source g) (bounds_at source g) (types_on source g k) (operand_of starts b) _ _ _ r c.active.next m at))
+          as_operand r m (subst Right next (only_computed source pages calls (code_of source g) (bounds_at source g) (types_on source g k) (operand_of starts b) _ _ _ r c.active.next m at))
           (subst (IsIn shared.tables v c.active.slots) there is, holds)
           (subst (λ x. AppliedStack source g e.locals u x r m c.frames (Needs (Chain os) ∷ k)) there applied)
 
