@@ -36,7 +36,7 @@ use Rattle.cyc_lower.proofs.relation.Matched.{IsMatched, silently, by_one}
 use Rattle.cyc_lower.proofs.relation.Paths.{is_quiet, by_path}
 use Rattle.cyc_lower.proofs.value_steps.Evaluations.{IsStep, sources, landed}
 use Rattle.cyc_lower.proofs.value_steps.ValueWords.{of_kind}
-use Rattle.cyc_lower.proofs.value_steps.Values.{landed_there}
+use Rattle.cyc_lower.proofs.value_steps.Assignments.{landed_there}
 use Rattle.cyc_plain.specs.Memory.{memory_at}
 use Rattle.cyc_lower.proofs.relation.Leads.{AreNamed}
 use Rattle.cyc_lower.proofs.slots.Slots.{room-inside}

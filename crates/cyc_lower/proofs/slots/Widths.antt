@@ -198,9 +198,6 @@ module _ (signatures : List Signature) where
   given (Unary o a) = unary_kind o
   given a = kinds.Int
 
-abbrev pub passed_kind : Converted → Kind
-passed_kind (Convert from to a) = to
-
 -- ---- the words of locals
 
 -- those of the local, or global, of this number
