@@ -1,11 +1,11 @@
 -- The code of expressions names what is there.
-use Rattle.std.proofs.Common.{◌≡◌, ℕ, suc, ◌+◌, ◌-◌, ◌≤◌, ◌<◌, [], ◌∷◌, ◌++◌, length, Option, Some, slice_get, refl, sym, ap, subst, ◌∙◌, arith, length-append}
+use Rattle.std.proofs.Common.{◌≡◌, ℕ, suc, ◌+◌, ◌≤◌, ◌<◌, [], ◌∷◌, ◌++◌, length, Option, Some, slice_get, refl, sym, ap, subst, ◌∙◌, arith, length-append}
 use Rattle.cyc_types.specs.declared.typed.Kind.{Kind}
 use Rattle.cyc_types.specs.declared.typed.Kind.TheVariants as kinds
 use Rattle.cyc_types.specs.declared.typed.Callee.TheVariants as callees
 use Rattle.cyc_types.specs.declared.typed.UnaryOperator.TheVariants as unary
 use Rattle.cyc_types.specs.Types.{Ty, words_of}
-use Rattle.cyc_types.specs.TypedTrees.{Counter, Load, New, OnHeap, AsUnique, ByHandle, Initial, Plain, Fields, Array, Dereference, Target, type_of_place, Local, Global, Expression, Number, NullPointer, Copy, Call, Unary, Binary, Assign, Converted, Convert, Arguments, NoArguments, MoreArguments, Operations, NoOperations, ThenCompute, ThenTest, ThenPointer, type_of, Signature, Function, Move, Peek, ThenPointerPeek, AddressOfCell, Store, Member, FreeUnique, NumberOfElements, Element, HeapRegion, FreeKey, AddressOf}
+use Rattle.cyc_types.specs.TypedTrees.{Counter, Load, New, OnHeap, AsUnique, ByHandle, Initial, Plain, Fields, Array, Dereference, Target, type_of_place, Local, Global, Expression, Number, NullPointer, Copy, Call, Unary, Binary, Assign, Converted, Convert, Arguments, NoArguments, MoreArguments, Operations, NoOperations, ThenCompute, ThenTest, ThenPointer, type_of, Signature, Move, Peek, ThenPointerPeek, AddressOfCell, Store, Member, FreeUnique, NumberOfElements, Element, HeapRegion, FreeKey, AddressOf}
 use Rattle.cyc_types.specs.Numbered.{Numbering}
 use Rattle.cyc_plain.specs.declared.instruction.BinaryOperator.TheVariants as plain_binary
 use Rattle.cyc_plain.specs.declared.instruction.Operand.{Operand}
@@ -16,7 +16,7 @@ use Rattle.cyc_plain.specs.WellFormed.{IsOperand}
 use Rattle.std.specs.Prelude.{unwrap_or, ◌==◌}
 use Rattle.cyc_meaning.specs.Operators.{null_exception}
 use Rattle.cyc_store.specs.declared.range.TheConstants.{HEAP, UNIQUE}
-use Rattle.cyc_meaning.specs.Values.{words_of_kind, bytes_of_kind, is_thin, kind_of}
+use Rattle.cyc_meaning.specs.Values.{words_of_kind, is_thin, kind_of}
 use Rattle.cyc_meaning.specs.FrameCount.{result_words, operand_words, converted_words, argument_words, expression_need, dereference_need, converted_need, arguments_need, operations_need, initial_value_need, place_words}
 use Rattle.cyc_meaning.specs.Pointers.{result_kind as operator_kind}
 use Rattle.cyc_objects.proofs.NumberLemmas.{slice_get-there}
