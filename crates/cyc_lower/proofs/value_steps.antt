@@ -1,5 +1,7 @@
 -- the steps that begin an expression, and that hand a value on
+pub mod Assignments
 pub mod Evaluations
 pub mod GlobalSteps
+pub mod Operators
 pub mod ValueWords
 pub mod Values

@@ -1,7 +1,7 @@
 -- The code of conditions, branches, loops, regions, ways out of a statement, and handlers.
-use Rattle.std.specs.Prelude.{ℕ, ◌+◌, List, [], ◌∷◌, ◌++◌, length, ◌-◌, Option, None, Some, ◌%◌, ◌^◌}
+use Rattle.std.specs.Prelude.{ℕ, ◌+◌, List, [], ◌∷◌, ◌++◌, length, Option, None, Some, ◌%◌, ◌^◌}
 use Rattle.cyc_types.specs.declared.typed.UnaryOperator.TheVariants as unary
-use Rattle.cyc_types.specs.TypedTrees.{Expression, Number, Unary, Binary, NoOperations, ThenCompute, Word, Move, Throw, Try}
+use Rattle.cyc_types.specs.TypedTrees.{Expression, Number, Unary, Binary, NoOperations, ThenCompute}
 use Rattle.cyc_plain.specs.declared.instruction.Comparison.{Comparison}
 use Rattle.cyc_plain.specs.declared.instruction.Comparison.TheVariants as comparisons
 use Rattle.cyc_plain.specs.declared.instruction.Operand.{Operand}

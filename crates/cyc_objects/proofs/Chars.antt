@@ -1,12 +1,12 @@
 -- Chars: a word of a slot, and the byte of a cell. A variable's is the last byte of its word, which is below 256, so that the word and the
 -- byte are one value.
-use Rattle.std.proofs.Common.{◌≡◌, ℕ, suc, ◌+◌, ◌*◌, ◌/◌, ◌%◌, ◌<◌, ◌≤◌, Bool, true, false, List, ◌∷◌, Option, None, Some, refl, sym, ap, subst, ◌∙◌, arith}
+use Rattle.std.proofs.Common.{◌≡◌, ℕ, ◌+◌, ◌*◌, ◌/◌, ◌%◌, ◌<◌, true, false, refl, sym, ap, subst, ◌∙◌, arith}
 use Rattle.cyc_words.specs.WordBytes.{byte_in, with_byte, word_of}
 use Rattle.cyc_types.specs.declared.typed.Kind.{Kind}
 use Rattle.cyc_types.specs.declared.typed.Kind.TheVariants as kinds
 use Rattle.cyc_store.specs.State.{Memory}
 use Rattle.cyc_meaning.specs.Values.{Value, Int, is_kind, words_of_kind, bytes_of_kind}
-use Rattle.cyc_meaning.specs.Operators.{Gives, unary_result}
+use Rattle.cyc_meaning.specs.Operators.{Gives}
 use Rattle.cyc_meaning.specs.Conversion.{conversion}
 use Rattle.cyc_objects.specs.Tables.{Tables}
 use Rattle.cyc_objects.specs.Words.{byte_at, Is, Holds}
@@ -32,23 +32,10 @@ wide-aligned kind address wide there = there
 module _ (t : Tables) where
   -- ---- words
 
-  -- a char's word is below 256, and is what it means
+  -- a char's word is below 256
   pub char-small : (v : Value) (m : ℕ → ℕ) (p : ℕ) → Is t kinds.Char v m p → m p < 256
   char-small (Int word) m p is = subst (λ w. w < 256) (sym is.0) is.1
   char-small v m p is = absurd is
-
-  pub char-is : (v : Value) (m : ℕ → ℕ) (p : ℕ) → Is t kinds.Char v m p → v ≡ Int (m p)
-  char-is (Int word) m p is = ap (λ w. Int w) (sym is.0)
-  char-is v m p is = absurd is
-
-  -- a char's word is that of an int
-  pub char-is_int : (v : Value) (m : ℕ → ℕ) (p : ℕ) → Is t kinds.Char v m p → Is t kinds.Int v m p
-  char-is_int (Int word) m p is = is.0
-  char-is_int v m p is = absurd is
-
-  -- where an int is below 256 its word is a char's
-  pub int-is_char : (word : ℕ) (m : ℕ → ℕ) (p : ℕ) → word < 256 → m p ≡ word → Is t kinds.Char (Int word) m p
-  int-is_char word m p small same = (same, small)
 
   -- ---- conversions
 

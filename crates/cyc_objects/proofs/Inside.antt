@@ -1,5 +1,5 @@
 -- Where no variable stands anywhere: each row that says an address says one of the store's, so what a pointer leads to is in the store.
-use Rattle.std.proofs.Common.{◌≡◌, ℕ, ◌+◌, ◌*◌, ◌<◌, ◌≤◌, List, [], ◌∷◌, None, Some, is_some, sym, subst, inl, inr, arith}
+use Rattle.std.proofs.Common.{◌≡◌, ℕ, ◌+◌, ◌*◌, ◌<◌, ◌≤◌, List, None, Some, is_some, sym, subst, inl, inr, arith}
 use Rattle.std.specs.Prelude.{nat_le, if◌then◌else◌, slice_get}
 use Rattle.std.proofs.lemmas.Bool.{and_parts, leb-true}
 use Rattle.cyc_types.specs.declared.typed.Kind.{Kind}

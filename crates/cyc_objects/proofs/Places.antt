@@ -1,5 +1,5 @@
 -- Where the cells of an object begin: in order, apart, and within its bytes.
-use Rattle.std.proofs.Common.{◌≡◌, ℕ, zero, suc, ◌+◌, ◌*◌, ◌/◌, ◌%◌, ◌<◌, ◌≤◌, max, List, [], ◌∷◌, ◌++◌, length, Some, None, refl, sym, ap, subst, ◌∙◌, inl, inr, arith, add-zero}
+use Rattle.std.proofs.Common.{◌≡◌, ℕ, zero, suc, ◌+◌, ◌*◌, ◌%◌, ◌<◌, ◌≤◌, max, List, [], ◌∷◌, ◌++◌, length, Some, None, refl, sym, ap, subst, ◌∙◌, inl, inr, arith, add-zero}
 use Rattle.std.specs.Prelude.{slice_get}
 use Rattle.std.proofs.lemmas.Bool.{cases_lt}
 use Rattle.cyc_types.specs.declared.typed.Kind.{Kind}
@@ -208,13 +208,3 @@ blanks-size count kind = ap (λ n. max 1 (words_for n)) (blanks-bytes 0 count ki
   where
     none : (n : ℕ) → 0 + n ≡ n
     none n = omega arith
-
--- 4,000 chars fit a block of 1,000 words, and the words of so many are a sum and a shift
-pub chars-few : (count : ℕ) → words_for (count * bytes_of_kind kinds.Char) ≤ 1000 → count ≤ 4000
-chars-few count few = omega (arith, few)
-
-pub few-chars : (count : ℕ) → count ≤ 4000 → words_for (count * bytes_of_kind kinds.Char) ≤ 1000
-few-chars count few = omega (arith, few)
-
-pub chars-words : (count : ℕ) → count ≤ 4000 → (count + 3) % 4294967296 / 4 ≡ words_for (count * bytes_of_kind kinds.Char)
-chars-words count few = omega (arith, few)

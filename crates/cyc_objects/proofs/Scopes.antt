@@ -1,16 +1,14 @@
 -- The lexical regions that are open are those that the entries of the control stack end: so they are counted there, the innermost is the
 -- newest of them, and they are few.
-use Rattle.std.proofs.Common.{◌≡◌, ℕ, zero, suc, ◌≤◌, ◌<◌, Bool, true, false, List, [], ◌∷◌, ◌+◌, length, set, Option, None, Some, refl, sym, ap, subst, ◌∙◌, inl, inr, arith}
-use Rattle.std.specs.Prelude.{◌≢◌, if◌then◌else◌, slice_get}
-use Rattle.std.specs.List.{list_any}
-use Rattle.std.proofs.lemmas.Bool.{cases_eq, cases_lt, cases_Bool, cond-true}
+use Rattle.std.proofs.Common.{◌≡◌, ℕ, suc, ◌≤◌, Bool, true, false, List, [], ◌∷◌, length, set, Option, None, Some, refl, sym, ap, ◌∙◌, inl, inr, arith}
+use Rattle.std.specs.Prelude.{slice_get}
+use Rattle.std.proofs.lemmas.Bool.{cases_lt, cond-true}
 use Rattle.cyc_store.specs.State.{StoreState, lexical_count}
 use Rattle.cyc_store.specs.Soundness.{IsSound}
 use Rattle.cyc_store.proofs.KeptServices.{lexical-few, regions-few}
-use Rattle.cyc_store.proofs.LookupLemmas.{same_some}
-use Rattle.cyc_meaning.specs.State.{Sort, Heap, Globals, Stack, Lexical, Dynamic, Region, World, Found, Closed, region_at, found_region, globals_number, closed, Environment, Entry, CloseRegion, CloseLexical}
+use Rattle.cyc_meaning.specs.State.{Sort, Heap, Globals, Stack, Lexical, Dynamic, Region, World, Found, Closed, region_at, found_region, Environment, Entry, CloseRegion, CloseLexical}
 use Rattle.cyc_meaning.specs.Nesting.{ends_of, AreBelow, lexicals_of, is_scope, is_open_scope, AreScopes, IsNested}
-use Rattle.cyc_meaning.proofs.NestingLemmas.{is_one, one_here, one_there, none_above, scopes_closed}
+use Rattle.cyc_meaning.proofs.NestingLemmas.{one_here, one_there, none_above, scopes_closed}
 use Rattle.cyc_objects.specs.Related.{scopes, IsNewest}
 use Rattle.cyc_objects.proofs.RegionLemmas.{shut, not_true}
 use Rattle.cyc_objects.proofs.Closing.{scopes-closed, scopes-none}

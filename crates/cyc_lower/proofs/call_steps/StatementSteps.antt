@@ -31,7 +31,7 @@ use Rattle.cyc_lower.proofs.slots.Slots.{slot-room, room-inside}
 use Rattle.cyc_lower.proofs.slots.Widths.{HasRoom, Outside, HasLocal, kind_in, kind_positive, keeps_whole}
 use Rattle.cyc_lower.proofs.relation.Moves.{copied_is, copied_elsewhere, put_elsewhere}
 use Rattle.cyc_lower.specs.ValueCode.{converts_there, null_of, keeps_words, span_of}
-use Rattle.cyc_lower.specs.ControlCode.{counter_operand, break_target, continue_target, inside_loop}
+use Rattle.cyc_lower.specs.ControlCode.{break_target, continue_target, inside_loop}
 use Rattle.cyc_lower.specs.ExpressionCode.{operand_of, value_slot, source_of}
 use Rattle.cyc_lower.specs.Lowering.{scopes_of, results_of, lower_function, lower_program, globals_of}
 use Rattle.cyc_lower.proofs.relation.Stands.{OperandBy, ExpressionAt, InitialAt, InitialBy, ReturnedAt, ItemsAt, BlankAt, BroughtAt, ConversionAt}
@@ -40,8 +40,8 @@ use Rattle.cyc_objects.specs.Related.{scopes}
 use Rattle.cyc_objects.specs.Words.{Is}
 use Rattle.cyc_objects.proofs.Values.{Grows-row, Grows-handle}
 use Rattle.cyc_lower.proofs.relation.Sharing.{shared_declared, row_declared, shared_opened, shared_closed}
-use Rattle.cyc_lower.proofs.relation.HeldValues.{kept, counters_of, Holds, held, callers, homes, behind_records, row_of, IsLocalRow}
-use Rattle.cyc_lower.proofs.relation.Relation.{CountsBy, opened_by, types_on, starts_on, types_at, starts_at, given_at, returned_at, Shared, DataAt, SharedAt, in_temporary, in_local, ValueStack, AheadStack, StatementStack, LandsStack, Related, EvaluatingAt, as_operand, into_slot, for_effect, as_condition, in_operand, ahead, behind_statement, behind_call, behind_wrong, Below, IsLast, Arrives, in_place, by_jump, code_of, bounds_in, bounds_at, top, by_jumps, HandlersStand, DataIn, Matches, floor, call_slots}
+use Rattle.cyc_lower.proofs.relation.HeldValues.{kept, Holds, held, callers, homes, behind_records, row_of, IsLocalRow}
+use Rattle.cyc_lower.proofs.relation.Relation.{CountsBy, opened_by, types_on, starts_on, types_at, starts_at, returned_at, Shared, DataAt, SharedAt, in_temporary, in_local, ValueStack, AheadStack, StatementStack, LandsStack, Related, EvaluatingAt, as_operand, for_effect, as_condition, in_operand, ahead, behind_statement, behind_call, behind_wrong, Below, IsLast, Arrives, in_place, by_jump, code_of, bounds_in, bounds_at, top, by_jumps, HandlersStand, DataIn, Matches, floor, call_slots}
 use Rattle.cyc_lower.proofs.relation.Data.{height-least, Holds-same, Holds-above, data_declared, data_returned, data_grows, held_by_caller, floor-least, handlers_same, calls_counted, handlers_beside}
 use Rattle.cyc_lower.proofs.value_steps.ValueWords.{int_at}
 use Rattle.cyc_lower.proofs.relation.Accesses.{IsWell, is_declared, is_closed, home_there}

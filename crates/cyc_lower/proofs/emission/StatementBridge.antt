@@ -25,14 +25,14 @@ use Rattle.cyc_lower.specs.declared.statements.Exits.{Exits}
 use Rattle.cyc_lower.specs.declared.statements.Opened.{Opened}
 use Rattle.cyc_lower.proofs.relation.Stands.{PairAt, ConditionAt, AssignmentAt, DiscardedAt, ReturnAt, DeclarationAt, StatementAt, ItemsAt, HasSide, SideAt, ReadAt, WriteAt, SwapAt, LeaveAt, ThrownAt, CaughtAt, ClausesAt, ExchangeAt, ClosedAt, HandlersAt, MarksAt, KeptAt, RestoredAt, OpenedAt, LeftBy}
 use Rattle.cyc_types.specs.typing.Expressions.{type_of_side}
-use Rattle.cyc_lower.proofs.slots.Widths.{kind_of_result, passed_kind, type_words, HasLocal}
+use Rattle.cyc_lower.proofs.slots.Widths.{kind_of_result, type_words, HasLocal}
 use Rattle.cyc_lower.proofs.relation.Fitting.{FitsPlace, Fits, FitsConverted, FitsReturn, FitsInitial, FitsStatement, FitItems, FitsSide, FitsThrown, FitsCaught, FitClauses}
 use Rattle.cyc_lower.proofs.place_steps.Sources.{stored_apart}
 use Rattle.cyc_lower.proofs.emission.OperandBridge.{cut, BlocksStand, operand_by, returned_by, right_by, left_first, returned_brought, conversion_stands, each_stands, global_stands, load_stands, stores_stand, saved_stands, address_stands, blank_stands}
 use Rattle.cyc_lower.proofs.emission.ExpressionBridge.{expression_stands, place_stands, initial_stands, converted_operand_stands, printed_stands, brought_stands}
 
 module _ (code : List Instruction) (b : Numbering) (types : Types) (raised : BlocksStand code types.raises) where
-  assignment_stands : (l : Lvalue) (c : Converted) (t p q : ℕ) → FitsPlace b types l (passed_kind c) → FitsConverted b types c → p + length (assignment_code (starts_of types) l c p t) ≡ q → HasAt code p (assignment_code (starts_of types) l c p t) → AssignmentAt code b types l c (assigned_operand (starts_of types) l c t) t p q
+  assignment_stands : (l : Lvalue) (c : Converted) (t p q : ℕ) → FitsPlace b types l (kind_passed c) → FitsConverted b types c → p + length (assignment_code (starts_of types) l c p t) ≡ q → HasAt code p (assignment_code (starts_of types) l c p t) → AssignmentAt code b types l c (assigned_operand (starts_of types) l c t) t p q
   assignment_stands (Local w n) c t p q (few, room) numbered end has = (refl, room, initial_stands code b types raised c (slot_of (starts_of types) n) t p q numbered end has)
   assignment_stands (Global n) c t p q room numbered end has =
       let o = converted_operand (starts_of types) c t in
@@ -109,7 +109,7 @@ module _ (code : List Instruction) (b : Numbering) (types : Types) (raised : Blo
   -- ---- statements
 
   -- what is returned is what the function returns, and has its words
-  returns_kind : (result : Option Ty) (c : Converted) → FitsReturn b types result (Some c) → (results_of result ≡ words_of_kind (passed_kind c)) × (passed_kind c ≡ kind_of_result result)
+  returns_kind : (result : Option Ty) (c : Converted) → FitsReturn b types result (Some c) → (results_of result ≡ words_of_kind (kind_passed c)) × (kind_passed c ≡ kind_of_result result)
   returns_kind None c numbered = absurd numbered
   returns_kind (Some t) c (kind, numbered) = (sym (type_words t) ∙ ap words_of_kind (sym kind), kind)
 

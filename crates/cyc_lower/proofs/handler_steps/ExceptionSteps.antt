@@ -54,7 +54,7 @@ use Rattle.cyc_lower.proofs.region_steps.Closings.{closing_apart, closing_execut
 use Rattle.cyc_lower.proofs.region_steps.Scoped.{scopes_word}
 use Rattle.cyc_lower.proofs.handler_steps.Handling.{intact, closes_here, newest_open, caught_by, raised}
 use Rattle.cyc_lower.proofs.value_steps.Evaluations.{IsStep}
-use Rattle.cyc_lower.proofs.value_steps.Values.{taken, not_taken}
+use Rattle.cyc_lower.proofs.value_steps.Operators.{taken, not_taken}
 use Rattle.cyc_lower.proofs.relation.Rows.{row-fits, row-variable, declared_low}
 
 module _ (source : Program) (pages calls : ℕ) where

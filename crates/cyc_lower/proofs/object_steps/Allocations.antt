@@ -1,5 +1,5 @@
 -- The steps that make objects: the store is asked for a block, and then each cell is written.
-use Rattle.std.proofs.Common.{◌≡◌, ℕ, zero, suc, ◌+◌, ◌*◌, ◌%◌, ◌≤◌, ◌<◌, max, Bool, true, false, List, [], ◌∷◌, ◌++◌, length, reverse, None, Some, slice_get, refl, sym, ap, subst, ◌∙◌, inl, inr, arith, length-append, append_assoc, append-nil}
+use Rattle.std.proofs.Common.{◌≡◌, ℕ, zero, suc, ◌+◌, ◌*◌, ◌≤◌, ◌<◌, max, Bool, true, false, List, [], ◌∷◌, ◌++◌, length, reverse, None, Some, slice_get, refl, sym, ap, subst, ◌∙◌, inl, inr, arith, length-append, append_assoc, append-nil}
 use Rattle.std.proofs.lemmas.List.{reverse-append}
 use Rattle.std.specs.Prelude.{◌==◌, nat_lt, if◌then◌else◌}
 use Rattle.std.proofs.lemmas.Bool.{le-leb, and_from, cases_Bool, eqb-true}
@@ -41,10 +41,10 @@ use Rattle.cyc_objects.proofs.RegionLemmas.{counted-same}
 use Rattle.cyc_objects.proofs.Making.{open-home, allocated, allocated-unique, refusal-allocate, refusal-unique, operands-blank, row-made, placed-range, room-fits}
 use Rattle.cyc_lower.proofs.slots.Widths.{kind_positive, wide_kind, Outside}
 use Rattle.cyc_lower.proofs.relation.Stands.{StoresAt, CellsAt, ObjectAt}
-use Rattle.cyc_lower.proofs.relation.HeldValues.{IsWord, IsIn, IsObject, words_held, height, Holds, HoldsFrom, held, callers, homes, IsHandleOf, HasHandle, contents}
-use Rattle.cyc_lower.proofs.relation.Relation.{types_on, silent, DataIn, SharedAt, in_temporary, into_slot, LandsMade, ValueStack, Matches, code_of, bounds_at, top, floor, base_of}
+use Rattle.cyc_lower.proofs.relation.HeldValues.{IsWord, IsIn, IsObject, words_held, Holds, HoldsFrom, held, callers, homes, IsHandleOf, HasHandle, contents}
+use Rattle.cyc_lower.proofs.relation.Relation.{types_on, silent, DataIn, SharedAt, LandsMade, ValueStack, Matches, code_of, bounds_at, top, floor, base_of}
 use Rattle.cyc_lower.proofs.object_steps.Handles.{has_handle}
-use Rattle.cyc_lower.proofs.relation.Data.{Is-same, height-least, one_word, Holds-same, Holds-rest, Holds-grows, HoldsFrom-grows, in_order, words-reverse, data_grows, variables_grow, contents_made, data_written, floor-least, Holds-above}
+use Rattle.cyc_lower.proofs.relation.Data.{Is-same, height-least, one_word, Holds-same, Holds-rest, Holds-grows, HoldsFrom-grows, in_order, data_grows, variables_grow, contents_made, data_written, floor-least, Holds-above}
 use Rattle.cyc_lower.proofs.relation.Accesses.{IsWell, is_fitting}
 use Rattle.cyc_lower.proofs.relation.Paths.{by_path}
 use Rattle.cyc_lower.proofs.object_steps.Asking.{past_pages, by_asking, by_full}

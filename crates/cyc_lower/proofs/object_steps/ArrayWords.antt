@@ -1,5 +1,5 @@
 -- The words of arrays: how many elements there may be, where each begins, and how many words the block of all has.
-use Rattle.std.proofs.Common.{◌≡◌, ℕ, zero, suc, ◌+◌, ◌*◌, ◌/◌, ◌%◌, ◌≤◌, ◌<◌, max, refl, sym, ap, ◌∙◌, arith}
+use Rattle.std.proofs.Common.{◌≡◌, ℕ, zero, suc, ◌+◌, ◌*◌, ◌/◌, ◌%◌, ◌≤◌, ◌<◌, max, ap, ◌∙◌, arith}
 use Rattle.std.specs.Prelude.{◌==◌}
 use Rattle.std.proofs.lemmas.Bool.{eqb-true, false_from_ne_true}
 use Rattle.std.proofs.Math.Nat.{mod-eq_of_lt}
@@ -10,7 +10,7 @@ use Rattle.cyc_types.specs.declared.typed.Kind.{Kind}
 use Rattle.cyc_types.specs.declared.typed.Kind.TheVariants as kinds
 use Rattle.cyc_store.specs.declared.range.TheConstants.{MOST_BLOCK_WORDS}
 use Rattle.cyc_plain.specs.Operators.{truth}
-use Rattle.cyc_meaning.specs.Values.{words_of_kind, bytes_of_kind, words_for}
+use Rattle.cyc_meaning.specs.Values.{bytes_of_kind, words_for}
 use Rattle.cyc_lower.specs.ObjectCode.{most_elements}
 use Rattle.cyc_lower.proofs.place_steps.PlaceWords.{add_is, shifted_is, multiplied_is}
 use Rattle.cyc_lower.proofs.pointer_steps.Elements.{scaled}

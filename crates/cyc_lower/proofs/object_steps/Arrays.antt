@@ -1,8 +1,7 @@
 -- The steps that make arrays: the length is tested, the store is asked for a block, and then each element is evaluated and written.
-use Rattle.std.proofs.Common.{◌≡◌, ◌≢◌, ℕ, zero, suc, ◌+◌, ◌*◌, ◌%◌, ◌≤◌, ◌<◌, max, Bool, true, false, List, [], ◌∷◌, ◌++◌, length, None, refl, sym, ap, subst, ◌∙◌, arith, inl, inr, length-append}
+use Rattle.std.proofs.Common.{◌≡◌, ◌≢◌, ℕ, zero, suc, ◌+◌, ◌*◌, ◌≤◌, ◌<◌, max, Bool, true, false, List, [], ◌∷◌, ◌++◌, length, None, refl, sym, ap, subst, ◌∙◌, arith, inl, inr, length-append}
 use Rattle.std.specs.Prelude.{nat_le, nat_lt, ◌==◌, if◌then◌else◌}
 use Rattle.std.proofs.lemmas.Bool.{le-leb, eqb-true, eq-eqb, false_from_ne_true, leb-true, leb-false, cases_Bool, cases_eq}
-use Rattle.std.proofs.Math.Nat.{mod-eq_of_lt}
 use Rattle.cyc_words.specs.Word.{add_of, mul_of, shl_of, sar_of}
 use Rattle.cyc_words.specs.Word.{IsWord as IsMachineWord}
 use Rattle.cyc_types.specs.declared.typed.Kind.{Kind}

@@ -1,7 +1,7 @@
 -- Words of cells by the kinds of what they hold. A cell of a char has a byte, which is loaded and stored by instructions of their own; of
 -- other kinds it has whole words. A variable of a char is the last byte of its word, which is below 256: what is loaded is the word, and
 -- what is stored becomes it.
-use Rattle.std.proofs.Common.{◌≡◌, ℕ, zero, suc, ◌+◌, ◌*◌, ◌/◌, ◌%◌, ◌<◌, ◌≤◌, true, false, List, [], ◌∷◌, Option, Some, None, slice_get, refl, sym, ap, subst, ◌∙◌, arith}
+use Rattle.std.proofs.Common.{◌≡◌, ℕ, ◌+◌, ◌*◌, ◌%◌, ◌<◌, true, false, List, [], ◌∷◌, Option, Some, None, slice_get, refl, sym, ap, subst, ◌∙◌, arith}
 use Rattle.std.specs.Prelude.{option_map}
 use Rattle.cyc_words.specs.Word.{add_of}
 use Rattle.cyc_words.specs.WordBytes.{byte_in, with_byte, word_of}
@@ -16,7 +16,6 @@ use Rattle.cyc_plain.specs.Memory.{memory_at, with_memory, AreBelow}
 use Rattle.cyc_plain.proofs.MemoryLaws.{below-there}
 use Rattle.cyc_meaning.specs.Values.{Value, is_kind, words_of_kind}
 use Rattle.cyc_objects.specs.Tables.{Tables}
-use Rattle.cyc_objects.specs.Words.{Is}
 use Rattle.cyc_objects.proofs.Chars.{char-small, last-word, last-place, last-loaded, last-stored, low-same}
 use Rattle.cyc_lower.specs.ValueCode.{load_of, store_of, variable_bytes}
 use Rattle.cyc_lower.proofs.relation.HeldValues.{IsWord}

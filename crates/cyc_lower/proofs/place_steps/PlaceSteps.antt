@@ -26,7 +26,7 @@ use Rattle.cyc_lower.proofs.relation.Moves.{put_elsewhere}
 use Rattle.cyc_lower.proofs.relation.HeldValues.{held, Holds, callers}
 use Rattle.cyc_lower.proofs.relation.Relation.{types_on, starts_on, Matches, DataIn, SharedAt, in_temporary, in_local, LandsStack, HandsOnStack, Related, code_of, bounds_at, top, floor, AheadStack, types_at, starts_at}
 use Rattle.cyc_lower.proofs.relation.Data.{height-least, floor-least, Holds-same, data_written}
-use Rattle.cyc_lower.proofs.relation.Stands.{OperandBy, ExpressionAt, ConvertedOperandAt, LoadedBy, SavedAt, BroughtAt}
+use Rattle.cyc_lower.proofs.relation.Stands.{OperandBy, ConvertedOperandAt, LoadedBy, SavedAt, BroughtAt}
 use Rattle.cyc_lower.proofs.place_steps.CellReads.{cell_reads, read_there, one_there, one_is, IsRead as IsCellRead, IsOwn, AreSame}
 use Rattle.cyc_lower.proofs.place_steps.AddressSteps.{Brought, in_slot, by_word, brought}
 use Rattle.cyc_lower.proofs.place_steps.SwapSteps.{left_found, right_found}
@@ -36,7 +36,7 @@ use Rattle.cyc_lower.proofs.relation.Matched.{IsMatched, silently, by_one}
 use Rattle.cyc_lower.proofs.relation.Paths.{is_quiet, by_path}
 use Rattle.cyc_lower.proofs.value_steps.Evaluations.{IsStep, sources, landed}
 use Rattle.cyc_lower.proofs.value_steps.ValueWords.{of_kind}
-use Rattle.cyc_lower.proofs.value_steps.Values.{landed_there}
+use Rattle.cyc_lower.proofs.value_steps.Assignments.{landed_there}
 use Rattle.cyc_plain.specs.Memory.{memory_at}
 use Rattle.cyc_lower.proofs.relation.Leads.{AreNamed}
 use Rattle.cyc_lower.proofs.slots.Slots.{room-inside}

@@ -1,7 +1,6 @@
 -- Where a value stands that is stored by an address: behind that, or in a local, or it is one word.
 use Rattle.std.proofs.Common.{◌≡◌, ◌⊎◌, ℕ, ◌+◌, ◌<◌, ◌≤◌, Bool, true, false, length, Option, None, Some, slice_get, refl, sym, ap, subst, ◌∙◌, arith, inl, inr}
 use Rattle.std.specs.Prelude.{if◌then◌else◌}
-use Rattle.std.proofs.lemmas.Bool.{eqb-true}
 use Rattle.std.proofs.lemmas.Option.{same_Some, none-some}
 use Rattle.cyc_types.specs.declared.typed.Kind.{Kind}
 use Rattle.cyc_types.specs.TypedTrees.{Local, Global, Expression, Number, NullPointer, HeapRegion, Counter, Copy, Move, Peek, Assign, Converted, Convert, Unary}
@@ -10,7 +9,7 @@ use Rattle.cyc_plain.specs.declared.instruction.Operand.{Operand}
 use Rattle.cyc_plain.specs.declared.instruction.Operand.TheVariants as operands
 use Rattle.cyc_meaning.specs.Values.{words_of_kind, kind_of}
 use Rattle.cyc_lower.specs.Slots.{Types, starts_of, slot_of}
-use Rattle.cyc_lower.specs.ValueCode.{operand_or, null_of, passed_words, keeps_words, kind_passed}
+use Rattle.cyc_lower.specs.ValueCode.{operand_or, null_of, keeps_words, kind_passed}
 use Rattle.cyc_lower.specs.ControlCode.{counter_operand}
 use Rattle.cyc_lower.specs.ExpressionCode.{operand_of, value_slot, converted_operand}
 use Rattle.cyc_lower.proofs.slots.Widths.{given, words_in, keeps_wide}

@@ -30,7 +30,6 @@ use Rattle.cyc_lower.proofs.relation.WaitingData.{frame_at}
 use Rattle.cyc_lower.proofs.relation.Leads.{IsNamed, is_global, is_local, is_waiting, AreNamed}
 use Rattle.cyc_lower.specs.ValueCode.{variable_bytes}
 use Rattle.cyc_lower.proofs.slots.CellBytes.{last_low}
-use Rattle.cyc_types.specs.declared.typed.Kind.{Kind}
 
 -- of two calls that wait, the older one's slots lie above those of the other
 frames_below : (program : PlainProgram) (function base : ℕ) (frames : List Frame) (i j : ℕ) (f h : Frame) → AreBelow program function base frames → slice_get frames i ≡ Some f → slice_get frames j ≡ Some h → i < j

@@ -32,9 +32,9 @@ use Rattle.cyc_store.specs.declared.range.TheConstants.{MOST_BLOCK_WORDS}
 use Rattle.cyc_meaning.specs.Values.{kind_of, is_thin, words_of_kind}
 use Rattle.cyc_meaning.specs.FrameCount.{result_words, words_of_all, operand_words}
 use Rattle.cyc_lower.specs.Slots.{Types, counted, global_types}
-use Rattle.cyc_lower.specs.ValueCode.{passed_words, all_passed, left_kind, kind_behind}
+use Rattle.cyc_lower.specs.ValueCode.{passed_words, all_passed, left_kind, kind_behind, kind_passed}
 use Rattle.cyc_lower.specs.Lowering.{types_of, results_of, scopes_of, is_handle, may_open, scopes_if}
-use Rattle.cyc_lower.proofs.slots.Widths.{kind_of_result, result_kind, called_kind, given, passed_kind, type_words, HasRoom, HasGlobal, chain_kind, HasField, HasVariable, HasLocal}
+use Rattle.cyc_lower.proofs.slots.Widths.{kind_of_result, result_kind, called_kind, given, type_words, HasRoom, HasGlobal, chain_kind, HasField, HasVariable, HasLocal}
 use Rattle.cyc_lower.proofs.slots.Slots.{words-there, words_positive, kind-there}
 use Rattle.cyc_plain.specs.declared.limits.TheConstants.{RECORD_WORDS}
 use Rattle.cyc_plain.proofs.Placed.{below_of_get}
@@ -71,7 +71,7 @@ module _ (b : Numbering) where
     Fits types (Unary unary.Widen a) = (words_of_kind (given b.functions a) ≡ 1) × Fits types a
     Fits types (Unary o a) = Fits types a
     Fits types (Binary a os t) = Fits types a × FitOperations types (operand_words (type_of a)) t os
-    Fits types (Assign l c t) = FitsPlace b types l (passed_kind c) × FitsConverted types c
+    Fits types (Assign l c t) = FitsPlace b types l (kind_passed c) × FitsConverted types c
     Fits types (Load x) = FitsCell types x
     Fits types (FreeUnique a) = Fits types a
     Fits types (FreeKey a) = Fits types a
@@ -123,11 +123,11 @@ module _ (b : Numbering) (types : Types) where
   FitsReturn None None = Unit {0}
   FitsReturn None (Some c) = ⊥
   FitsReturn (Some t) None = ⊥
-  FitsReturn (Some t) (Some c) = (passed_kind c ≡ kind_of t) × FitsConverted b types c
+  FitsReturn (Some t) (Some c) = (kind_passed c ≡ kind_of t) × FitsConverted b types c
 
   abbrev pub FitsInitial : (number : ℕ) → Option Converted → Type 0
   FitsInitial n None = Unit {0}
-  FitsInitial n (Some c) = HasRoom types n (passed_kind c) × FitsConverted b types c
+  FitsInitial n (Some c) = HasRoom types n (kind_passed c) × FitsConverted b types c
 
   abbrev pub FitsThrown : Option Expression → Type 0
   FitsThrown None = Unit {0}
@@ -398,7 +398,7 @@ module _ (b : Numbering) (types : Types) where
   called_is callees.Getchar s is = sym (ap (λ (x : Signature). kind_of_result x.result) is)
   called_is (callees.Function n) s is = ap result_kind is
 
-  assigned_given : (l : Lvalue) (d : Converted) (u : ValueType) (t : Ty) (v : ValueType) → passed_kind d ≡ kind_of t → v ≡ (if tests.is_moved t then Void else Value t) → IsGiven (given b.functions (Assign l d u)) v
+  assigned_given : (l : Lvalue) (d : Converted) (u : ValueType) (t : Ty) (v : ValueType) → kind_passed d ≡ kind_of t → v ≡ (if tests.is_moved t then Void else Value t) → IsGiven (given b.functions (Assign l d u)) v
   assigned_given l (Convert from to a) u t v kind is = subst (IsGiven to) (sym is) (by (tests.is_moved t))
     where
       by : (moved : Bool) → IsGiven to (if moved then Void else Value t)
@@ -412,10 +412,10 @@ module _ (b : Numbering) (types : Types) where
   array_given : (mark : PointerKind) (u : Ty) (r : Region) (t : Ty) (v : ValueType) → mark ≡ marks.Fat → t ≡ type_forms.Pointer mark u r → v ≡ Value t → IsGiven kinds.Fat v
   array_given mark u r t v mark_is t_is is = subst (IsGiven kinds.Fat) (sym is) (sym (ap kind_of (t_is ∙ ap (λ m. type_forms.Pointer m u r) mark_is)))
 
-  stored_given : (x : Dereference) (d : Converted) (u : ValueType) (t : Ty) (v : ValueType) → passed_kind d ≡ kind_of t → v ≡ (if tests.is_moved t then Void else Value t) → IsGiven (given b.functions (Store x d u)) v
+  stored_given : (x : Dereference) (d : Converted) (u : ValueType) (t : Ty) (v : ValueType) → kind_passed d ≡ kind_of t → v ≡ (if tests.is_moved t then Void else Value t) → IsGiven (given b.functions (Store x d u)) v
   stored_given x (Convert from to a) u t v kind is = assigned_given (Global 0) (Convert from to a) u t v kind is
 
-  passed_is : (d : Converted) → passed_words d ≡ words_of_kind (passed_kind d)
+  passed_is : (d : Converted) → passed_words d ≡ words_of_kind (kind_passed d)
   passed_is (Convert from to a) = refl
 
   -- a value that is looked at is one that is given, or a peek
@@ -490,10 +490,10 @@ module _ (b : Numbering) where
         )
     fits types (Assign (Local p n) d u) c v suits (few, numbered) (t, r, (m, place, home, there), converted, u_is, is) =
         let (kind, fitting) = fits_converted types d c t suits numbered converted in
-        (assigned_given b types (Local p n) d u t v kind (is ∙ u_is), ((few, room_in b types c n t (passed_kind d) suits there kind), fitting))
+        (assigned_given b types (Local p n) d u t v kind (is ∙ u_is), ((few, room_in b types c n t (kind_passed d) suits there kind), fitting))
     fits types (Assign (Global n) d u) c v suits (few, numbered) (t, r, (home, there), converted, u_is, is) =
         let (kind, fitting) = fits_converted types d c t suits numbered converted in
-        (assigned_given b types (Global n) d u t v kind (is ∙ u_is), (global_in b types c n t (passed_kind d) suits there kind, fitting))
+        (assigned_given b types (Global n) d u t v kind (is ∙ u_is), (global_in b types c n t (kind_passed d) suits there kind, fitting))
     fits types (Load x) c v suits numbered (u, r, cell, flat, shared, is) =
         let (same, fitting) = fits_cell types x c u r suits numbered cell in
         (subst (IsGiven (kind_of (type_of_place x))) (sym (is ∙ ap Value same)) refl, fitting)
@@ -559,7 +559,7 @@ module _ (b : Numbering) where
         let (given_is, fitting) = looked_fits b types a c fat suits first (λ h. fits types a c fat suits first h) well in
         (same, (given_is, omega (arith, ap operand_words (type_given a c fat well)), fitting, (fits types i c (Value type_forms.Int) suits second index).1))
 
-    fits_converted : (types : Types) → (d : Converted) (c : Context) (t : Ty) → Suits b types c → IsLowerableConverted b d → IsConverted c d t → (passed_kind d ≡ kind_of t) × FitsConverted b types d
+    fits_converted : (types : Types) → (d : Converted) (c : Context) (t : Ty) → Suits b types c → IsLowerableConverted b d → IsConverted c d t → (kind_passed d ≡ kind_of t) × FitsConverted b types d
     fits_converted types (Convert from to a) c t suits (wide, numbered) (v, well, converts, from_is, to_is) =
         let (kind, fitting) = fits types a c v suits numbered well in
         (to_is ∙ sym (kinds_same t), (from_given v converts from_is kind, wide, fitting))
@@ -610,7 +610,7 @@ module _ (b : Numbering) (types : Types) where
   fits_initial None n t c suits there numbered well = tt
   fits_initial (Some d) n t c suits there numbered well =
       let (kind, fitting) = fits_converted b types d c t suits numbered well in
-      (room_in b types c n t (passed_kind d) suits there kind, fitting)
+      (room_in b types c n t (kind_passed d) suits there kind, fitting)
 
   suits_behind : (s : Statement) (c : Context) → Suits b types c → Suits b types (behind c s)
   suits_behind s c suits = record { functions = suits.functions; structs = suits.structs; variables = suits.variables; globals = suits.globals; counters = suits.counters; result = suits.result; scopes = suits.scopes }

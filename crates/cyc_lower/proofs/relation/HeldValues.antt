@@ -6,7 +6,6 @@ use Rattle.cyc_types.specs.declared.typed.Kind.TheVariants as kinds
 use Rattle.cyc_store.specs.declared.range.TheConstants.{HEAP, UNIQUE}
 use Rattle.cyc_objects.specs.Tables.{Row, Variable, Placed, Tables}
 use Rattle.cyc_objects.specs.Words.{InRange, Is, before}
-use Rattle.cyc_objects.specs.Related as objects
 use Rattle.cyc_objects.specs.Related.{scopes}
 use Rattle.cyc_plain.specs.declared.instruction.Operand.{Operand}
 use Rattle.cyc_plain.specs.declared.instruction.Operand.TheVariants as operands

@@ -15,7 +15,6 @@ use Rattle.cyc_objects.specs.Words.{bytes_of_kinds, before, Points}
 use Rattle.cyc_objects.specs.Related.{Alive, Stands, Related}
 use Rattle.cyc_objects.proofs.NumberLemmas.{slice_get-below}
 use Rattle.cyc_objects.proofs.Places.{bytes-some, begins-first, before-first}
-use Rattle.cyc_objects.proofs.Values.{kind-some}
 use Rattle.cyc_objects.proofs.Pointers.{same-row}
 use Rattle.cyc_objects.proofs.Cells.{variable-alone}
 use Rattle.cyc_plain.specs.Memory.{slots_base}

@@ -36,7 +36,7 @@ use Rattle.cyc_lower.specs.ObjectCode.{most_elements, slots_of_kinds, right_slot
 use Rattle.cyc_lower.specs.ControlCode.{opposite, compared_of, break_target, continue_target, body_target, inside_loop, inside_try, behind_record_in, tag_operand, other_jump, goes_on, inside_region}
 use Rattle.cyc_lower.specs.ExpressionCode.{operand_of, source_of, source_slot, left_of, value_slot, slot_with, left_slot, pointer_of, is_simple}
 use Rattle.cyc_lower.specs.Lowering.{results_of}
-use Rattle.cyc_lower.proofs.slots.Widths.{kind_of_result, given, passed_kind, HasRoom, HasField, HasGlobal, words_in, HasLocal}
+use Rattle.cyc_lower.proofs.slots.Widths.{kind_of_result, given, HasRoom, HasField, HasGlobal, words_in, HasLocal}
 use Rattle.cyc_types.specs.declared.typed.UnaryOperator.TheVariants as unary
 
 -- ---- expressions
@@ -323,11 +323,11 @@ module _ (code : List Instruction) (bounds : Numbering) where
         (l : Operand) × (m : ℕ) × OperandBy code bounds types (left_of (starts_of types) a os) (ExpressionAt types a (left_slot (starts_of types) a os d t) t p m) (left_slot (starts_of types) a os d t) l p m
         × OperationsAt types os l d t m q
     ExpressionAt types (Assign (Local w n) c ty) d t p q =
-        (o : Operand) × (m : ℕ) × ((o ≡ operands.Slot (slot_of (starts_of types) n)) × HasRoom types n (passed_kind c) × InitialAt types c (slot_of (starts_of types) n) t p m)
+        (o : Operand) × (m : ℕ) × ((o ≡ operands.Slot (slot_of (starts_of types) n)) × HasRoom types n (kind_passed c) × InitialAt types c (slot_of (starts_of types) n) t p m)
         × CopyAt code (passed_words c) o d m q
     ExpressionAt types (Assign (Global n) c ty) d t p q =
         (o : Operand) × (m : ℕ)
-        × ((r : ℕ) × ConvertedOperandAt types c t o p r × HasGlobal types n (passed_kind c) × GlobalAt code (passed_words c) (global_of (starts_of types) n) o r m)
+        × ((r : ℕ) × ConvertedOperandAt types c t o p r × HasGlobal types n (kind_passed c) × GlobalAt code (passed_words c) (global_of (starts_of types) n) o r m)
         × CopyAt code (passed_words c) o d m q
     ExpressionAt types (Load x) d t p q =
         (o : Operand) × (c : ℕ) × (r : ℕ) × PlaceAt types x o c t p r × LoadedAt code (kind_of (type_of_place x)) o c d t r q
@@ -471,9 +471,9 @@ module _ (code : List Instruction) (bounds : Numbering) (types : Types) where
 
   -- what is assigned comes to its place, and then stands in an operand too
   abbrev pub AssignmentAt : Lvalue → Converted → Operand → (t p q : ℕ) → Type 0
-  AssignmentAt (Local w n) c o t p q = (o ≡ operands.Slot (slot_of (starts_of types) n)) × HasRoom types n (passed_kind c) × InitialAt code bounds types c (slot_of (starts_of types) n) t p q
+  AssignmentAt (Local w n) c o t p q = (o ≡ operands.Slot (slot_of (starts_of types) n)) × HasRoom types n (kind_passed c) × InitialAt code bounds types c (slot_of (starts_of types) n) t p q
   AssignmentAt (Global n) c o t p q =
-      (r : ℕ) × ConvertedOperandAt code bounds types c t o p r × HasGlobal types n (passed_kind c) × GlobalAt code (passed_words c) (global_of (starts_of types) n) o r q
+      (r : ℕ) × ConvertedOperandAt code bounds types c t o p r × HasGlobal types n (kind_passed c) × GlobalAt code (passed_words c) (global_of (starts_of types) n) o r q
 
   -- a value is stored in a cell, whose address waits in slot t, and then stands in an operand
   abbrev pub StoredAt : Dereference → Converted → (t : ℕ) → Operand → (p q : ℕ) → Type 0
@@ -559,7 +559,7 @@ module _ (code : List Instruction) (bounds : Numbering) (types : Types) where
 
   abbrev pub DeclarationAt : ℕ → Kind → Option Converted → (t p q : ℕ) → Type 0
   DeclarationAt n kind None t p q = (n < bounds.locals) × BlankAt code kind (slot_of (starts_of types) n) p q
-  DeclarationAt n kind (Some c) t p q = (n < bounds.locals) × HasRoom types n (passed_kind c) × InitialAt code bounds types c (slot_of (starts_of types) n) t p q
+  DeclarationAt n kind (Some c) t p q = (n < bounds.locals) × HasRoom types n (kind_passed c) × InitialAt code bounds types c (slot_of (starts_of types) n) t p q
 
   -- what an exception tells is brought to an operand
   abbrev pub ThrownAt : Option Expression → Operand → (t p q : ℕ) → Type 0

@@ -1,11 +1,11 @@
 -- The code of expressions names what is there.
-use Rattle.std.proofs.Common.{◌≡◌, ℕ, suc, ◌+◌, ◌-◌, ◌≤◌, ◌<◌, [], ◌∷◌, ◌++◌, length, Option, Some, slice_get, refl, sym, ap, subst, ◌∙◌, arith, length-append}
+use Rattle.std.proofs.Common.{◌≡◌, ℕ, suc, ◌+◌, ◌≤◌, ◌<◌, [], ◌∷◌, ◌++◌, length, Option, Some, slice_get, refl, sym, ap, subst, ◌∙◌, arith, length-append}
 use Rattle.cyc_types.specs.declared.typed.Kind.{Kind}
 use Rattle.cyc_types.specs.declared.typed.Kind.TheVariants as kinds
 use Rattle.cyc_types.specs.declared.typed.Callee.TheVariants as callees
 use Rattle.cyc_types.specs.declared.typed.UnaryOperator.TheVariants as unary
 use Rattle.cyc_types.specs.Types.{Ty, words_of}
-use Rattle.cyc_types.specs.TypedTrees.{Counter, Load, New, OnHeap, AsUnique, ByHandle, Initial, Plain, Fields, Array, Dereference, Target, type_of_place, Local, Global, Expression, Number, NullPointer, Copy, Call, Unary, Binary, Assign, Converted, Convert, Arguments, NoArguments, MoreArguments, Operations, NoOperations, ThenCompute, ThenTest, ThenPointer, type_of, Signature, Function, Move, Peek, ThenPointerPeek, AddressOfCell, Store, Member, FreeUnique, NumberOfElements, Element, HeapRegion, FreeKey, AddressOf}
+use Rattle.cyc_types.specs.TypedTrees.{Counter, Load, New, OnHeap, AsUnique, ByHandle, Initial, Plain, Fields, Array, Dereference, Target, type_of_place, Local, Global, Expression, Number, NullPointer, Copy, Call, Unary, Binary, Assign, Converted, Convert, Arguments, NoArguments, MoreArguments, Operations, NoOperations, ThenCompute, ThenTest, ThenPointer, type_of, Signature, Move, Peek, ThenPointerPeek, AddressOfCell, Store, Member, FreeUnique, NumberOfElements, Element, HeapRegion, FreeKey, AddressOf}
 use Rattle.cyc_types.specs.Numbered.{Numbering}
 use Rattle.cyc_plain.specs.declared.instruction.BinaryOperator.TheVariants as plain_binary
 use Rattle.cyc_plain.specs.declared.instruction.Operand.{Operand}
@@ -16,17 +16,17 @@ use Rattle.cyc_plain.specs.WellFormed.{IsOperand}
 use Rattle.std.specs.Prelude.{unwrap_or, ◌==◌}
 use Rattle.cyc_meaning.specs.Operators.{null_exception}
 use Rattle.cyc_store.specs.declared.range.TheConstants.{HEAP, UNIQUE}
-use Rattle.cyc_meaning.specs.Values.{words_of_kind, bytes_of_kind, is_thin, kind_of}
+use Rattle.cyc_meaning.specs.Values.{words_of_kind, is_thin, kind_of}
 use Rattle.cyc_meaning.specs.FrameCount.{result_words, operand_words, converted_words, argument_words, expression_need, dereference_need, converted_need, arguments_need, operations_need, initial_value_need, place_words}
 use Rattle.cyc_meaning.specs.Pointers.{result_kind as operator_kind}
 use Rattle.cyc_objects.proofs.NumberLemmas.{slice_get-there}
 use Rattle.cyc_lower.specs.Slots.{counted, starts_of, slot_of, Types, global_of}
-use Rattle.cyc_lower.specs.ValueCode.{converts_there, passed_words, all_passed, kinds_passed, operand_or, code_unless, code_unless_slot, next_slot, check_code, conversion_code, operator_code, truth_code, low_byte, test_code, is_in, copy_code, behind_left, pointer_code, count_code, span_of, loaded_code, reached_code, followed_code, span_in, global_code, unary_instruction, kind_behind, masks}
+use Rattle.cyc_lower.specs.ValueCode.{converts_there, passed_words, all_passed, kinds_passed, operand_or, code_unless, code_unless_slot, next_slot, check_code, conversion_code, operator_code, truth_code, low_byte, test_code, is_in, copy_code, behind_left, pointer_code, count_code, span_of, loaded_code, reached_code, followed_code, span_in, global_code, unary_instruction, kind_behind, masks, kind_passed}
 use Rattle.cyc_lower.specs.ObjectCode.{begun_code, filled_code, ended_code, elements_code, object_code, free_code}
 use Rattle.cyc_lower.specs.ControlCode.{closing_code}
 use Rattle.cyc_lower.specs.ExpressionCode.{source_of, source_slot, operand_of, left_of, value_slot, left_slot, value_operand, converted_operand, printed_operand, expression_code, arguments_code, converted_code, converted_operand_code, printed_code, initial_code, operations_code, made_code, place_operand, place_offset, place_code, pointer_of, pointer_slot, brought_code}
 use Rattle.cyc_lower.specs.Lowering.{results_of, store_code}
-use Rattle.cyc_lower.proofs.slots.Widths.{kind_positive, kind_few, result_kind, passed_kind, words_in, chain_kind, made_kind, type_words}
+use Rattle.cyc_lower.proofs.slots.Widths.{kind_positive, kind_few, result_kind, words_in, chain_kind, made_kind, type_words}
 use Rattle.cyc_lower.proofs.slots.CellBytes.{passed_slots}
 use Rattle.cyc_lower.proofs.relation.Fitting.{FitsCell, Fits, FitsConverted, FitArguments, FitOperations, FitsObject}
 use Rattle.cyc_lower.proofs.slots.Slots.{words_positive, starts-are, words-there}
@@ -104,7 +104,7 @@ module _ (program : PlainProgram) (r : Routine) (b : Numbering) (called : (n : �
         let o = operands.Slot (slot_of (starts_of types) n) in
         let front = initial_code (starts_of types) c p (slot_of (starts_of types) n) t in
         let back = copy_code (passed_words c) o d in
-        let there : slot_of (starts_of types) n + words_of_kind (passed_kind c) ≤ r.slots = omega (arith, locals n within, own) in
+        let there : slot_of (starts_of types) n + words_of_kind (kind_passed c) ≤ r.slots = omega (arith, locals n within, own) in
         append program r b types locals levels globals called results behind front back (initial_in types locals levels globals behind c p (slot_of (starts_of types) n) t numbered there (omega (arith, few)) (omega (arith, few)) (omega (arith, short, length-append front back)))
         (copy_in program r b types locals levels globals called results behind (is_in o d) c o d there (omega (arith, room, ap words_of_kind (assigned_kind program r b types locals levels globals called results behind (Local w n) c ty))))
     expression_in types locals levels globals behind (Assign (Global n) c ty) p d t (within, numbered) room few short =
@@ -261,7 +261,7 @@ module _ (program : PlainProgram) (r : Routine) (b : Numbering) (called : (n : �
         (append program r b types locals levels globals called results behind operand back (unless_in program r b types locals levels globals called results behind (operand_of (starts_of types) i) inner m (omega (arith, short, long, long_operand)) (λ less. expression_in types locals levels globals behind i m slot (t + 3) second (slot_fits program r b types locals levels globals called results behind i (t + 3) second free) (omega (arith, few, three)) less))
         ((third, omega (arith, inside), value_in program r b types locals levels globals called results behind i (t + 3) second free), reached_in program r b types locals levels globals called results behind (span_in ty) n (t + 2) t (omega (arith, inside)) third (omega (arith, few, three, some))))
 
-    pub initial_in : (types : Types) (locals : (n : ℕ) → n < b.locals → slot_of (starts_of types) n + words_in types.locals n ≤ r.slots) (levels : (l slot : ℕ) → slice_get types.counters l ≡ Some slot → slot < r.slots) (globals : AreGlobals program types.globals) (behind : types.raises + 4 < length r.code) → (c : Converted) (p d t : ℕ) → FitsConverted b types c → d + words_of_kind (passed_kind c) ≤ r.slots → t + converted_words c ≤ r.slots → t + converted_need c ≤ r.slots → p + length (initial_code (starts_of types) c p d t) < length r.code → AreIn program r b types locals levels globals called results behind (initial_code (starts_of types) c p d t)
+    pub initial_in : (types : Types) (locals : (n : ℕ) → n < b.locals → slot_of (starts_of types) n + words_in types.locals n ≤ r.slots) (levels : (l slot : ℕ) → slice_get types.counters l ≡ Some slot → slot < r.slots) (globals : AreGlobals program types.globals) (behind : types.raises + 4 < length r.code) → (c : Converted) (p d t : ℕ) → FitsConverted b types c → d + words_of_kind (kind_passed c) ≤ r.slots → t + converted_words c ≤ r.slots → t + converted_need c ≤ r.slots → p + length (initial_code (starts_of types) c p d t) < length r.code → AreIn program r b types locals levels globals called results behind (initial_code (starts_of types) c p d t)
     initial_in types locals levels globals behind (Convert from to a) p d t (kind, wide, numbered) room free few short =
         initial_by program r b types locals levels globals called results behind (converts_there from to) from to a p d t kind wide numbered room free refl (λ slot fits less. brought_by program r b types locals levels globals called results behind (masks from to) a p slot t numbered fits (omega (arith, free, ap words_of_kind kind)) (λ s within shorter. expression_in types locals levels globals behind a p s t numbered within few shorter) less) short
 

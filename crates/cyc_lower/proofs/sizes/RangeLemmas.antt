@@ -4,7 +4,7 @@ use Rattle.std.specs.List.{AllByRecursion}
 use Rattle.cyc_types.specs.declared.typed.UnaryOperator.{UnaryOperator}
 use Rattle.cyc_types.specs.declared.typed.UnaryOperator.TheVariants as unary
 use Rattle.cyc_types.specs.Types.{Ty, words_of, ValueType, Void, Null, Value}
-use Rattle.cyc_types.specs.TypedTrees.{Initial, Plain, Fields, Array, Converted, Convert, Arguments, NoArguments, MoreArguments, Signature, AddressOf}
+use Rattle.cyc_types.specs.TypedTrees.{Initial, Plain, Fields, Array, Converted, Convert, Arguments, NoArguments, MoreArguments, Signature}
 use Rattle.cyc_plain.specs.declared.instruction.Instruction.{Instruction}
 use Rattle.cyc_plain.specs.declared.instruction.Instruction.TheVariants as instructions
 use Rattle.cyc_plain.specs.Program.{Routine, Program as PlainProgram, routine_at}
@@ -17,7 +17,7 @@ use Rattle.cyc_lower.proofs.relation.Counters.{found_last}
 use Rattle.cyc_lower.specs.Slots.{counted, Types, slot_in}
 use Rattle.cyc_lower.specs.ValueCode.{passed_words, all_passed, kind_passed}
 use Rattle.cyc_lower.specs.Lowering.{spare_slots, results_of}
-use Rattle.cyc_lower.proofs.slots.Widths.{kind_positive, kind_few, type_words, kind_of_result, given, passed_kind}
+use Rattle.cyc_lower.proofs.slots.Widths.{kind_positive, kind_few, type_words, kind_of_result}
 use Rattle.cyc_lower.proofs.slots.Slots.{words_positive}
 
 -- ---- lists
@@ -48,14 +48,11 @@ unary_word unary.LowByte = refl
 converted_positive : (c : Converted) → 1 ≤ converted_words c
 converted_positive (Convert from to a) = omega (arith, kind_positive from)
 
-pub converted_least : (c : Converted) → words_of_kind (passed_kind c) ≤ converted_words c
+pub converted_least : (c : Converted) → words_of_kind (kind_passed c) ≤ converted_words c
 converted_least (Convert from to a) = omega arith
 
-pub passed_is : (c : Converted) → passed_words c ≡ words_of_kind (passed_kind c)
+pub passed_is : (c : Converted) → passed_words c ≡ words_of_kind (kind_passed c)
 passed_is (Convert from to a) = refl
-
-pub kind_is : (c : Converted) → kind_passed c ≡ passed_kind c
-kind_is (Convert from to a) = refl
 
 pub arguments_words : (cs : Arguments) → all_passed cs ≤ argument_words cs
 arguments_words NoArguments = omega arith

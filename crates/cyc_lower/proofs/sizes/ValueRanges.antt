@@ -37,13 +37,13 @@ use Rattle.cyc_lower.specs.ObjectCode.{stores_code, cells_code, slots_of_kinds, 
 use Rattle.cyc_lower.specs.ControlCode.{counter_operand}
 use Rattle.cyc_lower.specs.ExpressionCode.{source_of, source_slot, operand_of, left_of, value_slot, slot_with, left_slot, value_operand, converted_operand, printed_operand, load_code, expression_code, brought_code, converted_operand_code, place_operand, place_offset, place_code, pointer_slot, is_simple}
 use Rattle.cyc_lower.specs.Lowering.{results_of, store_address_code, store_code}
-use Rattle.cyc_lower.proofs.slots.Widths.{kind_positive, kind_few, type_words, result_kind, given, passed_kind, words_in, chain_kind, wide_kind, same_kind, more_words, HasGlobal, keeps_wide, changes_words}
+use Rattle.cyc_lower.proofs.slots.Widths.{kind_positive, kind_few, type_words, result_kind, given, words_in, chain_kind, wide_kind, same_kind, more_words, HasGlobal, keeps_wide, changes_words}
 use Rattle.cyc_lower.proofs.relation.Fitting.{FitsPlace, FitsCell, Fits, FitsConverted, FitArguments, FitOperations}
 use Rattle.cyc_lower.specs.Lowerable.{is_converted, is_pointer}
 use Rattle.cyc_lower.proofs.emission.Lengths.{past_long}
 use Rattle.cyc_lower.proofs.value_steps.ValueWords.{as_wide}
 use Rattle.cyc_lower.proofs.slots.Slots.{words_positive, global-room, global-inside}
-use Rattle.cyc_lower.proofs.sizes.RangeLemmas.{operand_positive, passed_is, result_least, IsKnown, AreGlobals, IsIn, unary_word, kind_is}
+use Rattle.cyc_lower.proofs.sizes.RangeLemmas.{operand_positive, passed_is, result_least, IsKnown, AreGlobals, IsIn, unary_word}
 use Rattle.cyc_plain.specs.declared.instruction.UnaryOperator.TheVariants as plain_unary
 use Rattle.cyc_plain.specs.declared.instruction.Request.TheVariants as requests
 
@@ -77,7 +77,7 @@ module _ (program : PlainProgram) (r : Routine) (b : Numbering) (types : Types) 
   operand_in (operands.Slot n) kind inside = omega (arith, inside, kind_positive kind)
   operand_in (operands.Word w) kind inside = tt
 
-  pub assigned_kind : (l : Lvalue) (c : Converted) (ty : ValueType) → kind_at (Assign l c ty) ≡ passed_kind c
+  pub assigned_kind : (l : Lvalue) (c : Converted) (ty : ValueType) → kind_at (Assign l c ty) ≡ kind_passed c
   assigned_kind l (Convert from to a) ty = refl
 
   -- what a chain gives has as many as its left operand, or as its operators need
@@ -100,7 +100,7 @@ module _ (program : PlainProgram) (r : Routine) (b : Numbering) (types : Types) 
   chain_needs (ThenPointer o a os) kind t left (wide, numbered, rest) = omega (arith, chain_needs os (operator_kind o) t (words_of t) rest, operator_few o, wide)
   chain_needs (ThenPointerPeek n o a os) kind t left (wide, numbered, rest) = omega (arith, chain_needs os (operator_kind o) t (words_of t) rest, operator_few o, wide)
 
-  pub stored_kind : (x : Dereference) (c : Converted) (ty : ValueType) → kind_at (Store x c ty) ≡ passed_kind c
+  pub stored_kind : (x : Dereference) (c : Converted) (ty : ValueType) → kind_at (Store x c ty) ≡ kind_passed c
   stored_kind x (Convert from to a) ty = refl
 
   -- what is given has as many words as are needed for it, or one
@@ -191,12 +191,12 @@ module _ (program : PlainProgram) (r : Routine) (b : Numbering) (types : Types) 
           (value_room a t numbered (omega (arith, few, ap words_of_kind kind)))
       by false wide = null_room a t (converted_words (Convert from to a)) few
 
-  pub converted_room : (c : Converted) (t : ℕ) → FitsConverted b types c → t + converted_words c ≤ r.slots → HasOperand (converted_operand (starts_of types) c t) (words_of_kind (passed_kind c))
+  pub converted_room : (c : Converted) (t : ℕ) → FitsConverted b types c → t + converted_words c ≤ r.slots → HasOperand (converted_operand (starts_of types) c t) (words_of_kind (kind_passed c))
   converted_room (Convert from to a) t numbered few =
       less_operand (converted_operand (starts_of types) (Convert from to a) t) (converted_words (Convert from to a)) (words_of_kind to) (omega arith) (brought_room (Convert from to a) t numbered few)
 
   converted_value_in : (c : Converted) (t : ℕ) → FitsConverted b types c → t + converted_words c ≤ r.slots → IsOperand r (converted_operand (starts_of types) c t)
-  converted_value_in c t numbered few = operand_in (converted_operand (starts_of types) c t) (passed_kind c) (converted_room c t numbered few)
+  converted_value_in c t numbered few = operand_in (converted_operand (starts_of types) c t) (kind_passed c) (converted_room c t numbered few)
 
   pub printed_value_in : (cs : Arguments) (o : Operand) (t : ℕ) → FitArguments b types cs → IsOperand r o → t + argument_words cs ≤ r.slots → IsOperand r (printed_operand (starts_of types) cs o t)
   printed_value_in NoArguments o t numbered inside few = inside
@@ -422,19 +422,19 @@ module _ (program : PlainProgram) (r : Routine) (b : Numbering) (types : Types) 
   global_in words first (operands.Word n) some inside few = ((omega (arith, some, inside), few), tt)
 
   -- all words of a value have room in a global
-  pub assigned_in : (n : ℕ) (c : Converted) (o : Operand) → HasGlobal types n (passed_kind c) → HasOperand o (words_of_kind (passed_kind c)) → AreIn (global_code (passed_words c) (global_of (starts_of types) n) o)
+  pub assigned_in : (n : ℕ) (c : Converted) (o : Operand) → HasGlobal types n (kind_passed c) → HasOperand o (words_of_kind (kind_passed c)) → AreIn (global_code (passed_words c) (global_of (starts_of types) n) o)
   assigned_in n c o room few =
       subst (λ words. AreIn (global_code words (global_of (starts_of types) n) o)) (sym (passed_is c))
-      (global_in (words_of_kind (passed_kind c)) (global_of (starts_of types) n) o (kind_positive (passed_kind c)) (omega (arith, room, global-room types n (global-inside types n (passed_kind c) room), globals.room)) few)
+      (global_in (words_of_kind (kind_passed c)) (global_of (starts_of types) n) o (kind_positive (kind_passed c)) (omega (arith, room, global-room types n (global-inside types n (kind_passed c) room), globals.room)) few)
 
   pub load_in : (l : Lvalue) (t : Ty) (d : ℕ) → FitsPlace b types l (kind_of t) → d + words_of_kind (kind_of t) ≤ r.slots → AreIn (load_code (starts_of types) (words_of t) l d)
   load_in (Local w n) t d (within, room) few =
       (subst (λ words. IsIn program r types.locals (move_of words d (operands.Slot (slot_of (starts_of types) n)))) (type_words t) (move_in (kind_of t) d (operands.Slot (slot_of (starts_of types) n)) few (omega (arith, locals n within, room))), tt)
   load_in (Global n) t d room few = loads_in (words_of t) (global_of (starts_of types) n) d (omega (arith, room, type_words t, global-room types n (global-inside types n (kind_of t) room), globals.room)) (omega (arith, few, type_words t))
 
-  pub copy_in : (is : Bool) (c : Converted) (o : Operand) (d : ℕ) → HasOperand o (words_of_kind (passed_kind c)) → d + words_of_kind (passed_kind c) ≤ r.slots → AreIn (if is then [] else move_of (passed_words c) d o ∷ [])
+  pub copy_in : (is : Bool) (c : Converted) (o : Operand) (d : ℕ) → HasOperand o (words_of_kind (kind_passed c)) → d + words_of_kind (kind_passed c) ≤ r.slots → AreIn (if is then [] else move_of (passed_words c) d o ∷ [])
   copy_in true c o d inside few = tt
-  copy_in false c o d inside few = (subst (λ words. IsIn program r types.locals (move_of words d o)) (sym (passed_is c)) (move_in (passed_kind c) d o few inside), tt)
+  copy_in false c o d inside few = (subst (λ words. IsIn program r types.locals (move_of words d o)) (sym (passed_is c)) (move_in (kind_passed c) d o few inside), tt)
 
   -- a fat pointer comes to another slot
   pub pointer_copied : (d t : ℕ) → d + 3 ≤ r.slots → t + 3 ≤ r.slots → AreIn (copy_code 3 (operands.Slot t) d)
@@ -619,7 +619,7 @@ module _ (program : PlainProgram) (r : Routine) (b : Numbering) (types : Types) 
       let long = length-append address (value ++ write) in
       let behind = length-append value write in
       append address (value ++ write) (address_inside (omega (arith, short, long)))
-      (append value write (value_inside q (omega (arith, short, long, behind))) (saved_in (kind_passed c) t (converted_operand (starts_of types) c (t + 1)) (omega (arith, room)) (subst (λ kind. HasOperand (converted_operand (starts_of types) c (t + 1)) (words_of_kind kind)) (sym (kind_is c)) (converted_room c (t + 1) numbered room))))
+      (append value write (value_inside q (omega (arith, short, long, behind))) (saved_in (kind_passed c) t (converted_operand (starts_of types) c (t + 1)) (omega (arith, room)) (converted_room c (t + 1) numbered room)))
 
   -- ---- expressions
 

@@ -9,7 +9,7 @@ use Rattle.cyc_types.specs.declared.typed.Callee.{Callee}
 use Rattle.cyc_types.specs.declared.typed.Callee.TheVariants as callees
 use Rattle.cyc_types.specs.Types.{Ty, words_of, words_of_mark}
 use Rattle.cyc_types.specs.Types as types
-use Rattle.cyc_types.specs.TypedTrees.{Load, type_of_place, Expression, NullPointer, HeapRegion, Copy, Move, Peek, Call, Unary, Binary, Assign, Converted, Convert, Operations, NoOperations, ThenCompute, ThenTest, ThenPointer, ThenPointerPeek, Signature, New, Initial, Array, AddressOfCell, Store, StructType, AddressOf}
+use Rattle.cyc_types.specs.TypedTrees.{Load, type_of_place, Expression, NullPointer, HeapRegion, Copy, Move, Peek, Call, Unary, Binary, Assign, Convert, Operations, NoOperations, ThenCompute, ThenTest, ThenPointer, ThenPointerPeek, Signature, New, Initial, Array, AddressOfCell, Store, StructType, AddressOf}
 use Rattle.cyc_meaning.specs.Pointers.{result_kind as operator_kind}
 use Rattle.cyc_meaning.specs.Values.{kind_of, number_of_kind, is_kind, words_of_kind, are_kinds}
 use Rattle.cyc_lower.specs.Slots.{Types}
@@ -197,9 +197,6 @@ module _ (signatures : List Signature) where
   given (Store x (Convert from to a) t) = to
   given (Unary o a) = unary_kind o
   given a = kinds.Int
-
-abbrev pub passed_kind : Converted → Kind
-passed_kind (Convert from to a) = to
 
 -- ---- the words of locals
 

@@ -354,13 +354,12 @@ module _ (source : Program) (pages calls : ℕ) where
       → EvaluatingAt source t a e.locals c.active.function c.active.next c.active.slots c.frames (Needs (ConvertTo from to (target_by a)) ∷ k)
   sources t from to a k e w c o m q at at_to holds stack = by (keeps_words from to) refl at
     where
-      -- the code that brings it to a slot, where that is no operand
-      Code : (slot : ℕ) → Type 0
-      Code slot = BroughtAt (code_of source c.active.function) (bounds_at source c.active.function) (types_on source c.active.function k) (Convert from to a) slot (top source c.active.function k) c.active.next m
+      computed : (slot : ℕ) → Type 0
+      computed slot = BroughtAt (code_of source c.active.function) (bounds_at source c.active.function) (types_on source c.active.function k) (Convert from to a) slot (top source c.active.function k) c.active.next m
 
       by : (same : Bool) → keeps_words from to ≡ same
           → OperandBy (code_of source c.active.function) (bounds_at source c.active.function) (types_on source c.active.function k) (if same then operand_of (starts_on source c.active.function k) a else null_of a)
-          (Code (if same then value_slot (starts_on source c.active.function k) a (top source c.active.function k) else top source c.active.function k))
+          (computed (if same then value_slot (starts_on source c.active.function k) a (top source c.active.function k) else top source c.active.function k))
           (if same then value_slot (starts_on source c.active.function k) a (top source c.active.function k) else top source c.active.function k) o c.active.next m
           → EvaluatingAt source t a e.locals c.active.function c.active.next c.active.slots c.frames (Needs (ConvertTo from to (target_by a)) ∷ k)
       by true keeps at =

@@ -1,5 +1,5 @@
 -- What a value says of its words, and what operators do to these.
-use Rattle.std.proofs.Common.{◌≡◌, ◌≢◌, ℕ, zero, ◌+◌, ◌<◌, Bool, true, false, not, List, None, Some, slice_get, refl, sym, ap, ◌∙◌, arith, inl, inr, ◌≤◌, ◌%◌, bit_and}
+use Rattle.std.proofs.Common.{◌≡◌, ◌≢◌, ℕ, ◌+◌, Bool, true, false, not, List, None, Some, slice_get, refl, sym, ap, ◌∙◌, arith, inl, inr, ◌%◌, bit_and}
 use Rattle.std.specs.Prelude.{ℤ, nat_lt, ◌==◌, ◌<ℤ◌, ◌≤ℤ◌, int_le, int_lt, if◌then◌else◌}
 use Rattle.std.proofs.lemmas.Int.{ints}
 use Rattle.std.proofs.lemmas.Bool.{eqb-true, false_from_ne_true}
@@ -16,7 +16,6 @@ use Rattle.cyc_plain.specs.declared.instruction.Comparison.TheVariants as compar
 use Rattle.cyc_plain.specs.declared.instruction.Operand.{Operand}
 use Rattle.cyc_plain.specs.declared.instruction.Operand.TheVariants as operands
 use Rattle.cyc_plain.specs.declared.instruction.Instruction.{Instruction}
-use Rattle.cyc_plain.specs.declared.instruction.Instruction.TheVariants as instructions
 use Rattle.cyc_plain.specs.Operators.{truth, compares}
 use Rattle.cyc_plain.specs.State.{Words}
 use Rattle.cyc_plain.specs.Step.{operand_word, gives}
@@ -34,7 +33,6 @@ use Rattle.cyc_objects.proofs.Pointers.{not-null, part-not-null, same_value}
 use Rattle.cyc_lower.proofs.relation.HeldValues.{IsWord, IsIn}
 use Rattle.cyc_lower.proofs.relation.Data.{in_words, IsWord-is, one_word, points_in, null_at, points_at}
 use Rattle.cyc_lower.proofs.relation.Accesses.{IsWell}
-use Rattle.cyc_lower.proofs.slots.Widths.{keeps_wide}
 use Rattle.std.proofs.lemmas.Grind.{and_numeral}
 
 -- an operand of a kind, and an int

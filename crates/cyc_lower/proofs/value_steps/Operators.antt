@@ -1,0 +1,686 @@
+-- The steps that hand a value on to a conversion or an operator, and checks that raise an exception.
+use Rattle.std.proofs.Common.{◌≡◌, ◌≢◌, ℕ, zero, suc, ◌+◌, ◌<◌, Bool, true, false, not, List, ◌∷◌, Option, None, Some, refl, sym, ap, subst, ◌∙◌, arith, inl, inr, bit_and}
+use Rattle.std.specs.Prelude.{◌==◌, ◌&&◌, if◌then◌else◌, ◌%◌, option_map, is_some}
+use Rattle.std.proofs.lemmas.Bool.{eqb-true, false_from_ne_true, eqb-false, and_parts}
+use Rattle.std.proofs.lemmas.Option.{none-some}
+use Rattle.cyc_words.specs.Word.{IsWord as IsMachineWord}
+use Rattle.cyc_words.proofs.Booleans.{and_left}
+use Rattle.cyc_types.specs.declared.typed.Kind.{Kind}
+use Rattle.cyc_types.specs.declared.typed.Kind.TheVariants as kinds
+use Rattle.cyc_types.specs.declared.typed.UnaryOperator.{UnaryOperator}
+use Rattle.cyc_types.specs.declared.typed.UnaryOperator.TheVariants as unary
+use Rattle.cyc_types.specs.declared.typed.Operator.{Operator}
+use Rattle.cyc_types.specs.declared.typed.Operator.TheVariants as operators
+use Rattle.cyc_types.specs.declared.typed.LogicalOperator.{LogicalOperator}
+use Rattle.cyc_types.specs.declared.typed.LogicalOperator.TheVariants as logical
+use Rattle.cyc_types.specs.TypedTrees.{Expression, Operations, NoOperations, ThenCompute, ThenTest, ThenPointer, ThenPointerPeek, Program}
+use Rattle.cyc_plain.specs.declared.instruction.Comparison.{Comparison}
+use Rattle.cyc_plain.specs.declared.instruction.Comparison.TheVariants as comparisons
+use Rattle.cyc_plain.specs.declared.instruction.Operand.{Operand}
+use Rattle.cyc_plain.specs.declared.instruction.Operand.TheVariants as operands
+use Rattle.cyc_plain.specs.declared.instruction.Instruction.{Instruction}
+use Rattle.cyc_plain.specs.declared.instruction.Instruction.TheVariants as instructions
+use Rattle.cyc_plain.specs.declared.instruction.UnaryOperator.TheVariants as plain_unary
+use Rattle.cyc_plain.specs.Operators.{truth, compares}
+use Rattle.cyc_plain.specs.Operators as plain_operators
+use Rattle.cyc_plain.specs.State as plain
+use Rattle.cyc_plain.specs.State.{Words, put, Frame, Configuration}
+use Rattle.cyc_plain.specs.Step.{Choice, operand_word, with_slots, at, advanced, gives, performed}
+use Rattle.cyc_plain.specs.Step as plain_step
+use Rattle.cyc_plain.proofs.SlotLaws.{put-same}
+use Rattle.cyc_plain.specs.Straight.{At}
+use Rattle.cyc_meaning.specs.Values.{Value, Int, Null, Thin, Fat, Handle, Key, Operand as Kinded, is_kind, words_of_kind, bytes_of_kind}
+use Rattle.cyc_meaning.specs.Operators.{Gives, Raises, has_no_result, binary_word, unary_result, truth_result, truth_of, division_by_zero, null_exception, unary_kind}
+use Rattle.cyc_meaning.specs.Pointers.{takes_kind, followed, result_kind as operator_kind}
+use Rattle.cyc_meaning.specs.Conversion.{conversion}
+use Rattle.cyc_meaning.specs.State.{World, Environment, Awaiting, ConvertTo, Operate, Chain, Apply, ApplyPointer, Decide, Entry, Needs, Focus, Evaluating, Given, Throwing, State, Running, Advance, status_of}
+use Rattle.cyc_meaning.specs.Step.{leads_to, wrong, computed, passes, tested, awaits_right, step}
+use Rattle.cyc_meaning.specs.SourceMachine.{status_in}
+use Rattle.cyc_lower.specs.Slots.{Types, Starts}
+use Rattle.cyc_lower.proofs.slots.Widths.{same_kind, Outside, chain_kind, wide_kind, keeps_wide, changes_wide}
+use Rattle.cyc_lower.proofs.relation.Moves.{put_elsewhere}
+use Rattle.cyc_lower.specs.ValueCode.{binary_operator, failing_comparison, next_slot, jump_if_zero, jump_if_nonzero, converts_there, unary_instruction, keeps_words, masks, low_byte}
+use Rattle.cyc_lower.specs.ExpressionCode.{operand_of, value_slot, is_simple}
+use Rattle.cyc_lower.specs.Lowering.{lower_program}
+use Rattle.cyc_lower.proofs.relation.Stands.{OperandBy, CheckAt, CheckedAt, OperatorAt, TruthAt, ExpressionAt, OperationsAt, GuardAt, TestedAt, ConversionBy, LeftBy}
+use Rattle.cyc_objects.specs.Tables.{Tables}
+use Rattle.cyc_objects.specs.Words.{Is}
+use Rattle.cyc_lower.proofs.relation.HeldValues.{IsIn, Holds, held, IsLow}
+use Rattle.cyc_lower.proofs.relation.Relation.{types_on, starts_on, types_at, in_temporary, DataIn, SharedAt, to_slot, to_jump, ValueStack, ConditionStack, LandsStack, AppliedStack, ReadyAt, as_operand, into_slot, as_right, in_operand, compared, with_left, Related, Matches, code_of, bounds_at, top, floor, BesideAt, EvaluatingAt}
+use Rattle.cyc_lower.proofs.object_steps.Handles.{kept_holds}
+use Rattle.cyc_lower.proofs.relation.Data.{in_words, height-least, Holds-same, null_is, data_written, Is-same}
+use Rattle.cyc_lower.proofs.relation.Accesses.{IsWell, is_fitting}
+use Rattle.cyc_lower.proofs.relation.Matched.{IsMatched, silently, by_one, by_two, by_three, shared_way, shared_within}
+use Rattle.cyc_lower.proofs.handler_steps.Handling.{raised}
+use Rattle.cyc_lower.proofs.pointer_steps.PointerSteps.{right_follows}
+use Rattle.cyc_lower.proofs.pointer_steps.FatSteps.{widens}
+use Rattle.cyc_lower.proofs.pointer_steps.ThinSteps.{narrows}
+use Rattle.cyc_lower.proofs.value_steps.Evaluations.{only_computed, known_simple, landed, landed_word, lands_at, landed_char}
+use Rattle.cyc_lower.proofs.value_steps.ValueWords.{of_kind, int_of, as_wide, untrue, fails_by, other_place, zero_is, int_is, not_zero, not_widened, not_narrowed, kept_at, kept_in, char_low, low_byte_of, int_in}
+use Rattle.cyc_plain.specs.declared.instruction.UnaryOperator.{UnaryOperator as PlainUnary}
+use Rattle.cyc_types.specs.Numbered.{Numbering}
+
+module _ (source : Program) (pages calls : ℕ) where
+  -- a branch that is taken, and one that is not
+  pub taken : (s : State) (c : Configuration) (b : Bool) (target : ℕ) → b ≡ true → Matches source pages calls s (plain.Running (at c target)) → Matches source pages calls s (plain_step.branches c b target)
+  taken s c b target is m = subst (λ (x : Bool). Matches source pages calls s (plain_step.branches c x target)) (sym is) m
+
+  pub not_taken : (s : State) (c : Configuration) (b : Bool) (target : ℕ) → b ≡ false → Matches source pages calls s (plain.Running (at c (c.active.next + 1))) → Matches source pages calls s (plain_step.branches c b target)
+  not_taken s c b target is m = subst (λ (x : Bool). Matches source pages calls s (plain_step.branches c x target)) (sym is) m
+
+  -- where a check fails, its exception is raised
+  pub guard_fails : {focus : Focus} {l : List Entry} (tag : ℕ) (failing : Comparison) (x y : Operand) (k : List Entry) (e : Environment) (w : World) (c : Configuration) (q : ℕ)
+      → step source (Running focus l e w) ≡ Running (Throwing tag 0) k e w → SharedAt source pages calls l e w c → (shared : SharedAt source pages calls k e w c) → IsMachineWord tag → DataIn source shared.tables c.active.slots k e w c
+      → GuardAt (code_of source c.active.function) (bounds_at source c.active.function) (types_on source c.active.function k) tag failing x y c.active.next q
+      → compares failing (operand_word c.active.slots x) (operand_word c.active.slots y) ≡ true → IsMatched source pages calls (Running focus l e w) (plain.Running c)
+  guard_fails tag failing x y k e w c q does shared shared_there word facts (s, jump, raising_it, end) fails =
+      by_one source pages calls does shared jump
+      (λ choice. taken (Running (Throwing tag 0) k e w) c (compares failing (operand_word c.active.slots x) (operand_word c.active.slots y)) s fails
+      (raised source pages calls tag 0 k e w (at c s) (operands.Word tag) (operands.Word 0) word shared_there facts raising_it refl refl))
+
+  -- where it does not fail, the run goes on behind it
+  pub guard_passes : {focus : Focus} {l : List Entry} (next : State) (tag : ℕ) (failing : Comparison) (x y : Operand) (e : Environment) (w : World) (c : Configuration) (q : ℕ)
+      → step source (Running focus l e w) ≡ next → SharedAt source pages calls l e w c
+      → GuardAt (code_of source c.active.function) (bounds_at source c.active.function) (types_at source c.active.function) tag failing x y c.active.next q
+      → compares failing (operand_word c.active.slots x) (operand_word c.active.slots y) ≡ false → Matches source pages calls next (plain.Running (at c q))
+      → IsMatched source pages calls (Running focus l e w) (plain.Running c)
+  guard_passes next tag failing x y e w c q does shared (s, jump, raised, end) passes goes =
+      by_one source pages calls does shared jump
+      (λ choice. not_taken next c (compares failing (operand_word c.active.slots x) (operand_word c.active.slots y)) s passes
+      (subst (λ n. Matches source pages calls next (plain.Running (at c n))) (sym end) goes))
+
+  -- what is known of a value that stands in an operand
+  abbrev pub Stands : Kinded → Operand → List Entry → Environment → World → Configuration → Type 0
+  Stands v o k e w c = (shared : SharedAt source pages calls k e w c) × DataIn source shared.tables c.active.slots k e w c × IsIn shared.tables v c.active.slots o
+      × Holds shared.tables c.active.slots (floor source c.active.function k) (held k)
+
+  abbrev pub GoesBehind : Kinded → List Entry → Environment → World → Configuration → Type 0
+  GoesBehind v k e w c = IsMatched source pages calls (Running (Given v) k e w) (plain.Running c)
+
+  -- ---- conversions
+
+  -- the same value goes on, and nothing is executed
+  kept_value : (from to : Kind) (target : Option Kind) (i : Kind) (v : Value) (o : Operand) (k : List Entry) (e : Environment) (w : World) (c : Configuration) (q : ℕ)
+      → conversion to v ≡ Gives v
+      → step source (Running (Given (of_kind i v)) (Needs (ConvertTo from to target) ∷ k) e w) ≡ Running (Given (of_kind to v)) k e w → Stands (of_kind i v) o k e w c
+      → c.active.next ≡ q → ValueStack source c.active.function e.locals to o q c.frames k → GoesBehind (of_kind i v) (Needs (ConvertTo from to target) ∷ k) e w c
+  kept_value from to target i v o k e w c q gives does (shared, facts, is, holds) end stack =
+      silently source pages calls (Running (Given (of_kind i v)) (Needs (ConvertTo from to target) ∷ k) e w) (Running (Given (of_kind to v)) k e w) (plain.Running c) does
+      (shared, in_operand o facts (kept_in shared.tables i to v c.active.slots o gives is) (kept_holds _ _ _ k holds) (subst (λ r. ValueStack source c.active.function e.locals to o r c.frames k) (sym end) stack))
+      (omega arith)
+
+  -- a value is converted from its own kind
+  converts_kind : (from to : Kind) (target : Option Kind) (v : Kinded) (k : List Entry) (e : Environment) (w : World) → IsWell (step source (Running (Given v) (Needs (ConvertTo from to target) ∷ k) e w))
+      → step source (Running (Given v) (Needs (ConvertTo from to target) ∷ k) e w) ≡ computed to (conversion to v.value) k e w
+  converts_kind from to target v k e w well =
+      ap (λ (b : Bool). if b then computed to (conversion to v.value) k e w else wrong w) (is_fitting (is_kind v.kind from && leads_to w target (followed v.value)) (computed to (conversion to v.value) k e w) w well)
+
+  -- its kind is that one
+  converted_from : (from to : Kind) (target : Option Kind) (v : Kinded) (k : List Entry) (e : Environment) (w : World) → IsWell (step source (Running (Given v) (Needs (ConvertTo from to target) ∷ k) e w)) → v.kind ≡ from
+  converted_from from to target v k e w well =
+      same_kind v.kind from
+      (and_left (is_kind v.kind from) (leads_to w target (followed v.value)) (is_fitting (is_kind v.kind from && leads_to w target (followed v.value)) (computed to (conversion to v.value) k e w) w well))
+
+  -- a char stays a char
+  kept_char : (from : Kind) (target : Option Kind) (a : ℕ) (o : Operand) (k : List Entry) (e : Environment) (w : World) (c : Configuration)
+      → step source (Running (Given (of_kind kinds.Char (Int a))) (Needs (ConvertTo from kinds.Char target) ∷ k) e w) ≡ Running (Given (of_kind kinds.Char (Int (a % 256)))) k e w
+      → Stands (of_kind kinds.Char (Int a)) o k e w c
+      → (q : ℕ) × (c.active.next ≡ q) × ValueStack source c.active.function e.locals kinds.Char o q c.frames k → GoesBehind (of_kind kinds.Char (Int a)) (Needs (ConvertTo from kinds.Char target) ∷ k) e w c
+  kept_char from target a o k e w c does (shared, facts, is, holds) (q, end, stack) =
+      let low = char_low shared.tables a c.active.slots o is in
+      kept_value from kinds.Char target kinds.Char (Int a) o k e w c q (ap (λ n. Gives (Int n)) low) (does ∙ ap (λ n. Running (Given (of_kind kinds.Char (Int n))) k e w) low) (shared, facts, is, holds) end stack
+
+  converted : (from to : Kind) (target : Option Kind) (i : Kind) (v : Value) (o : Operand) (k : List Entry) (e : Environment) (w : World) (c : Configuration) → IsWell (computed to (conversion to v) k e w)
+      → step source (Running (Given (of_kind i v)) (Needs (ConvertTo from to target) ∷ k) e w) ≡ computed to (conversion to v) k e w → masks i to ≡ false → words_of_kind i ≡ words_of_kind to → Stands (of_kind i v) o k e w c
+      → (q : ℕ) × TestedAt (code_of source c.active.function) (bounds_at source c.active.function) (types_on source c.active.function k) to o c.active.next q × ValueStack source c.active.function e.locals to o q c.frames k → GoesBehind (of_kind i v) (Needs (ConvertTo from to target) ∷ k) e w c
+  converted from kinds.Char target kinds.Char (Int a) o k e w c well does whole wide stands stack = kept_char from target a o k e w c does stands stack
+  converted from kinds.Char target kinds.Int (Int a) o k e w c well does whole wide stands stack = absurd (let f : true ≡ false = whole in cc)
+  converted from kinds.Char target i (Int a) o k e w c well does whole wide (shared, facts, is, holds) stack =
+      let (words, p, same, is_it) = in_words shared.tables (of_kind i (Int a)) c.active.slots o is in
+      absurd is_it
+  converted from kinds.Int target i (Int a) o k e w c well does whole wide stands (q, end, stack) = kept_value from kinds.Int target i (Int a) o k e w c q refl does stands end stack
+  converted from kinds.Nullable target i Null o k e w c well does whole wide stands (q, end, stack) = kept_value from kinds.Nullable target i Null o k e w c q refl does stands end stack
+  converted from kinds.Fat target i Null o k e w c well does whole wide stands (q, end, stack) = kept_value from kinds.Fat target i Null o k e w c q refl does stands end stack
+  converted from kinds.NonNull target i Null o k e w c well does whole wide (shared, facts, is, holds) (q, check, stack) =
+      guard_fails null_exception comparisons.Equal o (operands.Word 0) k e w c q does shared shared
+      (omega arith) facts check
+      (ap (λ x. x == 0) (null_is shared.tables i c.active.slots o is))
+  converted from kinds.Nullable target i (Thin object offset) o k e w c well does whole wide stands (q, end, stack) = kept_value from kinds.Nullable target i (Thin object offset) o k e w c q refl does stands end stack
+  converted from kinds.NonNull target i (Thin object offset) o k e w c well does whole wide (shared, facts, is, holds) (q, check, stack) =
+      guard_passes (Running (Given (of_kind kinds.NonNull (Thin object offset))) k e w) null_exception comparisons.Equal o (operands.Word 0) e w c q does shared check
+      (not_zero shared.tables i object offset c.active.slots o is)
+      (shared, in_operand o facts (kept_in shared.tables i kinds.NonNull (Thin object offset) c.active.slots o refl is) (kept_holds _ _ _ k holds) stack)
+  converted from kinds.Fat target i (Thin object offset) o k e w c well does whole wide (shared, facts, is, holds) stack =
+      let (words, p, same, is_it) = in_words shared.tables (of_kind i (Thin object offset)) c.active.slots o is in
+      absurd (not_widened shared.tables i object offset words p is_it wide)
+  converted from kinds.Fat target i (Fat object start many index) o k e w c well does whole wide stands (q, end, stack) =
+      kept_value from kinds.Fat target i (Fat object start many index) o k e w c q refl does stands end stack
+  converted from kinds.Nullable target i (Fat object start many index) o k e w c well does whole wide (shared, facts, is, holds) stack =
+      let (words, p, same, is_it) = in_words shared.tables (of_kind i (Fat object start many index)) c.active.slots o is in
+      absurd (not_narrowed shared.tables i object start many index words p is_it wide)
+  converted from kinds.NonNull target i (Fat object start many index) o k e w c well does whole wide (shared, facts, is, holds) stack =
+      let (words, p, same, is_it) = in_words shared.tables (of_kind i (Fat object start many index)) c.active.slots o is in
+      absurd (not_narrowed shared.tables i object start many index words p is_it wide)
+  converted from kinds.Handle target i (Handle region) o k e w c well does whole wide stands (q, end, stack) = kept_value from kinds.Handle target i (Handle region) o k e w c q refl does stands end stack
+  converted from kinds.Key target i (Key region) o k e w c well does whole wide stands (q, end, stack) = kept_value from kinds.Key target i (Key region) o k e w c q refl does stands end stack
+  converted from to target i v o k e w c well does whole wide stands stack = absurd (well refl)
+
+  converted_leads : (from to : Kind) (target : Option Kind) (v : Kinded) (k : List Entry) (e : Environment) (w : World) → IsWell (step source (Running (Given v) (Needs (ConvertTo from to target) ∷ k) e w)) → leads_to w target (followed v.value) ≡ true
+  converted_leads from to target v k e w well =
+      (and_parts (is_kind v.kind from) (leads_to w target (followed v.value)) (is_fitting (is_kind v.kind from && leads_to w target (followed v.value)) (computed to (conversion to v.value) k e w) w well)).1
+
+  -- an int that becomes a char keeps its low byte, which comes to a slot
+  masked : (from : Kind) (target : Option Kind) (i : Kind) (v : Value) (o : Operand) (d : ℕ) (k : List Entry) (e : Environment) (w : World) (c : Configuration)
+      → step source (Running (Given (of_kind i v)) (Needs (ConvertTo from kinds.Char target) ∷ k) e w) ≡ computed kinds.Char (conversion kinds.Char v) k e w → IsWell (computed kinds.Char (conversion kinds.Char v) k e w)
+      → Stands (of_kind i v) o k e w c → At (code_of source c.active.function) c.active.next (low_byte o d)
+      → LandsStack source c.active.function e.locals kinds.Char d (c.active.next + 1) c.frames k → GoesBehind (of_kind i v) (Needs (ConvertTo from kinds.Char target) ∷ k) e w c
+  masked from target i (Int a) o d k e w c does well (shared, facts, is, holds) here lands =
+      let word = bit_and (operand_word c.active.slots o) 255 in
+      let same : word ≡ a % 256 = low_byte_of (operand_word c.active.slots o) ∙ ap (λ x. x % 256) (int_is shared.tables i a c.active.slots o is) in
+      by_one source pages calls does shared here
+      (λ choice. landed_char source pages calls (a % 256) word d k e w c (c.active.next + 1) same (omega arith) shared facts holds refl lands)
+  masked from target i v o d k e w c does well stands here lands = absurd (well refl)
+
+  -- nothing else becomes one and changes its words
+  never_char : (t : Tables) (i : Kind) (v : Value) (slots : Words) (o : Operand) (k : List Entry) (e : Environment) (w : World)
+      → keeps_words i kinds.Char ≡ false → masks i kinds.Char ≡ false → IsWell (computed kinds.Char (conversion kinds.Char v) k e w) → IsIn t (of_kind i v) slots o → ⊥
+  never_char t kinds.Int (Int a) slots o k e w changes whole well is = let f : true ≡ false = whole in cc
+  never_char t kinds.Char (Int a) slots o k e w changes whole well is = let f : true ≡ false = changes in cc
+  never_char t i (Int a) slots o k e w changes whole well is = let (words, p, same, is_it) = in_words t (of_kind i (Int a)) slots o is in is_it
+  never_char t i v slots o k e w changes whole well is = well refl
+
+  -- where it keeps its words, or gets more, or fewer
+  converts_by : (same : Bool) (from to : Kind) (target : Option Kind) (v : Kinded) (o : Operand) (q : ℕ) (k : List Entry) (e : Environment) (w : World) (c : Configuration) → keeps_words from to ≡ same → masks from to ≡ false
+      → step source (Running (Given v) (Needs (ConvertTo from to target) ∷ k) e w) ≡ computed to (conversion to v.value) k e w → leads_to w target (followed v.value) ≡ true → v.kind ≡ from → IsWell (computed to (conversion to v.value) k e w)
+      → Stands v o k e w c
+      → ConversionBy (code_of source c.active.function) (bounds_at source c.active.function) (types_on source c.active.function k) same to (option_map bytes_of_kind target) o (top source c.active.function k) c.active.next q
+      → ValueStack source c.active.function e.locals to o q c.frames k → GoesBehind v (Needs (ConvertTo from to target) ∷ k) e w c
+  converts_by true from to target v o q k e w c keeps whole does leads kind well stands at stack =
+      converted from to target v.kind v.value o k e w c well does (ap (λ i. masks i to) kind ∙ whole) (ap words_of_kind kind ∙ keeps_wide from to keeps) stands (q, at, stack)
+  converts_by false from kinds.Fat target v o q k e w c changes whole does leads kind well (shared, facts, is, holds) at stack =
+      let narrow = changes_wide from kinds.Fat refl changes in
+      widens source pages calls from target v o q k e w c does well (λ three. eqb-false (words_of_kind from) 3 narrow (ap words_of_kind (sym kind) ∙ three)) shared facts is holds at stack
+  converts_by false from kinds.Char target v o q k e w c changes whole does leads kind well (shared, facts, is, holds) at stack =
+      absurd (never_char shared.tables v.kind v.value c.active.slots o k e w (ap (λ i. keeps_words i kinds.Char) kind ∙ changes) (ap (λ i. masks i kinds.Char) kind ∙ whole) well is)
+  converts_by false from kinds.NonNull target v o q k e w c changes whole does leads kind well (shared, facts, is, holds) at stack =
+      narrows source pages calls from kinds.NonNull target v o q k e w c does leads (kind ∙ wide_kind from (changes_wide from kinds.NonNull refl changes)) shared facts is holds at stack
+  converts_by false from kinds.Nullable target v o q k e w c changes whole does leads kind well (shared, facts, is, holds) at stack =
+      narrows source pages calls from kinds.Nullable target v o q k e w c does leads (kind ∙ wide_kind from (changes_wide from kinds.Nullable refl changes)) shared facts is holds at stack
+  converts_by false from to target v o q k e w c changes whole does leads kind well stands at stack = absurd at
+
+  pub converts : (from to : Kind) (target : Option Kind) (v : Kinded) (o : Operand) (k : List Entry) (e : Environment) (w : World) (c : Configuration)
+      → IsWell (step source (Running (Given v) (Needs (ConvertTo from to target) ∷ k) e w)) → Stands v o k e w c
+      → ValueStack source c.active.function e.locals v.kind o c.active.next c.frames (Needs (ConvertTo from to target) ∷ k) → GoesBehind v (Needs (ConvertTo from to target) ∷ k) e w c
+  converts from to target v o k e w c well stands (inl (d, is, here, lands)) =
+      let well_char = subst (λ x. IsWell (step source (Running (Given v) (Needs (ConvertTo from x target) ∷ k) e w))) is well in
+      let does = converts_kind from kinds.Char target v k e w well_char in
+      subst (λ x. GoesBehind v (Needs (ConvertTo from x target) ∷ k) e w c) (sym is)
+      (masked from target v.kind v.value o d k e w c does (subst IsWell does well_char) stands here lands)
+  converts from to target v o k e w c well stands (inr (q, whole, at, stack)) =
+      converts_by (keeps_words from to) from to target v o q k e w c refl whole (converts_kind from to target v k e w well) (converted_leads from to target v k e w well) (converted_from from to target v k e w well)
+      (subst IsWell (converts_kind from to target v k e w well) well) stands at stack
+
+  -- a conversion that raises nothing, of a value in the slots of a local that is about to get it
+  converted_ahead : (t : Tables) (from to i : Kind) (v : Value) (words : Words) (n : ℕ) (k : List Entry) (e : Environment) (w : World)
+      → IsWell (computed to (conversion to v) k e w) → converts_there from to ≡ true → masks i to ≡ false → words_of_kind i ≡ words_of_kind to → Is t i v words n
+      → (computed to (conversion to v) k e w ≡ Running (Given (of_kind to v)) k e w) × Is t to v words n
+  converted_ahead t from kinds.Char kinds.Char (Int a) words n k e w well quiet whole wide is =
+      let low : a % 256 ≡ a = omega (arith, is.1) in
+      (ap (λ x. Running (Given (of_kind kinds.Char (Int x))) k e w) low, is)
+  converted_ahead t from kinds.Char kinds.Int (Int a) words n k e w well quiet whole wide is = absurd (let f : true ≡ false = whole in cc)
+  converted_ahead t from kinds.Char i (Int a) words n k e w well quiet whole wide is = absurd is
+  converted_ahead t from kinds.NonNull i v words n k e w well quiet whole wide is = absurd (let f : false ≡ true = quiet in cc)
+  converted_ahead t from kinds.Int i (Int a) words n k e w well quiet whole wide is = (refl, kept_at t i kinds.Int (Int a) words n refl is)
+  converted_ahead t from kinds.Nullable i Null words n k e w well quiet whole wide is = (refl, kept_at t i kinds.Nullable Null words n refl is)
+  converted_ahead t from kinds.Fat i Null words n k e w well quiet whole wide is = (refl, kept_at t i kinds.Fat Null words n refl is)
+  converted_ahead t from kinds.Nullable i (Thin object offset) words n k e w well quiet whole wide is = (refl, kept_at t i kinds.Nullable (Thin object offset) words n refl is)
+  converted_ahead t from kinds.Fat i (Thin object offset) words n k e w well quiet whole wide is = absurd (not_widened t i object offset words n is wide)
+  converted_ahead t from kinds.Nullable i (Fat object start many index) words n k e w well quiet whole wide is = absurd (not_narrowed t i object start many index words n is wide)
+  converted_ahead t from kinds.Fat i (Fat object start many index) words n k e w well quiet whole wide is = (refl, kept_at t i kinds.Fat (Fat object start many index) words n refl is)
+  converted_ahead t from kinds.Handle i (Handle region) words n k e w well quiet whole wide is = (refl, kept_at t i kinds.Handle (Handle region) words n refl is)
+  converted_ahead t from kinds.Key i (Key region) words n k e w well quiet whole wide is = (refl, kept_at t i kinds.Key (Key region) words n refl is)
+  converted_ahead t from to i v words n k e w well quiet whole wide is = absurd (well refl)
+
+  -- its kind is the one that it is converted from, and it has as many words behind
+  pub converts_ahead : (t : Tables) (from to : Kind) (target : Option Kind) (v : Kinded) (n : ℕ) (k : List Entry) (e : Environment) (w : World) (c : Configuration)
+      → IsWell (step source (Running (Given v) (Needs (ConvertTo from to target) ∷ k) e w)) → converts_there from to ≡ true → masks from to ≡ false → Is t v.kind v.value c.active.slots n
+      → (step source (Running (Given v) (Needs (ConvertTo from to target) ∷ k) e w) ≡ Running (Given (of_kind to v.value)) k e w) × Is t to v.value c.active.slots n
+      × (words_of_kind v.kind ≡ words_of_kind to)
+  converts_ahead t from to target v n k e w c well quiet whole is =
+      let does = converts_kind from to target v k e w well in
+      let kind = converted_from from to target v k e w well in
+      let wide = ap words_of_kind kind ∙ as_wide from to quiet in
+      let (goes, now) = converted_ahead t from to v.kind v.value c.active.slots n k e w (subst IsWell does well) quiet (ap (λ i. masks i to) kind ∙ whole) wide is in
+      (does ∙ goes, now, wide)
+
+  -- ---- operators
+
+  -- a word has come to a slot, where it is a value of a kind
+  abbrev IsLanded : Tables → Kind → (d : ℕ) → List Entry → Environment → World → Configuration → Type 0
+  IsLanded t kind d k e w c =
+      (v : Value) (x : ℕ) → Is t kind v (put c.active.slots d x) d → Related source pages calls (Given (of_kind kind v)) k e w (advanced (with_slots c (put c.active.slots d x)))
+
+  operates_word : (u : UnaryOperator) (operator : PlainUnary) (i : Kind) (a : ℕ) (o : Operand) (d : ℕ) (k : List Entry) (e : Environment) (w : World) (c : Configuration)
+      → unary_kind u ≡ kinds.Int → unary_result u (Int a) ≡ Gives (Int (plain_operators.unary_result operator a)) → (shared : SharedAt source pages calls k e w c) → IsIn shared.tables (of_kind i (Int a)) c.active.slots o
+      → At (code_of source c.active.function) c.active.next (instructions.Unary operator d o) → IsLanded shared.tables kinds.Int d k e w c
+      → GoesBehind (of_kind i (Int a)) (Needs (Operate u) ∷ k) e w c
+  operates_word u operator i a o d k e w c int result shared is here goes =
+      let x = plain_operators.unary_result operator (operand_word c.active.slots o) in
+      by_one source pages calls (ap (λ r. computed (unary_kind u) r k e w) result ∙ ap (λ j. Running (Given (of_kind j (Int (plain_operators.unary_result operator a)))) k e w) int) shared here
+      (λ choice. goes (Int (plain_operators.unary_result operator a)) x (put-same c.active.slots d x ∙ ap (plain_operators.unary_result operator) (int_is shared.tables i a c.active.slots o is)))
+
+  pub operates_value : (u : UnaryOperator) (i : Kind) (v : Value) (o : Operand) (d : ℕ) (k : List Entry) (e : Environment) (w : World) (c : Configuration)
+      → IsWell (step source (Running (Given (of_kind i v)) (Needs (Operate u) ∷ k) e w)) → (shared : SharedAt source pages calls k e w c) → IsIn shared.tables (of_kind i v) c.active.slots o
+      → At (code_of source c.active.function) c.active.next (unary_instruction u d o) → IsLanded shared.tables (unary_kind u) d k e w c → GoesBehind (of_kind i v) (Needs (Operate u) ∷ k) e w c
+  operates_value unary.Not i v o d k e w c well shared is here goes =
+      let x = truth (operand_word c.active.slots o == 0) in
+      by_one source pages calls
+      (ap (λ z. computed kinds.Int (truth_result z) k e w) (zero_is shared.tables (of_kind i v) c.active.slots o (λ none. well (ap (λ z. status_in (status_of (computed kinds.Int (truth_result z) k e w))) none)) is)) shared here
+      (λ choice. goes (Int x) x (put-same c.active.slots d x))
+  operates_value unary.Negate i (Int a) o d k e w c well shared is here goes = operates_word unary.Negate plain_unary.Negate i a o d k e w c refl refl shared is here goes
+  operates_value unary.Complement i (Int a) o d k e w c well shared is here goes = operates_word unary.Complement plain_unary.Complement i a o d k e w c refl refl shared is here goes
+  operates_value unary.Widen i (Int a) o d k e w c well shared is here goes =
+      let x = operand_word c.active.slots o in
+      by_one source pages calls refl shared here (λ choice. goes (Int a) x (put-same c.active.slots d x ∙ int_is shared.tables i a c.active.slots o is))
+  operates_value unary.LowByte i (Int a) o d k e w c well shared is here goes =
+      let x = bit_and (operand_word c.active.slots o) 255 in
+      let same : x ≡ a % 256 = low_byte_of (operand_word c.active.slots o) ∙ ap (λ y. y % 256) (int_is shared.tables i a c.active.slots o is) in
+      by_one source pages calls refl shared here (λ choice. goes (Int (a % 256)) x (put-same c.active.slots d x ∙ same, omega arith))
+  operates_value u i v o d k e w c well shared is here goes = absurd (well refl)
+
+  one_operated : (u : UnaryOperator) → words_of_kind (unary_kind u) ≡ 1
+  one_operated unary.LowByte = refl
+  one_operated u = refl
+
+  -- a value of one word lands where the code brings it
+  lands_word : (kind : Kind) (d : ℕ) (k : List Entry) (e : Environment) (w : World) (c : Configuration) → words_of_kind kind ≡ 1 → (shared : SharedAt source pages calls k e w c) → DataIn source shared.tables c.active.slots k e w c
+      → Holds shared.tables c.active.slots (floor source c.active.function k) (held k) → LandsStack source c.active.function e.locals kind d (c.active.next + 1) c.frames k → IsLanded shared.tables kind d k e w c
+  lands_word kind d k e w c one shared facts holds lands v x is =
+      landed source pages calls (of_kind kind v) (put c.active.slots d x) d k e w c (c.active.next + 1) shared is
+      (λ m out. put_elsewhere c.active.slots d x 1 m (omega arith) (subst (λ many. Outside d many m) one out)) facts holds refl lands
+
+  -- a char that serves as an int stays where it is
+  widened : (i : Kind) (v : Value) (o : Operand) (k : List Entry) (e : Environment) (w : World) (c : Configuration) → IsWell (step source (Running (Given (of_kind i v)) (Needs (Operate unary.Widen) ∷ k) e w))
+      → Stands (of_kind i v) o k e w c → ValueStack source c.active.function e.locals kinds.Int o c.active.next c.frames k → GoesBehind (of_kind i v) (Needs (Operate unary.Widen) ∷ k) e w c
+  widened i (Int a) o k e w c well (shared, facts, is, holds) stack =
+      silently source pages calls (Running (Given (of_kind i (Int a))) (Needs (Operate unary.Widen) ∷ k) e w) (Running (Given (int_of a)) k e w) (plain.Running c) refl
+      (shared, in_operand o facts (int_in shared.tables i a c.active.slots o is) (kept_holds _ _ _ k holds) stack)
+      (omega arith)
+  widened i v o k e w c well stands stack = absurd (well refl)
+
+  -- a condition that is negated is not computed
+  negates : (v : Kinded) (o : Operand) (k : List Entry) (e : Environment) (w : World) (c : Configuration) → IsWell (step source (Running (Given v) (Needs (Operate unary.Not) ∷ k) e w)) → Stands v o k e w c
+      → ConditionStack source c.active.function comparisons.NotEqual o (operands.Word 0) c.active.next c.frames k → GoesBehind v (Needs (Operate unary.Not) ∷ k) e w c
+  negates v o k e w c well (shared, facts, is, holds) stack =
+      let x = operand_word c.active.slots o in
+      silently source pages calls (Running (Given v) (Needs (Operate unary.Not) ∷ k) e w) (Running (Given (int_of (truth (x == 0)))) k e w) (plain.Running c)
+      (ap (λ z. computed kinds.Int (truth_result z) k e w) (zero_is shared.tables v c.active.slots o (λ none. well (ap (λ z. status_in (status_of (computed kinds.Int (truth_result z) k e w))) none)) is))
+      (shared, compared comparisons.NotEqual o (operands.Word 0) facts (ap Some (untrue (x == 0))) stack)
+      (omega arith)
+
+  pub operates : (u : UnaryOperator) (v : Kinded) (o : Operand) (k : List Entry) (e : Environment) (w : World) (c : Configuration)
+      → IsWell (step source (Running (Given v) (Needs (Operate u) ∷ k) e w)) → Stands v o k e w c
+      → ValueStack source c.active.function e.locals v.kind o c.active.next c.frames (Needs (Operate u) ∷ k) → GoesBehind v (Needs (Operate u) ∷ k) e w c
+  operates unary.Widen v o k e w c well stands stack = widened v.kind v.value o k e w c well stands stack
+  operates u v o k e w c well (shared, facts, is, holds) (to_slot (d, here, lands)) =
+      operates_value u v.kind v.value o d k e w c well shared is here (lands_word (unary_kind u) d k e w c (one_operated u) shared facts holds lands)
+  operates u v o k e w c well stands (to_jump (is, stack)) = subst (λ x. GoesBehind v (Needs (Operate x) ∷ k) e w c) (sym is) (negates v o k e w c (subst (λ x. IsWell (step source (Running (Given v) (Needs (Operate x) ∷ k) e w))) is well) stands stack)
+
+  -- ---- divisions
+
+  -- what an operator gives stands in its slot, and the code goes on there
+  abbrev IsComputed : Operator → (a b d q : ℕ) → List Entry → Environment → World → Configuration → Type 0
+  IsComputed u a b d q k e w c =
+      (m x : ℕ) → m + 1 ≡ q → x ≡ binary_word u a b → Related source pages calls (Given (int_of (binary_word u a b))) k e w (advanced (with_slots (at c m) (put c.active.slots d x)))
+
+  -- the division itself, of operands that are these words
+  quotient : (u : Operator) (a b : ℕ) (l r : Operand) (d : ℕ) (k : List Entry) (e : Environment) (w : World) (c : Configuration) (q : ℕ)
+      → ((x : ℕ) → plain_operators.has_no_result (binary_operator u) x ≡ (x == 0)) → ((x y : ℕ) → plain_operators.binary_result (binary_operator u) x y ≡ binary_word u x y)
+      → (b == 0) ≡ false → operand_word c.active.slots l ≡ a → operand_word c.active.slots r ≡ b → c.active.next + 1 ≡ q → IsComputed u a b d q k e w c
+      → (choice : Choice) → Matches source pages calls (Running (Given (int_of (binary_word u a b))) k e w) (performed (lower_program source) choice c (instructions.Binary (binary_operator u) d l r))
+  quotient u a b l r d k e w c q plain_test same nonzero is_left is end goes choice =
+      let x = operand_word c.active.slots l in
+      let y = operand_word c.active.slots r in
+      let result = plain_operators.binary_result (binary_operator u) x y in
+      subst (λ (z : Bool). Matches source pages calls (Running (Given (int_of (binary_word u a b))) k e w) (if z then plain.Stuck c.output c.input else gives c d result)) (sym (plain_test y ∙ ap (λ z. z == 0) is ∙ nonzero))
+      (goes c.active.next result end (same x y ∙ ap (λ z. binary_word u z y) is_left ∙ ap (binary_word u a) is))
+
+  -- behind its test
+  tested_divides : (u : Operator) (i j : Kind) (a b : ℕ) (f : Bool) (l r : Operand) (d : ℕ) (k : List Entry) (e : Environment) (w : World) (c : Configuration) (m q : ℕ)
+      → ((x : ℕ) → plain_operators.has_no_result (binary_operator u) x ≡ (x == 0)) → ((x : ℕ) → has_no_result u x ≡ (x == 0))
+      → ((x y : ℕ) → plain_operators.binary_result (binary_operator u) x y ≡ binary_word u x y) → (b == 0) ≡ f
+      → (shared : SharedAt source pages calls k e w c) → DataIn source shared.tables c.active.slots k e w c
+      → operand_word c.active.slots l ≡ a → operand_word c.active.slots r ≡ b
+      → CheckAt (code_of source c.active.function) (bounds_at source c.active.function) (types_on source c.active.function k) division_by_zero r c.active.next m
+      → At (code_of source c.active.function) m (instructions.Binary (binary_operator u) d l r) → m + 1 ≡ q
+      → IsComputed u a b d q k e w c → GoesBehind (of_kind j (Int b)) (Needs (Apply u (of_kind i (Int a))) ∷ k) e w c
+  tested_divides u i j a b true l r d k e w c m q plain_test test same zero_b shared facts is_left is check here end goes =
+      guard_fails division_by_zero comparisons.Equal r (operands.Word 0) k e w c m
+      (ap (λ x. computed kinds.Int (if x then Raises 4 else Gives (Int (binary_word u a b))) k e w) (test b ∙ zero_b)) shared shared
+      (omega arith) facts check (ap (λ x. x == 0) is ∙ zero_b)
+  tested_divides u i j a b false l r d k e w c m q plain_test test same zero_b shared facts is_left is (s, jump, raised, behind) here end goes =
+      let nonzero : (operand_word c.active.slots r == 0) ≡ false = ap (λ x. x == 0) is ∙ zero_b in
+      by_two source pages calls (at c m)
+      (ap (λ x. computed kinds.Int (if x then Raises 4 else Gives (Int (binary_word u a b))) k e w) (test b ∙ zero_b)) shared shared
+      jump (λ choice. ap (λ x. plain_step.branches c x s) nonzero ∙ ap (λ n. plain.Running (at c n)) behind)
+      here (λ equal. omega (arith, equal, behind))
+      (quotient u a b l r d k e w (at c m) q plain_test same zero_b is_left is end goes)
+
+  -- a divisor that is a number other than 0 has no test
+  divides : (u : Operator) (i j : Kind) (a b : ℕ) (l r : Operand) (d : ℕ) (k : List Entry) (e : Environment) (w : World) (c : Configuration) (q : ℕ)
+      → ((x : ℕ) → plain_operators.has_no_result (binary_operator u) x ≡ (x == 0)) → ((x : ℕ) → has_no_result u x ≡ (x == 0))
+      → ((x y : ℕ) → plain_operators.binary_result (binary_operator u) x y ≡ binary_word u x y)
+      → (shared : SharedAt source pages calls k e w c) → DataIn source shared.tables c.active.slots k e w c
+      → operand_word c.active.slots l ≡ a → operand_word c.active.slots r ≡ b
+      → CheckedAt (code_of source c.active.function) (bounds_at source c.active.function) (types_on source c.active.function k) u d l r c.active.next q
+      → IsComputed u a b d q k e w c → GoesBehind (of_kind j (Int b)) (Needs (Apply u (of_kind i (Int a))) ∷ k) e w c
+  divides u i j a b l (operands.Word (suc n)) d k e w c q plain_test test same shared facts is_left is (m, begin, here, end) goes =
+      let nonzero : (b == 0) ≡ false = ap (λ x. x == 0) (sym is) ∙ false_from_ne_true (suc n == 0) (λ h. absurd (let z : suc n ≡ 0 = eqb-true (suc n) 0 h in omega (arith, z))) in
+      by_one source pages calls (ap (λ x. computed kinds.Int (if x then Raises 4 else Gives (Int (binary_word u a b))) k e w) (test b ∙ nonzero)) shared
+      (subst (λ x. At (code_of source c.active.function) x (instructions.Binary (binary_operator u) d l (operands.Word (suc n)))) (sym begin) here)
+      (quotient u a b l (operands.Word (suc n)) d k e w c q plain_test same nonzero is_left is (ap (λ x. x + 1) begin ∙ end) goes)
+  divides u i j a b l (operands.Word zero) d k e w c q plain_test test same shared facts is_left is (m, check, here, end) goes =
+      tested_divides u i j a b (b == 0) l (operands.Word zero) d k e w c m q plain_test test same refl shared facts is_left is check here end goes
+  divides u i j a b l (operands.Slot n) d k e w c q plain_test test same shared facts is_left is (m, check, here, end) goes =
+      tested_divides u i j a b (b == 0) l (operands.Slot n) d k e w c m q plain_test test same refl shared facts is_left is check here end goes
+
+  computes : (u : Operator) (i j : Kind) (a b : ℕ) (l r : Operand) (d : ℕ) (k : List Entry) (e : Environment) (w : World) (c : Configuration) (q : ℕ)
+      → (shared : SharedAt source pages calls k e w c) → DataIn source shared.tables c.active.slots k e w c
+      → operand_word c.active.slots l ≡ a → operand_word c.active.slots r ≡ b
+      → OperatorAt (code_of source c.active.function) (bounds_at source c.active.function) (types_on source c.active.function k) u d l r c.active.next q
+      → IsComputed u a b d q k e w c → GoesBehind (of_kind j (Int b)) (Needs (Apply u (of_kind i (Int a))) ∷ k) e w c
+  computes operators.Divide i j a b l r d k e w c q shared facts is_left is here goes =
+      divides operators.Divide i j a b l r d k e w c q (λ x. refl) (λ x. refl) (λ x y. refl) shared facts is_left is here goes
+  computes operators.Remainder i j a b l r d k e w c q shared facts is_left is here goes =
+      divides operators.Remainder i j a b l r d k e w c q (λ x. refl) (λ x. refl) (λ x y. refl) shared facts is_left is here goes
+  computes u i j a b l r d k e w c q shared facts is_left is (here, end) goes =
+      let x = operand_word c.active.slots l in
+      let y = operand_word c.active.slots r in
+      by_one source pages calls refl shared here (λ choice. goes c.active.next (binary_word u x y) end (ap (λ z. binary_word u z y) is_left ∙ ap (binary_word u a) is))
+
+  -- what stands in no slot above the next temporary is not changed above
+  low_same : (t : Tables) (v : Kinded) (o : Operand) (free : ℕ) (slots other : Words) → IsLow o free → ((m : ℕ) → m < free + words_of_kind v.kind → other m ≡ slots m) → IsIn t v slots o → IsIn t v other o
+  low_same t v (operands.Slot n) free slots other low same is = Is-same t v.kind v.value slots other n n (λ i below. same (n + i) (omega (arith, below, low))) is
+  low_same t v (operands.Word n) free slots other low same is = is
+
+  beside_same : (t : Tables) (locals : ℕ → Option ℕ) (g : ℕ) (o : Operand) (p : ℕ) (slots other : Words) (frames : List Frame) (k : List Entry) → ((m : ℕ) → m < top source g k → other m ≡ slots m)
+      → BesideAt source t locals g o p slots frames k → BesideAt source t locals g o p other frames k
+  beside_same t locals g o p slots other frames (Needs (Apply u left) ∷ k) same (l, is, low, inl (holds, applied)) =
+      (l, low_same t left l (top source g k) slots other low same is, low, inl (Holds-same t slots other (floor source g k) (held k) (λ m below. same m (omega (arith, below))) holds, applied))
+  beside_same t locals g o p slots other frames (Needs (Apply u left) ∷ k) same (l, is, low, inr (q, at, beside)) =
+      (l, low_same t left l (top source g k) slots other low same is, low, inr (q, at, beside_same t locals g (operands.Slot (top source g k)) q slots other frames k (λ m below. same m (omega (arith, below))) beside))
+  beside_same t locals g o p slots other frames (Needs (Advance peek target base) ∷ k) same (n, q, is, low, holds, advances) = (
+    n,
+    q,
+    low_same t base (operands.Slot n) (top source g k) slots other low same is,
+    low,
+    Holds-same t slots other (floor source g k) (held k) (λ m below. same m (omega (arith, below))) holds,
+    advances,
+  )
+  beside_same t locals g o p slots other frames (Needs (Chain os) ∷ k) same (q, low, simple, at, beside) =
+      (q, low, simple, at, beside_same t locals g (operands.Slot (top source g k)) q slots other frames k same beside)
+  beside_same t locals g o p slots other frames (Needs (Operate unary.Widen) ∷ k) same beside = beside_same t locals g o p slots other frames k same beside
+  beside_same t locals g o p slots other frames (Needs (Operate u) ∷ k) same (at, beside) = (at, beside_same t locals g (operands.Slot (top source g k)) (p + 1) slots other frames k same beside)
+  beside_same t locals g o p slots other frames k same beside = absurd beside
+
+  -- what an operator gives is a left operand in turn, or the value of a chain, while the left operand of that stays where it was
+  pub stays_beside : (v : Kinded) (x : ℕ) (k : List Entry) (e : Environment) (w : World) (c : Configuration) (q p : ℕ) (shared : SharedAt source pages calls k e w c) → DataIn source shared.tables c.active.slots k e w c → p ≡ q
+      → Is shared.tables v.kind v.value (put c.active.slots (top source c.active.function k) x) (top source c.active.function k)
+      → BesideAt source shared.tables e.locals c.active.function (operands.Slot (top source c.active.function k)) q c.active.slots c.frames k
+      → Related source pages calls (Given v) k e w (at (with_slots c (put c.active.slots (top source c.active.function k) x)) p)
+  stays_beside v x k e w c q p shared facts end is beside =
+      let g = c.active.function in
+      let free = top source g k in
+      let slots = put c.active.slots free x in
+      let elsewhere : (n : ℕ) → Outside free 1 n → slots n ≡ c.active.slots n = λ n out. put_elsewhere c.active.slots free x 1 n (omega arith) out in (
+        shared,
+        with_left (data_written source shared.tables g c.active.base w.objects e.locals k c.active.slots slots c.active.handlers c.globals c.frames free 1 (height-least (floor source g k) (held k)) elsewhere facts) (
+          operands.Slot free,
+          is,
+          subst (λ n. BesideAt source shared.tables e.locals g (operands.Slot free) n slots c.frames k) (sym end)
+              (beside_same shared.tables e.locals g (operands.Slot free) q c.active.slots slots c.frames k (λ n below. elsewhere n (inl (omega (arith, below)))) beside),
+        ),
+      )
+
+  -- a condition that is a comparison is not computed
+  compares_words : (u : Operator) (i j : Kind) (failing : Comparison) (a b : ℕ) (l r : Operand) (k : List Entry) (e : Environment) (w : World) (c : Configuration) → failing_comparison u ≡ Some failing
+      → step source (Running (Given (of_kind j (Int b))) (Needs (Apply u (of_kind i (Int a))) ∷ k) e w) ≡ Running (Given (int_of (binary_word u a b))) k e w
+      → (shared : SharedAt source pages calls k e w c) → DataIn source shared.tables c.active.slots k e w c → operand_word c.active.slots l ≡ a → operand_word c.active.slots r ≡ b
+      → ConditionStack source c.active.function failing l r c.active.next c.frames k → GoesBehind (of_kind j (Int b)) (Needs (Apply u (of_kind i (Int a))) ∷ k) e w c
+  compares_words u i j failing a b l r k e w c is does shared facts is_left is_right stack =
+      let x = operand_word c.active.slots l in
+      silently source pages calls (Running (Given (of_kind j (Int b))) (Needs (Apply u (of_kind i (Int a))) ∷ k) e w) (Running (Given (int_of (binary_word u a b))) k e w) (plain.Running c) does
+      (shared, compared failing l r facts (ap Some (fails_by u failing a b is ∙ ap (λ y. compares failing y b) (sym is_left) ∙ ap (compares failing x) (sym is_right))) stack)
+      (omega arith)
+
+  compares_both : (u : Operator) (i j : Kind) (failing : Comparison) (a b : ℕ) (l r : Operand) (k : List Entry) (e : Environment) (w : World) (c : Configuration) → failing_comparison u ≡ Some failing
+      → (shared : SharedAt source pages calls k e w c) → DataIn source shared.tables c.active.slots k e w c → operand_word c.active.slots l ≡ a → operand_word c.active.slots r ≡ b
+      → ConditionStack source c.active.function failing l r c.active.next c.frames k → GoesBehind (of_kind j (Int b)) (Needs (Apply u (of_kind i (Int a))) ∷ k) e w c
+  compares_both operators.Divide i j failing a b l r k e w c is shared facts is_left is_right stack = absurd (none-some failing is)
+  compares_both operators.Remainder i j failing a b l r k e w c is shared facts is_left is_right stack = absurd (none-some failing is)
+  compares_both u i j failing a b l r k e w c is shared facts is_left is_right stack =
+      compares_words u i j failing a b l r k e w c is refl shared facts is_left is_right stack
+
+  -- both operands are there
+  applies_values : (u : Operator) (i j : Kind) (left v : Value) (k : List Entry) (e : Environment) (w : World) (c : Configuration)
+      → IsWell (step source (Running (Given (of_kind j v)) (Needs (Apply u (of_kind i left)) ∷ k) e w)) → (shared : SharedAt source pages calls k e w c) → DataIn source shared.tables c.active.slots k e w c
+      → ReadyAt source shared.tables (of_kind j v) e.locals c.active.function c.active.next c.active.slots c.frames (Needs (Apply u (of_kind i left)) ∷ k)
+      → GoesBehind (of_kind j v) (Needs (Apply u (of_kind i left)) ∷ k) e w c
+  applies_values u i j (Int a) (Int b) k e w c well shared facts (r, is, (l, is_left, low, inl (holds, to_slot (d, q, here, lands)))) =
+      computes u i j a b l r d k e w c q shared facts (int_is shared.tables i a c.active.slots l is_left) (int_is shared.tables j b c.active.slots r is) here
+      (λ m x end x_is. landed_word source pages calls (binary_word u a b) x d k e w (at c m) q x_is shared facts holds end lands)
+  applies_values u i j (Int a) (Int b) k e w c well shared facts (r, is, (l, is_left, low, inl (holds, to_jump (failing, fails, stack)))) =
+      compares_both u i j failing a b l r k e w c fails shared facts (int_is shared.tables i a c.active.slots l is_left) (int_is shared.tables j b c.active.slots r is) stack
+  applies_values u i j (Int a) (Int b) k e w c well shared facts (r, is, (l, is_left, low, inr (q, here, beside))) =
+      let free = top source c.active.function k in
+      computes u i j a b l r free k e w c q shared facts (int_is shared.tables i a c.active.slots l is_left) (int_is shared.tables j b c.active.slots r is) here
+      (λ m x end x_is. stays_beside (int_of (binary_word u a b)) x k e w (at c m) q (m + 1) shared facts end (put-same c.active.slots free x ∙ x_is) beside)
+  applies_values u i j left v k e w c well shared facts ready = absurd (well refl)
+
+  pub applies : (u : Operator) (left v : Kinded) (k : List Entry) (e : Environment) (w : World) (c : Configuration)
+      → IsWell (step source (Running (Given v) (Needs (Apply u left) ∷ k) e w)) → (shared : SharedAt source pages calls k e w c) → DataIn source shared.tables c.active.slots k e w c
+      → ReadyAt source shared.tables v e.locals c.active.function c.active.next c.active.slots c.frames (Needs (Apply u left) ∷ k) → GoesBehind v (Needs (Apply u left) ∷ k) e w c
+  applies u left v k e w c well shared facts ready = applies_values u left.kind v.kind left.value v.value k e w c well shared facts ready
+
+  -- ---- truth values
+
+  truth_twice : (b : Bool) → truth (truth b == 0) ≡ truth (not b)
+  truth_twice true = refl
+  truth_twice false = refl
+
+  abbrev negated : Configuration → List Entry → Configuration
+  negated c k = advanced (with_slots c (put c.active.slots (top source c.active.function k) (truth (c.active.slots (top source c.active.function k) == 0))))
+
+  -- where a word was negated once, a second time gives 0 or 1
+  negated_twice : (t d : ℕ) (k : List Entry) (e : Environment) (w : World) (c : Configuration) (q : ℕ) → t ≡ truth (not (c.active.slots (top source c.active.function k) == 0))
+      → (shared : SharedAt source pages calls k e w c) → DataIn source shared.tables c.active.slots k e w c
+      → Holds shared.tables c.active.slots (floor source c.active.function k) (held k) → c.active.next + 1 + 1 ≡ q → LandsStack source c.active.function e.locals kinds.Int d q c.frames k
+      → Related source pages calls (Given (int_of t)) k e w
+      (advanced (with_slots (negated c k) (put (negated c k).active.slots d (truth ((negated c k).active.slots (top source c.active.function k) == 0)))))
+  negated_twice t d k e w c q t_is shared facts holds end lands =
+      let free = top source c.active.function k in
+      let base = floor source c.active.function k in
+      let x = truth (c.active.slots free == 0) in
+      let slots = put c.active.slots free x in
+      landed_word source pages calls t (truth (slots free == 0)) d k e w (negated c k) q
+      (ap (λ y. truth (y == 0)) (put-same c.active.slots free x) ∙ truth_twice (c.active.slots free == 0) ∙ sym t_is)
+      shared (data_written source shared.tables c.active.function c.active.base w.objects e.locals k c.active.slots slots c.active.handlers c.globals c.frames free 1 (height-least base (held k)) (λ m out. put_elsewhere c.active.slots free x 1 m (omega arith) out) facts)
+      (Holds-same shared.tables c.active.slots slots base (held k) (λ m below. put_elsewhere c.active.slots free x 1 m (omega arith) (inl below)) holds) end lands
+
+  pub decides_truth : (v : Kinded) (o : Operand) (k : List Entry) (e : Environment) (w : World) (c : Configuration) → IsWell (step source (Running (Given v) (Needs Decide ∷ k) e w)) → Stands v o k e w c
+      → ValueStack source c.active.function e.locals v.kind o c.active.next c.frames (Needs Decide ∷ k) → GoesBehind v (Needs Decide ∷ k) e w c
+  decides_truth v o k e w c well (shared, facts, is, holds) (d, q, there, (first, second, end), lands) =
+      let x = c.active.slots (top source c.active.function k) in
+      let is_x : IsIn shared.tables v c.active.slots (operands.Slot (top source c.active.function k)) = subst (IsIn shared.tables v c.active.slots) there is in
+      by_two source pages calls (negated c k)
+      (ap (λ z. computed kinds.Int (truth_of z) k e w) (zero_is shared.tables v c.active.slots (operands.Slot (top source c.active.function k)) (λ none. well (ap (λ z. status_in (status_of (computed kinds.Int (truth_of z) k e w))) none)) is_x)) shared shared first (λ choice. refl) second (λ equal. omega (arith, equal))
+      (λ choice. negated_twice (truth (not (x == 0))) d k e w c q refl shared facts holds end lands)
+
+  -- ---- chains
+
+  -- the value of all before goes to what is left of a chain
+  chain_lands : (os : Operations) (kind : Kind) (g : ℕ) (locals : ℕ → Option ℕ) (d p q : ℕ) (frames : List Frame) (k : List Entry)
+      → OperationsAt (code_of source g) (bounds_at source g) (types_on source g k) os (operands.Slot (next_slot os d (top source g k))) d (top source g k) p q
+      → LandsStack source g locals (chain_kind kind os) d q frames k → LandsStack source g locals kind (next_slot os d (top source g k)) p frames (Needs (Chain os) ∷ k)
+  chain_lands NoOperations kind g locals d p q frames k (is, end) lands = lands_at source pages calls g locals kind d p q frames k end lands
+  chain_lands (ThenCompute u b os) kind g locals d p q frames k ops lands = in_temporary (omega arith) (omega arith, to_slot (d, q, ops, lands))
+  chain_lands (ThenTest u b os) kind g locals d p q frames k ops lands = in_temporary (omega arith) (omega arith, to_slot (d, q, ops, lands))
+  chain_lands (ThenPointer u b os) kind g locals d p q frames k ops lands = in_temporary (omega arith) (omega arith, to_slot (d, q, ops, lands))
+  chain_lands (ThenPointerPeek n u b os) kind g locals d p q frames k ops lands = in_temporary (omega arith) (omega arith, to_slot (d, q, ops, lands))
+
+  -- where the left operand decides, the right one is jumped over
+  decided_at_once : (u : LogicalOperator) (b : Expression) (os : Operations) (v : Kinded) (f : Bool) (k : List Entry) (e : Environment) (w : World) (c : Configuration) (i : Instruction) (d m r : ℕ)
+      → step source (Running (Given v) (Needs (Chain (ThenTest u b os)) ∷ k) e w) ≡ Running (Given (int_of (if f then 0 else 1))) (Needs (Chain os) ∷ k) e w
+      → At (code_of source c.active.function) c.active.next i → ((choice : Choice) → plain_step.performed (lower_program source) choice c i ≡ plain.Running (at c m))
+      → ((x : ℕ) → i ≢ instructions.Unary plain_unary.Not x (operands.Slot (top source c.active.function k)))
+      → (c.active.slots (top source c.active.function k) == 0) ≡ f
+      → (shared : SharedAt source pages calls k e w c) → DataIn source shared.tables c.active.slots k e w c
+      → Holds shared.tables c.active.slots (floor source c.active.function k) (held k)
+      → TruthAt (code_of source c.active.function) (bounds_at source c.active.function) (types_on source c.active.function k) (top source c.active.function k) d m r
+      → LandsStack source c.active.function e.locals kinds.Int d r c.frames (Needs (Chain os) ∷ k)
+      → GoesBehind v (Needs (Chain (ThenTest u b os)) ∷ k) e w c
+  decided_at_once u b os v f k e w c i d m r does here jumps other told shared facts holds (first, second, end) lands =
+      let code = code_of source c.active.function in
+      let free = top source c.active.function k in
+      let there = at c m in
+      by_three source pages calls there (negated there k) does shared
+      (shared_within source pages calls k e w there shared) (shared_way source pages calls (Given v) (Needs (Chain (ThenTest u b os)) ∷ k) e w there shared)
+      (shared_within source pages calls k e w (negated there k) shared) (shared_way source pages calls (Given v) (Needs (Chain (ThenTest u b os)) ∷ k) e w (negated there k) shared)
+      here jumps first (λ choice. refl) second
+      (other_place code c.active.next m i (instructions.Unary plain_unary.Not free (operands.Slot free)) here first (other free))
+      (other_place code c.active.next (m + 1) i (instructions.Unary plain_unary.Not d (operands.Slot free)) here second (other d)) (λ equal. omega (arith, equal))
+      (λ choice. negated_twice (if f then 0 else 1) d (Needs (Chain os) ∷ k) e w there r (opposite f told) shared facts holds end lands)
+    where
+      opposite : (b : Bool) → (c.active.slots (top source c.active.function k) == 0) ≡ b → (if b then 0 else 1) ≡ truth (not (c.active.slots (top source c.active.function k) == 0))
+      opposite true same = ap (λ x. truth (not x)) (sym same)
+      opposite false same = ap (λ x. truth (not x)) (sym same)
+
+  -- in a place with a test, both ways
+  tests : (u : LogicalOperator) (b : Expression) (os : Operations) (v : Kinded) (f : Bool) (k : List Entry) (e : Environment) (w : World) (c : Configuration) (d q : ℕ)
+      → IsWell (step source (Running (Given v) (Needs (Chain (ThenTest u b os)) ∷ k) e w))
+      → (c.active.slots (top source c.active.function k) == 0) ≡ f → Stands v (operands.Slot (top source c.active.function k)) k e w c
+      → OperationsAt (code_of source c.active.function) (bounds_at source c.active.function) (types_on source c.active.function k) (ThenTest u b os) (operands.Slot (top source c.active.function k)) d (top source c.active.function k) c.active.next q
+      → LandsStack source c.active.function e.locals (chain_kind kinds.Int os) d q c.frames k → GoesBehind v (Needs (Chain (ThenTest u b os)) ∷ k) e w c
+  tests logical.AndThen b os v true k e w c d q well told (shared, facts, is, holds) (m, r, there, jump, at_b, truths, ops) lands =
+      let does = ap (λ (x : Option Bool). tested x logical.AndThen b os k e w) (zero_is shared.tables v c.active.slots (operands.Slot (top source c.active.function k)) (λ none. well (ap (λ x. status_in (status_of (tested x logical.AndThen b os k e w))) none)) is ∙ ap Some told) in
+      decided_at_once logical.AndThen b os v true k e w c _ (next_slot os d (top source c.active.function k)) m r does jump (λ choice. ap (λ x. plain_step.branches c x m) told)
+      (λ x same. let f : jump_if_zero _ m ≡ instructions.Unary plain_unary.Not x _ = same in cc) told shared facts holds truths
+      (chain_lands os kinds.Int c.active.function e.locals d r q c.frames k ops lands)
+  tests logical.AndThen b os v false k e w c d q well told (shared, facts, is, holds) (m, r, there, jump, at_b, truths, ops) lands =
+      let free = top source c.active.function k in
+      let does = ap (λ (x : Option Bool). tested x logical.AndThen b os k e w) (zero_is shared.tables v c.active.slots (operands.Slot (top source c.active.function k)) (λ none. well (ap (λ x. status_in (status_of (tested x logical.AndThen b os k e w))) none)) is ∙ ap Some told) in
+      by_one source pages calls does shared jump
+      (λ choice. not_taken (Running (Evaluating b) (Needs Decide ∷ Needs (Chain os) ∷ k) e w) c _ m told
+      (shared, facts, into_slot free m at_b holds (in_temporary (omega arith) (next_slot os d free, r, refl, truths, chain_lands os kinds.Int c.active.function e.locals d r q c.frames k ops lands))))
+  tests logical.OrElse b os v true k e w c d q well told (shared, facts, is, holds) (m, r, there, jump, at_b, truths, ops) lands =
+      let free = top source c.active.function k in
+      let does = ap (λ (x : Option Bool). tested x logical.OrElse b os k e w) (zero_is shared.tables v c.active.slots (operands.Slot (top source c.active.function k)) (λ none. well (ap (λ x. status_in (status_of (tested x logical.OrElse b os k e w))) none)) is ∙ ap Some told) in
+      by_one source pages calls does shared jump
+      (λ choice. not_taken (Running (Evaluating b) (Needs Decide ∷ Needs (Chain os) ∷ k) e w) c _ m (ap not told)
+      (shared, facts, into_slot free m at_b holds (in_temporary (omega arith) (next_slot os d free, r, refl, truths, chain_lands os kinds.Int c.active.function e.locals d r q c.frames k ops lands))))
+  tests logical.OrElse b os v false k e w c d q well told (shared, facts, is, holds) (m, r, there, jump, at_b, truths, ops) lands =
+      let does = ap (λ (x : Option Bool). tested x logical.OrElse b os k e w) (zero_is shared.tables v c.active.slots (operands.Slot (top source c.active.function k)) (λ none. well (ap (λ x. status_in (status_of (tested x logical.OrElse b os k e w))) none)) is ∙ ap Some told) in
+      decided_at_once logical.OrElse b os v false k e w c _ (next_slot os d (top source c.active.function k)) m r does jump (λ choice. ap (λ x. plain_step.branches c (not x) m) told)
+      (λ x same. let f : jump_if_nonzero _ m ≡ instructions.Unary plain_unary.Not x _ = same in cc) told shared facts holds truths
+      (chain_lands os kinds.Int c.active.function e.locals d r q c.frames k ops lands)
+
+  -- the left operand fits
+  pub awaited : (fits : Bool) (waiting : Awaiting) (b : Expression) (os : Operations) (k : List Entry) (e : Environment) (w : World) → IsWell (awaits_right fits waiting b os k e w)
+      → awaits_right fits waiting b os k e w ≡ Running (Evaluating b) (Needs waiting ∷ Needs (Chain os) ∷ k) e w
+  awaited true waiting b os k e w well = refl
+  awaited false waiting b os k e w well = absurd (well refl)
+
+  awaited_fits : (fits : Bool) (waiting : Awaiting) (b : Expression) (os : Operations) (k : List Entry) (e : Environment) (w : World) → IsWell (awaits_right fits waiting b os k e w) → fits ≡ true
+  awaited_fits true waiting b os k e w well = refl
+  awaited_fits false waiting b os k e w well = absurd (well refl)
+
+  -- what is not simple has code
+  unknown : (starts : Starts) (b : Expression) → is_simple starts b ≡ false → operand_of starts b ≡ None
+  unknown starts b other = by (operand_of starts b) refl
+    where
+      by : (known : Option Operand) → operand_of starts b ≡ known → operand_of starts b ≡ None
+      by None none = none
+      by (Some x) some = absurd (let f : true ≡ false = sym (known_simple source pages calls starts b (ap is_some some)) ∙ other in cc)
+
+  -- a left operand is in its slot where the right one has code that says so
+  left_there : (code : List Instruction) (b : Numbering) (types : Types) (known : Option Operand) (left computed : Type 0) (slot : ℕ) (o : Operand) (p q : ℕ) → known ≡ None → OperandBy code b types known (left × computed) slot o p q → left
+  left_there code b types (Some x) left computed slot o p q none at = absurd (none-some x (sym none))
+  left_there code b types None left computed slot o p q none (is, (there, at)) = there
+
+  -- an operator: the left operand stays where the right one is simple, and the right one comes behind it
+  chain_goes_on : (simple : Bool) (u : Operator) (b : Expression) (os : Operations) (v : Kinded) (l : Operand) (k : List Entry) (e : Environment) (w : World) (c : Configuration) (r : Operand) (m : ℕ)
+      → IsWell (step source (Running (Given v) (Needs (Chain (ThenCompute u b os)) ∷ k) e w)) → is_simple (starts_on source c.active.function k) b ≡ simple → IsLow l (top source c.active.function k) → Stands v l k e w c
+      → OperandBy (code_of source c.active.function) (bounds_at source c.active.function) (types_on source c.active.function k) (operand_of (starts_on source c.active.function k) b)
+      (LeftBy (code_of source c.active.function) (bounds_at source c.active.function) (types_on source c.active.function k) simple (l ≡ operands.Slot (top source c.active.function k))
+      × ExpressionAt (code_of source c.active.function) (bounds_at source c.active.function) (types_on source c.active.function k) b (value_slot (starts_on source c.active.function k) b (suc (top source c.active.function k))) (suc (top source c.active.function k)) c.active.next m)
+      (value_slot (starts_on source c.active.function k) b (suc (top source c.active.function k))) r c.active.next m
+      → AppliedStack source c.active.function e.locals u l r m c.frames (Needs (Chain os) ∷ k)
+      → GoesBehind v (Needs (Chain (ThenCompute u b os)) ∷ k) e w c
+  chain_goes_on simple u b os v l k e w c r m well is_it low (shared, facts, is, holds) at applied =
+      silently source pages calls (Running (Given v) (Needs (Chain (ThenCompute u b os)) ∷ k) e w) (Running (Evaluating b) (Needs (Apply u v) ∷ Needs (Chain os) ∷ k) e w) (plain.Running c) (awaited (is_kind v.kind kinds.Int) (Apply u v) b os k e w well)
+      (shared, facts, by simple is_it at)
+      (omega arith)
+    where
+      g : ℕ
+      g = c.active.function
+
+      t : ℕ
+      t = top source g k
+
+      starts : Starts
+      starts = starts_on source g k
+
+      next : suc t ≡ top source g (Needs (Apply u v) ∷ Needs (Chain os) ∷ k)
+      next = let int = same_kind v.kind kinds.Int (awaited_fits (is_kind v.kind kinds.Int) (Apply u v) b os k e w well) in omega (arith, ap words_of_kind int)
+
+      Right : (n : ℕ) → Type 0
+      Right n = OperandBy (code_of source g) (bounds_at source g) (types_on source g k) (operand_of starts b) (ExpressionAt (code_of source g) (bounds_at source g) (types_on source g k) b (value_slot starts b n) n c.active.next m) (value_slot starts b n) r c.active.next m
+
+      by : (simple : Bool) → is_simple starts b ≡ simple
+          → OperandBy (code_of source g) (bounds_at source g) (types_on source g k) (operand_of starts b)
+          (LeftBy (code_of source g) (bounds_at source g) (types_on source g k) simple (l ≡ operands.Slot t) × ExpressionAt (code_of source g) (bounds_at source g) (types_on source g k) b (value_slot starts b (suc t)) (suc t) c.active.next m) (value_slot starts b (suc t)) r c.active.next m
+          → EvaluatingAt source shared.tables b e.locals g c.active.next c.active.slots c.frames (Needs (Apply u v) ∷ Needs (Chain os) ∷ k)
+      by true is_simple_right at =
+          as_right (r, m, is_simple_right, subst Right next (only_computed source pages calls (code_of source g) (bounds_at source g) (types_on source g k) (operand_of starts b) _ _ _ r c.active.next m at), (l, is, low, inl (holds, applied)))
+      by false other at =
+          let there = left_there (code_of source g) (bounds_at source g) (types_on source g k) (operand_of starts b) _ _ _ r c.active.next m (unknown starts b other) at in
+          as_operand r m (subst Right next (only_computed source pages calls (code_of source g) (bounds_at source g) (types_on source g k) (operand_of starts b) _ _ _ r c.active.next m at))
+          (subst (IsIn shared.tables v c.active.slots) there is, holds)
+          (subst (λ x. AppliedStack source g e.locals u x r m c.frames (Needs (Chain os) ∷ k)) there applied)
+
+  pub chains : (os : Operations) (v : Kinded) (o : Operand) (k : List Entry) (e : Environment) (w : World) (c : Configuration)
+      → IsWell (step source (Running (Given v) (Needs (Chain os) ∷ k) e w)) → Stands v o k e w c
+      → ValueStack source c.active.function e.locals v.kind o c.active.next c.frames (Needs (Chain os) ∷ k) → GoesBehind v (Needs (Chain os) ∷ k) e w c
+  chains NoOperations v o k e w c well (shared, facts, is, holds) stack =
+      silently source pages calls (Running (Given v) (Needs (Chain NoOperations) ∷ k) e w) (Running (Given v) k e w) (plain.Running c) refl
+      (shared, in_operand o facts is (kept_holds _ _ _ k holds) stack)
+      (omega arith)
+  chains (ThenCompute u b os) v o k e w c well stands (low, to_slot (d, q, (r, m, s, at_b, at, ops), lands)) =
+      chain_goes_on (is_simple (starts_on source c.active.function k) b) u b os v o k e w c r m well refl low stands at_b
+      (to_slot (next_slot os d (top source c.active.function k), s, at, chain_lands os kinds.Int c.active.function e.locals d s q c.frames k ops lands))
+  chains (ThenCompute u b NoOperations) v o k e w c well stands (low, to_jump (failing, r, q, (is, at_b), stack)) =
+      chain_goes_on (is_simple (starts_on source c.active.function k) b) u b NoOperations v o k e w c r q well refl low stands at_b (to_jump (failing, is, stack))
+  chains (ThenTest u b os) v o k e w c well (shared, facts, is, holds) (low, to_slot (d, q, (m, r, there, jump, at_b, truths, ops), lands)) =
+      tests u b os v (c.active.slots (top source c.active.function k) == 0) k e w c d q well refl
+      (shared, facts, subst (IsIn shared.tables v c.active.slots) there is, holds) (m, r, refl, jump, at_b, truths, ops) lands
+  chains (ThenPointer u b os) v o k e w c well (shared, facts, is, holds) (low, to_slot (d, q, (r, m, s, there, at_b, here, ops), lands)) =
+      let g = c.active.function in
+      silently source pages calls (Running (Given v) (Needs (Chain (ThenPointer u b os)) ∷ k) e w) (Running (Evaluating b) (Needs (ApplyPointer None u v) ∷ Needs (Chain os) ∷ k) e w) (plain.Running c)
+      (awaited (takes_kind u v.kind) (ApplyPointer None u v) b os k e w well) (
+        shared,
+        facts,
+        right_follows source pages calls None u b os v k e w c r m (next_slot os d (top source g k)) s (awaited_fits (takes_kind u v.kind) (ApplyPointer None u v) b os k e w well) shared.tables
+            (subst (IsIn shared.tables v c.active.slots) there is) holds at_b here (chain_lands os (operator_kind u) g e.locals d s q c.frames k ops lands),
+      )
+      (omega arith)
+  chains (ThenPointerPeek n u b os) v o k e w c well (shared, facts, is, holds) (low, to_slot (d, q, (r, m, s, there, at_b, here, ops), lands)) =
+      let g = c.active.function in
+      silently source pages calls (Running (Given v) (Needs (Chain (ThenPointerPeek n u b os)) ∷ k) e w) (Running (Evaluating b) (Needs (ApplyPointer (Some n) u v) ∷ Needs (Chain os) ∷ k) e w) (plain.Running c)
+      (awaited (takes_kind u v.kind) (ApplyPointer (Some n) u v) b os k e w well) (
+        shared,
+        facts,
+        right_follows source pages calls (Some n) u b os v k e w c r m (next_slot os d (top source g k)) s (awaited_fits (takes_kind u v.kind) (ApplyPointer (Some n) u v) b os k e w well) shared.tables
+            (subst (IsIn shared.tables v c.active.slots) there is) holds at_b here (chain_lands os (operator_kind u) g e.locals d s q c.frames k ops lands),
+      )
+      (omega arith)
+  chains os v o k e w c well stands (low, to_jump (failing, r, q, at, stack)) = absurd at
