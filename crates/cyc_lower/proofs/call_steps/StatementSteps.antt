@@ -30,7 +30,7 @@ use Rattle.cyc_lower.specs.Slots.{slot_of}
 use Rattle.cyc_lower.proofs.slots.Slots.{slot-room, room-inside}
 use Rattle.cyc_lower.proofs.slots.Widths.{HasRoom, Outside, HasLocal, kind_in, kind_positive}
 use Rattle.cyc_lower.proofs.relation.Moves.{copied_is, copied_elsewhere, put_elsewhere}
-use Rattle.cyc_lower.specs.ValueCode.{converts_there, null_of, keeps_words}
+use Rattle.cyc_lower.specs.ValueCode.{converts_there, keeps_words}
 use Rattle.cyc_lower.specs.ControlCode.{counter_operand, break_target, continue_target, inside_loop}
 use Rattle.cyc_lower.specs.ExpressionCode.{operand_of, value_slot}
 use Rattle.cyc_lower.specs.Lowering.{scopes_of, results_of, lower_function, lower_program, globals_of}
@@ -80,11 +80,9 @@ module _ (source : Program) (pages calls : ℕ) where
 
   -- a value that is returned comes to a slot, or is in that of a local
   returned : (tables : Tables) (a : Expression) (same : Bool) (locals : ℕ → Option ℕ) (g p : ℕ) (slots : Words) (frames : List Frame) (k : List Entry) (s m : ℕ)
-      → ReturnedAt (code_of source g) (bounds_at source g) (types_on source g k) (if same then operand_of (starts_on source g k) a else null_of a)
+      → ReturnedAt (code_of source g) (bounds_at source g) (types_on source g k) (if same then operand_of (starts_on source g k) a else None)
       (ExpressionAt (code_of source g) (bounds_at source g) (types_on source g k) a (top source g k) (top source g k) p m) (top source g k) s p m
       → Holds tables slots (floor source g k) (held k) → ValueStack source g locals (given_at source g a) (operands.Slot s) m frames k → EvaluatingAt source tables a locals g p slots frames k
-  returned tables NullPointer false locals g p slots frames k s m (is, at) holds stack =
-      into_slot (top source g k) m at holds (in_temporary (omega arith) (subst (λ x. ValueStack source g locals (given_at source g NullPointer) (operands.Slot x) m frames k) is stack))
   returned tables a false locals g p slots frames k s m (is, at) holds stack =
       into_slot (top source g k) m at holds (in_temporary (omega arith) (subst (λ x. ValueStack source g locals (given_at source g a) (operands.Slot x) m frames k) is stack))
   returned tables a true locals g p slots frames k s m at holds stack = by (operand_of (starts_on source g k) a) refl at

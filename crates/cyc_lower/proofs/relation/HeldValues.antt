@@ -25,9 +25,8 @@ use Rattle.cyc_lower.proofs.relation.Known.{IsGlobalRow}
 
 -- ---- values in slots
 
--- One word is a value: any but a fat pointer that is not null.
+-- One word is a value: any but a fat pointer.
 abbrev pub IsWord : Tables → Kind → Value → (word : ℕ) → Type 0
-IsWord t kinds.Fat Null word = word ≡ 0
 IsWord t kinds.Fat v word = ⊥
 IsWord t kind v word = Is t kind v (λ (i : ℕ). word) 0
 

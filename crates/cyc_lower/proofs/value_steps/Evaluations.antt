@@ -38,7 +38,7 @@ use Rattle.cyc_lower.proofs.place_steps.PlaceWords.{field_bytes, add_is}
 use Rattle.cyc_lower.proofs.slots.Slots.{slot-room, slot-low, words-there, words_positive, kind-there}
 use Rattle.cyc_lower.proofs.slots.Widths.{kind_positive, type_words, made_kind, HasRoom, Outside}
 use Rattle.cyc_lower.proofs.relation.Moves.{moved_slots, moves, put_elsewhere, moved_elsewhere, moved_is}
-use Rattle.cyc_lower.specs.ValueCode.{failing_comparison, converts_there, all_passed, kinds_passed, move_of, left_with, null_of, followed_operand, span_in, operand_or, reached_operand, load_word, address_of_global, keeps_words, variable_bytes}
+use Rattle.cyc_lower.specs.ValueCode.{failing_comparison, converts_there, all_passed, kinds_passed, move_of, left_with, followed_operand, span_in, operand_or, reached_operand, load_word, address_of_global, keeps_words, variable_bytes}
 use Rattle.cyc_lower.specs.ControlCode.{counter_operand, compared_or, compared_of}
 use Rattle.cyc_lower.specs.ExpressionCode.{operand_of, value_slot, source_of, source_slot, slot_with, pointer_of}
 use Rattle.cyc_lower.specs.Lowering.{lower_program}
@@ -288,17 +288,6 @@ module _ (source : Program) (pages calls : ℕ) where
       )
       (omega (arith, found.some))
 
-  -- a value whose words change is brought to a temporary, but null
-  brought : (t : Tables) (a : Expression) (k : List Entry) (e : Environment) (w : World) (c : Configuration) (o : Operand) (m : ℕ)
-      → OperandBy (code_of source c.active.function) (bounds_at source c.active.function) (types_on source c.active.function k) (null_of a)
-      (ExpressionAt (code_of source c.active.function) (bounds_at source c.active.function) (types_on source c.active.function k) a (top source c.active.function k) (top source c.active.function k) c.active.next m)
-      (top source c.active.function k) o c.active.next m
-      → Holds t c.active.slots (floor source c.active.function k) (held k) → ValueStack source c.active.function e.locals (given_at source c.active.function a) o m c.frames k
-      → EvaluatingAt source t a e.locals c.active.function c.active.next c.active.slots c.frames k
-  brought t typed.NullPointer k e w c o m at holds stack = as_operand o m at holds stack
-  brought t a k e w c o m (is, at) holds stack =
-      into_slot (top source c.active.function k) m at holds (in_temporary (omega arith) (subst (λ x. ValueStack source c.active.function e.locals (given_at source c.active.function a) x m c.frames k) is stack))
-
   -- a value that is to be converted: in an operand, or in a temporary where its words change
   pub sources : (t : Tables) (from to : Kind) (a : Expression) (k : List Entry) (e : Environment) (w : World) (c : Configuration) (o : Operand) (m : ℕ)
       → OperandBy (code_of source c.active.function) (bounds_at source c.active.function) (types_on source c.active.function k) (source_of (starts_on source c.active.function k) (Convert from to a))
@@ -309,12 +298,13 @@ module _ (source : Program) (pages calls : ℕ) where
   sources t from to a k e w c o m at holds stack = by (keeps_words from to) at
     where
       by : (same : Bool)
-          → OperandBy (code_of source c.active.function) (bounds_at source c.active.function) (types_on source c.active.function k) (if same then operand_of (starts_on source c.active.function k) a else null_of a)
+          → OperandBy (code_of source c.active.function) (bounds_at source c.active.function) (types_on source c.active.function k) (if same then operand_of (starts_on source c.active.function k) a else None)
           (ExpressionAt (code_of source c.active.function) (bounds_at source c.active.function) (types_on source c.active.function k) a (if same then value_slot (starts_on source c.active.function k) a (top source c.active.function k) else top source c.active.function k) (top source c.active.function k) c.active.next m)
           (if same then value_slot (starts_on source c.active.function k) a (top source c.active.function k) else top source c.active.function k) o c.active.next m
           → EvaluatingAt source t a e.locals c.active.function c.active.next c.active.slots c.frames k
       by true at = as_operand o m at holds stack
-      by false at = brought t a k e w c o m at holds stack
+      by false (is, at) =
+          into_slot (top source c.active.function k) m at holds (in_temporary (omega arith) (subst (λ x. ValueStack source c.active.function e.locals (given_at source c.active.function a) x m c.frames k) is stack))
 
   -- what is assigned to a local comes to its slots at once, or is moved there once it is converted
   assigns_local : (there : Bool) (n : ℕ) (from to : Kind) (a : Expression) (k : List Entry) (e : Environment) (w : World) (c : Configuration) (object : ℕ) (o : Operand) (m : ℕ)
