@@ -11,7 +11,7 @@ use Rattle.cyc_plain.specs.declared.instruction.Instruction.TheVariants as instr
 use Rattle.cyc_store.specs.declared.range.TheConstants.{HEAP, UNIQUE}
 use Rattle.cyc_meaning.specs.Values.{is_thin, kind_of}
 use Rattle.cyc_lower.specs.Slots.{Starts, slot_of, with_counter, counter_of, field_of, global_of}
-use Rattle.cyc_lower.specs.ValueCode.{unary_instruction, behind_left, operand_or, code_unless, slot_or, code_unless_slot, left_with, next_slot, move_of, reached_operand, followed_operand, span_in, conversion_code, span_of, null_of, count_code, low_byte, compute_code, pointer_code, test_code, copy_code, addressed_by, word_by_word, load_word, global_code, loaded_code, kind_behind, address_of_code, keeps_words, converts_there, passed_words, all_passed, kind_passed, kinds_passed, brought_by, converted_by, moved_by, followed_by, element_by, tested_by}
+use Rattle.cyc_lower.specs.ValueCode.{unary_instruction, behind_left, operand_or, code_unless, slot_or, code_unless_slot, left_with, next_slot, move_of, reached_operand, followed_operand, span_in, conversion_code, span_of, count_code, low_byte, compute_code, pointer_code, test_code, copy_code, addressed_by, word_by_word, load_word, global_code, loaded_code, kind_behind, address_of_code, keeps_words, converts_there, passed_words, all_passed, kind_passed, kinds_passed, brought_by, converted_by, moved_by, followed_by, element_by, tested_by}
 use Rattle.cyc_lower.specs.ObjectCode.{stored_by, object_code, array_code, free_code}
 use Rattle.cyc_lower.specs.ControlCode.{closing_code, counter_operand}
 
@@ -70,7 +70,7 @@ module _ (starts : Starts) where
 
   -- A value is converted where it is, but where it changes its words: then it is brought to slot t.
   abbrev pub source_of : Converted → Option Operand
-  source_of (Convert from to a) = if keeps_words from to then operand_of a else null_of a
+  source_of (Convert from to a) = if keeps_words from to then operand_of a else None
 
   abbrev pub source_slot : Converted → (t : ℕ) → ℕ
   source_slot (Convert from to a) t = if keeps_words from to then value_slot a t else t
@@ -161,12 +161,12 @@ abbrev mutual
 
   -- a place that a pointer leads to, which is tested
   pub place_code : (starts : Starts) → Dereference → (p t : ℕ) → List Instruction
-  place_code starts (Target k a ty) p t = followed_by starts (operand_of starts a) (expression_code starts a p (value_slot starts a t) t) (is_thin k) (span_in ty) (value_operand starts a t) t
+  place_code starts (Target k a ty) p t = followed_by starts (operand_of starts a) (expression_code starts a p (value_slot starts a t) t) (is_thin k) (span_in ty) (value_operand starts a t) t p
   place_code starts (Member k a s f ty) p t = tested_by starts (operand_of starts a) (expression_code starts a p (value_slot starts a t) t) (value_operand starts a t)
   place_code starts (Element a i ty) p t =
       element_by starts (code_unless_slot (pointer_of starts a i) (expression_code starts a p t t))
       (code_unless (operand_of starts i) (expression_code starts i (p + length (code_unless_slot (pointer_of starts a i) (expression_code starts a p t t))) (value_slot starts i (t + 3)) (t + 3)))
-      (span_in ty) (pointer_slot starts a i t) (value_operand starts i (t + 3)) t
+      (span_in ty) (pointer_slot starts a i t) (value_operand starts i (t + 3)) t p
 
   -- A new object in the region of this handle. The elements of an array have a counter.
   pub made_code : (starts : Starts) → Initial → (handle : Operand) → (p d t : ℕ) → List Instruction

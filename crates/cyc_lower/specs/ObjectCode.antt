@@ -25,7 +25,7 @@ stores_code kind zero address offset slot = []
 stores_code kind (suc many) address offset slot =
     store_of kind (operands.Slot address) offset (operands.Slot slot) ∷ stores_code kind many address (offset + 4) (suc slot)
 
--- A value of a kind comes to the cell whose address is in a slot. Of null the first word tells.
+-- A value of a kind comes to the cell whose address is in a slot. A number has one word.
 abbrev pub saved_code : Kind → (address : ℕ) → Operand → List Instruction
 saved_code kind address (operands.Slot n) = stores_code kind (words_of_kind kind) address 0 n
 saved_code kind address (operands.Word n) = store_of kind (operands.Slot address) 0 (operands.Word n) ∷ []

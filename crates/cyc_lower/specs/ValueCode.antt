@@ -12,7 +12,7 @@ use Rattle.cyc_types.specs.declared.typed.PointerOperator.TheVariants as pointer
 use Rattle.cyc_types.specs.declared.typed.LogicalOperator.{LogicalOperator}
 use Rattle.cyc_types.specs.declared.typed.LogicalOperator.TheVariants as logical
 use Rattle.cyc_types.specs.Types.{Ty, Value}
-use Rattle.cyc_types.specs.TypedTrees.{Lvalue, Local, Global, Expression, NullPointer, Converted, Convert, Arguments, NoArguments, MoreArguments, Operations, NoOperations, Function}
+use Rattle.cyc_types.specs.TypedTrees.{Lvalue, Local, Global, Expression, Converted, Convert, Arguments, NoArguments, MoreArguments, Operations, NoOperations, Function}
 use Rattle.cyc_plain.specs.declared.instruction.UnaryOperator.TheVariants as plain_unary
 use Rattle.cyc_plain.specs.declared.instruction.BinaryOperator.{BinaryOperator as PlainBinary}
 use Rattle.cyc_plain.specs.declared.instruction.BinaryOperator.TheVariants as plain_binary
@@ -164,8 +164,7 @@ guard_code starts tag failing l r = instructions.Branch failing l r (starts.rais
 abbrev pub check_code : Starts → (tag : ℕ) → Operand → List Instruction
 check_code starts tag o = guard_code starts tag comparisons.Equal o (operands.Word 0)
 
--- A value of so many words comes to a slot and those behind it. A number has one word: where there are more, it is that of a null
--- pointer, whose others may be anything.
+-- A value of so many words comes to a slot and those behind it. A number has one word: no value of more is an operand without slots.
 abbrev pub move_of : (words d : ℕ) → Operand → Instruction
 move_of words d (operands.Slot n) = if words == 1 then instructions.Move d (operands.Slot n) else instructions.MoveWords d n words
 move_of words d (operands.Word n) = instructions.Move d (operands.Word n)
@@ -210,23 +209,31 @@ abbrev pub summed_code : (span : Option ℕ) → (n x t : ℕ) → List Instruct
 summed_code None n x t = []
 summed_code (Some bytes) n x t = instructions.Binary plain_binary.Add t (operands.Slot n) (operands.Slot x) ∷ []
 
--- An access by a fat pointer whose first words are in slot n and the next, and whose index is in slot m. The number of bytes comes behind
--- the three slots from t on before the index is compared: it is no use where the index is past the length, and does no harm there, but so
--- the branch has an instruction before it that may fill its slot.
-abbrev pub reached_code : Starts → (span : Option ℕ) → (n m t : ℕ) → List Instruction
-reached_code starts span n m t =
-    check_code starts null_exception (operands.Slot n)
-    ++ (scaled_code span m (t + 3) ++ (bounds_code starts (operands.Slot m) (operands.Slot (n + 1)) ++ summed_code span n (t + 3) t))
+-- At place p the index in slot m is compared with the length behind slot n, which is 0 where the pointer is null: so the pointer is only
+-- asked for where the index is not below it, to tell which exception that is.
+abbrev pub inside_code : Starts → (n m p : ℕ) → List Instruction
+inside_code starts n m p =
+    instructions.Branch comparisons.LessUnsigned (operands.Slot m) (operands.Slot (n + 1)) (p + 3)
+    ∷ instructions.Branch comparisons.Equal (operands.Slot n) (operands.Word 0) (starts.raises + null_exception)
+    ∷ instructions.Jump (starts.raises + array_bounds)
+    ∷ []
+
+-- An access at place p by a fat pointer whose first words are in slot n and the next, and whose index is in slot m. The number of bytes
+-- comes behind the three slots from t on before the index is compared: it is no use where the index is past the length, and does no harm
+-- there, but so the branch has an instruction before it that may fill its slot.
+abbrev pub reached_code : Starts → (span : Option ℕ) → (n m t p : ℕ) → List Instruction
+reached_code starts span n m t p =
+    scaled_code span m (t + 3) ++ (inside_code starts n m (p + length (scaled_code span m (t + 3))) ++ summed_code span n (t + 3) t)
 
 abbrev pub reached_operand : (span : Option ℕ) → (n t : ℕ) → Operand
 reached_operand None n t = operands.Slot n
 reached_operand (Some bytes) n t = operands.Slot t
 
 -- an access by a pointer in an operand, which is thin or fat
-abbrev pub followed_code : Starts → (thin : Bool) → (span : Option ℕ) → Operand → (t : ℕ) → List Instruction
-followed_code starts true span o t = check_code starts null_exception o
-followed_code starts false span (operands.Slot n) t = reached_code starts span n (n + 2) t
-followed_code starts false span (operands.Word w) t = check_code starts null_exception (operands.Word w)
+abbrev pub followed_code : Starts → (thin : Bool) → (span : Option ℕ) → Operand → (t p : ℕ) → List Instruction
+followed_code starts true span o t p = check_code starts null_exception o
+followed_code starts false span (operands.Slot n) t p = reached_code starts span n (n + 2) t p
+followed_code starts false span (operands.Word w) t p = check_code starts null_exception (operands.Word w)
 
 abbrev pub followed_operand : (thin : Bool) → (span : Option ℕ) → Operand → (t : ℕ) → Operand
 followed_operand true span o t = o
@@ -237,9 +244,10 @@ followed_operand false span (operands.Word w) t = operands.Word w
 abbrev pub span_in : Ty → Option ℕ
 span_in t = option_map bytes_of_kind (target_of t)
 
--- A thin pointer gets the length and the index of a fat one that leads to one cell. Of null the first word tells.
+-- A thin pointer gets the length and the index of a fat one that leads to one cell, and null the length 0.
 abbrev pub widened_code : Operand → List Instruction
-widened_code (operands.Slot n) = instructions.Move (n + 1) (operands.Word 1) ∷ instructions.Move (n + 2) (operands.Word 0) ∷ []
+widened_code (operands.Slot n) =
+    instructions.Binary plain_binary.NotEqual (n + 1) (operands.Slot n) (operands.Word 0) ∷ instructions.Move (n + 2) (operands.Word 0) ∷ []
 widened_code (operands.Word n) = []
 
 -- how long that is with a jump over it
@@ -279,11 +287,6 @@ conversion_code starts from to span o p = conversion_by starts (keeps_words from
 
 abbrev pub span_of : Expression → Option ℕ
 span_of a = option_map bytes_of_kind (target_by a)
-
--- null is an operand also where its words change
-abbrev pub null_of : Expression → Option Operand
-null_of NullPointer = Some (operands.Word 0)
-null_of a = None
 
 -- a divisor is tested, but a number other than 0
 abbrev pub divisor_code : Starts → Operand → List Instruction
@@ -374,7 +377,7 @@ load_word global slot = instructions.LoadGlobal slot global
 abbrev pub store_word : (global slot : ℕ) → Instruction
 store_word global slot = instructions.StoreGlobal global (operands.Slot slot)
 
--- A value of so many words comes to a global. A number has one word: where there are more, it is that of a null pointer.
+-- A value of so many words comes to a global. A number has one word: no value of more is an operand without slots.
 abbrev pub global_code : (words first : ℕ) → Operand → List Instruction
 global_code words first (operands.Slot n) = word_by_word store_word words first n
 global_code words first (operands.Word n) = instructions.StoreGlobal first (operands.Word n) ∷ []
@@ -470,13 +473,16 @@ abbrev pub moved_by : Starts → Option Operand → (code : List Instruction) �
 moved_by starts known code from to span o p d = converted_by starts known code from to span o p ++ move_of (words_of_kind to) d o ∷ []
 
 -- code that brings a pointer, and an access by it
-abbrev pub followed_by : Starts → Option Operand → (code : List Instruction) → (thin : Bool) → (span : Option ℕ) → Operand → (t : ℕ) → List Instruction
-followed_by starts known code thin span o t = code_unless known code ++ followed_code starts thin span o t
+abbrev pub followed_by : Starts → Option Operand → (code : List Instruction) → (thin : Bool) → (span : Option ℕ) → Operand → (t p : ℕ) → List Instruction
+followed_by starts known code thin span o t p = code_unless known code ++ followed_code starts thin span o t (p + length (code_unless known code))
 
 -- code that brings a fat pointer to slot n, and an index, by which it moves before the access
-abbrev pub element_by : Starts → (pointer index : List Instruction) → (span : Option ℕ) → (n : ℕ) → Operand → (t : ℕ) → List Instruction
-element_by starts pointer index span n o t =
-    pointer ++ (index ++ instructions.Binary plain_binary.Add (t + 2) (operands.Slot (n + 2)) o ∷ reached_code starts span n (t + 2) t)
+abbrev pub element_by : Starts → (pointer index : List Instruction) → (span : Option ℕ) → (n : ℕ) → Operand → (t p : ℕ) → List Instruction
+element_by starts pointer index span n o t p =
+    pointer
+    ++ (index
+    ++ instructions.Binary plain_binary.Add (t + 2) (operands.Slot (n + 2)) o
+    ∷ reached_code starts span n (t + 2) t (p + length pointer + length index + 1))
 
 -- code that brings a pointer, which is tested where it is then
 abbrev pub tested_by : Starts → Option Operand → (code : List Instruction) → Operand → List Instruction

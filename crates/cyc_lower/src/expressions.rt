@@ -20,7 +20,7 @@ use crate::globals::global_of;
 use crate::locals::{counter_of, field_of, slot_of, with_counter};
 use crate::objects::{kinds_passed, last_element};
 use crate::operands::{
-    converts_there, index_of, is_in, keeps_words, kind_at, kind_behind, masks, null_of, operand_of,
+    converts_there, index_of, is_in, keeps_words, kind_at, kind_behind, masks, operand_of,
     pointer_of, slot_behind, span_in, span_of, takes_operand, value_slot,
 };
 use crate::operators::{
@@ -570,9 +570,6 @@ impl Emitter {
     {
         if keeps_words(value.from, value.to) {
             return self.lower_operand(starts, &value.value, free);
-        }
-        if let Some(null) = null_of(&value.value) {
-            return Ok(null);
         }
         self.bring(starts, value, free, free)?;
         Ok(Operand::Slot { number: free })

@@ -121,7 +121,7 @@ impl Emitter {
         Ok(())
     }
 
-    /// A value of so many words comes to a global. A number has one word: where there are more, it is that of a null pointer.
+    /// A value of so many words comes to a global. A number has one word: no value of more is an operand without slots.
     pub(crate) fn store_global(
         &mut self,
         words: usize,

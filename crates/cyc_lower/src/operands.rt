@@ -6,7 +6,7 @@ ghost use Rattle.cyc_types.specs.TypedTrees.{type_of_place};
 ghost use Rattle.cyc_types.specs.TypeView.{view_ty, view_value_type};
 ghost use Rattle.cyc_meaning.specs.Parts.{target_of, target_of_value};
 ghost use Rattle.cyc_meaning.specs.Values.{is_thin, kind_of, words_of_kind, bytes_of_kind};
-ghost use Rattle.cyc_lower.specs.ValueCode.{null_of, kind_behind, reached_operand, span_in, span_of, is_in, index_of, masks, keeps_words, converts_there, variable_bytes};
+ghost use Rattle.cyc_lower.specs.ValueCode.{kind_behind, reached_operand, span_in, span_of, is_in, index_of, masks, keeps_words, converts_there, variable_bytes};
 ghost use Rattle.cyc_lower.specs.ExpressionCode.{are_simple, is_simple, operand_of, pointer_of, value_slot};
 ghost use Rattle.cyc_lower.specs.Emission.{is_simple_chain, most_locals, takes_operand, view_starts};
 
@@ -57,16 +57,6 @@ pub(crate) fn operand_of(starts: &Starts, value: &Expr) -> Option<Operand>
             operator: UnaryOperator::Widen,
             operand,
         } => operand_of(starts, operand),
-        _ => None,
-    }
-}
-
-/// Null is an operand also where its words change.
-pub(crate) fn null_of(value: &Expr) -> Option<Operand>
-    ensures { result ≡ null_of (view_expression value.now) }
-{
-    match value {
-        Expr::NullPointer => Some(Operand::Word { word: 0 }),
         _ => None,
     }
 }

@@ -3,7 +3,7 @@
 ghost use Rattle.std.specs.Prelude.{◌≡◌, ◌+◌, ◌≤◌, ◌∷◌, length};
 ghost use Rattle.cyc_types.specs.TypedTreeView.{view_lvalue};
 ghost use Rattle.cyc_meaning.specs.Values.{is_thin};
-ghost use Rattle.cyc_lower.specs.ValueCode.{address_of_code, address_of_global, last_byte_code, bounded_code, count_code, past_bounded, thinned_code, followed_code, followed_operand, loaded_code, reached_code, reached_operand, scaled_code, stepped_code, summed_code, bounds_code, widened_code};
+ghost use Rattle.cyc_lower.specs.ValueCode.{address_of_code, address_of_global, last_byte_code, bounded_code, count_code, past_bounded, thinned_code, followed_code, followed_operand, loaded_code, reached_code, reached_operand, scaled_code, stepped_code, summed_code, bounds_code, widened_code, inside_code};
 ghost use Rattle.cyc_lower.specs.ObjectCode.{saved_code};
 ghost use Rattle.cyc_types.specs.declared.typed.Kind.TheVariants as kinds;
 ghost use Rattle.cyc_plain.specs.declared.instruction.BinaryOperator.TheVariants as plain_binary;
@@ -90,15 +90,17 @@ impl Emitter {
         }
     }
 
-    /// A thin pointer gets the length and the index of a fat one that leads to one cell. Of null the first word tells.
+    /// A thin pointer gets the length and the index of a fat one that leads to one cell, and null the length 0.
     pub(crate) fn widen(&mut self, pointer: Operand) -> Result<(), AllocError>
         ensures { Appends result self.old self.new (widened_code pointer) }
     {
         if let Operand::Slot { number } = pointer {
             let behind = slot_behind(number, Kind::Fat)?;
-            self.emit(Instruction::Move {
+            self.emit(Instruction::Binary {
+                operator: BinaryOperator::NotEqual,
                 destination: behind - 2,
-                source: Operand::Word { word: 1 },
+                left: pointer,
+                right: Operand::Word { word: 0 },
             })?;
             self.emit(Instruction::Move {
                 destination: behind - 1,
@@ -193,6 +195,25 @@ impl Emitter {
         }
     }
 
+    /// An index is compared with the length of a fat pointer, which is 0 where that is null: what raises the exception that it is then
+    /// is jumped over.
+    fn stay_inside(&mut self, starts: &Starts, first: usize, index: usize) -> Result<(), AllocError>
+        ensures { Appends result self.old self.new (inside_code (view_starts starts.now) first index (length self.old.code.items)) }
+    {
+        let behind = slot_behind(first, Kind::Fat)?;
+        let inside = self.place() + 3;
+        self.emit(Instruction::Branch {
+            comparison: Comparison::LessUnsigned,
+            left: Operand::Slot { number: index },
+            right: Operand::Slot { number: behind - 2 },
+            target: inside,
+        })?;
+        self.check(starts, NULL_EXCEPTION, Operand::Slot { number: first })?;
+        self.emit(Instruction::Jump {
+            target: starts.raises + ARRAY_BOUNDS as usize,
+        })
+    }
+
     /// An access by a fat pointer: it is tested, and its cell reached. The index becomes a number of bytes before it is compared.
     fn reach(
         &mut self,
@@ -202,12 +223,11 @@ impl Emitter {
         index: usize,
         slot: usize,
     ) -> Result<(), AllocError>
-        ensures { Appends result self.old self.new (reached_code (view_starts starts.now) span first index slot) }
+        ensures { Appends result self.old self.new (reached_code (view_starts starts.now) span first index slot (length self.old.code.items)) }
     {
         let distance = slot_behind(slot, Kind::Fat)?;
-        self.check(starts, NULL_EXCEPTION, Operand::Slot { number: first })?;
         self.scale(span, index, distance)?;
-        self.compare(starts, first, index)?;
+        self.stay_inside(starts, first, index)?;
         self.add_distance(span, first, distance, slot)
     }
 
@@ -221,7 +241,7 @@ impl Emitter {
         index: Operand,
         free: usize,
     ) -> Result<Operand, AllocError>
-        ensures { Gives (reached_operand span first free) result self.old self.new (instructions.Binary plain_binary.Add (free + 2) (operands.Slot (first + 2)) index ∷ reached_code (view_starts starts.now) span first (free + 2) free) }
+        ensures { Gives (reached_operand span first free) result self.old self.new (instructions.Binary plain_binary.Add (free + 2) (operands.Slot (first + 2)) index ∷ reached_code (view_starts starts.now) span first (free + 2) free (length self.old.code.items + 1)) }
     {
         let past = slot_behind(first, Kind::Fat)?;
         let behind = slot_behind(free, Kind::Fat)?;
@@ -283,7 +303,7 @@ impl Emitter {
         pointer: Operand,
         free: usize,
     ) -> Result<Operand, AllocError>
-        ensures { Gives (followed_operand (is_thin kind) span pointer free) result self.old self.new (followed_code (view_starts starts.now) (is_thin kind) span pointer free) }
+        ensures { Gives (followed_operand (is_thin kind) span pointer free) result self.old self.new (followed_code (view_starts starts.now) (is_thin kind) span pointer free (length self.old.code.items)) }
     {
         if !is_thin(kind) {
             if let Operand::Slot { number } = pointer {
@@ -335,7 +355,7 @@ impl Emitter {
         })
     }
 
-    /// A value of a kind comes to the cell whose address is in a slot. Of null the first word tells.
+    /// A value of a kind comes to the cell whose address is in a slot. A number has one word.
     pub(crate) fn save(
         &mut self,
         kind: Kind,

@@ -200,26 +200,26 @@ module _ (t : Tables) where
       → conversion to v ≡ Gives u → n q ≡ m p → Is t to u n q
   thin-to_thin from to v u m n p q thin also is e same = from_thin from to u v n (m p) q also (thin-is from v m p thin is) e same
 
-  to_fat : (kind : Kind) (u v : Value) (n : ℕ → ℕ) (w q : ℕ) → ThinIs kind w v → conversion kinds.Fat v ≡ Gives u → n q ≡ w → n (q + 1) ≡ 1 → n (q + 2) ≡ 0
+  to_fat : (kind : Kind) (u v : Value) (n : ℕ → ℕ) (w q : ℕ) → ThinIs kind w v → conversion kinds.Fat v ≡ Gives u → n q ≡ w → n (q + 1) ≡ (if w == 0 then 0 else 1) → n (q + 2) ≡ 0
       → Is t kinds.Fat u n q
-  to_fat kind u v n w q (thin_null is none) e same one last = subst (λ x. Is t kinds.Fat x n q) (same_value e) (same ∙ none)
-  to_fat kind u v n w q (thin_cell o k p) e same one last =
-      subst (λ x. Is t kinds.Fat x n q) (same_value e) (subst (IsPartOf t o k 1) (sym same) (part-of-cell p), one, last)
+  to_fat kind u v n w q (thin_null is none) e same many last = subst (λ x. Is t kinds.Fat x n q) (same_value e) (same ∙ none, many ∙ when_equal w 0 0 1 none)
+  to_fat kind u v n w q (thin_cell o k p) e same many last =
+      subst (λ x. Is t kinds.Fat x n q) (same_value e) (subst (IsPartOf t o k 1) (sym same) (part-of-cell p), many ∙ when_other w 0 0 1 (not-null p), last)
 
-  -- a thin pointer to a fat one: one cell, and the index 0; what stands behind a null pointer is not asked
+  -- a thin pointer to a fat one: one cell, or none where it is null, and the index 0
   pub thin-to_fat : (from : Kind) (v u : Value) (m n : ℕ → ℕ) (p q : ℕ) → is_thin from ≡ true → Is t from v m p → conversion kinds.Fat v ≡ Gives u
-      → n q ≡ m p → n (q + 1) ≡ 1 → n (q + 2) ≡ 0 → Is t kinds.Fat u n q
-  thin-to_fat from v u m n p q thin is e same one last = to_fat from u v n (m p) q (thin-is from v m p thin is) e same one last
+      → n q ≡ m p → n (q + 1) ≡ (if m p == 0 then 0 else 1) → n (q + 2) ≡ 0 → Is t kinds.Fat u n q
+  thin-to_fat from v u m n p q thin is e same many last = to_fat from u v n (m p) q (thin-is from v m p thin is) e same many last
 
   -- ---- fat pointers
 
   pub data FatIs (word count index : ℕ) : Value → Type 0 where
-    fat_null : word ≡ 0 → FatIs word count index Null
+    fat_null : word ≡ 0 → count ≡ 0 → FatIs word count index Null
     fat_part : (object start : ℕ) → IsPartOf t object start count word → FatIs word count index (Fat object start count index)
 
-  -- a fat pointer is null and its first word 0, or its words are the address of its part, its length and its index
+  -- a fat pointer is null and its first two words 0, or its words are the address of its part, its length and its index
   pub fat-is : (v : Value) (m : ℕ → ℕ) (p : ℕ) → Is t kinds.Fat v m p → FatIs (m p) (m (p + 1)) (m (p + 2)) v
-  fat-is Null m p is = fat_null is
+  fat-is Null m p is = fat_null is.0 is.1
   fat-is (Fat o start n i) m p is =
       subst (λ c. FatIs (m p) (m (p + 1)) (m (p + 2)) (Fat o start c i)) is.1
       (subst (λ j. FatIs (m p) (m (p + 1)) (m (p + 2)) (Fat o start (m (p + 1)) j)) is.2
@@ -232,7 +232,7 @@ module _ (t : Tables) where
 
   move_fat : (change : ℕ → ℕ) (v u : Value) (n : ℕ → ℕ) (w count index q : ℕ) → FatIs w count index v → moved change v ≡ Gives u
       → n q ≡ w → n (q + 1) ≡ count → n (q + 2) ≡ change index → Is t kinds.Fat u n q
-  move_fat change v u n w count index q (fat_null none) e same many at = subst (λ x. Is t kinds.Fat x n q) (same_value e) (same ∙ none)
+  move_fat change v u n w count index q (fat_null none empty) e same many at = subst (λ x. Is t kinds.Fat x n q) (same_value e) (same ∙ none, many ∙ empty)
   move_fat change v u n w count index q (fat_part o start part) e same many at =
       subst (λ x. Is t kinds.Fat x n q) (same_value e) (subst (IsPartOf t o start count) (sym same) part, many, at)
 
@@ -244,7 +244,7 @@ module _ (t : Tables) where
 
   count_fat : (v : Value) (w count index : ℕ) → FatIs w count index v
       → element_count v ≡ Gives (Int (if w == 0 then 0 else if nat_le index count then count - index else 0))
-  count_fat v w count index (fat_null none) =
+  count_fat v w count index (fat_null none empty) =
       ap (λ n. Gives (Int n)) (sym (when_equal w 0 0 (if nat_le index count then count - index else 0) none))
   count_fat v w count index (fat_part o start part) =
       ap (λ n. Gives (Int n)) (sym (when_other w 0 0 (if nat_le index count then count - index else 0) (part-not-null part)))
@@ -262,7 +262,7 @@ module _ (t : Tables) where
 
   test_fat : (negated : Bool) (v : Value) (w count index : ℕ) → FatIs w count index v
       → null_test negated v ≡ Gives (Int (truth (if w == 0 then not negated else negated)))
-  test_fat negated v w count index (fat_null none) = test_zero negated w none
+  test_fat negated v w count index (fat_null none empty) = test_zero negated w none
   test_fat negated v w count index (fat_part o start part) = test_other negated w (part-not-null part)
 
   -- a pointer is null where its first word is 0

@@ -102,7 +102,7 @@ module _ (t : Tables) where
   Is-same kinds.Nullable Null m n p q same is = first-same 1 m n p q (omega arith) same ∙ is
   Is-same kinds.Nullable (Thin o k) m n p q same is = Points-same (first-same 1 m n p q (omega arith) same) is
   Is-same kinds.NonNull (Thin o k) m n p q same is = Points-same (first-same 1 m n p q (omega arith) same) is
-  Is-same kinds.Fat Null m n p q same is = first-same 3 m n p q (omega arith) same ∙ is
+  Is-same kinds.Fat Null m n p q same is = (first-same 3 m n p q (omega arith) same ∙ is.0, same 1 (omega arith) ∙ is.1)
   Is-same kinds.Fat (Fat o start count index) m n p q same is = (
     subst (IsPartOf t o start count) (sym (first-same 3 m n p q (omega arith) same)) is.0,
     same 1 (omega arith) ∙ is.1,

@@ -67,14 +67,15 @@ pub record IsPartOf (t : Tables) (object start count word : ℕ) : Type 0 where
 -- ---- values
 
 -- The words from a place on are a value of a kind: one word, or three of a fat pointer, which are the address of its part, the length
--- and the index. Of a fat null pointer the first word is 0, and the others are anything. A char's word is below 256.
+-- and the index. Of a fat null pointer the first word is 0 and the length too, so that no index is below it, and the index is anything. A
+-- char's word is below 256.
 abbrev pub Is : Tables → Kind → Value → (words : ℕ → ℕ) → (place : ℕ) → Type 0
 Is t kinds.Int (Int word) words place = words place ≡ word
 Is t kinds.Char (Int word) words place = (words place ≡ word) × (word < 256)
 Is t kinds.Nullable Null words place = words place ≡ 0
 Is t kinds.Nullable (Thin object offset) words place = Points t object offset (words place)
 Is t kinds.NonNull (Thin object offset) words place = Points t object offset (words place)
-Is t kinds.Fat Null words place = words place ≡ 0
+Is t kinds.Fat Null words place = (words place ≡ 0) × (words (place + 1) ≡ 0)
 Is t kinds.Fat (Fat object start count index) words place =
     IsPartOf t object start count (words place) × (words (place + 1) ≡ count) × (words (place + 2) ≡ index)
 Is t kinds.Handle (Handle region) words place = slice_get t.handles region ≡ Some (Some (words place))

@@ -37,14 +37,14 @@ pub fn cells_have_addresses()
     ensures some { (t : Tables) (object offset word : ℕ) → Points t object offset word → word ≢ 0 }
 {}
 
-/// Conversions of pointers: a thin one keeps its word and gets a length and an index as a fat one; a fat one whose index is below its
-/// length stands at the cell of that index.
+/// Conversions of pointers: a thin one keeps its word and gets a length and an index as a fat one, and null the length 0; a fat one whose
+/// index is below its length stands at the cell of that index.
 pub fn pointers_convert()
     ensures thin { (t : Tables) (from to : Kind) (v u : Value) (words others : ℕ → ℕ) (place other : ℕ) → is_thin from ≡ true → is_thin to ≡ true
         → Is t from v words place → conversion to v ≡ Gives u → others other ≡ words place → Is t to u others other }
     ensures fat { (t : Tables) (from : Kind) (v u : Value) (words others : ℕ → ℕ) (place other : ℕ) → is_thin from ≡ true
         → Is t from v words place → conversion kinds.Fat v ≡ Gives u
-        → others other ≡ words place → others (other + 1) ≡ 1 → others (other + 2) ≡ 0 → Is t kinds.Fat u others other }
+        → others other ≡ words place → others (other + 1) ≡ (if words place == 0 then 0 else 1) → others (other + 2) ≡ 0 → Is t kinds.Fat u others other }
     ensures thinned { (t : Tables) (object start count word index : ℕ) (part : IsPartOf t object start count word) → index < count
         → Points t object (start + index) (word + index * bytes_of_kind part.kind) }
 {}

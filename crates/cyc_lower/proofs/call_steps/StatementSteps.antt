@@ -6,7 +6,7 @@ use Rattle.cyc_words.specs.Word.{signed}
 use Rattle.cyc_words.specs.Ending.{Returned}
 use Rattle.cyc_types.specs.declared.typed.Kind.{Kind}
 use Rattle.cyc_types.specs.Types.{Ty}
-use Rattle.cyc_types.specs.TypedTrees.{Counter, Local, Expression, Copy, Move, Peek, Convert, Statement, Block, Empty, Evaluate, If, While, Break, Continue, Items, NoItems, MoreItems, Execute, Declare, Function, Program, Swap, NullPointer, DeclareRegion, OpenRegion, DeclareAlias, DeclareKey}
+use Rattle.cyc_types.specs.TypedTrees.{Counter, Local, Expression, Copy, Move, Peek, Convert, Statement, Block, Empty, Evaluate, If, While, Break, Continue, Items, NoItems, MoreItems, Execute, Declare, Function, Program, Swap, DeclareRegion, OpenRegion, DeclareAlias, DeclareKey}
 use Rattle.cyc_types.specs.TypedTrees as typed
 use Rattle.cyc_plain.specs.declared.instruction.Operand.{Operand}
 use Rattle.cyc_plain.specs.declared.instruction.Operand.TheVariants as operands
@@ -30,7 +30,7 @@ use Rattle.cyc_lower.specs.Slots.{slot_of}
 use Rattle.cyc_lower.proofs.slots.Slots.{slot-room, room-inside}
 use Rattle.cyc_lower.proofs.slots.Widths.{HasRoom, Outside, HasLocal, kind_in, kind_positive, keeps_whole}
 use Rattle.cyc_lower.proofs.relation.Moves.{copied_is, copied_elsewhere, put_elsewhere}
-use Rattle.cyc_lower.specs.ValueCode.{converts_there, null_of, keeps_words, span_of}
+use Rattle.cyc_lower.specs.ValueCode.{converts_there, keeps_words, span_of}
 use Rattle.cyc_lower.specs.ControlCode.{break_target, continue_target, inside_loop}
 use Rattle.cyc_lower.specs.ExpressionCode.{operand_of, value_slot, source_of}
 use Rattle.cyc_lower.specs.Lowering.{scopes_of, results_of, lower_function, lower_program, globals_of}
@@ -99,10 +99,6 @@ module _ (source : Program) (pages calls : ℕ) where
           (subst (λ x. ConversionAt (code_of source g) (bounds_at source g) (types_on source g k) from to (span_of a) (operands.Slot x) (top source g k) m q) is at_to) holds
           (subst (λ x. ValueStack source g locals to (operands.Slot x) q frames k) is stack)
 
-      null_brought : (x : Expression) → ReturnedAt (code_of source g) (bounds_at source g) (types_on source g k) (null_of x) computed (top source g k) s p m → evaluated
-      null_brought NullPointer (is, at) = brought is at
-      null_brought x (is, at) = brought is at
-
       by_operand : (known : Option Operand) → operand_of (starts_on source g k) a ≡ known → keeps_words from to ≡ true
           → ReturnedAt (code_of source g) (bounds_at source g) (types_on source g k) known computed (top source g k) s p m → evaluated
       by_operand None none keeps (is, at) = brought is at
@@ -114,9 +110,9 @@ module _ (source : Program) (pages calls : ℕ) where
           (value_slot (starts_on source g k) a (top source g k)) (operands.Slot s) p m) (sym known) (ap operands.Slot is, end)) holds (inr (q, keeps_whole from to keeps, at_to, stack))
 
       by : (same : Bool) → keeps_words from to ≡ same
-          → ReturnedAt (code_of source g) (bounds_at source g) (types_on source g k) (if same then operand_of (starts_on source g k) a else null_of a) computed (top source g k) s p m → evaluated
+          → ReturnedAt (code_of source g) (bounds_at source g) (types_on source g k) (if same then operand_of (starts_on source g k) a else None) computed (top source g k) s p m → evaluated
       by true keeps at = by_operand (operand_of (starts_on source g k) a) refl keeps at
-      by false changes at = null_brought a at
+      by false changes (is, at) = brought is at
 
   pub executing : (s : Statement) (k : List Entry) (e : Environment) (w : World) (c : Configuration) → IsNested k e w → IsStep source pages calls (Executing s) k e w c
   executing (Block r js) k e w c nested well (shared, facts, (exits, q, items, stack)) =

@@ -1,5 +1,5 @@
 -- Code that is made piece by piece: lists of nodes, nodes with lists, and jumps whose targets are written back.
-use Rattle.std.proofs.Common.{◌≡◌, ℕ, zero, suc, ◌+◌, ◌-◌, ◌<◌, ◌≤◌, Bool, true, false, List, [], ◌∷◌, ◌++◌, length, get_or, drop, set, Option, None, refl, sym, ap, ◌∙◌, arith, append_assoc, append-nil}
+use Rattle.std.proofs.Common.{◌≡◌, ℕ, zero, suc, ◌+◌, ◌-◌, ◌<◌, ◌≤◌, Bool, true, false, List, [], ◌∷◌, ◌++◌, length, get_or, drop, set, Option, Some, None, refl, sym, ap, ◌∙◌, arith, append_assoc, append-nil}
 use Rattle.std.specs.Prelude.{◌==◌, if◌then◌else◌}
 use Rattle.std.proofs.lemmas.Bool.{eqb-true, eq-eqb}
 use Rattle.std.proofs.lemmas.List.{drop_all, drop_more, length-append, length-drop}
@@ -35,13 +35,14 @@ use Rattle.cyc_meaning.specs.Values.{words_of_kind, kind_of, is_thin}
 use Rattle.cyc_types.proofs.TypedTreeViewLemmas.{view_call, view_binary, view_fields}
 use Rattle.cyc_plain.specs.declared.instruction.BinaryOperator.TheVariants as plain_binary
 use Rattle.cyc_plain.specs.declared.instruction.Comparison.TheVariants as comparisons
+use Rattle.cyc_meaning.specs.Operators.{null_exception, array_bounds}
 use Rattle.cyc_plain.specs.declared.instruction.Operand.{Operand}
 use Rattle.cyc_plain.specs.declared.instruction.Operand.TheVariants as operands
 use Rattle.cyc_plain.specs.declared.instruction.Instruction.{Instruction}
 use Rattle.cyc_plain.specs.declared.instruction.Instruction.TheVariants as instructions
 use Rattle.cyc_lower.specs.Slots.{with_counter, slot_of, Starts, global_of}
 use Rattle.cyc_lower.specs.declared.operands.Condition.{Condition}
-use Rattle.cyc_lower.specs.ValueCode.{passed_words, kind_passed, all_passed, kinds_passed, load_of, converts_there, converted_by, moved_by, move_of, operand_or, code_unless, left_with, low_byte, next_slot, operator_code, compute_code, test_jump, truth_code, test_code, copy_code, binary_operator, address_code, addressed_by, jump_if_zero, reached_code, count_code, span_of, followed_code, span_in, code_unless_slot, global_code, word_by_word, masked_by, masks}
+use Rattle.cyc_lower.specs.ValueCode.{passed_words, kind_passed, all_passed, kinds_passed, load_of, converts_there, converted_by, moved_by, move_of, operand_or, code_unless, left_with, low_byte, next_slot, operator_code, compute_code, test_jump, truth_code, test_code, copy_code, binary_operator, address_code, addressed_by, jump_if_zero, reached_code, count_code, span_of, followed_code, span_in, code_unless_slot, global_code, word_by_word, masked_by, masks, check_code, inside_code, scaled_code, summed_code}
 use Rattle.cyc_lower.specs.ObjectCode.{measured_code, asked_code, begun_code, written_code, filled_code, restarted_code, ended_code, elements_code, last_element, object_code, saved_code}
 use Rattle.cyc_lower.specs.ControlCode.{failing_jump}
 use Rattle.cyc_lower.specs.ExpressionCode.{source_of, source_slot, operand_of, left_of, slot_with, left_slot, value_operand, converted_operand, printed_operand, load_code, expression_code, value_slot, arguments_code, converted_code, converted_operand_code, printed_code, initial_code, operations_code, made_code, place_operand, place_offset, place_code, pointer_of, brought_code, is_simple}
@@ -347,14 +348,18 @@ module _ (starts : Starts) where
   initial_by true known at_once inner from to span o p d some = some
   initial_by false known at_once inner from to span o p d some = behind (converted_by starts known inner from to span o p) (move_of (words_of_kind to) d o ∷ []) (omega arith)
 
-  followed_some : (thin : Bool) (span : Option ℕ) (o : Operand) (t : ℕ) → 0 < length (followed_code starts thin span o t)
-  followed_some true span o t = omega arith
-  followed_some false span (operands.Slot n) t = omega arith
-  followed_some false span (operands.Word w) t = omega arith
+  reached_some : (span : Option ℕ) (n m t p : ℕ) → 0 < length (reached_code starts span n m t p)
+  reached_some None n m t p = omega arith
+  reached_some (Some bytes) n m t p = omega arith
+
+  followed_some : (thin : Bool) (span : Option ℕ) (o : Operand) (t p : ℕ) → 0 < length (followed_code starts thin span o t p)
+  followed_some true span o t p = omega arith
+  followed_some false span (operands.Slot n) t p = reached_some span n (n + 2) t p
+  followed_some false span (operands.Word w) t p = omega arith
 
   place_some : (x : Dereference) (p t : ℕ) → 0 < length (place_code starts x p t)
   place_some (Target k a ty) p t =
-      behind (code_unless (operand_of starts a) (expression_code starts a p (value_slot starts a t) t)) _ (followed_some (is_thin k) (span_in ty) (value_operand starts a t) t)
+      behind (code_unless (operand_of starts a) (expression_code starts a p (value_slot starts a t) t)) _ (followed_some (is_thin k) (span_in ty) (value_operand starts a t) t _)
   place_some (Member k a s f ty) p t = behind (code_unless (operand_of starts a) (expression_code starts a p (value_slot starts a t) t)) _ (omega arith)
   place_some (Element a i ty) p t =
       let front = code_unless_slot (pointer_of starts a i) (expression_code starts a p t t) in
@@ -660,11 +665,35 @@ module _ (starts : Starts) where
       ∙ ap (λ (z : DereferenceCode). Store (view_dereference z) (view_converted b'.value) (view_value_type ty)) (sym x_at)
       ∙ ap (λ (z : ConvertedCode). Store (view_dereference x) (view_converted z) (view_value_type ty)) (sym y_at)
 
+  -- an index is compared with a length, and what raises an exception is jumped over
+  pub made_inside : (old m1 m2 m3 : List Instruction) (n m behind here : ℕ) → behind ≡ n + 3 → here ≡ length old
+      → m1 ≡ old ++ instructions.Branch comparisons.LessUnsigned (operands.Slot m) (operands.Slot (behind - 2)) (here + 3) ∷ []
+      → m2 ≡ m1 ++ check_code starts null_exception (operands.Slot n) → m3 ≡ m2 ++ instructions.Jump (starts.raises + array_bounds) ∷ [] → m3 ≡ old ++ inside_code starts n m (length old)
+  made_inside old m1 m2 m3 n m behind here behind_is here_is e1 e2 e3 =
+      let compare = instructions.Branch comparisons.LessUnsigned (operands.Slot m) (operands.Slot (n + 1)) (length old + 3) in
+      let jump = instructions.Jump (starts.raises + array_bounds) in
+      let compared : m1 ≡ old ++ compare ∷ [] =
+      e1
+      ∙ ap (λ (x : ℕ). old ++ instructions.Branch comparisons.LessUnsigned (operands.Slot m) (operands.Slot x) (here + 3) ∷ []) (let second : behind - 2 ≡ n + 1 = omega (arith, behind_is) in second)
+      ∙ ap (λ (x : ℕ). old ++ instructions.Branch comparisons.LessUnsigned (operands.Slot m) (operands.Slot (n + 1)) (x + 3) ∷ []) here_is in
+      let asked = joined old (compare ∷ []) (λ p. check_code starts null_exception (operands.Slot n)) m1 m2 compared e2 in
+      joined old (compare ∷ check_code starts null_exception (operands.Slot n)) (λ p. jump ∷ []) m2 m3 asked e3
+
+  -- an access: the index is scaled first
+  pub made_reached : (span : Option ℕ) (old m1 m2 m3 : List Instruction) (n m t distance : ℕ) → distance ≡ t + 3 → m1 ≡ old ++ scaled_code span m distance → m2 ≡ m1 ++ inside_code starts n m (length m1)
+      → m3 ≡ m2 ++ summed_code span n distance t → m3 ≡ old ++ reached_code starts span n m t (length old)
+  made_reached span old m1 m2 m3 n m t distance distance_is e1 e2 e3 =
+      let scaled = scaled_code span m (t + 3) in
+      let summed = summed_code span n (t + 3) t in
+      let first : m1 ≡ old ++ scaled = e1 ∙ ap (λ (x : ℕ). old ++ scaled_code span m x) distance_is in
+      let last : m3 ≡ m2 ++ summed = e3 ∙ ap (λ (x : ℕ). m2 ++ summed_code span n x t) distance_is in
+      joined old scaled (λ p. inside_code starts n m p ++ summed) m1 m3 first (joined m1 (inside_code starts n m (length m1)) (λ p. summed) m2 m3 e2 last)
+
   -- the third word of a fat pointer moves, and behind that stands the access
   pub made_element : (span : Option ℕ) (old m1 m2 : List Instruction) (o : Operand) (n past behind t : ℕ) → past ≡ n + 3 → behind ≡ t + 3
       → m1 ≡ old ++ instructions.Binary plain_binary.Add (behind - 1) (operands.Slot (past - 1)) o ∷ []
-      → m2 ≡ m1 ++ reached_code starts span n (behind - 1) t
-      → m2 ≡ old ++ (instructions.Binary plain_binary.Add (t + 2) (operands.Slot (n + 2)) o ∷ reached_code starts span n (t + 2) t)
+      → m2 ≡ m1 ++ reached_code starts span n (behind - 1) t (length m1)
+      → m2 ≡ old ++ (instructions.Binary plain_binary.Add (t + 2) (operands.Slot (n + 2)) o ∷ reached_code starts span n (t + 2) t (length old + 1))
   made_element span old m1 m2 o n past behind t past_is behind_is e1 e2 =
       let less : behind - 1 ≡ t + 2 = omega (arith, behind_is) in
       let third : past - 1 ≡ n + 2 = omega (arith, past_is) in
@@ -673,7 +702,7 @@ module _ (starts : Starts) where
       e1
       ∙ ap (λ (x : ℕ). old ++ instructions.Binary plain_binary.Add x (operands.Slot (past - 1)) o ∷ []) less
       ∙ ap (λ (x : ℕ). old ++ instructions.Binary plain_binary.Add (t + 2) (operands.Slot x) o ∷ []) third in
-      joined old (sum ∷ []) (λ p. reached_code starts span n (t + 2) t) m1 m2 summed (e2 ∙ ap (λ (x : ℕ). m1 ++ reached_code starts span n x t) less)
+      joined old (sum ∷ []) (λ p. reached_code starts span n (t + 2) t p) m1 m2 summed (e2 ∙ ap (λ (x : ℕ). m1 ++ reached_code starts span n x t (length m1)) less)
 
   -- the address, and behind it what is stored there
   made_store : (x : Dereference) (c : Converted) (old m1 m2 : List Instruction) (t : ℕ)

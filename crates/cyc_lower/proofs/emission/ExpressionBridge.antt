@@ -187,7 +187,7 @@ module _ (code : List Instruction) (b : Numbering) where
         let inner = expression_code (starts_of types) a p slot t in
         let front = code_unless (operand_of (starts_of types) a) inner in
         let m = p + length front in
-        let access = followed_code (starts_of types) (is_thin k) (span_in ty) o t in (
+        let access = followed_code (starts_of types) (is_thin k) (span_in ty) o t m in (
           o,
           m,
           operand_by code b types raised (operand_of (starts_of types) a) _ inner slot p m refl (has_front code p front access has) (λ e h. expression_stands types raised a slot t p m numbered e h),
@@ -219,9 +219,9 @@ module _ (code : List Instruction) (b : Numbering) where
         let o = value_operand (starts_of types) i (t + 3) in
         let inner = expression_code (starts_of types) i m slot (t + 3) in
         let operand = code_unless (operand_of (starts_of types) i) inner in
-        let reached = reached_code (starts_of types) (span_in ty) n (t + 2) t in
-        let back = instructions.Binary plain_binary.Add (t + 2) (operands.Slot (n + 2)) o ∷ reached in
         let r = m + length operand in
+        let reached = reached_code (starts_of types) (span_in ty) n (t + 2) t (r + 1) in
+        let back = instructions.Binary plain_binary.Add (t + 2) (operands.Slot (n + 2)) o ∷ reached in
         let rest = has_back code p front (operand ++ back) has in
         let end_rest = cut p q front (operand ++ back) end in
         let (sum, has_reached) = has_back code m operand back rest in (

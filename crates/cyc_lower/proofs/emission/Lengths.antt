@@ -19,7 +19,7 @@ use Rattle.cyc_plain.specs.declared.instruction.Instruction.{Instruction}
 use Rattle.cyc_store.specs.declared.range.TheConstants.{HEAP, UNIQUE}
 use Rattle.cyc_lower.specs.declared.statements.Exits.{Exits}
 use Rattle.cyc_lower.specs.Slots.{with_counter, Starts, slot_of, global_of}
-use Rattle.cyc_lower.specs.ValueCode.{first_temporary, keeps_words, kind_behind, last_byte_code, kind_passed, converts_there, passed_words, operand_or, code_unless, code_unless_slot, left_with, next_slot, converted_by, conversion_code, divisor_code, operator_code, pointer_instructions, first_two, copy_code, address_code, behind_left, checked_code, null_of, span_of, span_in, followed_operand, followed_code, conversion_by, widened_code, count_code, loaded_code, slot_or, kinds_passed, thinned_code, bounded_code, past_bounded, reached_operand, reached_code, word_by_word, load_word, global_code, masks}
+use Rattle.cyc_lower.specs.ValueCode.{first_temporary, keeps_words, kind_behind, last_byte_code, kind_passed, converts_there, passed_words, operand_or, code_unless, code_unless_slot, left_with, next_slot, converted_by, conversion_code, divisor_code, operator_code, pointer_instructions, first_two, copy_code, address_code, behind_left, checked_code, span_of, span_in, followed_operand, followed_code, conversion_by, widened_code, count_code, loaded_code, slot_or, kinds_passed, thinned_code, bounded_code, past_bounded, reached_operand, reached_code, word_by_word, load_word, global_code, masks}
 use Rattle.cyc_lower.specs.ObjectCode.{begun_code, filled_code, elements_code, ended_code, object_code, right_slot, saved_code, stores_code}
 use Rattle.cyc_lower.specs.ControlCode.{outside_loops, if_code, while_code, failing_jump, holding_jump, compared_of, inside_loop, leave_code, try_code, clause_code, break_target, continue_target, kept_code, restored_code, behind_record, inside_try, inside_region, opened_code, closed_code}
 use Rattle.cyc_lower.specs.ExpressionCode.{operand_of, left_of, value_slot, slot_with, left_slot, value_operand, source_of, source_slot, converted_operand, load_code, place_operand, place_offset, expression_code, place_code, made_code, arguments_code, converted_code, converted_operand_code, printed_code, initial_code, operations_code, pointer_of, brought_code, is_simple, are_simple}
@@ -127,7 +127,7 @@ module _ (starts : Starts) (raises : ℕ) where
   same_left_slot a os d e t same = refl
 
   same_source : (c : Converted) → source_of starts c ≡ source_of other c
-  same_source (Convert from to a) = λ i. if keeps_words from to then same_operand a i else null_of a
+  same_source (Convert from to a) = λ i. if keeps_words from to then same_operand a i else None
 
   same_source_slot : (c : Converted) (t : ℕ) → source_slot starts c t ≡ source_slot other c t
   same_source_slot (Convert from to a) t = λ i. if keeps_words from to then same_slot a t i else t
@@ -173,14 +173,14 @@ module _ (starts : Starts) (raises : ℕ) where
   conversion_long from to span o r p q same = conversion_by_long (keeps_words from to) to span o r p q same
 
   -- an access by a pointer, and the number of its elements
-  reached_long : (span : Option ℕ) (n m t : ℕ) → length (reached_code starts span n m t) ≡ length (reached_code other span n m t)
-  reached_long None n m t = refl
-  reached_long (Some bytes) n m t = refl
+  reached_long : (span : Option ℕ) (n m t p q : ℕ) → length (reached_code starts span n m t p) ≡ length (reached_code other span n m t q)
+  reached_long None n m t p q = refl
+  reached_long (Some bytes) n m t p q = refl
 
-  followed_long : (thin : Bool) (span : Option ℕ) (o r : Operand) (t : ℕ) → o ≡ r → length (followed_code starts thin span o t) ≡ length (followed_code other thin span r t)
-  followed_long true span o r t same = refl
-  followed_long false span (operands.Slot n) r t same = reached_long span n (n + 2) t ∙ ap (λ x. length (followed_code other false span x t)) same
-  followed_long false span (operands.Word w) r t same = ap (λ x. length (followed_code other false span x t)) same
+  followed_long : (thin : Bool) (span : Option ℕ) (o r : Operand) (t p q : ℕ) → o ≡ r → length (followed_code starts thin span o t p) ≡ length (followed_code other thin span r t q)
+  followed_long true span o r t p q same = refl
+  followed_long false span (operands.Slot n) r t p q same = reached_long span n (n + 2) t p q ∙ ap (λ x. length (followed_code other false span x t q)) same
+  followed_long false span (operands.Word w) r t p q same = ap (λ x. length (followed_code other false span x t q)) same
 
   counted_long : (o r : Operand) (p q d e : ℕ) → o ≡ r → length (count_code o p d) ≡ length (count_code r q e)
   counted_long (operands.Slot n) r p q d e same = ap (λ x. length (count_code x q e)) same
@@ -251,12 +251,16 @@ module _ (raises : ℕ) where
 
     place_long : (starts : Starts) → (x : Dereference) (p q t : ℕ) → length (place_code starts x p t) ≡ length (place_code (other starts raises) x q t)
     place_long starts (Target k a ty) p q t =
-        joined _ _ _ _ (operand_by starts raises a p q t (expression_long starts a p q _ _ t (same_slot starts raises a t))) (followed_long starts raises (is_thin k) (span_in ty) (value_operand starts a t) (value_operand (other starts raises) a t) t (same_value starts raises a t))
+        joined _ _ _ _ (operand_by starts raises a p q t (expression_long starts a p q _ _ t (same_slot starts raises a t))) (followed_long starts raises (is_thin k) (span_in ty) (value_operand starts a t) (value_operand (other starts raises) a t) t _ _ (same_value starts raises a t))
     place_long starts (Member k a s f ty) p q t = joined _ _ _ _ (operand_by starts raises a p q t (expression_long starts a p q _ _ t (same_slot starts raises a t))) refl
     place_long starts (Element a x ty) p q t =
+        let front = code_unless_slot (pointer_of (other starts raises) a x) (expression_code (other starts raises) a q t t) in
+        let m = q + length front in
+        let operand = code_unless (operand_of (other starts raises) x) (expression_code (other starts raises) x m (value_slot (other starts raises) x (t + 3)) (t + 3)) in
+        let place = m + length operand + 1 in
         joined _ _ _ _ (unless_slot_long _ _ _ _ (same_pointer starts raises a x) (expression_long starts a p q t t t refl))
         (joined _ _ _ _ (operand_by starts raises x _ _ (t + 3) (expression_long starts x _ _ _ _ (t + 3) (same_slot starts raises x (t + 3))))
-        (ap suc (reached_long starts raises (span_in ty) (slot_or (pointer_of starts a x) t) (t + 2) t ∙ (λ i. length (reached_code (other starts raises) (span_in ty) (slot_or (same_pointer starts raises a x i) t) (t + 2) t)))))
+        (ap suc (reached_long starts raises (span_in ty) (slot_or (pointer_of starts a x) t) (t + 2) t _ _ ∙ (λ i. length (reached_code (other starts raises) (span_in ty) (slot_or (same_pointer starts raises a x i) t) (t + 2) t place)))))
 
     made_long : (starts : Starts) → (x : Initial) (handle : Operand) (p q d e t : ℕ) → d ≡ e → length (made_code starts x handle p d t) ≡ length (made_code (other starts raises) x handle q e t)
     made_long starts (Plain kind a) handle p q d e t same = joined _ _ _ _ (expression_long starts a p q t t t refl) (λ i. length (object_code handle (kind ∷ []) (same i) t))

@@ -23,11 +23,11 @@ use Rattle.cyc_plain.proofs.Straight.{has_front, has_back}
 use Rattle.cyc_store.specs.declared.range.TheConstants.{MOST_BLOCK_WORDS}
 use Rattle.cyc_meaning.specs.Values.{words_of_kind, bytes_of_kind, begins, behind, is_thin, number_of_kind}
 use Rattle.cyc_lower.specs.Slots.{Types, starts_of, slot_of, global_of}
-use Rattle.cyc_lower.specs.ValueCode.{converts_there, moved_by, move_of, operand_or, code_unless, slot_or, code_unless_slot, left_with, next_slot, check_code, conversion_code, divisor_code, checked_code, operator_code, is_in, pointer_operator, index_code, pointer_instructions, address_code, raising, blocks, guard_code, jump_if_zero, count_code, span_of, null_of, tested_code, widened_code, conversion_by, bounds_code, stepped_code, scaled_code, summed_code, bounded_code, past_bounded, thinned_code, reached_code, followed_code, word_by_word, load_word, store_word, global_code, keeps_words, last_byte_code, blank_code, load_of, masked_by}
+use Rattle.cyc_lower.specs.ValueCode.{converts_there, moved_by, move_of, operand_or, code_unless, slot_or, code_unless_slot, left_with, next_slot, check_code, conversion_code, divisor_code, checked_code, operator_code, is_in, pointer_operator, index_code, pointer_instructions, address_code, raising, blocks, guard_code, jump_if_zero, count_code, span_of, tested_code, widened_code, conversion_by, bounds_code, stepped_code, scaled_code, summed_code, bounded_code, past_bounded, thinned_code, reached_code, followed_code, word_by_word, load_word, store_word, global_code, keeps_words, last_byte_code, blank_code, load_of, masked_by, inside_code}
 use Rattle.cyc_lower.specs.ObjectCode.{most_elements, begun_code, filled_code, stores_code, cells_code, slots_of_kinds, object_code, free_code, saved_code, sized_code}
 use Rattle.cyc_lower.specs.ControlCode.{counter_operand}
 use Rattle.cyc_lower.specs.ExpressionCode.{source_of, source_slot, operand_of, left_of, value_slot, slot_with, left_slot, value_operand, converted_operand, load_code, expression_code, brought_code, is_simple}
-use Rattle.cyc_lower.proofs.relation.Stands.{BegunAt, FilledAt, OperandBy, CheckAt, ConversionBy, ConversionAt, DivisorAt, CheckedAt, OperatorAt, LoadAt, CopyBy, ExpressionAt, InitialBy, ReturnedAt, FirstTwoAt, IndexAt, PointerAt, StoresAt, CellsAt, ObjectAt, AddressAt, GuardAt, FreedAt, CountAt, TestedAt, WidenedAt, LoadedBy, SavedAt, BoundsAt, SteppedAt, ScaledAt, SummedAt, ThinnedAt, ReachedAt, FollowedAt, EachAt, GlobalAt, SizedAt, LastByteAt, BlankAt, BroughtAt, BroughtBy, LeftBy}
+use Rattle.cyc_lower.proofs.relation.Stands.{BegunAt, FilledAt, OperandBy, CheckAt, ConversionBy, ConversionAt, DivisorAt, CheckedAt, OperatorAt, LoadAt, CopyBy, ExpressionAt, InitialBy, ReturnedAt, FirstTwoAt, IndexAt, PointerAt, StoresAt, CellsAt, ObjectAt, AddressAt, GuardAt, FreedAt, CountAt, TestedAt, WidenedAt, LoadedBy, SavedAt, BoundsAt, SteppedAt, ScaledAt, SummedAt, ThinnedAt, ReachedAt, FollowedAt, EachAt, GlobalAt, SizedAt, LastByteAt, BlankAt, BroughtAt, BroughtBy, LeftBy, InsideAt}
 use Rattle.cyc_lower.proofs.emission.Lengths.{past_long}
 use Rattle.cyc_lower.specs.Lowerable.{is_converted, is_pointer}
 use Rattle.cyc_lower.proofs.slots.Widths.{given, changes}
@@ -138,24 +138,27 @@ module _ (code : List Instruction) (b : Numbering) (types : Types) (raised : Blo
   summed_stands None n x t p q end has = omega (arith, end)
   summed_stands (Some bytes) n x t p q end (sum, none) = (sum, omega (arith, end))
 
-  pub reached_stands : (span : Option ℕ) (n m t p q : ℕ) → p + length (reached_code (starts_of types) span n m t) ≡ q → HasAt code p (reached_code (starts_of types) span n m t) → ReachedAt code b types span n m t p q
+  inside_stands : (n m p q : ℕ) → p + 3 ≡ q → HasAt code p (inside_code (starts_of types) n m p) → InsideAt code b types n m p q
+  inside_stands n m p q end (compare, (question, (jump, none))) = (
+    subst (λ (x : ℕ). At code p (instructions.Branch comparisons.LessUnsigned (operands.Slot m) (operands.Slot (n + 1)) x)) end compare,
+    (types.raises + null_exception, question, raised null_exception (omega arith) (omega arith)),
+    (types.raises + array_bounds, subst (λ (x : ℕ). At code x (instructions.Jump (types.raises + array_bounds))) (let two : p + 1 + 1 ≡ p + 2 = omega arith in two) jump, raised array_bounds (omega arith) (omega arith)),
+    end,
+  )
+
+  pub reached_stands : (span : Option ℕ) (n m t p q : ℕ) → p + length (reached_code (starts_of types) span n m t p) ≡ q → HasAt code p (reached_code (starts_of types) span n m t p) → ReachedAt code b types span n m t p q
   reached_stands span n m t p q end has =
-      let check = check_code (starts_of types) null_exception (operands.Slot n) in
       let scaled = scaled_code span m (t + 3) in
-      let bounds = bounds_code (starts_of types) (operands.Slot m) (operands.Slot (n + 1)) in
+      let s = p + length scaled in
+      let inside = inside_code (starts_of types) n m s in
       let summed = summed_code span n (t + 3) t in
-      let r = p + length check in
-      let s = r + length scaled in
-      let u = s + length bounds in
-      let compared = has_back code p check (scaled ++ (bounds ++ summed)) has in
-      let last = has_back code r scaled (bounds ++ summed) compared in (
-        r,
+      let u = s + length inside in
+      let last = has_back code p scaled (inside ++ summed) has in (
         s,
         u,
-        check_stands null_exception (operands.Slot n) p r (omega arith) (omega arith) refl (has_front code p check (scaled ++ (bounds ++ summed)) has),
-        scaled_stands span m (t + 3) r s refl (has_front code r scaled (bounds ++ summed) compared),
-        bounds_stands (operands.Slot m) (operands.Slot (n + 1)) s u refl (has_front code s bounds summed last),
-        summed_stands span n (t + 3) t u q (cut s q bounds summed (cut r q scaled (bounds ++ summed) (cut p q check (scaled ++ (bounds ++ summed)) end))) (has_back code s bounds summed last),
+        scaled_stands span m (t + 3) p s refl (has_front code p scaled (inside ++ summed) has),
+        inside_stands n m s u refl (has_front code s inside summed last),
+        summed_stands span n (t + 3) t u q (cut s q inside summed (cut p q scaled (inside ++ summed) end)) (has_back code s inside summed last),
       )
 
   -- a pointer that is not thin stands in slots
@@ -164,7 +167,7 @@ module _ (code : List Instruction) (b : Numbering) (types : Types) (raised : Blo
   IsInSlots false (operands.Slot n) = Unit {0}
   IsInSlots false (operands.Word w) = ⊥
 
-  pub followed_stands : (thin : Bool) (span : Option ℕ) (o : Operand) (t p q : ℕ) → IsInSlots thin o → p + length (followed_code (starts_of types) thin span o t) ≡ q → HasAt code p (followed_code (starts_of types) thin span o t) → FollowedAt code b types thin span o t p q
+  pub followed_stands : (thin : Bool) (span : Option ℕ) (o : Operand) (t p q : ℕ) → IsInSlots thin o → p + length (followed_code (starts_of types) thin span o t p) ≡ q → HasAt code p (followed_code (starts_of types) thin span o t p) → FollowedAt code b types thin span o t p q
   followed_stands true span o t p q in_slots end has = check_stands null_exception o p q (omega arith) (omega arith) end has
   followed_stands false span (operands.Slot n) t p q in_slots end has = reached_stands span n (n + 2) t p q end has
   followed_stands false span (operands.Word w) t p q in_slots end has = absurd in_slots
@@ -192,39 +195,21 @@ module _ (code : List Instruction) (b : Numbering) (types : Types) (raised : Blo
   tested_stands kinds.NonNull o p q end has = check_stands null_exception o p q (omega arith) (omega arith) end has
   tested_stands to o p q end has = omega (arith, end)
 
-  -- what changes its words is in slot t, or is null, which becomes a fat pointer
+  -- what changes its words is in slot t
   abbrev IsBrought : (to : Kind) → Operand → (t : ℕ) → Type 0
   IsBrought to (operands.Slot n) t = n ≡ t
-  IsBrought kinds.Fat (operands.Word w) t = w ≡ 0
   IsBrought to (operands.Word w) t = ⊥
-
-  null_brought : (from to : Kind) (a : Expression) (t : ℕ) → from ≡ given b.functions a → keeps_words from to ≡ false → IsBrought to (operand_or (null_of a) t) t
-  null_brought from to NullPointer t kind narrow = by to (ap (λ (k : Kind). keeps_words k to) (sym kind) ∙ narrow)
-    where
-      by : (k : Kind) → keeps_words kinds.Nullable k ≡ false → IsBrought k (operands.Word 0) t
-      by kinds.Fat wider = refl
-      by kinds.Int wider = absurd (let f : true ≡ false = wider in cc)
-      by kinds.Char wider = absurd (let f : true ≡ false = wider in cc)
-      by kinds.Nullable wider = absurd (let f : true ≡ false = wider in cc)
-      by kinds.NonNull wider = absurd (let f : true ≡ false = wider in cc)
-      by kinds.Handle wider = absurd (let f : true ≡ false = wider in cc)
-      by kinds.Key wider = absurd (let f : true ≡ false = wider in cc)
-  null_brought from to a t kind narrow = refl
 
   pub source_brought : (from to : Kind) (a : Expression) (t : ℕ) → from ≡ given b.functions a → keeps_words from to ≡ false → IsBrought to (converted_operand (starts_of types) (Convert from to a) t) t
   source_brought from to a t kind narrow =
-      subst (λ (same : Bool). IsBrought to (operand_or (if same then operand_of (starts_of types) a else null_of a) (if same then value_slot (starts_of types) a t else t)) t) (sym narrow) (null_brought from to a t kind narrow)
-
-  returned_null : (a : Expression) (t : ℕ) → slot_or (null_of a) t ≡ t
-  returned_null NullPointer t = refl
-  returned_null a t = refl
+      subst (λ (same : Bool). IsBrought to (operand_or (if same then operand_of (starts_of types) a else None) (if same then value_slot (starts_of types) a t else t)) t) (sym narrow) refl
 
   pub returned_brought : (from to : Kind) (a : Expression) (t : ℕ) → keeps_words from to ≡ false → slot_or (source_of (starts_of types) (Convert from to a)) t ≡ t
-  returned_brought from to a t narrow = subst (λ (same : Bool). slot_or (if same then operand_of (starts_of types) a else null_of a) t ≡ t) (sym narrow) (returned_null a t)
+  returned_brought from to a t narrow = subst (λ (same : Bool). slot_or (if same then operand_of (starts_of types) a else None) t ≡ t) (sym narrow) refl
 
   widened_stands : (o : Operand) (t p q : ℕ) → IsBrought kinds.Fat o t → p + length (widened_code o) ≡ q → HasAt code p (widened_code o) → WidenedAt code b types o t p q
   widened_stands (operands.Slot n) t p q brought end (first, (second, none)) = (brought, first, second, end)
-  widened_stands (operands.Word w) t p q brought end has = (brought, omega (arith, end))
+  widened_stands (operands.Word w) t p q brought end has = absurd brought
 
   thinned_stands : (to : Kind) (span : Option ℕ) (o : Operand) (t p q : ℕ) → is_thin to ≡ true → IsBrought to o t
       → p + length (thinned_code (starts_of types) to span o p) ≡ q → HasAt code p (thinned_code (starts_of types) to span o p) → ThinnedAt code b types to span o t p q

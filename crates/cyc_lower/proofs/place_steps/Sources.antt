@@ -1,7 +1,6 @@
 -- Where a value stands that is stored by an address: behind that, or in a local, or it is one word.
-use Rattle.std.proofs.Common.{◌≡◌, ◌⊎◌, ℕ, ◌+◌, ◌<◌, ◌≤◌, Bool, true, false, length, Option, None, Some, slice_get, refl, sym, ap, subst, ◌∙◌, arith, inl, inr}
+use Rattle.std.proofs.Common.{◌≡◌, ◌⊎◌, ℕ, ◌+◌, ◌<◌, ◌≤◌, Bool, true, false, length, Option, None, Some, slice_get, refl, sym, ap, ◌∙◌, arith, inl, inr}
 use Rattle.std.specs.Prelude.{if◌then◌else◌}
-use Rattle.std.proofs.lemmas.Option.{same_Some, none-some}
 use Rattle.cyc_types.specs.declared.typed.Kind.{Kind}
 use Rattle.cyc_types.specs.TypedTrees.{Local, Global, Expression, Number, NullPointer, HeapRegion, Counter, Copy, Move, Peek, Assign, Converted, Convert, Unary}
 use Rattle.cyc_types.specs.Numbered.{Numbering}
@@ -9,7 +8,7 @@ use Rattle.cyc_plain.specs.declared.instruction.Operand.{Operand}
 use Rattle.cyc_plain.specs.declared.instruction.Operand.TheVariants as operands
 use Rattle.cyc_meaning.specs.Values.{words_of_kind, kind_of}
 use Rattle.cyc_lower.specs.Slots.{Types, starts_of, slot_of}
-use Rattle.cyc_lower.specs.ValueCode.{operand_or, null_of, keeps_words, kind_passed}
+use Rattle.cyc_lower.specs.ValueCode.{operand_or, keeps_words, kind_passed}
 use Rattle.cyc_lower.specs.ControlCode.{counter_operand}
 use Rattle.cyc_lower.specs.ExpressionCode.{operand_of, value_slot, converted_operand}
 use Rattle.cyc_lower.proofs.slots.Widths.{given, words_in, keeps_wide}
@@ -22,17 +21,6 @@ module _ (types : Types) where
   abbrev pub IsApart : (words address : ℕ) → Operand → Type 0
   IsApart words address (operands.Slot n) = (words ≡ 1) ⊎ ((address < n) ⊎ ((number : ℕ) × (number < length types.locals) × (slot_of (starts_of types) number ≡ n) × (words ≤ words_in types.locals number)))
   IsApart words address (operands.Word w) = Unit {0}
-
-  null_word : (words t : ℕ) (a : Expression) (o : Operand) → null_of a ≡ Some o → IsApart words t o
-  null_word words t NullPointer o is = subst (IsApart words t) (same_Some (operands.Word 0) o is) tt
-  null_word words t a o is = absurd (none-some o is)
-
-  null_apart : (words t : ℕ) (a : Expression) → IsApart words t (operand_or (null_of a) (t + 1))
-  null_apart words t a = by (null_of a) refl
-    where
-      by : (x : Option Operand) → null_of a ≡ x → IsApart words t (operand_or x (t + 1))
-      by None is = inr (inl (omega arith))
-      by (Some o) is = null_word words t a o is
 
   module _ (b : Numbering) where
     -- the value of a local
@@ -60,6 +48,6 @@ module _ (types : Types) where
     pub stored_apart : (c : Converted) (t : ℕ) → FitsConverted b types c → IsApart (words_of_kind (kind_passed c)) t (converted_operand (starts_of types) c (t + 1))
     stored_apart (Convert from to a) t (is, converted, fits) = by (keeps_words from to) refl
       where
-        by : (wide : Bool) → keeps_words from to ≡ wide → IsApart (words_of_kind to) t (operand_or (if wide then operand_of (starts_of types) a else null_of a) (if wide then value_slot (starts_of types) a (t + 1) else t + 1))
+        by : (wide : Bool) → keeps_words from to ≡ wide → IsApart (words_of_kind to) t (operand_or (if wide then operand_of (starts_of types) a else None) (if wide then value_slot (starts_of types) a (t + 1) else t + 1))
         by true wide = operand_apart (words_of_kind to) t a (sym (keeps_wide from to wide) ∙ ap words_of_kind is) fits
-        by false wide = null_apart (words_of_kind to) t a
+        by false wide = inr (inl (omega arith))

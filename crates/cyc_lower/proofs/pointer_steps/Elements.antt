@@ -2,7 +2,7 @@
 -- computed. A pointer to a struct stands at the struct itself where the source does not go wrong.
 use Rattle.std.proofs.Common.{◌≡◌, ◌≢◌, ℕ, zero, suc, ◌+◌, ◌*◌, ◌≤◌, ◌<◌, Bool, true, false, List, [], ◌∷◌, ◌++◌, Option, None, Some, slice_get, refl, sym, ap, subst, ◌∙◌, arith, inl, inr}
 use Rattle.std.specs.Prelude.{◌==◌, ◌&&◌, nat_lt, nat_le, if◌then◌else◌, option_map}
-use Rattle.std.proofs.lemmas.Bool.{eq-eqb, ne_eqb, eqb-true, cases_Bool, ltb-true, ltb-false, le-leb, lt-leb, and_parts}
+use Rattle.std.proofs.lemmas.Bool.{false_from_ne_true, eq-eqb, ne_eqb, eqb-true, cases_Bool, ltb-true, ltb-false, le-leb, lt-leb, and_parts}
 use Rattle.cyc_words.specs.Word.{add_of, mul_of, shl_of}
 use Rattle.cyc_types.specs.declared.typed.Kind.{Kind}
 use Rattle.cyc_types.specs.declared.typed.Kind.TheVariants as kinds
@@ -38,7 +38,7 @@ use Rattle.cyc_lower.specs.Lowering.{lower_program}
 use Rattle.cyc_lower.proofs.slots.Widths.{same_kind, Outside}
 use Rattle.cyc_lower.proofs.slots.CellBytes.{wide_cell}
 use Rattle.cyc_lower.proofs.relation.Moves.{put_elsewhere}
-use Rattle.cyc_lower.proofs.relation.Stands.{BoundsAt, SteppedAt, ReachedBy, ReachedAt, FollowedAt, ValueAt}
+use Rattle.cyc_lower.proofs.relation.Stands.{InsideAt, SteppedAt, ReachedBy, ReachedAt, FollowedAt, ValueAt}
 use Rattle.cyc_lower.proofs.relation.HeldValues.{IsIn, IsLow, Holds, held, IsParts}
 use Rattle.cyc_lower.proofs.relation.Relation.{types_at, types_on, floor, as_operand, DataIn, SharedAt, ValueStack, PlaceStack, Matches, code_of, bounds_at, top, ReadyAt, as_right, in_parts}
 use Rattle.cyc_lower.proofs.relation.Data.{Is-same, height-least, Holds-same, data_written, in_words}
@@ -46,8 +46,8 @@ use Rattle.cyc_lower.proofs.relation.Accesses.{IsWell, is_fitting}
 use Rattle.cyc_lower.proofs.place_steps.PlaceWords.{narrow_element, byte_element, wide_element, stays}
 use Rattle.cyc_lower.proofs.relation.Matched.{IsMatched, silently, by_one}
 use Rattle.cyc_lower.proofs.handler_steps.Handling.{raised}
-use Rattle.cyc_lower.proofs.pointer_steps.PointerSteps.{as_fat, int_word, is_moved, outside_index}
-use Rattle.cyc_lower.proofs.relation.Paths.{Link, IsPath, is_quiet, by_path}
+use Rattle.cyc_lower.proofs.pointer_steps.PointerSteps.{int_word, is_moved, outside_index}
+use Rattle.cyc_lower.proofs.relation.Paths.{Link, IsPath, end_of, end_joined, path_joined, is_quiet, by_path}
 
 -- ---- the words of an access
 
@@ -246,13 +246,82 @@ module _ (source : Program) (pages calls : ℕ) where
         (sym (ap (λ (y : ℕ). add_of y (before (t + 2))) first ∙ ap (add_of (slots n)) (put-same slots (t + 2) far)))
         (subst (λ i. Matches source pages calls next (plain.Running (at (with_slots c (stepped bytes)) i))) (sym last) goes))
 
+  -- ---- an index that is compared with a length, which is 0 where the pointer is null
+
+  -- behind instructions that lead from one configuration to another
+  by_path_from : (focus : Focus) (k : List Entry) (e : Environment) (w : World) (c b : Configuration) (next : State) (first rest : List Link) (i : Instruction)
+      → step source (Running focus k e w) ≡ next → SharedAt source pages calls k e w c → IsPath source c first → end_of c first ≡ b → IsPath source b rest
+      → At (code_of source (end_of b rest).active.function) (end_of b rest).active.next i
+      → ((choice : Choice) → Matches source pages calls next (performed (lower_program source) choice (end_of b rest) i))
+      → IsMatched source pages calls (Running focus k e w) (plain.Running c)
+  by_path_from focus k e w c b next first rest i does shared path ends =
+      subst (λ (x : Configuration). IsPath source x rest → At (code_of source (end_of x rest).active.function) (end_of x rest).active.next i
+      → ((choice : Choice) → Matches source pages calls next (performed (lower_program source) choice (end_of x rest) i)) → IsMatched source pages calls (Running focus k e w) (plain.Running c))
+      ends
+      (λ behind last goes. by_path source pages calls focus k e w c next (first ++ rest) i does shared (path_joined source c first rest path behind)
+      (subst (λ (y : Configuration). At (code_of source y.active.function) y.active.next i) (sym (end_joined c first rest)) last)
+      (λ choice. subst (λ (y : Configuration). Matches source pages calls next (performed (lower_program source) choice y i)) (sym (end_joined c first rest)) (goes choice)))
+
+  module _ (focus : Focus) (k₀ k : List Entry) (e : Environment) (w : World) (c b : Configuration) (first : List Link) (path : IsPath source c first) (ends : end_of c first ≡ b) (n m u : ℕ) (shared : SharedAt source pages calls k₀ e w c)
+      (here : InsideAt (code_of source b.active.function) (bounds_at source b.active.function) (types_at source b.active.function) n m b.active.next u) where
+    abbrev comparison : Instruction
+    comparison = instructions.Branch comparisons.LessUnsigned (operands.Slot m) (operands.Slot (n + 1)) u
+
+    -- what is not below the length, and what is
+    abbrev outside : Link
+    outside = record { instruction = comparison; behind = at b (b.active.next + 1) }
+
+    outside_path : nat_lt (b.active.slots m) (b.active.slots (n + 1)) ≡ false → (rest : List Link) → IsPath source (at b (b.active.next + 1)) rest → IsPath source b (outside ∷ rest)
+    outside_path least rest behind =
+        (here.0, (λ choice. passed b (nat_lt (b.active.slots m) (b.active.slots (n + 1))) u least), omega arith, is_quiet b (at b (b.active.next + 1)).active, behind)
+
+    abbrev within : Link
+    within = record { instruction = comparison; behind = at b u }
+
+    within_path : nat_lt (b.active.slots m) (b.active.slots (n + 1)) ≡ true → IsPath source b (within ∷ [])
+    within_path less = (here.0, (λ choice. taken b (nat_lt (b.active.slots m) (b.active.slots (n + 1))) u less), omega (arith, here.3), is_quiet b (at b u).active, tt)
+
+    -- null raises its exception
+    stops_null : (shared_behind : SharedAt source pages calls k e w b) → DataIn source shared_behind.tables b.active.slots k e w b → b.active.slots n ≡ 0 → nat_lt (b.active.slots m) (b.active.slots (n + 1)) ≡ false
+        → step source (Running focus k₀ e w) ≡ Running (Throwing null_exception 0) k e w → IsMatched source pages calls (Running focus k₀ e w) (plain.Running c)
+    stops_null shared_behind facts is_zero least does =
+        let (block, question, raise) = here.1 in
+        by_path_from focus k₀ e w c b (Running (Throwing null_exception 0) k e w) first (outside ∷ []) (instructions.Branch comparisons.Equal (operands.Slot n) (operands.Word 0) block) does shared path ends (outside_path least [] tt) question
+        (λ choice. subst (Matches source pages calls (Running (Throwing null_exception 0) k e w)) (sym (taken (at b (b.active.next + 1)) (b.active.slots n == 0) block (eq-eqb (b.active.slots n) 0 is_zero)))
+        (raised source pages calls null_exception 0 k e w (at b block) (operands.Word null_exception) (operands.Word 0) (omega arith) shared_behind facts raise refl refl))
+
+    -- and an index past the length of any other pointer the other one
+    stops_past : (shared_behind : SharedAt source pages calls k e w b) → DataIn source shared_behind.tables b.active.slots k e w b → b.active.slots n ≢ 0 → nat_lt (b.active.slots m) (b.active.slots (n + 1)) ≡ false
+        → step source (Running focus k₀ e w) ≡ Running (Throwing array_bounds 0) k e w → IsMatched source pages calls (Running focus k₀ e w) (plain.Running c)
+    stops_past shared_behind facts some least does =
+        let (block, question, raised_null) = here.1 in
+        let (other, jump, raise) = here.2 in
+        let asked : Link = record { instruction = instructions.Branch comparisons.Equal (operands.Slot n) (operands.Word 0) block; behind = at b (b.active.next + 2) } in
+        by_path_from focus k₀ e w c b (Running (Throwing array_bounds 0) k e w) first (outside ∷ asked ∷ []) (instructions.Jump other) does shared path ends
+        (outside_path least (asked ∷ []) (
+          question,
+          (λ choice. passed (at b (b.active.next + 1)) (b.active.slots n == 0) block (ne_eqb (b.active.slots n) 0 some) ∙ ap (λ i. plain.Running (at b i)) (let two : b.active.next + 1 + 1 ≡ b.active.next + 2 = omega arith in two)),
+          omega arith,
+          is_quiet (at b (b.active.next + 1)) (at b (b.active.next + 2)).active,
+          tt,
+        ))
+        jump (λ choice. raised source pages calls array_bounds 0 k e w (at b other) (operands.Word array_bounds) (operands.Word 0) (omega arith) shared_behind facts raise refl refl)
+
+    -- the access goes on
+    goes_on : (next : State) → nat_lt (b.active.slots m) (b.active.slots (n + 1)) ≡ true → step source (Running focus k₀ e w) ≡ next → Matches source pages calls next (plain.Running (at b u))
+        → IsMatched source pages calls (Running focus k₀ e w) (plain.Running c)
+    goes_on next less does goes =
+        by_path_from focus k₀ e w c b next first [] comparison does shared path ends tt here.0
+        (λ choice. subst (Matches source pages calls next) (sym (taken b (nat_lt (b.active.slots m) (b.active.slots (n + 1))) u less)) goes)
+
+    goes_on_by : (next : State) (i : Instruction) → nat_lt (b.active.slots m) (b.active.slots (n + 1)) ≡ true → step source (Running focus k₀ e w) ≡ next → At (code_of source b.active.function) u i
+        → ((choice : Choice) → Matches source pages calls next (performed (lower_program source) choice (at b u) i)) → IsMatched source pages calls (Running focus k₀ e w) (plain.Running c)
+    goes_on_by next i less does last goes = by_path_from focus k₀ e w c b next first (within ∷ []) i does shared path ends (within_path less) last goes
+
   -- ---- an index that is scaled before it is compared
 
-  module _ (focus : Focus) (k₀ k : List Entry) (e : Environment) (w : World) (c : Configuration) (bytes n m t q : ℕ) (shared : SharedAt source pages calls k₀ e w c)
+  module _ (c : Configuration) (bytes n m t q : ℕ)
       (here : ReachedAt (code_of source c.active.function) (bounds_at source c.active.function) (types_at source c.active.function) (Some bytes) n m t c.active.next q) (low : n ≤ t) (apart : m < t + 3) where
-    abbrev raises : ℕ → Type 0
-    raises block = At (code_of source c.active.function) block (raising null_exception)
-
     abbrev far : ℕ
     far = scaled bytes (c.active.slots m)
 
@@ -260,57 +329,33 @@ module _ (source : Program) (pages calls : ℕ) where
     abbrev before : Words
     before = put c.active.slots (t + 3) far
 
-    abbrev b : Configuration
-    b = at (with_slots c before) (here.0 + 1)
+    abbrev behind_scaling : Configuration
+    behind_scaling = at (with_slots c before) here.0
 
-    index_stays : before m ≡ c.active.slots m
-    index_stays = put-other c.active.slots (t + 3) m far (λ same. absurd (omega (arith, same, apart)))
+    abbrev scaling : List Link
+    scaling = record { instruction = scale_of bytes (t + 3) m; behind = behind_scaling } ∷ []
+
+    scaling_path : IsPath source c scaling
+    scaling_path = (
+      here.2.0,
+      (λ choice. scales bytes (t + 3) m c choice ∙ ap (λ i. plain.Running (at (with_slots c before) i)) here.2.1),
+      omega (arith, here.2.1),
+      is_quiet c behind_scaling.active,
+      tt,
+    )
+
+    pointer_stays : before n ≡ c.active.slots n
+    pointer_stays = put-other c.active.slots (t + 3) n far (λ same. absurd (omega (arith, same, low)))
 
     length_stays : before (n + 1) ≡ c.active.slots (n + 1)
     length_stays = put-other c.active.slots (t + 3) (n + 1) far (λ same. absurd (omega (arith, same, low)))
 
-    abbrev links : List Link
-    links = past_null focus k₀ k e w c raises n here.0 shared here.3 ∷ record { instruction = scale_of bytes (t + 3) m; behind = b } ∷ []
+    index_stays : before m ≡ c.active.slots m
+    index_stays = put-other c.active.slots (t + 3) m far (λ same. absurd (omega (arith, same, apart)))
 
-    to_comparison : c.active.slots n ≢ 0 → (rest : List Link) → IsPath source b rest → IsPath source c (links ++ rest)
-    to_comparison some rest path =
-        past_null_path focus k₀ k e w c raises n here.0 shared here.3 some (record { instruction = scale_of bytes (t + 3) m; behind = b } ∷ rest)
-        (here.4.0, scales bytes (t + 3) m (at c here.0), omega arith, is_quiet (at c here.0) b.active, path)
-
-    abbrev comparison : Instruction
-    comparison = instructions.Branch comparisons.GreaterOrEqualUnsigned (operands.Slot m) (operands.Slot (n + 1)) here.5.0
-
-    compared_there : At (code_of source c.active.function) (here.0 + 1) comparison
-    compared_there = subst (λ i. At (code_of source c.active.function) i comparison) (sym here.4.1) here.5.1
-
-    stops_at : (block : ℕ) → nat_lt (c.active.slots m) (c.active.slots (n + 1)) ≡ false → branches b (nat_le (before (n + 1)) (before m)) block ≡ plain.Running (at b block)
-    stops_at block least =
-        taken b (nat_le (before (n + 1)) (before m)) block (le-leb (before (n + 1)) (before m) (omega (arith, ltb-false (c.active.slots m) (c.active.slots (n + 1)) least, index_stays, length_stays)))
-
-    stops_past : (shared_behind : SharedAt source pages calls k e w c) → DataIn source shared_behind.tables before k e w c → c.active.slots n ≢ 0 → nat_lt (c.active.slots m) (c.active.slots (n + 1)) ≡ false
-        → step source (Running focus k₀ e w) ≡ Running (Throwing array_bounds 0) k e w → IsMatched source pages calls (Running focus k₀ e w) (plain.Running c)
-    stops_past shared_behind facts some least does =
-        let (block, branch, raise, behind) = here.5 in
-        by_path source pages calls focus k₀ e w c (Running (Throwing array_bounds 0) k e w) links comparison does shared (to_comparison some [] tt) compared_there
-        (λ choice. subst (Matches source pages calls (Running (Throwing array_bounds 0) k e w)) (sym (stops_at block least))
-        (raised source pages calls array_bounds 0 k e w (at b block) (operands.Word array_bounds) (operands.Word 0) (omega arith) shared_behind facts raise refl refl))
-
-    goes_on : nat_lt (c.active.slots m) (c.active.slots (n + 1)) ≡ true → branches b (nat_le (before (n + 1)) (before m)) here.5.0 ≡ plain.Running (at b here.2)
-    goes_on less =
-        passed b (nat_le (before (n + 1)) (before m)) here.5.0 (lt-leb (before (n + 1)) (before m) (omega (arith, ltb-true (c.active.slots m) (c.active.slots (n + 1)) less, index_stays, length_stays)))
-        ∙ ap (λ i. plain.Running (at b i)) (let on : here.0 + 1 + 1 ≡ here.2 = omega (arith, here.4.1, here.5.3) in on)
-
-    reaches_inside : (next : State) → c.active.slots n ≢ 0 → nat_lt (c.active.slots m) (c.active.slots (n + 1)) ≡ true → step source (Running focus k₀ e w) ≡ next
-        → Matches source pages calls next (plain.Running (at (with_slots c (put before t (add_of (c.active.slots n) far))) q)) → IsMatched source pages calls (Running focus k₀ e w) (plain.Running c)
-    reaches_inside next some less does goes =
-        let first : before n ≡ c.active.slots n = put-other c.active.slots (t + 3) n far (λ same. absurd (omega (arith, same, low))) in
-        let within : Link = record { instruction = comparison; behind = at b here.2 } in
-        by_path source pages calls focus k₀ e w c next (links ++ within ∷ []) (instructions.Binary plain_binary.Add t (operands.Slot n) (operands.Slot (t + 3))) does shared
-        (to_comparison some (within ∷ []) (compared_there, (λ choice. goes_on less), omega (arith, here.4.1, here.5.3), is_quiet b (at b here.2).active, tt))
-        here.6.0
-        (λ choice. subst (λ (x : ℕ). Matches source pages calls next (plain.Running (at (with_slots c (put before t x)) (here.2 + 1))))
-        (sym (ap (λ (y : ℕ). add_of y (before (t + 3))) first ∙ ap (add_of (c.active.slots n)) (put-same c.active.slots (t + 3) far)))
-        (subst (λ i. Matches source pages calls next (plain.Running (at (with_slots c (put before t (add_of (c.active.slots n) far))) i))) (sym here.6.1) goes))
+    -- so the index is below the length or not as before
+    below_stays : (less : Bool) → nat_lt (c.active.slots m) (c.active.slots (n + 1)) ≡ less → nat_lt (before m) (before (n + 1)) ≡ less
+    below_stays less is = ap (λ (x : ℕ). nat_lt x (before (n + 1))) index_stays ∙ (ap (nat_lt (c.active.slots m)) length_stays ∙ is)
 
   -- what raises the exception that null raises
   abbrev pub RaisesNull : ℕ → (block : ℕ) → Type 0
@@ -343,10 +388,15 @@ module _ (source : Program) (pages calls : ℕ) where
     leads_there x well = (and_parts (is_kind i kinds.Fat) (leads_to w target (followed x)) (is_fitting (tests x) (arrives (followed x) k e w) w well)).1
 
     -- where no cell is looked for, nothing is scaled
-    as_first : ReachedAt (code_of source c.active.function) (bounds_at source c.active.function) (types_at source c.active.function) None n m free c.active.next q
-        → ReachedBy (code_of source c.active.function) (bounds_at source c.active.function) (types_at source c.active.function) (RaisesNull c.active.function) None n m free c.active.next q
-    as_first (r, s, u, test, same, compared, last) =
-        (r, u, test, subst (λ i. BoundsAt (code_of source c.active.function) (bounds_at source c.active.function) (types_at source c.active.function) (operands.Slot m) (operands.Slot (n + 1)) i u) (sym same) compared, last)
+    inside_first : (here : ReachedAt (code_of source c.active.function) (bounds_at source c.active.function) (types_at source c.active.function) None n m free c.active.next q)
+        → InsideAt (code_of source c.active.function) (bounds_at source c.active.function) (types_at source c.active.function) n m c.active.next here.1
+    inside_first here = subst (λ i. InsideAt (code_of source c.active.function) (bounds_at source c.active.function) (types_at source c.active.function) n m i here.1) (sym here.2) here.3
+
+    scaled_facts : (bytes : ℕ) (shared : SharedAt source pages calls k e w c) → DataIn source shared.tables c.active.slots k e w c → DataIn source shared.tables (put c.active.slots (free + 3) (scaled bytes (c.active.slots m))) k e w c
+    scaled_facts bytes shared facts =
+        let far = scaled bytes (c.active.slots m) in
+        data_written source shared.tables c.active.function c.active.base w.objects e.locals k c.active.slots (put c.active.slots (free + 3) far) c.active.handlers c.globals c.frames free 4 (height-least (floor source c.active.function k) (held k))
+        (λ x out. scaled_elsewhere c.active.slots free far x out) facts
 
     -- within bounds: the first cell, or the one at the index
     cell_reached : (object start count index : ℕ) {x : Value} → c.active.slots n ≢ 0 → nat_lt (c.active.slots m) (c.active.slots (n + 1)) ≡ true → index < count
@@ -365,8 +415,9 @@ module _ (source : Program) (pages calls : ℕ) where
         by None is leads here place =
             let first : start + index ≡ 0 = eqb-true (start + index) 0 leads in
             let points = first_is index part first below in
-            reaches_first (Given (given x)) waiting k e w c (RaisesNull c.active.function) None n m free q shared (as_first here) refl (Running (GivenPlace (Thin object (start + index))) k e w) some less does
-            (shared, facts, (operands.Slot n, 0, pointer-word points, stays points, holds, place))
+            let next = Running (GivenPlace (Thin object (start + index))) k e w in
+            goes_on (Given (given x)) waiting k e w c c [] tt refl n m here.1 shared (inside_first here) next less does
+            (subst (λ i. Matches source pages calls next (plain.Running (at c i))) (sym here.4) (shared, facts, (operands.Slot n, 0, pointer-word points, stays points, holds, place)))
         by (Some kind) is leads here place =
             let g = c.active.function in
             let base = floor source g k in
@@ -376,11 +427,17 @@ module _ (source : Program) (pages calls : ℕ) where
             let points = cell_is shared.related index (slots m) part kind index_is below leads in
             let after = put (put slots (free + 3) (scaled bytes (slots m))) free address in
             let there : Points shared.tables object (start + index) (after free) = subst (Points shared.tables object (start + index)) (sym (put-same (put slots (free + 3) (scaled bytes (slots m))) free address)) points in
-            reaches_inside (Given (given x)) waiting k e w c bytes n m free q shared here low.0 low.1 (Running (GivenPlace (Thin object (start + index))) k e w) some less does (
+            let next = Running (GivenPlace (Thin object (start + index))) k e w in
+            let middle = put slots (free + 3) (scaled bytes (slots m)) in
+            goes_on_by (Given (given x)) waiting k e w c (behind_scaling c bytes n m free q here low.0 low.1) (scaling c bytes n m free q here low.0 low.1) (scaling_path c bytes n m free q here low.0 low.1) refl n m here.1 shared here.3
+            next (instructions.Binary plain_binary.Add free (operands.Slot n) (operands.Slot (free + 3))) (below_stays c bytes n m free q here low.0 low.1 true less) does here.4.0
+            (λ choice. subst (λ (z : ℕ). Matches source pages calls next (plain.Running (at (with_slots c (put middle free z)) (here.1 + 1))))
+            (sym (ap (λ (y : ℕ). add_of y (middle (free + 3))) (pointer_stays c bytes n m free q here low.0 low.1) ∙ ap (add_of (slots n)) (put-same slots (free + 3) (scaled bytes (slots m)))))
+            (subst (λ i. Matches source pages calls next (plain.Running (at (with_slots c after) i))) (sym here.4.1) (
               shared,
               data_written source shared.tables g c.active.base w.objects e.locals k slots after c.active.handlers c.globals c.frames free 4 (height-least base (held k)) (λ x out. elsewhere slots free 3 (scaled bytes (slots m)) address x out) facts,
               (operands.Slot free, 0, pointer-word there, stays there, Holds-same shared.tables slots after base (held k) (λ x short. elsewhere slots free 3 (scaled bytes (slots m)) address x (inl short)) holds, place),
-            )
+            )))
 
     -- past the length
     stops_there : (x : Value) (shared : SharedAt source pages calls k e w c) → DataIn source shared.tables c.active.slots k e w c → (n ≤ free) × (m < free + 3) → c.active.slots n ≢ 0 → nat_lt (c.active.slots m) (c.active.slots (n + 1)) ≡ false
@@ -390,13 +447,23 @@ module _ (source : Program) (pages calls : ℕ) where
       where
         by : (span : Option ℕ) → ReachedAt (code_of source c.active.function) (bounds_at source c.active.function) (types_at source c.active.function) span n m free c.active.next q
             → IsMatched source pages calls (Running (Given (given x)) waiting e w) (plain.Running c)
-        by None here = raises_bounds (Given (given x)) waiting k e w c (RaisesNull c.active.function) None n m free q shared (as_first here) shared facts some least does
+        by None here = stops_past (Given (given x)) waiting k e w c c [] tt refl n m here.1 shared (inside_first here) shared facts some least does
         by (Some bytes) here =
-            let slots = c.active.slots in
-            let far = scaled bytes (slots m) in
-            stops_past (Given (given x)) waiting k e w c bytes n m free q shared here low.0 low.1 shared
-            (data_written source shared.tables c.active.function c.active.base w.objects e.locals k slots (put slots (free + 3) far) c.active.handlers c.globals c.frames free 4 (height-least (floor source c.active.function k) (held k)) (λ x out. scaled_elsewhere slots free far x out) facts)
-            some least does
+            stops_past (Given (given x)) waiting k e w c (behind_scaling c bytes n m free q here low.0 low.1) (scaling c bytes n m free q here low.0 low.1) (scaling_path c bytes n m free q here low.0 low.1) refl n m here.1 shared here.3
+            shared (scaled_facts bytes shared facts) (λ zero. some (sym (pointer_stays c bytes n m free q here low.0 low.1) ∙ zero)) (below_stays c bytes n m free q here low.0 low.1 false least) does
+
+    -- null
+    stops_at_null : (x : Value) (shared : SharedAt source pages calls k e w c) → DataIn source shared.tables c.active.slots k e w c → (n ≤ free) × (m < free + 3) → c.active.slots n ≡ 0 → nat_lt (c.active.slots m) (c.active.slots (n + 1)) ≡ false
+        → ReachedAt (code_of source c.active.function) (bounds_at source c.active.function) (types_at source c.active.function) span_there n m free c.active.next q
+        → step source (Running (Given (given x)) waiting e w) ≡ Running (Throwing null_exception 0) k e w → IsMatched source pages calls (Running (Given (given x)) waiting e w) (plain.Running c)
+    stops_at_null x shared facts low is_zero least here does = by span_there here
+      where
+        by : (span : Option ℕ) → ReachedAt (code_of source c.active.function) (bounds_at source c.active.function) (types_at source c.active.function) span n m free c.active.next q
+            → IsMatched source pages calls (Running (Given (given x)) waiting e w) (plain.Running c)
+        by None here = stops_null (Given (given x)) waiting k e w c c [] tt refl n m here.1 shared (inside_first here) shared facts is_zero least does
+        by (Some bytes) here =
+            stops_null (Given (given x)) waiting k e w c (behind_scaling c bytes n m free q here low.0 low.1) (scaling c bytes n m free q here low.0 low.1) (scaling_path c bytes n m free q here low.0 low.1) refl n m here.1 shared here.3
+            shared (scaled_facts bytes shared facts) (pointer_stays c bytes n m free q here low.0 low.1 ∙ is_zero) (below_stays c bytes n m free q here low.0 low.1 false least) does
 
     pub follows_parts : (x : Value) → IsWell (step source (Running (Given (given x)) waiting e w)) → (shared : SharedAt source pages calls k e w c) → DataIn source shared.tables c.active.slots k e w c
         → IsParts shared.tables x c.active.slots n m → Holds shared.tables c.active.slots (floor source c.active.function k) (held k) → (n ≤ free) × (m < free + 3)
@@ -404,7 +471,8 @@ module _ (source : Program) (pages calls : ℕ) where
         → PlaceStack source c.active.function e.locals (reached_operand span_there n free) 0 q c.frames k
         → IsMatched source pages calls (Running (Given (given x)) waiting e w) (plain.Running c)
     follows_parts Null well shared facts is holds low here place =
-        raises_null (Given (given Null)) waiting k e w c (RaisesNull c.active.function) n here.0 shared here.3 shared facts is (arrives_so Null (Stops null_exception) well refl) (λ block raises. raises)
+        stops_at_null Null shared facts low is.0 (false_from_ne_true (nat_lt (c.active.slots m) (c.active.slots (n + 1))) (λ less. omega (arith, is.1, ltb-true (c.active.slots m) (c.active.slots (n + 1)) less))) here
+        (arrives_so Null (Stops null_exception) well refl)
     follows_parts (Fat object start count index) well shared facts (part, count_is, index_is) holds low here place =
         let slots = c.active.slots in
         let x = Fat object start count index in
@@ -476,7 +544,7 @@ module _ (source : Program) (pages calls : ℕ) where
         shared,
         facts,
         as_operand x m (subst (λ n. ValueAt (code_of source g) (bounds_at source g) (types_on source g k) i (top source g k + n) x c.active.next m) (sym (ap words_of_kind fat)) at_i)
-            (subst (IsIn shared.tables base c.active.slots) there is, holds) (q, sum, reached, place),
+            (subst (IsIn shared.tables base c.active.slots) there is, holds) (q, (fat, sum), reached, place),
       )
       (omega arith)
   indexes_pointer peek target i base o k e w c well shared facts is holds (inr (n, x, m, q, there, low, simple, at_i, sum, reached, place)) =
@@ -492,7 +560,7 @@ module _ (source : Program) (pages calls : ℕ) where
           m,
           simple,
           subst (λ j. ValueAt (code_of source g) (bounds_at source g) (types_on source g k) i (top source g k + j) x c.active.next m) (sym (ap words_of_kind fat)) at_i,
-          (n, q, subst (IsIn shared.tables base c.active.slots) there is, low, holds, (sum, reached, place)),
+          (n, q, subst (IsIn shared.tables base c.active.slots) there is, low, holds, ((fat, sum), reached, place)),
         ),
       )
       (omega arith)
@@ -502,7 +570,7 @@ module _ (source : Program) (pages calls : ℕ) where
       → IsWell (step source (Running (Given (record { kind = j; value = x })) (Needs (Advance peek target base) ∷ k) e w)) → (shared : SharedAt source pages calls k e w c) → DataIn source shared.tables c.active.slots k e w c
       → ReadyAt source shared.tables (record { kind = j; value = x }) e.locals c.active.function c.active.next c.active.slots c.frames (Needs (Advance peek target base) ∷ k)
       → IsMatched source pages calls (Running (Given (record { kind = j; value = x })) (Needs (Advance peek target base) ∷ k) e w) (plain.Running c)
-  advances_pointer peek target base j (Int i) k e w c well shared facts (o, is, (n, q, is_base, low, holds, (sum, reached, place))) =
+  advances_pointer peek target base j (Int i) k e w c well shared facts (o, is, (n, q, is_base, low, holds, ((fat, sum), reached, place))) =
       let g = c.active.function in
       let slots = c.active.slots in
       let t = top source g k in
@@ -526,7 +594,7 @@ module _ (source : Program) (pages calls : ℕ) where
               t + 2,
               q,
               refl,
-              fat-moved shared.tables change base.value result.value slots (λ m. if m == 0 then after n else if m == 1 then after (n + 1) else after (t + 2)) n 0 (as_fat shared.tables base.kind base.value slots n is_base result.fat) result.gives
+              fat-moved shared.tables change base.value result.value slots (λ m. if m == 0 then after n else if m == 1 then after (n + 1) else after (t + 2)) n 0 (subst (λ i. Is shared.tables i base.value slots n) fat is_base) result.gives
                   first second (put-same slots (t + 2) index),
               (low, omega arith),
               Holds-same shared.tables slots after (floor source g k) (held k) (λ m short. elsewhere_same m (inl short)) holds,

@@ -1,5 +1,5 @@
 -- The steps of fat pointers.
-use Rattle.std.proofs.Common.{◌≡◌, ◌≢◌, ℕ, ◌+◌, ◌-◌, ◌≤◌, Bool, true, false, List, [], ◌∷◌, Option, refl, sym, ap, subst, ◌∙◌, arith, inl, inr}
+use Rattle.std.proofs.Common.{◌≡◌, ◌≢◌, ℕ, ◌+◌, ◌-◌, ◌≤◌, Bool, true, false, not, List, [], ◌∷◌, Option, refl, sym, ap, subst, ◌∙◌, arith, inl, inr}
 use Rattle.std.specs.Prelude.{◌==◌, nat_lt, nat_le, if◌then◌else◌}
 use Rattle.std.proofs.lemmas.Bool.{eq-eqb, ne_eqb, cases_Bool, ltb-true, ltb-false, le-leb, lt-leb}
 use Rattle.cyc_words.specs.Word.{IsWord, sub_of}
@@ -11,6 +11,7 @@ use Rattle.cyc_plain.specs.declared.instruction.Comparison.TheVariants as compar
 use Rattle.cyc_plain.specs.declared.instruction.Operand.{Operand}
 use Rattle.cyc_plain.specs.declared.instruction.Operand.TheVariants as operands
 use Rattle.cyc_plain.specs.declared.instruction.Instruction.TheVariants as instructions
+use Rattle.cyc_plain.specs.Operators.{truth}
 use Rattle.cyc_plain.specs.State as plain
 use Rattle.cyc_plain.specs.State.{Words, put, Configuration}
 use Rattle.cyc_plain.specs.Step.{Choice, with_slots, at, performed, branches}
@@ -23,7 +24,7 @@ use Rattle.cyc_meaning.specs.State.{World, Environment, ConvertTo, CountElements
 use Rattle.cyc_meaning.specs.Step.{computed, step}
 use Rattle.cyc_objects.specs.Tables.{Tables}
 use Rattle.cyc_objects.specs.Words.{IsPartOf, Is}
-use Rattle.cyc_objects.proofs.Pointers.{not-null, part-not-null, thin-to_fat}
+use Rattle.cyc_objects.proofs.Pointers.{part-not-null, thin-to_fat}
 use Rattle.cyc_lower.specs.ValueCode.{jump_if_zero}
 use Rattle.cyc_lower.specs.Lowering.{lower_program}
 use Rattle.cyc_lower.proofs.slots.Widths.{Outside}
@@ -33,7 +34,7 @@ use Rattle.cyc_lower.proofs.relation.HeldValues.{IsIn, Holds, held}
 use Rattle.cyc_lower.proofs.relation.Relation.{floor, types_at, in_operand, DataIn, SharedAt, ValueStack, LandsStack, Matches, code_of, bounds_at, top}
 use Rattle.cyc_lower.proofs.relation.Data.{height-least, Holds-same, data_written}
 use Rattle.cyc_lower.proofs.relation.Accesses.{IsWell}
-use Rattle.cyc_lower.proofs.relation.Matched.{IsMatched, silently, by_one}
+use Rattle.cyc_lower.proofs.relation.Matched.{IsMatched, by_one}
 use Rattle.cyc_lower.proofs.relation.Paths.{Link, is_quiet, by_path}
 use Rattle.cyc_lower.proofs.value_steps.Evaluations.{landed_word}
 
@@ -47,7 +48,7 @@ fat_is t kind object start count index words p is = absurd is
 
 null_word : (t : Tables) (kind : Kind) (words : Words) (p : ℕ) → Is t kind Null words p → words p ≡ 0
 null_word t kinds.Nullable words p is = is
-null_word t kinds.Fat words p is = is
+null_word t kinds.Fat words p is = is.0
 null_word t kind words p is = absurd is
 
 -- it does not stand in one word
@@ -191,15 +192,18 @@ module _ (source : Program) (pages calls : ℕ) where
 
 -- ---- thin pointers become fat ones
 
--- the two words behind the first, which tell of one cell
+-- the two words behind the first, which tell of one cell, or of none where that is 0
+abbrev many_of : ℕ → ℕ
+many_of word = truth (not (word == 0))
+
 abbrev widened : Words → ℕ → Words
-widened slots n = put (put slots (n + 1) 1) (n + 2) 0
+widened slots n = put (put slots (n + 1) (many_of (slots n))) (n + 2) 0
 
 widened_elsewhere : (slots : Words) (n m : ℕ) → Outside (n + 1) 2 m → widened slots n m ≡ slots m
 widened_elsewhere slots n m (inl below) =
-    put-other (put slots (n + 1) 1) (n + 2) m 0 (λ same. absurd (omega (arith, same, below))) ∙ put-other slots (n + 1) m 1 (λ same. absurd (omega (arith, same, below)))
+    put-other (put slots (n + 1) (many_of (slots n))) (n + 2) m 0 (λ same. absurd (omega (arith, same, below))) ∙ put-other slots (n + 1) m (many_of (slots n)) (λ same. absurd (omega (arith, same, below)))
 widened_elsewhere slots n m (inr above) =
-    put-other (put slots (n + 1) 1) (n + 2) m 0 (λ same. absurd (omega (arith, same, above))) ∙ put-other slots (n + 1) m 1 (λ same. absurd (omega (arith, same, above)))
+    put-other (put slots (n + 1) (many_of (slots n))) (n + 2) m 0 (λ same. absurd (omega (arith, same, above))) ∙ put-other slots (n + 1) m (many_of (slots n)) (λ same. absurd (omega (arith, same, above)))
 
 -- they are those of a fat pointer to the cell, whose address stays
 widened_is : (t : Tables) (kind : Kind) (v u : Value) (slots : Words) (n : ℕ) → words_of_kind kind ≢ 3 → conversion kinds.Fat v ≡ Gives u → Is t kind v slots n → Is t kinds.Fat u (widened slots n) n
@@ -211,11 +215,16 @@ widened_is t kind v u slots n narrow gives is = by kind v is gives narrow
     first : after n ≡ slots n
     first = widened_elsewhere slots n n (inl (omega arith))
 
-    second : after (n + 1) ≡ 1
-    second = put-other (put slots (n + 1) 1) (n + 2) (n + 1) 0 (λ same. absurd (omega (arith, same))) ∙ put-same slots (n + 1) 1
+    turned : (none : Bool) → truth (not none) ≡ (if none then 0 else 1)
+    turned true = refl
+    turned false = refl
+
+    second : after (n + 1) ≡ (if slots n == 0 then 0 else 1)
+    second =
+        put-other (put slots (n + 1) (many_of (slots n))) (n + 2) (n + 1) 0 (λ same. absurd (omega (arith, same))) ∙ (put-same slots (n + 1) (many_of (slots n)) ∙ turned (slots n == 0))
 
     third : after (n + 2) ≡ 0
-    third = put-same (put slots (n + 1) 1) (n + 2) 0
+    third = put-same (put slots (n + 1) (many_of (slots n))) (n + 2) 0
 
     by : (kind : Kind) (v : Value) → Is t kind v slots n → conversion kinds.Fat v ≡ Gives u → words_of_kind kind ≢ 3 → Is t kinds.Fat u after n
     by kinds.Nullable v is gives narrow = thin-to_fat t kinds.Nullable v u slots after n n refl is gives first second third
@@ -239,26 +248,6 @@ is_widened (Thin object offset) k e w well = record { value = Fat object offset 
 is_widened (Fat object start count index) k e w well = record { value = Fat object start count index; gives = refl }
 is_widened v k e w well = absurd (well refl)
 
-given_same : (v u : Value) → Gives v ≡ Gives u → v ≡ u
-given_same v u same = ap (λ (r : Result). given_or v r) same
-  where
-    given_or : Value → Result → Value
-    given_or x (Gives y) = y
-    given_or x r = x
-
--- null in one word
-null_only : (t : Tables) (kind : Kind) (v u : Value) (w : ℕ) → words_of_kind kind ≢ 3 → w ≡ 0 → conversion kinds.Fat v ≡ Gives u → IsIn t (record { kind = kind; value = v }) (λ n. 0) (operands.Word w) → u ≡ Null
-null_only t kinds.Nullable Null u w narrow zero gives is = sym (given_same Null u gives)
-null_only t kinds.Nullable (Thin object offset) u w narrow zero gives is = absurd (not-null is zero)
-null_only t kinds.NonNull (Thin object offset) u w narrow zero gives is = absurd (not-null is zero)
-null_only t kinds.Fat v u w narrow zero gives is = absurd (narrow refl)
-null_only t kinds.Int (Int a) u w narrow zero gives is = absurd (let f : Misfits ≡ Gives u = gives in cc)
-null_only t kinds.Char (Int a) u w narrow zero gives is = absurd (let f : Misfits ≡ Gives u = gives in cc)
-null_only t kinds.Char v u w narrow zero gives is = absurd is
-null_only t kinds.Handle (Handle region) u w narrow zero gives is = absurd (let f : Misfits ≡ Gives u = gives in cc)
-null_only t kinds.Key (Key region) u w narrow zero gives is = absurd (let f : Misfits ≡ Gives u = gives in cc)
-null_only t kind v u w narrow zero gives is = absurd is
-
 module _ (source : Program) (pages calls : ℕ) where
   pub widens : (from : Kind) (target : Option Kind) (v : Kinded) (o : Operand) (q : ℕ) (k : List Entry) (e : Environment) (w : World) (c : Configuration)
       → step source (Running (Given v) (Needs (ConvertTo from kinds.Fat target) ∷ k) e w) ≡ computed kinds.Fat (conversion kinds.Fat v.value) k e w → IsWell (computed kinds.Fat (conversion kinds.Fat v.value) k e w)
@@ -268,14 +257,7 @@ module _ (source : Program) (pages calls : ℕ) where
       → WidenedAt (code_of source c.active.function) (bounds_at source c.active.function) (types_at source c.active.function) o (top source c.active.function k) c.active.next q
       → ValueStack source c.active.function e.locals kinds.Fat o q c.frames k
       → IsMatched source pages calls (Running (Given v) (Needs (ConvertTo from kinds.Fat target) ∷ k) e w) (plain.Running c)
-  widens from target v (operands.Word x) q k e w c does well narrow shared facts is holds (zero, end) stack =
-      let found = is_widened v.value k e w well in
-      let u : Kinded = record { kind = kinds.Fat; value = found.value } in
-      let null = null_only shared.tables v.kind v.value found.value x narrow zero found.gives is in
-      silently source pages calls (Running (Given v) (Needs (ConvertTo from kinds.Fat target) ∷ k) e w) (Running (Given u) k e w) (plain.Running c)
-      (does ∙ ap (λ (r : Result). computed kinds.Fat r k e w) found.gives)
-      (shared, in_operand (operands.Word x) facts (subst (λ (y : Value). IsIn shared.tables (record { kind = kinds.Fat; value = y }) c.active.slots (operands.Word x)) (sym null) zero) (kept_holds _ _ _ k holds) (subst (λ r. ValueStack source c.active.function e.locals kinds.Fat (operands.Word x) r c.frames k) (sym end) stack))
-      (omega arith)
+  widens from target v (operands.Word x) q k e w c does well narrow shared facts is holds widened stack = absurd widened
   widens from target v (operands.Slot n) q k e w c does well narrow shared facts is holds (there, first, second, end) stack =
       let found = is_widened v.value k e w well in
       let u : Kinded = record { kind = kinds.Fat; value = found.value } in
@@ -283,9 +265,9 @@ module _ (source : Program) (pages calls : ℕ) where
       let base = floor source g k in
       let slots = c.active.slots in
       let after = widened slots n in
-      let d : Configuration = at (with_slots c (put slots (n + 1) 1)) (c.active.next + 1) in
+      let d : Configuration = at (with_slots c (put slots (n + 1) (many_of (slots n)))) (c.active.next + 1) in
       let behind : c.active.next + 1 + 1 ≡ q = omega (arith, end) in
-      by_path source pages calls (Given v) (Needs (ConvertTo from kinds.Fat target) ∷ k) e w c (Running (Given u) k e w) (record { instruction = instructions.Move (n + 1) (operands.Word 1); behind = d } ∷ []) (instructions.Move (n + 2) (operands.Word 0))
+      by_path source pages calls (Given v) (Needs (ConvertTo from kinds.Fat target) ∷ k) e w c (Running (Given u) k e w) (record { instruction = instructions.Binary plain_binary.NotEqual (n + 1) (operands.Slot n) (operands.Word 0); behind = d } ∷ []) (instructions.Move (n + 2) (operands.Word 0))
       (does ∙ ap (λ (r : Result). computed kinds.Fat r k e w) found.gives) shared
       (first, (λ choice. refl), omega arith, is_quiet c d.active, tt)
       second

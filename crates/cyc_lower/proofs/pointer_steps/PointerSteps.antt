@@ -96,7 +96,7 @@ has_word : (t : Tables) (kind : Kind) (v : Value) (words : Words) (p : ℕ) → 
 has_word t kinds.Nullable Null words p is pointer = null_word is
 has_word t kinds.Nullable (Thin object offset) words p is pointer = thin_word object offset (not-null is)
 has_word t kinds.NonNull (Thin object offset) words p is pointer = thin_word object offset (not-null is)
-has_word t kinds.Fat Null words p is pointer = null_word is
+has_word t kinds.Fat Null words p is pointer = null_word is.0
 has_word t kinds.Fat (Fat object start many index) words p is pointer = fat_word object start many index (part-not-null is.0)
 has_word t kind (Int a) words p is pointer = absurd pointer
 has_word t kind (Handle region) words p is pointer = absurd pointer
@@ -160,7 +160,7 @@ thin_is : (t : Tables) (kind : Kind) (v : Value) (words : Words) (p : ℕ) → I
 thin_is t kinds.Nullable Null words p is thin = thin_null refl is
 thin_is t kinds.Nullable (Thin object offset) words p is thin = thin_cell object offset is
 thin_is t kinds.NonNull (Thin object offset) words p is thin = thin_cell object offset is
-thin_is t kinds.Fat Null words p is thin = thin_null refl is
+thin_is t kinds.Fat Null words p is thin = thin_null refl is.0
 thin_is t kinds.Fat (Fat object start many index) words p is thin = absurd thin
 thin_is t kind (Int a) words p is thin = absurd thin
 thin_is t kind (Handle region) words p is thin = absurd thin
@@ -234,22 +234,6 @@ module _ (k : List Entry) (e : Environment) (w : World) where
 
 -- ---- arithmetic
 
--- only a fat pointer has an index
-abbrev pub IsFatPointer : Value → Type 0
-IsFatPointer Null = Unit {0}
-IsFatPointer (Fat object start many index) = Unit {0}
-IsFatPointer v = ⊥
-
-pub as_fat : (t : Tables) (kind : Kind) (v : Value) (words : Words) (p : ℕ) → Is t kind v words p → IsFatPointer v → Is t kinds.Fat v words p
-as_fat t kinds.Nullable Null words p is fat = is
-as_fat t kinds.Fat Null words p is fat = is
-as_fat t kinds.Fat (Fat object start many index) words p is fat = is
-as_fat t kind (Int a) words p is fat = absurd fat
-as_fat t kind (Thin object offset) words p is fat = absurd fat
-as_fat t kind (Handle region) words p is fat = absurd fat
-as_fat t kind (Key region) words p is fat = absurd fat
-as_fat t kind v words p is fat = absurd is
-
 pub int_word : (t : Tables) (kind : Kind) (a : ℕ) (words : Words) (p : ℕ) → Is t kind (Int a) words p → words p ≡ a
 int_word t kinds.Int a words p is = is
 int_word t kinds.Char a words p is = is.0
@@ -259,11 +243,10 @@ int_word t kind a words p is = absurd is
 pub record IsMoved (change : ℕ → ℕ) (v : Value) : Type 0 where
   pub value : Value
   pub gives : moved change v ≡ Gives value
-  pub fat : IsFatPointer v
 
 pub is_moved : (change : ℕ → ℕ) (v : Value) (k : List Entry) (e : Environment) (w : World) → IsWell (computed kinds.Fat (moved change v) k e w) → IsMoved change v
-is_moved change Null k e w well = record { value = Null; gives = refl; fat = tt }
-is_moved change (Fat object start many index) k e w well = record { value = Fat object start many (change index); gives = refl; fat = tt }
+is_moved change Null k e w well = record { value = Null; gives = refl }
+is_moved change (Fat object start many index) k e w well = record { value = Fat object start many (change index); gives = refl }
 is_moved change v k e w well = absurd (well refl)
 
 -- where an index was put, and where it was not
@@ -363,7 +346,7 @@ module _ (source : Program) (pages calls : ℕ) where
       → ((choice : Choice) → performed (lower_program source) choice c (instructions.Binary (pointer_operator u) (d + 2) (operands.Slot (top source c.active.function k + 2)) o)
       ≡ plain.Running (advanced (with_slots c (put c.active.slots (d + 2) (change (c.active.slots (top source c.active.function k + 2)))))))
       → (shared : SharedAt source pages calls k e w c) → DataIn source shared.tables c.active.slots k e w c
-      → Is shared.tables left.kind left.value c.active.slots (top source c.active.function k) → Holds shared.tables c.active.slots (floor source c.active.function k) (held k)
+      → Is shared.tables kinds.Fat left.value c.active.slots (top source c.active.function k) → Holds shared.tables c.active.slots (floor source c.active.function k) (held k)
       → IndexAt (code_of source c.active.function) (bounds_at source c.active.function) (types_on source c.active.function k) u o (top source c.active.function k) d c.active.next q
       → LandsStack source c.active.function e.locals kinds.Fat d q c.frames k
       → IsMatched source pages calls (Running (Given v) (Needs (ApplyPointer peek u left) ∷ k) e w) (plain.Running c)
@@ -372,13 +355,13 @@ module _ (source : Program) (pages calls : ℕ) where
       let t = top source c.active.function k in
       let result = is_moved change left.value k e w well in
       index_moves (t == d) u peek (change (slots (t + 2))) left v result.value o d q k e w c refl (does ∙ ap (λ (r : Result). computed kinds.Fat r k e w) result.gives) performs shared facts
-      (λ after first second third. fat-moved shared.tables change left.value result.value slots after t d (as_fat shared.tables left.kind left.value slots t is_left result.fat) result.gives first second third)
+      (λ after first second third. fat-moved shared.tables change left.value result.value slots after t d is_left result.gives first second third)
       holds here rest lands
 
   adds_to : (peek : Option ℕ) (left : Kinded) (j : Kind) (v : Value) (o : Operand) (d q : ℕ) (k : List Entry) (e : Environment) (w : World) (c : Configuration)
       → IsWell (applies_pointer pointers.AddFat left.value v k e w)
       → (shared : SharedAt source pages calls k e w c) → DataIn source shared.tables c.active.slots k e w c → IsIn shared.tables (record { kind = j; value = v }) c.active.slots o
-      → Is shared.tables left.kind left.value c.active.slots (top source c.active.function k) → Holds shared.tables c.active.slots (floor source c.active.function k) (held k)
+      → Is shared.tables kinds.Fat left.value c.active.slots (top source c.active.function k) → Holds shared.tables c.active.slots (floor source c.active.function k) (held k)
       → IndexAt (code_of source c.active.function) (bounds_at source c.active.function) (types_on source c.active.function k) pointers.AddFat o (top source c.active.function k) d c.active.next q
       → LandsStack source c.active.function e.locals kinds.Fat d q c.frames k
       → IsMatched source pages calls (Running (Given (record { kind = j; value = v })) (Needs (ApplyPointer peek pointers.AddFat left) ∷ k) e w) (plain.Running c)
@@ -394,7 +377,7 @@ module _ (source : Program) (pages calls : ℕ) where
   takes_from : (peek : Option ℕ) (left : Kinded) (j : Kind) (v : Value) (o : Operand) (d q : ℕ) (k : List Entry) (e : Environment) (w : World) (c : Configuration)
       → IsWell (applies_pointer pointers.SubtractFat left.value v k e w)
       → (shared : SharedAt source pages calls k e w c) → DataIn source shared.tables c.active.slots k e w c → IsIn shared.tables (record { kind = j; value = v }) c.active.slots o
-      → Is shared.tables left.kind left.value c.active.slots (top source c.active.function k) → Holds shared.tables c.active.slots (floor source c.active.function k) (held k)
+      → Is shared.tables kinds.Fat left.value c.active.slots (top source c.active.function k) → Holds shared.tables c.active.slots (floor source c.active.function k) (held k)
       → IndexAt (code_of source c.active.function) (bounds_at source c.active.function) (types_on source c.active.function k) pointers.SubtractFat o (top source c.active.function k) d c.active.next q
       → LandsStack source c.active.function e.locals kinds.Fat d q c.frames k
       → IsMatched source pages calls (Running (Given (record { kind = j; value = v })) (Needs (ApplyPointer peek pointers.SubtractFat left) ∷ k) e w) (plain.Running c)
@@ -412,19 +395,21 @@ module _ (source : Program) (pages calls : ℕ) where
       → IsWell (step source (Running (Given v) (Needs (ApplyPointer peek u left) ∷ k) e w))
       → (shared : SharedAt source pages calls k e w c) → DataIn source shared.tables c.active.slots k e w c → IsIn shared.tables v c.active.slots o
       → Is shared.tables left.kind left.value c.active.slots (top source c.active.function k) → Holds shared.tables c.active.slots (floor source c.active.function k) (held k)
-      → PointerAt (code_of source c.active.function) (bounds_at source c.active.function) (types_on source c.active.function k) u o (top source c.active.function k) d c.active.next q
+      → (takes_kind u left.kind ≡ true) × PointerAt (code_of source c.active.function) (bounds_at source c.active.function) (types_on source c.active.function k) u o (top source c.active.function k) d c.active.next q
       → LandsStack source c.active.function e.locals (operator_kind u) d q c.frames k
       → IsMatched source pages calls (Running (Given v) (Needs (ApplyPointer peek u left) ∷ k) e w) (plain.Running c)
-  applies_pointers pointers.AddFat peek left v o d q k e w c names well shared facts is is_left holds here lands = adds_to peek left v.kind v.value o d q k e w c well shared facts is is_left holds here lands
-  applies_pointers pointers.SubtractFat peek left v o d q k e w c names well shared facts is is_left holds here lands = takes_from peek left v.kind v.value o d q k e w c well shared facts is is_left holds here lands
-  applies_pointers pointers.ThinIsNull peek left v o d q k e w c names well shared facts is is_left holds (here, end) lands = compares_pointers pointers.ThinIsNull peek left v o d q k e w c names refl well shared facts is is_left holds here end lands
-  applies_pointers pointers.ThinIsNotNull peek left v o d q k e w c names well shared facts is is_left holds (here, end) lands = compares_pointers pointers.ThinIsNotNull peek left v o d q k e w c names refl well shared facts is is_left holds here end lands
-  applies_pointers pointers.FatIsNull peek left v o d q k e w c names well shared facts is is_left holds (here, end) lands = compares_pointers pointers.FatIsNull peek left v o d q k e w c names refl well shared facts is is_left holds here end lands
-  applies_pointers pointers.FatIsNotNull peek left v o d q k e w c names well shared facts is is_left holds (here, end) lands = compares_pointers pointers.FatIsNotNull peek left v o d q k e w c names refl well shared facts is is_left holds here end lands
-  applies_pointers pointers.NullIs peek left v o d q k e w c names well shared facts is is_left holds (here, end) lands = compares_pointers pointers.NullIs peek left v o d q k e w c names refl well shared facts is is_left holds here end lands
-  applies_pointers pointers.NullIsNot peek left v o d q k e w c names well shared facts is is_left holds (here, end) lands = compares_pointers pointers.NullIsNot peek left v o d q k e w c names refl well shared facts is is_left holds here end lands
-  applies_pointers pointers.EqualThin peek left v o d q k e w c names well shared facts is is_left holds (here, end) lands = compares_pointers pointers.EqualThin peek left v o d q k e w c names refl well shared facts is is_left holds here end lands
-  applies_pointers pointers.NotEqualThin peek left v o d q k e w c names well shared facts is is_left holds (here, end) lands = compares_pointers pointers.NotEqualThin peek left v o d q k e w c names refl well shared facts is is_left holds here end lands
+  applies_pointers pointers.AddFat peek left v o d q k e w c names well shared facts is is_left holds (takes, here) lands =
+      adds_to peek left v.kind v.value o d q k e w c well shared facts is (subst (λ i. Is shared.tables i left.value c.active.slots (top source c.active.function k)) (same_kind left.kind kinds.Fat takes) is_left) holds here lands
+  applies_pointers pointers.SubtractFat peek left v o d q k e w c names well shared facts is is_left holds (takes, here) lands =
+      takes_from peek left v.kind v.value o d q k e w c well shared facts is (subst (λ i. Is shared.tables i left.value c.active.slots (top source c.active.function k)) (same_kind left.kind kinds.Fat takes) is_left) holds here lands
+  applies_pointers pointers.ThinIsNull peek left v o d q k e w c names well shared facts is is_left holds (takes, (here, end)) lands = compares_pointers pointers.ThinIsNull peek left v o d q k e w c names refl well shared facts is is_left holds here end lands
+  applies_pointers pointers.ThinIsNotNull peek left v o d q k e w c names well shared facts is is_left holds (takes, (here, end)) lands = compares_pointers pointers.ThinIsNotNull peek left v o d q k e w c names refl well shared facts is is_left holds here end lands
+  applies_pointers pointers.FatIsNull peek left v o d q k e w c names well shared facts is is_left holds (takes, (here, end)) lands = compares_pointers pointers.FatIsNull peek left v o d q k e w c names refl well shared facts is is_left holds here end lands
+  applies_pointers pointers.FatIsNotNull peek left v o d q k e w c names well shared facts is is_left holds (takes, (here, end)) lands = compares_pointers pointers.FatIsNotNull peek left v o d q k e w c names refl well shared facts is is_left holds here end lands
+  applies_pointers pointers.NullIs peek left v o d q k e w c names well shared facts is is_left holds (takes, (here, end)) lands = compares_pointers pointers.NullIs peek left v o d q k e w c names refl well shared facts is is_left holds here end lands
+  applies_pointers pointers.NullIsNot peek left v o d q k e w c names well shared facts is is_left holds (takes, (here, end)) lands = compares_pointers pointers.NullIsNot peek left v o d q k e w c names refl well shared facts is is_left holds here end lands
+  applies_pointers pointers.EqualThin peek left v o d q k e w c names well shared facts is is_left holds (takes, (here, end)) lands = compares_pointers pointers.EqualThin peek left v o d q k e w c names refl well shared facts is is_left holds here end lands
+  applies_pointers pointers.NotEqualThin peek left v o d q k e w c names well shared facts is is_left holds (takes, (here, end)) lands = compares_pointers pointers.NotEqualThin peek left v o d q k e w c names refl well shared facts is is_left holds here end lands
 
   -- the right operand stands behind the left one
   pub right_follows : (peek : Option ℕ) (u : PointerOperator) (b : Expression) (os : Operations) (v : Kinded) (k : List Entry) (e : Environment) (w : World) (c : Configuration) (r : Operand) (m d q : ℕ) → takes_kind u v.kind ≡ true
@@ -437,4 +422,4 @@ module _ (source : Program) (pages calls : ℕ) where
       let g = c.active.function in
       as_operand r m
       (subst (λ n. ValueAt (code_of source g) (bounds_at source g) (types_on source g k) b n r c.active.next m) (ap (λ n. top source g k + n) (sym (taken_words u v.kind takes))) at_b)
-      (is, holds) (d, q, here, lands)
+      (is, holds) (d, q, (takes, here), lands)

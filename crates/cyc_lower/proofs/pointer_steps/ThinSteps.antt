@@ -99,7 +99,7 @@ module _ (source : Program) (pages calls : ℕ) where
     where
       by : (x : Value) → v.value ≡ x → Is shared.tables kinds.Fat x c.active.slots n → IsMatched source pages calls (Running (Given v) (Needs (ConvertTo from kinds.NonNull target) ∷ k) e w) (plain.Running c)
       by Null value is =
-          raises_null source pages calls (Given v) (Needs (ConvertTo from kinds.NonNull target) ∷ k) k e w c (RaisesNull source pages calls c.active.function) n here.0 shared here.2 shared facts is
+          raises_null source pages calls (Given v) (Needs (ConvertTo from kinds.NonNull target) ∷ k) k e w c (RaisesNull source pages calls c.active.function) n here.0 shared here.2 shared facts is.0
           (does ∙ ap (λ (y : Value). computed kinds.NonNull (conversion kinds.NonNull y) k e w) value) (λ block raises. raises)
       by (Fat object start count index) value is =
           narrows_fat from kinds.NonNull target v n q k e w c (RaisesNull source pages calls c.active.function) shared facts holds there stack object start count index value is refl (λ words points. points) does leads here
@@ -110,9 +110,9 @@ module _ (source : Program) (pages calls : ℕ) where
       by : (x : Value) → v.value ≡ x → Is shared.tables kinds.Fat x c.active.slots n → IsMatched source pages calls (Running (Given v) (Needs (ConvertTo from kinds.Nullable target) ∷ k) e w) (plain.Running c)
       by Null value is =
           let next = Running (Given (record { kind = kinds.Nullable; value = Null })) k e w in
-          leaves_null source pages calls (Given v) (Needs (ConvertTo from kinds.Nullable target) ∷ k) k e w c (λ x. x ≡ q) n here.0 shared here.2 next is
+          leaves_null source pages calls (Given v) (Needs (ConvertTo from kinds.Nullable target) ∷ k) k e w c (λ x. x ≡ q) n here.0 shared here.2 next is.0
           (does ∙ ap (λ (y : Value). computed kinds.Nullable (conversion kinds.Nullable y) k e w) value)
-          (λ block same. subst (λ i. Matches source pages calls next (plain.Running (at c i))) (sym same) (shared, in_operand (operands.Slot n) facts is (kept_holds _ _ _ k holds) stack))
+          (λ block same. subst (λ i. Matches source pages calls next (plain.Running (at c i))) (sym same) (shared, in_operand (operands.Slot n) facts is.0 (kept_holds _ _ _ k holds) stack))
       by (Fat object start count index) value is =
           narrows_fat from kinds.Nullable target v n q k e w c (λ x. x ≡ q) shared facts holds there stack object start count index value is refl (λ words points. points) does leads here
       by x value is = absurd is

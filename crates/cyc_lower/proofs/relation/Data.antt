@@ -106,7 +106,6 @@ module _ (t : Tables) where
   IsWord-is kinds.Nullable Null word words p same is = same ∙ is
   IsWord-is kinds.Nullable (Thin object offset) word words p same is = subst (Points t object offset) (sym same) is
   IsWord-is kinds.NonNull (Thin object offset) word words p same is = subst (Points t object offset) (sym same) is
-  IsWord-is kinds.Fat Null word words p same is = same ∙ is
   IsWord-is kinds.Handle (Handle region) word words p same is = is ∙ ap (λ x. Some (Some x)) (sym same)
   IsWord-is kinds.Key (Key region) word words p same is = is ∙ ap (λ x. Some (Some x)) (sym same)
   IsWord-is kind v word words p same is = absurd is
@@ -119,7 +118,7 @@ module _ (t : Tables) where
   -- null is 0
   pub null_at : (kind : Kind) (words : Words) (p : ℕ) → Is t kind Null words p → words p ≡ 0
   null_at kinds.Nullable words p is = is
-  null_at kinds.Fat words p is = is
+  null_at kinds.Fat words p is = is.0
   null_at kind words p is = absurd is
 
   pub null_is : (kind : Kind) (slots : Words) (o : Place) → IsIn t (record { kind = kind; value = Null }) slots o → operand_word slots o ≡ 0
@@ -665,7 +664,6 @@ module _ (t u : Tables) (grows : Grows t u) where
   IsWord-grows kinds.Int v word is = Is-grows grows kinds.Int v (λ (i : ℕ). word) 0 is
   IsWord-grows kinds.Nullable v word is = Is-grows grows kinds.Nullable v (λ (i : ℕ). word) 0 is
   IsWord-grows kinds.NonNull v word is = Is-grows grows kinds.NonNull v (λ (i : ℕ). word) 0 is
-  IsWord-grows kinds.Fat Null word is = is
   IsWord-grows kinds.Handle v word is = Is-grows grows kinds.Handle v (λ (i : ℕ). word) 0 is
   IsWord-grows kinds.Key v word is = Is-grows grows kinds.Key v (λ (i : ℕ). word) 0 is
   IsWord-grows kind v word is = absurd is

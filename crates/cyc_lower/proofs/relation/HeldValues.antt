@@ -13,7 +13,7 @@ use Rattle.cyc_plain.specs.declared.instruction.Instruction.{Instruction}
 use Rattle.cyc_plain.specs.State.{Words}
 use Rattle.cyc_plain.specs.State as plain
 use Rattle.cyc_plain.specs.Memory.{slots_base, is_pinned}
-use Rattle.cyc_meaning.specs.Values.{Fat, Value, Null, Handle, Operand as Kinded, Cell, words_of_kind}
+use Rattle.cyc_meaning.specs.Values.{Fat, Value, Handle, Operand as Kinded, Cell, words_of_kind}
 use Rattle.cyc_meaning.specs.State.{Owner, InRegion, Unique, Object, heap_number, ConvertTo, Operate, Chain, Apply, ApplyPointer, Follow, LoadFrom, Decide, Store, Pass, PlaceBy, BesideHandle, MakePlain, MakeFields, MakeArray, FillElement, Initialise, Choose, Test, Return, Entry, Needs, NeedsPlace, Loop, CloseRegion, CloseLexical, Handler, Caller, Main, Focus, Breaking, Continuing, Returning, FollowMember, TakeAddress, StoreTo, StoreCell, FreeObject, CloseByKey, SwapLeft, SwapRight, CountElements, Index, Advance}
 use Rattle.cyc_meaning.specs.Nesting.{lexicals_of}
 use Rattle.cyc_lower.specs.Slots.{Types, starts_of, slot_of, global_of}
@@ -24,9 +24,8 @@ use Rattle.cyc_lower.proofs.relation.Known.{IsGlobalRow}
 
 -- ---- values in slots
 
--- One word is a value: any but a fat pointer that is not null.
+-- One word is a value: any but a fat pointer.
 abbrev pub IsWord : Tables → Kind → Value → (word : ℕ) → Type 0
-IsWord t kinds.Fat Null word = word ≡ 0
 IsWord t kinds.Fat v word = ⊥
 IsWord t kind v word = Is t kind v (λ (i : ℕ). word) 0
 

@@ -41,7 +41,7 @@ use Rattle.cyc_meaning.specs.Operators.{null_exception, is_zero, unary_kind}
 use Rattle.cyc_meaning.specs.FrameCount.{words_of_all}
 use Rattle.cyc_lower.specs.declared.statements.Exits.{Exits}
 use Rattle.cyc_lower.specs.declared.statements.Opened.{Opened}
-use Rattle.cyc_meaning.specs.Pointers.{result_kind as operator_kind}
+use Rattle.cyc_meaning.specs.Pointers.{takes_kind, result_kind as operator_kind}
 use Rattle.cyc_lower.specs.Slots.{Types, Starts, starts_of, slot_of, global_of, global_types}
 use Rattle.cyc_lower.specs.ValueCode.{failing_comparison, move_of, low_byte, masks, converts_there, all_passed, kinds_passed, slot_types, followed_operand, reached_operand, unary_instruction}
 use Rattle.cyc_lower.specs.ObjectCode.{right_slot}
@@ -331,7 +331,7 @@ module _ (source : Program) where
         × Lands (base_of g) (top g k) d 1 (ValueStack g locals kinds.Int (operands.Slot d) q frames k) (AheadStack g locals kinds.Int d q frames k))
         ((failing : Comparison) × (failing_comparison operator ≡ Some failing) × ConditionStack g failing (operands.Slot (top g k)) o p frames k)
     ValueStack g locals kind o p frames (Needs (ApplyPointer peek operator left) ∷ k) =
-        (d : ℕ) × (q : ℕ) × PointerAt (code_of g) (bounds_at g) (types_on g k) operator o (top g k) d p q
+        (d : ℕ) × (q : ℕ) × ((takes_kind operator left.kind ≡ true) × PointerAt (code_of g) (bounds_at g) (types_on g k) operator o (top g k) d p q)
         × Lands (base_of g) (top g k) d (words_of_kind (operator_kind operator)) (ValueStack g locals (operator_kind operator) (operands.Slot d) q frames k)
         (AheadStack g locals (operator_kind operator) d q frames k)
     ValueStack g locals kind o p frames (Needs CountElements ∷ k) =
@@ -415,7 +415,7 @@ module _ (source : Program) where
         × ReachedAt (code_of g) (bounds_at g) (types_on g k) (option_map bytes_of_kind target) n (top g k + 2) (top g k) (m + 1) q
         × PlaceStack g locals (reached_operand (option_map bytes_of_kind target) n (top g k)) 0 q frames k)
     ValueStack g locals kind o p frames (Needs (Advance peek target base) ∷ k) =
-        (q : ℕ) × At (code_of g) p (instructions.Binary plain_binary.Add (top g k + 2) (operands.Slot (top g k + 2)) o)
+        (q : ℕ) × ((base.kind ≡ kinds.Fat) × At (code_of g) p (instructions.Binary plain_binary.Add (top g k + 2) (operands.Slot (top g k + 2)) o))
         × ReachedAt (code_of g) (bounds_at g) (types_on g k) (option_map bytes_of_kind target) (top g k) (top g k + 2) (top g k) (p + 1) q
         × PlaceStack g locals (reached_operand (option_map bytes_of_kind target) (top g k) (top g k)) 0 q frames k
     ValueStack g locals kind o p frames (Needs (OpenBy number lent items) ∷ k) =
@@ -526,10 +526,10 @@ module _ (source : Program) where
       Yields ((d : ℕ) × (q : ℕ) × OperatorAt (code_of g) (bounds_at g) (types_on g k) operator d l r p q × LandsStack g locals kinds.Int d q frames k)
       ((failing : Comparison) × (failing_comparison operator ≡ Some failing) × ConditionStack g failing l r p frames k)
 
-  -- a fat pointer in slot n moves by an index, and an access by it is made
-  abbrev pub AdvancesAt : (g : ℕ) → (ℕ → Option ℕ) → (span : Option ℕ) → (n : ℕ) → Operand → (p q : ℕ) → List Frame → List Entry → Type 0
-  AdvancesAt g locals span n x p q frames k =
-      At (code_of g) p (instructions.Binary plain_binary.Add (top g k + 2) (operands.Slot (n + 2)) x)
+  -- a pointer of a kind in slot n, which is fat, moves by an index, and an access by it is made
+  abbrev pub AdvancesAt : (g : ℕ) → (ℕ → Option ℕ) → Kind → (span : Option ℕ) → (n : ℕ) → Operand → (p q : ℕ) → List Frame → List Entry → Type 0
+  AdvancesAt g locals kind span n x p q frames k =
+      ((kind ≡ kinds.Fat) × At (code_of g) p (instructions.Binary plain_binary.Add (top g k + 2) (operands.Slot (n + 2)) x))
       × ReachedAt (code_of g) (bounds_at g) (types_on g k) span n (top g k + 2) (top g k) (p + 1) q × PlaceStack g locals (reached_operand span n (top g k)) 0 q frames k
 
   -- ---- the focus
@@ -542,7 +542,8 @@ module _ (source : Program) where
       × ((Holds t slots (floor g k) (held k) × AppliedStack g locals operator l o p frames k)
       ⊎ ((q : ℕ) × OperatorAt (code_of g) (bounds_at g) (types_on g k) operator (top g k) l o p q × BesideAt t locals g (operands.Slot (top g k)) q slots frames k))
   BesideAt t locals g o p slots frames (Needs (Advance peek target base) ∷ k) =
-      (n : ℕ) × (q : ℕ) × Is t base.kind base.value slots n × (n ≤ top g k) × Holds t slots (floor g k) (held k) × AdvancesAt g locals (option_map bytes_of_kind target) n o p q frames k
+      (n : ℕ) × (q : ℕ) × Is t base.kind base.value slots n × (n ≤ top g k) × Holds t slots (floor g k) (held k)
+      × AdvancesAt g locals base.kind (option_map bytes_of_kind target) n o p q frames k
   BesideAt t locals g o p slots frames (Needs (Chain operations) ∷ k) =
       (q : ℕ) × IsLow o (top g k) × (are_simple (starts_on g k) operations ≡ true)
       × OperationsAt (code_of g) (bounds_at g) (types_on g k) operations o (top g k) (top g k) p q × BesideAt t locals g (operands.Slot (top g k)) q slots frames k

@@ -147,11 +147,16 @@ module _ (code : List Instruction) (bounds : Numbering) (types : Types) where
   SummedAt None n x t p q = p ≡ q
   SummedAt (Some bytes) n x t p q = At code p (instructions.Binary plain_binary.Add t (operands.Slot n) (operands.Slot x)) × (p + 1 ≡ q)
 
+  -- an index is compared with a length, and what raises an exception is jumped over: that of null where the pointer is null
+  abbrev pub InsideAt : (n m p q : ℕ) → Type 0
+  InsideAt n m p q =
+      At code p (instructions.Branch comparisons.LessUnsigned (operands.Slot m) (operands.Slot (n + 1)) q)
+      × ((x : ℕ) × At code (p + 1) (instructions.Branch comparisons.Equal (operands.Slot n) (operands.Word 0) x) × At code x (raising null_exception))
+      × ((x : ℕ) × At code (p + 2) (instructions.Jump x) × At code x (raising array_bounds)) × (p + 3 ≡ q)
+
   -- an access by a fat pointer whose first words are in slot n and the next, and whose index is in slot m
   abbrev pub ReachedAt : (span : Option ℕ) → (n m t p q : ℕ) → Type 0
-  ReachedAt span n m t p q =
-      (r : ℕ) × (s : ℕ) × (u : ℕ) × CheckAt null_exception (operands.Slot n) p r × ScaledAt span m (t + 3) r s
-      × BoundsAt (operands.Slot m) (operands.Slot (n + 1)) s u × SummedAt span n (t + 3) t u q
+  ReachedAt span n m t p q = (s : ℕ) × (u : ℕ) × ScaledAt span m (t + 3) p s × InsideAt n m s u × SummedAt span n (t + 3) t u q
 
   -- an access by a pointer in an operand
   abbrev pub FollowedAt : (thin : Bool) → (span : Option ℕ) → Operand → (t p q : ℕ) → Type 0
@@ -163,11 +168,12 @@ module _ (code : List Instruction) (bounds : Numbering) (types : Types) where
   TestedAt kinds.NonNull o p q = CheckAt null_exception o p q
   TestedAt to o p q = p ≡ q
 
-  -- a value that gets more words is in slot t, or is null
+  -- a value that gets more words is in slot t
   abbrev pub WidenedAt : Operand → (t p q : ℕ) → Type 0
   WidenedAt (operands.Slot n) t p q =
-      (n ≡ t) × At code p (instructions.Move (n + 1) (operands.Word 1)) × At code (p + 1) (instructions.Move (n + 2) (operands.Word 0)) × (p + 2 ≡ q)
-  WidenedAt (operands.Word w) t p q = (w ≡ 0) × (p ≡ q)
+      (n ≡ t) × At code p (instructions.Binary plain_binary.NotEqual (n + 1) (operands.Slot n) (operands.Word 0))
+      × At code (p + 1) (instructions.Move (n + 2) (operands.Word 0)) × (p + 2 ≡ q)
+  WidenedAt (operands.Word w) t p q = ⊥
 
   -- a fat pointer becomes a thin one
   abbrev pub ThinnedAt : (to : Kind) → (span : Option ℕ) → Operand → (t p q : ℕ) → Type 0

@@ -1,11 +1,12 @@
 -- Each run of the plain program is one of the source.
-use Rattle.std.proofs.Common.{◌≡◌, ℕ, zero, suc, ◌≤◌, ◌<◌, Bool, true, false, List, [], ◌∷◌, length, map, Option, None, Some, slice_get, slice_index, refl, sym, ap, subst, ◌∙◌, arith, inl, inr, ◌+◌, ◌-◌, ◌*◌}
-use Rattle.std.specs.Prelude.{◌==◌, if◌then◌else◌}
+use Rattle.std.proofs.Common.{◌≡◌, ℕ, zero, suc, ◌≤◌, ◌<◌, Bool, true, false, List, [], ◌∷◌, ◌++◌, length, map, Option, None, Some, slice_get, slice_index, refl, sym, ap, subst, ◌∙◌, arith, inl, inr, ◌+◌, ◌-◌, ◌*◌}
+use Rattle.std.specs.Prelude.{◌==◌, if◌then◌else◌, replicate}
 use Rattle.std.proofs.lemmas.Bool.{le-leb, and_from}
 use Rattle.std.proofs.lemmas.Option.{same_Some, none-some}
 use Rattle.cyc_words.specs.Ending.{Full}
 use Rattle.cyc_types.specs.TypedTrees.{Constant, GlobalVariable, Function, Program}
 use Rattle.cyc_syntax.specs.declared.tree.PointerKind.TheVariants as marks
+use Rattle.cyc_types.specs.declared.typed.Kind.{Kind}
 use Rattle.cyc_types.specs.declared.typed.Kind.TheVariants as kinds
 use Rattle.cyc_types.specs.Types.{Ty, words_of}
 use Rattle.cyc_types.specs.Types as types
@@ -17,7 +18,7 @@ use Rattle.cyc_store.specs.New.{IsNew}
 use Rattle.cyc_store.specs.declared.range.TheConstants.{MOST_PAGES}
 use Rattle.cyc_store.proofs.NewStores.{new_demand}
 use Rattle.cyc_plain.specs.State as plain
-use Rattle.cyc_plain.specs.State.{Configuration}
+use Rattle.cyc_plain.specs.State.{Words, Configuration}
 use Rattle.cyc_plain.specs.Step as plain_step
 use Rattle.cyc_plain.proofs.RunLaws.{lawful}
 use Rattle.cyc_plain.proofs.WordLaws.{words_stay, words_at_start}
@@ -40,12 +41,13 @@ use Rattle.cyc_meaning.proofs.Nested.{nests_start}
 use Rattle.cyc_meaning.specs.Variables.{FunctionsRise}
 use Rattle.cyc_meaning.proofs.VariableRuns.{NestsAndNames, both_kept, names_start}
 use Rattle.cyc_objects.specs.Tables.{Tables, first_tables, Placed}
+use Rattle.cyc_objects.specs.Words.{Is}
 use Rattle.cyc_objects.specs.Related as objects
 use Rattle.cyc_objects.proofs.Start.{start-related}
-use Rattle.cyc_lower.proofs.relation.HeldValues.{IsWord, callers, contents, MayBeOpen, IsCharAt}
+use Rattle.cyc_lower.proofs.relation.HeldValues.{callers, contents, MayBeOpen, IsCharAt}
 use Rattle.cyc_lower.proofs.relation.Relation.{silent, call_slots, Related, Matches, types_at, starts_at}
 use Rattle.cyc_lower.proofs.relation.Fitting.{IsFitting}
-use Rattle.cyc_lower.proofs.relation.Data.{no_locals_hold, IsWord-is}
+use Rattle.cyc_lower.proofs.relation.Data.{no_locals_hold, Is-same}
 use Rattle.cyc_lower.proofs.relation.Accesses.{IsWell}
 use Rattle.cyc_lower.proofs.relation.Matched.{IsMatched, above, below, matching}
 use Rattle.cyc_lower.proofs.value_steps.Evaluations.{evaluating, locating}
@@ -70,55 +72,58 @@ use Rattle.cyc_lower.proofs.relation.Named.{names_there}
 use Rattle.cyc_plain.specs.declared.limits.TheConstants.{MOST_GLOBALS, GLOBALS_BASE}
 use Rattle.cyc_lower.proofs.relation.Known.{IsGlobalRow, first_word}
 use Rattle.cyc_lower.specs.ValueCode.{variable_bytes}
-use Rattle.cyc_lower.proofs.place_steps.KindWords.{small_word}
+use Rattle.cyc_objects.proofs.Chars.{char-small}
 use Rattle.cyc_store.proofs.LookupLemmas.{same_some}
 
 -- ---- the globals at the start
 
--- the word with which a global begins tells its value
-initial_is : (t : Tables) (g : GlobalVariable) (v : Kinded) (constant : Constant) (u : Ty) → IsWellTypedGlobal (record { name = g.name; of_type = u; value = constant }) → Some (record { kind = kind_of u; value = constant_value constant }) ≡ Some v
-    → IsWord t v.kind v.value (initial_word constant)
-initial_is t g v constant u (inl (int, (n, word))) e =
+-- the words with which a global begins tell its value
+abbrev begun : (constant : Constant) → Ty → (rest : List ℕ) → Words
+begun constant u rest = slice_index (initial_word constant ∷ replicate (words_of u - 1) 0 ++ rest)
+
+initial_is : (t : Tables) (g : GlobalVariable) (rest : List ℕ) (v : Kinded) (constant : Constant) (u : Ty) → IsWellTypedGlobal (record { name = g.name; of_type = u; value = constant }) → Some (record { kind = kind_of u; value = constant_value constant }) ≡ Some v
+    → Is t v.kind v.value (begun constant u rest) 0
+initial_is t g rest v constant u (inl (int, (n, word))) e =
     let v_is : record { kind = kinds.Int; value = Int n } ≡ v
     = sym (ap (λ (z : Ty). let x : Kinded = record { kind = kind_of z; value = Int n } in x) int) ∙ sym (ap (λ (c : Constant). let x : Kinded = record { kind = kind_of u; value = constant_value c } in x) word)
     ∙ same_Some (record { kind = kind_of u; value = constant_value constant }) v e in
-    subst (λ (x : Kinded). IsWord t x.kind x.value (initial_word constant)) v_is (ap initial_word word)
-initial_is t g v constant u (inr (inl (char, (n, word, small)))) e =
+    subst (λ (x : Kinded). Is t x.kind x.value (begun constant u rest) 0) v_is (ap initial_word word)
+initial_is t g rest v constant u (inr (inl (char, (n, word, small)))) e =
     let v_is : record { kind = kinds.Char; value = Int n } ≡ v
     = sym (ap (λ (z : Ty). let x : Kinded = record { kind = kind_of z; value = Int n } in x) char) ∙ sym (ap (λ (c : Constant). let x : Kinded = record { kind = kind_of u; value = constant_value c } in x) word)
     ∙ same_Some (record { kind = kind_of u; value = constant_value constant }) v e in
-    subst (λ (x : Kinded). IsWord t x.kind x.value (initial_word constant)) v_is (ap initial_word word, small)
-initial_is t g v constant (types.Pointer marks.Nullable y r) (inr (inr (k, u, s, is, non_null, null))) e =
+    subst (λ (x : Kinded). Is t x.kind x.value (begun constant u rest) 0) v_is (ap initial_word word, small)
+initial_is t g rest v constant (types.Pointer marks.Nullable y r) (inr (inr (k, u, s, is, non_null, null))) e =
     let v_is : record { kind = kinds.Nullable; value = Null } ≡ v
     = sym (ap (λ (c : Constant). let x : Kinded = record { kind = kinds.Nullable; value = constant_value c } in x) null) ∙ same_Some (record { kind = kinds.Nullable; value = constant_value constant }) v e in
-    subst (λ (x : Kinded). IsWord t x.kind x.value (initial_word constant)) v_is (ap initial_word null)
-initial_is t g v constant (types.Pointer marks.Fat y r) (inr (inr (k, u, s, is, non_null, null))) e =
+    subst (λ (x : Kinded). Is t x.kind x.value (begun constant (types.Pointer marks.Nullable y r) rest) 0) v_is (ap initial_word null)
+initial_is t g rest v constant (types.Pointer marks.Fat y r) (inr (inr (k, u, s, is, non_null, null))) e =
     let v_is : record { kind = kinds.Fat; value = Null } ≡ v
     = sym (ap (λ (c : Constant). let x : Kinded = record { kind = kinds.Fat; value = constant_value c } in x) null) ∙ same_Some (record { kind = kinds.Fat; value = constant_value constant }) v e in
-    subst (λ (x : Kinded). IsWord t x.kind x.value (initial_word constant)) v_is (ap initial_word null)
-initial_is t g v constant (types.Pointer marks.NonNull y r) (inr (inr (k, u, s, is, non_null, null))) e = absurd (let f : true ≡ false = non_null in cc)
-initial_is t g v constant types.Int (inr (inr (k, u, s, is, non_null, null))) e = absurd (let f : types.Int ≡ types.Pointer k u s = is in cc)
-initial_is t g v constant types.Char (inr (inr (k, u, s, is, non_null, null))) e = absurd (let f : types.Char ≡ types.Pointer k u s = is in cc)
-initial_is t g v constant (types.Handle r) (inr (inr (k, u, s, is, non_null, null))) e = absurd (let f : types.Handle r ≡ types.Pointer k u s = is in cc)
-initial_is t g v constant (types.Key r) (inr (inr (k, u, s, is, non_null, null))) e = absurd (let f : types.Key r ≡ types.Pointer k u s = is in cc)
-initial_is t g v constant (types.Struct n rs) (inr (inr (k, u, s, is, non_null, null))) e = absurd (let f : types.Struct n rs ≡ types.Pointer k u s = is in cc)
+    subst (λ (x : Kinded). Is t x.kind x.value (begun constant (types.Pointer marks.Fat y r) rest) 0) v_is (ap initial_word null, refl)
+initial_is t g rest v constant (types.Pointer marks.NonNull y r) (inr (inr (k, u, s, is, non_null, null))) e = absurd (let f : true ≡ false = non_null in cc)
+initial_is t g rest v constant types.Int (inr (inr (k, u, s, is, non_null, null))) e = absurd (let f : types.Int ≡ types.Pointer k u s = is in cc)
+initial_is t g rest v constant types.Char (inr (inr (k, u, s, is, non_null, null))) e = absurd (let f : types.Char ≡ types.Pointer k u s = is in cc)
+initial_is t g rest v constant (types.Handle r) (inr (inr (k, u, s, is, non_null, null))) e = absurd (let f : types.Handle r ≡ types.Pointer k u s = is in cc)
+initial_is t g rest v constant (types.Key r) (inr (inr (k, u, s, is, non_null, null))) e = absurd (let f : types.Key r ≡ types.Pointer k u s = is in cc)
+initial_is t g rest v constant (types.Struct n rs) (inr (inr (k, u, s, is, non_null, null))) e = absurd (let f : types.Struct n rs ≡ types.Pointer k u s = is in cc)
 
 -- so the words of each, which stand behind those of the globals before it, are what it begins with
 globals_start : (t : Tables) (gs : List GlobalVariable) (number : ℕ) (v : Kinded) → AreWellTypedGlobals gs → contents (map global_object gs) number ≡ Some v
-    → IsWord t v.kind v.value (slice_index (lower_globals gs) (slot_in (global_types gs) number)) × (words_of_kind v.kind ≤ words_in (global_types gs) number)
+    → Is t v.kind v.value (slice_index (lower_globals gs)) (slot_in (global_types gs) number) × (words_of_kind v.kind ≤ words_in (global_types gs) number)
 globals_start t [] number v well has = absurd (none-some v has)
 globals_start t (g ∷ gs) zero v (well, rest) has = (
-  initial_is t g v g.value g.of_type well has,
+  initial_is t g (lower_globals gs) v g.value g.of_type well has,
   omega (arith, type_words g.of_type, ap (λ (x : Kinded). words_of_kind x.kind) (same_Some (record { kind = kind_of g.of_type; value = constant_value g.value }) v has)),
 )
 globals_start t (g ∷ gs) (suc number) v (well, rest) has =
     let (is, room) = globals_start t gs number v rest has in
     let behind = slot_in (global_types gs) number in
     let long : length (lower_global g) ≡ words_of g.of_type = omega (arith, length-replicate {A = ℕ} (words_of g.of_type - 1) 0, words_positive g.of_type) in
-    let next : slice_index (lower_globals (g ∷ gs)) (words_of g.of_type + behind) ≡ slice_index (lower_globals gs) behind
-    = get_or-append_right (lower_global g) (lower_globals gs) (words_of g.of_type) (words_of g.of_type + behind) 0 long (omega arith)
-    ∙ ap (λ (n : ℕ). slice_index (lower_globals gs) n) (let e : words_of g.of_type + behind - words_of g.of_type ≡ behind = omega arith in e) in
-    (subst (IsWord t v.kind v.value) (sym next) is, room)
+    let next = λ (j : ℕ).
+    get_or-append_right (lower_global g) (lower_globals gs) (words_of g.of_type) (words_of g.of_type + behind + j) 0 long (omega arith)
+    ∙ ap (λ (n : ℕ). slice_index (lower_globals gs) n) (let e : words_of g.of_type + behind + j - words_of g.of_type ≡ behind + j = omega arith in e) in
+    (Is-same t v.kind v.value (slice_index (lower_globals gs)) (slice_index (lower_globals (g ∷ gs))) behind (words_of g.of_type + behind) (λ j below. next j) is, room)
 
 -- each holds something
 global_has : (gs : List GlobalVariable) (number : ℕ) → number < length (global_types gs)
@@ -249,7 +254,7 @@ module _ (source : Program) (pages calls : ℕ) (well_typed : AreWellTypedGlobal
                 let (is, room) = globals_start t source.globals number v well_typed has in
                 let first = global_of (starts_at source source.main) number in
                 let first_is = globals-are (types_at source source.main) number few in
-                (IsWord-is t v.kind v.value (slice_index (lower_globals source.globals) (slot_in (global_types source.globals) number)) words first (ap (slice_index (lower_globals source.globals)) first_is) is, room),
+                (subst (Is t v.kind v.value words) (sym first_is) is, room),
             λ is_char.
                 let (v, has, kind) = global_has source.globals number few in
                 let (is, room) = globals_start t source.globals number v well_typed has in
@@ -257,7 +262,7 @@ module _ (source : Program) (pages calls : ℕ) (well_typed : AreWellTypedGlobal
                 let char : v.kind ≡ kinds.Char = kind ∙ (row.of_type ∙ char_global t (global_types source.globals) number row is_char) in
                 let first_is = globals-are (types_at source source.main) number few in
                 subst (λ (n : ℕ). n < 256) (sym (ap (slice_index (lower_globals source.globals)) first_is))
-                (small_word t v.kind v.value (slice_index (lower_globals source.globals) (slot_in (global_types source.globals) number)) is char),
+                (char-small t v.value (slice_index (lower_globals source.globals)) (slot_in (global_types source.globals) number) (subst (λ (kind : Kind). Is t kind v.value (slice_index (lower_globals source.globals)) (slot_in (global_types source.globals) number)) char is)),
           ),
         ),
         (refl, tt),

@@ -223,11 +223,11 @@ module _ (program : PlainProgram) (r : Routine) (b : Numbering) (called : (n : �
         let o = value_operand (starts_of types) a t in
         let inner = expression_code (starts_of types) a p slot t in
         let front = code_unless (operand_of (starts_of types) a) inner in
-        let access = followed_code (starts_of types) (is_thin k) (span_in ty) o t in
+        let access = followed_code (starts_of types) (is_thin k) (span_in ty) o t (p + length front) in
         let long = length-append front access in
         let free : t + words_of_kind (kind_at program r b types locals levels globals called results behind a) ≤ r.slots = omega (arith, few, given_needs program r b types locals levels globals called results behind a numbered, some) in
         append program r b types locals levels globals called results behind front access (unless_in program r b types locals levels globals called results behind (operand_of (starts_of types) a) inner p (omega (arith, short, long)) (λ less. expression_in types locals levels globals behind a p slot t numbered (slot_fits program r b types locals levels globals called results behind a t numbered free) (omega (arith, few)) less))
-        (followed_in program r b types locals levels globals called results behind k (is_thin k) (span_in ty) o t refl pointer (subst (λ x. HasOperand program r b types locals levels globals called results behind o (words_of_kind x)) (sym kind_is) (value_room program r b types locals levels globals called results behind a t numbered free)) (omega (arith, few, wide, some)))
+        (followed_in program r b types locals levels globals called results behind k (is_thin k) (span_in ty) o t (p + length front) refl pointer (subst (λ x. HasOperand program r b types locals levels globals called results behind o (words_of_kind x)) (sym kind_is) (value_room program r b types locals levels globals called results behind a t numbered free)) (omega (arith, few, wide, some)) (omega (arith, short, long)))
     place_in types locals levels globals behind (Member k a s f ty) own p t (thin, there, numbered) some few short =
         let slot = value_slot (starts_of types) a t in
         let o = value_operand (starts_of types) a t in
@@ -248,7 +248,8 @@ module _ (program : PlainProgram) (r : Routine) (b : Numbering) (called : (n : �
         let o = value_operand (starts_of types) i (t + 3) in
         let inner = expression_code (starts_of types) i m slot (t + 3) in
         let operand = code_unless (operand_of (starts_of types) i) inner in
-        let reached = reached_code (starts_of types) (span_in ty) n (t + 2) t in
+        let place = m + length operand + 1 in
+        let reached = reached_code (starts_of types) (span_in ty) n (t + 2) t place in
         let back = instructions.Binary plain_binary.Add (t + 2) (operands.Slot (n + 2)) o ∷ reached in
         let long = length-append front (operand ++ back) in
         let long_operand = length-append operand back in
@@ -259,7 +260,7 @@ module _ (program : PlainProgram) (r : Routine) (b : Numbering) (called : (n : �
         let inside : n + 3 ≤ r.slots = pointer_room program r b types locals levels globals called results behind a i t fat first (omega (arith, room, wide)) in
         append program r b types locals levels globals called results behind front (operand ++ back) (unless_slot_in program r b types locals levels globals called results behind known pointer p (omega (arith, short, long)) (λ less. expression_in types locals levels globals behind a p t t first room (omega (arith, few)) less))
         (append program r b types locals levels globals called results behind operand back (unless_in program r b types locals levels globals called results behind (operand_of (starts_of types) i) inner m (omega (arith, short, long, long_operand)) (λ less. expression_in types locals levels globals behind i m slot (t + 3) second (slot_fits program r b types locals levels globals called results behind i (t + 3) second free) (omega (arith, few, three)) less))
-        ((third, omega (arith, inside), value_in program r b types locals levels globals called results behind i (t + 3) second free), reached_in program r b types locals levels globals called results behind (span_in ty) n (t + 2) t (omega (arith, inside)) third (omega (arith, few, three, some))))
+        ((third, omega (arith, inside), value_in program r b types locals levels globals called results behind i (t + 3) second free), reached_in program r b types locals levels globals called results behind (span_in ty) n (t + 2) t place (omega (arith, inside)) third (omega (arith, few, three, some)) (omega (arith, short, long, long_operand))))
 
     pub initial_in : (types : Types) (locals : (n : ℕ) → n < b.locals → slot_of (starts_of types) n + words_in types.locals n ≤ r.slots) (levels : (l slot : ℕ) → slice_get types.counters l ≡ Some slot → slot < r.slots) (globals : AreGlobals program types.globals) (behind : types.raises + 4 < length r.code) → (c : Converted) (p d t : ℕ) → FitsConverted b types c → d + words_of_kind (kind_passed c) ≤ r.slots → t + converted_words c ≤ r.slots → t + converted_need c ≤ r.slots → p + length (initial_code (starts_of types) c p d t) < length r.code → AreIn program r b types locals levels globals called results behind (initial_code (starts_of types) c p d t)
     initial_in types locals levels globals behind (Convert from to a) p d t (kind, wide, numbered) room free few short =

@@ -36,7 +36,7 @@ use Rattle.cyc_store.specs.declared.range.TheConstants.{HEAP, UNIQUE}
 use Rattle.cyc_meaning.specs.Values.{kind_of, words_of_kind, begins, behind, bytes_from, words_for, is_thin}
 use Rattle.cyc_lower.proofs.slots.Widths.{kind_few, type_words}
 use Rattle.cyc_lower.proofs.slots.CellBytes.{passed_slots}
-use Rattle.cyc_lower.specs.ValueCode.{converts_there, passed_words, all_passed, kinds_passed, converted_by, moved_by, move_of, binary_operator, operand_or, code_unless, slot_or, code_unless_slot, next_slot, conversion_code, divisor_code, checked_code, operator_code, truth_code, low_byte, test_code, is_in, copy_code, failing_comparison, left_with, first_temporary, jump_if_zero, jump_if_nonzero, behind_left, pointer_code, pointer_operator, index_of, first_two, pointer_instructions, address_code, blocks, element_by, count_code, span_of, tested_code, widened_code, conversion_by, tested_by, check_code, loaded_code, bounds_code, stepped_code, scaled_code, summed_code, bounded_code, past_bounded, thinned_code, reached_code, followed_code, followed_operand, followed_by, span_in, reached_operand, word_by_word, load_word, store_word, global_code, keeps_words, load_of, store_of, unary_instruction, last_byte_code, blank_code, kind_behind, kind_passed, scale_of, masks, masked_by}
+use Rattle.cyc_lower.specs.ValueCode.{converts_there, passed_words, all_passed, kinds_passed, converted_by, moved_by, move_of, binary_operator, operand_or, code_unless, slot_or, code_unless_slot, next_slot, conversion_code, divisor_code, checked_code, operator_code, truth_code, low_byte, test_code, is_in, copy_code, failing_comparison, left_with, first_temporary, jump_if_zero, jump_if_nonzero, behind_left, pointer_code, pointer_operator, index_of, first_two, pointer_instructions, address_code, blocks, element_by, count_code, span_of, tested_code, widened_code, conversion_by, tested_by, check_code, loaded_code, bounds_code, stepped_code, scaled_code, summed_code, bounded_code, past_bounded, thinned_code, reached_code, followed_code, followed_operand, followed_by, span_in, reached_operand, word_by_word, load_word, store_word, global_code, keeps_words, load_of, store_of, unary_instruction, last_byte_code, blank_code, kind_behind, kind_passed, scale_of, masks, masked_by, inside_code}
 use Rattle.cyc_lower.specs.ObjectCode.{begun_code, filled_code, ended_code, elements_code, stores_code, cells_code, slots_of_kinds, object_code, free_code, right_slot, saved_code, load_at, measured_code, sized_code}
 use Rattle.cyc_lower.specs.ControlCode.{compared_or, failing_jump, holding_jump, break_target, continue_target, body_target, outside_loops, inside_loop, leave_code, tag_operand, other_jump, clause_code, opened_code, closed_code, named_code, dynamic_code, closing_code, handlers_code, marks_code, kept_code, kept_code_in, restored_code, restored_code_in, behind_record, inside_try, inside_region}
 use Rattle.cyc_lower.specs.ExpressionCode.{source_of, source_slot, operand_of, left_of, value_slot, left_slot, value_operand, converted_operand, printed_operand, load_code, expression_code, arguments_code, converted_code, converted_operand_code, printed_code, initial_code, operations_code, slot_with, made_code, place_operand, place_offset, place_code, pointer_of, pointer_slot, brought_code, is_simple}
@@ -99,16 +99,15 @@ stepped_size (Some bytes) n m t =
 bounded_size : (starts : Starts) (span : Option ℕ) (n m t : ℕ) → code_size (bounded_code starts span n m t) ≤ 33
 bounded_size starts span n m t = omega (arith, both (bounds_code starts (operands.Slot m) (operands.Slot (n + 1))) (stepped_code span n m t), stepped_size span n m t)
 
-reached_size : (starts : Starts) (span : Option ℕ) (n m t : ℕ) → code_size (reached_code starts span n m t) ≤ 44
-reached_size starts span n m t =
+reached_size : (starts : Starts) (span : Option ℕ) (n m t p : ℕ) → code_size (reached_code starts span n m t p) ≤ 55
+reached_size starts span n m t p =
     let scaled = scaled_code span m (t + 3) in
-    let bounds = bounds_code starts (operands.Slot m) (operands.Slot (n + 1)) in
+    let inside = inside_code starts n m (p + length scaled) in
     let summed = summed_code span n (t + 3) t in
     omega (
       arith,
-      both (check_code starts null_exception (operands.Slot n)) (scaled ++ (bounds ++ summed)),
-      both scaled (bounds ++ summed),
-      both bounds summed,
+      both scaled (inside ++ summed),
+      both inside summed,
       scaled_size span m (t + 3),
       summed_size span n (t + 3) t,
     )
@@ -201,14 +200,15 @@ converted_by_size starts known inner from to span o p bound few =
     let front = code_unless known inner in
     omega (arith, both front (conversion_code starts from to span o (p + length front)), unless_size known inner, few, conversion_size starts from to span o (p + length front))
 
-followed_size : (starts : Starts) (thin : Bool) (span : Option ℕ) (o : Operand) (t : ℕ) → code_size (followed_code starts thin span o t) ≤ 44
-followed_size starts true span o t = omega arith
-followed_size starts false span (operands.Slot n) t = reached_size starts span n (n + 2) t
-followed_size starts false span (operands.Word w) t = omega arith
+followed_size : (starts : Starts) (thin : Bool) (span : Option ℕ) (o : Operand) (t p : ℕ) → code_size (followed_code starts thin span o t p) ≤ 55
+followed_size starts true span o t p = omega arith
+followed_size starts false span (operands.Slot n) t p = reached_size starts span n (n + 2) t p
+followed_size starts false span (operands.Word w) t p = omega arith
 
-followed_by_size : (starts : Starts) (known : Option Operand) (inner : List Instruction) (thin : Bool) (span : Option ℕ) (o : Operand) (t bound : ℕ) → code_size inner ≤ bound → code_size (followed_by starts known inner thin span o t) ≤ bound + 44
-followed_by_size starts known inner thin span o t bound few =
-    omega (arith, both (code_unless known inner) (followed_code starts thin span o t), unless_size known inner, few, followed_size starts thin span o t)
+followed_by_size : (starts : Starts) (known : Option Operand) (inner : List Instruction) (thin : Bool) (span : Option ℕ) (o : Operand) (t p bound : ℕ) → code_size inner ≤ bound → code_size (followed_by starts known inner thin span o t p) ≤ bound + 55
+followed_by_size starts known inner thin span o t p bound few =
+    let q = p + length (code_unless known inner) in
+    omega (arith, both (code_unless known inner) (followed_code starts thin span o t q), unless_size known inner, few, followed_size starts thin span o t q)
 
 tested_by_size : (starts : Starts) (known : Option Operand) (inner : List Instruction) (o : Operand) (bound : ℕ) → code_size inner ≤ bound → code_size (tested_by starts known inner o) ≤ bound + 18
 tested_by_size starts known inner o bound few = omega (arith, both (code_unless known inner) (check_code starts null_exception o), unless_size known inner, few)
@@ -255,14 +255,15 @@ count_size : (o : Operand) (p d : ℕ) → code_size (count_code o p d) ≤ 41
 count_size (operands.Word n) p d = omega arith
 count_size (operands.Slot n) p d = omega arith
 
-element_by_size : (starts : Starts) (there : Option Operand) (front : List Instruction) (known : Option Operand) (inner : List Instruction) (span : Option ℕ) (s : ℕ) (o : Operand) (t n m : ℕ)
+element_by_size : (starts : Starts) (there : Option Operand) (front : List Instruction) (known : Option Operand) (inner : List Instruction) (span : Option ℕ) (s : ℕ) (o : Operand) (t p n m : ℕ)
     → code_size front ≤ n
     → code_size inner ≤ m
-    → code_size (element_by starts (code_unless_slot there front) (code_unless known inner) span s o t) ≤ n + m + 58
-element_by_size starts there front known inner span s o t n m first second =
+    → code_size (element_by starts (code_unless_slot there front) (code_unless known inner) span s o t p) ≤ n + m + 69
+element_by_size starts there front known inner span s o t p n m first second =
     let operand = code_unless known inner in
     let sum = instructions.Binary plain_binary.Add (t + 2) (operands.Slot (s + 2)) o in
-    let reached = reached_code starts span s (t + 2) t in
+    let q = p + length (code_unless_slot there front) + length operand + 1 in
+    let reached = reached_code starts span s (t + 2) t q in
     omega (
       arith,
       both (code_unless_slot there front) (operand ++ sum ∷ reached),
@@ -272,7 +273,7 @@ element_by_size starts there front known inner span s o t n m first second =
       unless_size known inner,
       first,
       second,
-      reached_size starts span s (t + 2) t,
+      reached_size starts span s (t + 2) t q,
     )
 
 test_size : (o : LogicalOperator) (operand : List Instruction) (p d t : ℕ) → code_size (test_code o operand p d t) ≤ 25 + code_size operand
@@ -545,7 +546,7 @@ mutual
       let slot = value_slot starts a t in
       omega (
         arith,
-        followed_by_size starts (operand_of starts a) (expression_code starts a p slot t) (is_thin k) (span_in ty) (value_operand starts a t) t (size_per_weight * expression_weight a) (expression_size starts a p slot t),
+        followed_by_size starts (operand_of starts a) (expression_code starts a p slot t) (is_thin k) (span_in ty) (value_operand starts a t) t p (size_per_weight * expression_weight a) (expression_size starts a p slot t),
       )
   place_size starts (Member k a n f ty) p t =
       let slot = value_slot starts a t in
@@ -556,7 +557,7 @@ mutual
       let q = p + length (code_unless_slot (pointer_of starts a i) front) in
       omega (
         arith,
-        element_by_size starts (pointer_of starts a i) front (operand_of starts i) (expression_code starts i q slot (t + 3)) (span_in ty) (pointer_slot starts a i t) (value_operand starts i (t + 3)) t (size_per_weight * expression_weight a) (size_per_weight * expression_weight i) (expression_size starts a p t t) (expression_size starts i q slot (t + 3)),
+        element_by_size starts (pointer_of starts a i) front (operand_of starts i) (expression_code starts i q slot (t + 3)) (span_in ty) (pointer_slot starts a i t) (value_operand starts i (t + 3)) t p (size_per_weight * expression_weight a) (size_per_weight * expression_weight i) (expression_size starts a p t t) (expression_size starts i q slot (t + 3)),
       )
 
   -- with the address in a slot
@@ -569,7 +570,7 @@ mutual
       omega (
         arith,
         both front (copy_code 1 x t),
-        followed_by_size starts (operand_of starts a) (expression_code starts a p slot t) (is_thin k) (span_in ty) o t (size_per_weight * expression_weight a) (expression_size starts a p slot t),
+        followed_by_size starts (operand_of starts a) (expression_code starts a p slot t) (is_thin k) (span_in ty) o t p (size_per_weight * expression_weight a) (expression_size starts a p slot t),
         copied_address_size x t,
       )
   store_address_size starts (Member k a n f ty) p t =
@@ -592,7 +593,7 @@ mutual
         arith,
         both (place_code starts (Element a i ty) p t) (copy_code 1 x t),
         copied_address_size x t,
-        element_by_size starts (pointer_of starts a i) front (operand_of starts i) (expression_code starts i q slot (t + 3)) (span_in ty) (pointer_slot starts a i t) (value_operand starts i (t + 3)) t (size_per_weight * expression_weight a) (size_per_weight * expression_weight i) (expression_size starts a p t t) (expression_size starts i q slot (t + 3)),
+        element_by_size starts (pointer_of starts a i) front (operand_of starts i) (expression_code starts i q slot (t + 3)) (span_in ty) (pointer_slot starts a i t) (value_operand starts i (t + 3)) t p (size_per_weight * expression_weight a) (size_per_weight * expression_weight i) (expression_size starts a p t t) (expression_size starts i q slot (t + 3)),
       )
 
   initial_size : (starts : Starts) → (c : Converted) (p d t : ℕ) → code_size (initial_code starts c p d t) ≤ size_per_weight * converted_weight c + 64

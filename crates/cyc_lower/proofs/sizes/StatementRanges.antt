@@ -5,7 +5,7 @@ use Rattle.cyc_types.specs.declared.typed.Kind.TheVariants as kinds
 use Rattle.cyc_types.specs.declared.typed.Callee.TheVariants as callees
 use Rattle.cyc_types.specs.declared.typed.UnaryOperator.TheVariants as unary
 use Rattle.cyc_types.specs.Types.{Ty, words_of}
-use Rattle.cyc_types.specs.TypedTrees.{Lvalue, Local, Global, Expression, Number, NullPointer, Call, Unary, Binary, Assign, Converted, Convert, NoOperations, ThenCompute, type_of, Statement, Block, Empty, Evaluate, If, While, Return, Break, Continue, Items, NoItems, MoreItems, Execute, Declare, Signature, Store, Side, VariableSide, CellSide, Swap, Throw, Try, Clauses, NoClauses, Default, Case, DeclareRegion, OpenRegion, DeclareAlias, DeclareKey}
+use Rattle.cyc_types.specs.TypedTrees.{Lvalue, Local, Global, Expression, Number, Call, Unary, Binary, Assign, Converted, Convert, NoOperations, ThenCompute, type_of, Statement, Block, Empty, Evaluate, If, While, Return, Break, Continue, Items, NoItems, MoreItems, Execute, Declare, Signature, Store, Side, VariableSide, CellSide, Swap, Throw, Try, Clauses, NoClauses, Default, Case, DeclareRegion, OpenRegion, DeclareAlias, DeclareKey}
 use Rattle.cyc_types.specs.Numbered.{Numbering}
 use Rattle.cyc_plain.specs.declared.instruction.Comparison.{Comparison}
 use Rattle.cyc_plain.specs.declared.instruction.Operand.{Operand}
@@ -19,7 +19,7 @@ use Rattle.cyc_meaning.specs.Values.{kind_of, words_of_kind}
 use Rattle.cyc_meaning.specs.FrameCount.{converted_words, expression_need, converted_need, initial_need, statement_need, items_need, place_words, side_need, kept_by, kept_by_items, clauses_need, kept_by_clauses, thrown_need}
 use Rattle.cyc_lower.specs.declared.statements.Exits.{Exits}
 use Rattle.cyc_lower.specs.Slots.{starts_of, slot_of, Types, global_of}
-use Rattle.cyc_lower.specs.ValueCode.{passed_words, operand_or, slot_or, code_unless_slot, left_with, conversion_code, failing_comparison, span_of, null_of, word_by_word, global_code, keeps_words, kind_passed}
+use Rattle.cyc_lower.specs.ValueCode.{passed_words, operand_or, slot_or, code_unless_slot, left_with, conversion_code, failing_comparison, span_of, word_by_word, global_code, keeps_words, kind_passed}
 use Rattle.cyc_lower.specs.ObjectCode.{right_slot, load_at}
 use Rattle.cyc_lower.specs.ControlCode.{compared_or, failing_jump, holding_jump, body_target, inside_loop, leave_code, tag_operand, clause_code, opened_code, closed_code, named_code, dynamic_code, handlers_code, marks_code, kept_code, kept_code_in, restored_code, restored_code_in, behind_record, behind_record_in, inside_try, inside_region, outermost}
 use Rattle.cyc_lower.specs.ExpressionCode.{source_of, operand_of, value_slot, slot_with, value_operand, converted_operand, printed_operand, expression_code, converted_operand_code, printed_code, brought_code, is_simple}
@@ -201,13 +201,9 @@ module _ (program : PlainProgram) (r : Routine) (b : Numbering) (types : Types) 
           (subst (λ (x : Option Operand). HasOperand program r b types locals levels globals called results behind (operand_or x (value_slot (starts_of types) a t)) (words_of_kind (kind_at program r b types locals levels globals called results behind a))) there (value_room program r b types locals levels globals called results behind a t is (omega (arith, few, kind_few (kind_at program r b types locals levels globals called results behind a))))))
       wide_room kind is wide None there = omega (arith, few, kind_few from, kind_few to)
 
-      null_slot : (x : Expression) → slot_or (null_of x) t ≡ t
-      null_slot NullPointer = refl
-      null_slot x = refl
-
-      returned_in : (same : Bool) → from ≡ kind_at program r b types locals levels globals called results behind a → Fits b types a → keeps_words from to ≡ same → slot_or (if same then operand_of (starts_of types) a else null_of a) t + converted_words (Convert from to a) ≤ r.slots
+      returned_in : (same : Bool) → from ≡ kind_at program r b types locals levels globals called results behind a → Fits b types a → keeps_words from to ≡ same → slot_or (if same then operand_of (starts_of types) a else None) t + converted_words (Convert from to a) ≤ r.slots
       returned_in true kind is wide = wide_room kind is (keeps_wide from to wide) (operand_of (starts_of types) a) refl
-      returned_in false kind is wide = omega (arith, few, kind_few from, kind_few to, null_slot a)
+      returned_in false kind is wide = omega (arith, few, kind_few from, kind_few to)
 
   declaration_in : (n : ℕ) (ty : Ty) (v : Option Converted) (p t : ℕ) → n < b.locals → HasRoom types n (kind_of ty) → FitsInitial b types n v → t + initial_need v + spare_slots ≤ r.slots
       → p + length (declaration_code (starts_of types) n ty v p t) < length r.code → AreIn program r b types locals levels globals called results behind (declaration_code (starts_of types) n ty v p t)

@@ -32,7 +32,7 @@ use Rattle.cyc_meaning.specs.Values.{kind_of, words_of_kind, begins, behind as c
 use Rattle.cyc_meaning.specs.FrameCount.{operand_words, converted_words, argument_words, expression_need, dereference_need, operations_need, place_words}
 use Rattle.cyc_meaning.specs.Pointers.{result_kind as operator_kind}
 use Rattle.cyc_lower.specs.Slots.{starts_of, slot_of, Types, global_of}
-use Rattle.cyc_lower.specs.ValueCode.{converts_there, passed_words, moved_by, move_of, binary_operator, operand_or, code_unless, slot_or, code_unless_slot, left_with, next_slot, check_code, conversion_code, divisor_code, checked_code, operator_code, truth_code, test_code, copy_code, pointer_operator, left_kind, behind_left, pointer_code, index_code, pointer_instructions, address_code, addressed_by, guard_code, count_code, span_of, null_of, tested_code, widened_code, conversion_by, bounds_code, stepped_code, scaled_code, summed_code, bounded_code, thinned_code, reached_code, followed_code, followed_operand, span_in, reached_operand, word_by_word, load_word, store_word, global_code, keeps_words, scale_of, load_of, store_of, kind_passed, unary_instruction, last_byte_code, blank_code, masked_by, low_byte}
+use Rattle.cyc_lower.specs.ValueCode.{converts_there, passed_words, moved_by, move_of, binary_operator, operand_or, code_unless, slot_or, code_unless_slot, left_with, next_slot, check_code, conversion_code, divisor_code, checked_code, operator_code, truth_code, test_code, copy_code, pointer_operator, left_kind, behind_left, pointer_code, index_code, pointer_instructions, address_code, addressed_by, guard_code, count_code, span_of, tested_code, widened_code, conversion_by, bounds_code, stepped_code, scaled_code, summed_code, bounded_code, thinned_code, reached_code, followed_code, followed_operand, span_in, reached_operand, word_by_word, load_word, store_word, global_code, keeps_words, scale_of, load_of, store_of, kind_passed, unary_instruction, last_byte_code, blank_code, masked_by, low_byte, inside_code}
 use Rattle.cyc_lower.specs.ObjectCode.{stores_code, cells_code, slots_of_kinds, object_code, free_code, saved_code, measured_code, sized_code, asked_code, begun_code, filled_code, most_elements}
 use Rattle.cyc_lower.specs.ControlCode.{counter_operand}
 use Rattle.cyc_lower.specs.ExpressionCode.{source_of, source_slot, operand_of, left_of, value_slot, slot_with, left_slot, value_operand, converted_operand, printed_operand, load_code, expression_code, brought_code, converted_operand_code, place_operand, place_offset, place_code, pointer_slot, is_simple}
@@ -172,10 +172,6 @@ module _ (program : PlainProgram) (r : Routine) (b : Numbering) (types : Types) 
       by true = slot_fits a t numbered (omega (arith, few, ap words_of_kind kind))
       by false = omega (arith, few, ap words_of_kind kind)
 
-  null_room : (a : Expression) (t words : ℕ) → t + words ≤ r.slots → HasOperand (operand_or (null_of a) t) words
-  null_room NullPointer t words few = tt
-  null_room a t words few = few
-
   less_operand : (o : Operand) (words fewer : ℕ) → fewer ≤ words → HasOperand o words → HasOperand o fewer
   less_operand (operands.Slot n) words fewer less inside = omega (arith, less, inside)
   less_operand (operands.Word w) words fewer less inside = tt
@@ -184,12 +180,12 @@ module _ (program : PlainProgram) (r : Routine) (b : Numbering) (types : Types) 
   brought_room (Convert from to a) t (kind, wide, numbered) few = by (keeps_words from to) refl
     where
       by : (same : Bool) → keeps_words from to ≡ same
-          → HasOperand (operand_or (if same then operand_of (starts_of types) a else null_of a) (if same then value_slot (starts_of types) a t else t)) (converted_words (Convert from to a))
+          → HasOperand (operand_or (if same then operand_of (starts_of types) a else None) (if same then value_slot (starts_of types) a t else t)) (converted_words (Convert from to a))
       by true wide =
           subst (HasOperand (value_operand (starts_of types) a t))
           (let same : words_of_kind (kind_at a) ≡ converted_words (Convert from to a) = omega (arith, ap words_of_kind kind, keeps_wide from to wide) in same)
           (value_room a t numbered (omega (arith, few, ap words_of_kind kind)))
-      by false wide = null_room a t (converted_words (Convert from to a)) few
+      by false wide = few
 
   pub converted_room : (c : Converted) (t : ℕ) → FitsConverted b types c → t + converted_words c ≤ r.slots → HasOperand (converted_operand (starts_of types) c t) (words_of_kind (kind_passed c))
   converted_room (Convert from to a) t numbered few =
@@ -319,22 +315,26 @@ module _ (program : PlainProgram) (r : Routine) (b : Numbering) (types : Types) 
   summed_in None n x t first distance room = tt
   summed_in (Some bytes) n x t first distance room = ((room, first, distance), tt)
 
-  pub reached_in : (span : Option ℕ) (n m t : ℕ) → n + 2 ≤ r.slots → m < r.slots → t + 3 < r.slots → AreIn (reached_code (starts_of types) span n m t)
-  reached_in span n m t first index room =
-      let scaled = scaled_code span m (t + 3) in
-      let bounds = bounds_code (starts_of types) (operands.Slot m) (operands.Slot (n + 1)) in
-      let summed = summed_code span n (t + 3) t in
-      append (check_code (starts_of types) null_exception (operands.Slot n)) (scaled ++ (bounds ++ summed)) (check_in null_exception (operands.Slot n) (omega arith) (omega (arith, first)))
-      (append scaled (bounds ++ summed) (scaled_in span m (t + 3) index room)
-      (append bounds summed (bounds_in (operands.Slot m) (operands.Slot (n + 1)) index (omega (arith, first))) (summed_in span n (t + 3) t (omega (arith, first)) room (omega (arith, room)))))
+  inside_in : (n m p : ℕ) → n + 2 ≤ r.slots → m < r.slots → p + 3 < length r.code → AreIn (inside_code (starts_of types) n m p)
+  inside_in n m p first index short = ((index, omega (arith, first), omega (arith, short)), ((omega (arith, first), tt, omega (arith, behind)), (omega (arith, behind), tt)))
 
-  pub followed_in : (k : Kind) (thin : Bool) (span : Option ℕ) (o : Operand) (t : ℕ) → is_thin k ≡ thin → is_pointer k ≡ true → HasOperand o (words_of_kind k) → t + words_of_kind k < r.slots → AreIn (followed_code (starts_of types) thin span o t)
-  followed_in k true span o t is pointer inside room = check_in null_exception o (omega arith) (operand_in o k inside)
-  followed_in k false span (operands.Word w) t is pointer inside room = check_in null_exception (operands.Word w) (omega arith) tt
-  followed_in k false span (operands.Slot n) t is pointer inside room =
+  pub reached_in : (span : Option ℕ) (n m t p : ℕ) → n + 2 ≤ r.slots → m < r.slots → t + 3 < r.slots → p + length (reached_code (starts_of types) span n m t p) < length r.code → AreIn (reached_code (starts_of types) span n m t p)
+  reached_in span n m t p first index room short =
+      let scaled = scaled_code span m (t + 3) in
+      let s = p + length scaled in
+      let inside = inside_code (starts_of types) n m s in
+      let summed = summed_code span n (t + 3) t in
+      append scaled (inside ++ summed) (scaled_in span m (t + 3) index room)
+      (append inside summed (inside_in n m s first index (omega (arith, short, length-append scaled (inside ++ summed)))) (summed_in span n (t + 3) t (omega (arith, first)) room (omega (arith, room))))
+
+  pub followed_in : (k : Kind) (thin : Bool) (span : Option ℕ) (o : Operand) (t p : ℕ) → is_thin k ≡ thin → is_pointer k ≡ true → HasOperand o (words_of_kind k) → t + words_of_kind k < r.slots
+      → p + length (followed_code (starts_of types) thin span o t p) < length r.code → AreIn (followed_code (starts_of types) thin span o t p)
+  followed_in k true span o t p is pointer inside room short = check_in null_exception o (omega arith) (operand_in o k inside)
+  followed_in k false span (operands.Word w) t p is pointer inside room short = check_in null_exception (operands.Word w) (omega arith) tt
+  followed_in k false span (operands.Slot n) t p is pointer inside room short =
       let fat : k ≡ kinds.Fat = same_kind k kinds.Fat (ap (λ (b : Bool). if b then true else is_kind k kinds.Fat) (sym is) ∙ pointer) in
       let three = ap words_of_kind fat in
-      reached_in span n (n + 2) t (omega (arith, inside, three)) (omega (arith, inside, three)) (omega (arith, room, three))
+      reached_in span n (n + 2) t p (omega (arith, inside, three)) (omega (arith, inside, three)) (omega (arith, room, three)) short
 
   followed_operand_in : (thin : Bool) (span : Option ℕ) (o : Operand) (t : ℕ) → IsOperand r o → t < r.slots → IsOperand r (followed_operand thin span o t)
   followed_operand_in true span o t inside room = inside
@@ -347,7 +347,7 @@ module _ (program : PlainProgram) (r : Routine) (b : Numbering) (types : Types) 
   tested_in to o inside = tt
 
   widened_in : (o : Operand) → HasOperand o 3 → AreIn (widened_code o)
-  widened_in (operands.Slot n) inside = ((omega (arith, inside), tt), ((omega (arith, inside), tt), tt))
+  widened_in (operands.Slot n) inside = ((omega (arith, inside), omega (arith, inside), tt), ((omega (arith, inside), tt), tt))
   widened_in (operands.Word w) inside = tt
 
   thinned_in : (to : Kind) (span : Option ℕ) (o : Operand) (p : ℕ) → HasOperand o 3 → p + length (thinned_code (starts_of types) to span o p) < length r.code → AreIn (thinned_code (starts_of types) to span o p)

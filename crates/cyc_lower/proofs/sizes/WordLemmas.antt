@@ -35,7 +35,7 @@ use Rattle.cyc_words.proofs.Lists.{all_append}
 use Rattle.cyc_types.specs.Types.{words_of, Ty}
 use Rattle.cyc_store.specs.declared.range.TheConstants.{HEAP, UNIQUE}
 use Rattle.cyc_meaning.specs.Values.{words_of_kind, bytes_of_kind, begins, behind, bytes_from, words_for, is_thin, kind_of}
-use Rattle.cyc_lower.specs.ValueCode.{converts_there, passed_words, kinds_passed, converted_by, moved_by, move_of, operand_or, code_unless, slot_or, code_unless_slot, left_with, next_slot, check_code, conversion_code, divisor_code, checked_code, operator_code, truth_code, test_code, is_in, copy_code, failing_comparison, first_temporary, behind_left, pointer_code, index_of, first_two, pointer_instructions, address_code, addressed_by, guard_code, blocks, element_by, count_code, span_of, null_of, tested_code, widened_code, conversion_by, tested_by, bounds_code, stepped_code, scaled_code, summed_code, bounded_code, thinned_code, reached_code, followed_code, followed_operand, followed_by, span_in, reached_operand, word_by_word, load_word, store_word, global_code, keeps_words, scale_of, load_of, store_of, unary_instruction, last_byte_code, blank_code, kind_behind, kind_passed, variable_bytes, masks, masked_by, low_byte}
+use Rattle.cyc_lower.specs.ValueCode.{converts_there, passed_words, kinds_passed, converted_by, moved_by, move_of, operand_or, code_unless, slot_or, code_unless_slot, left_with, next_slot, check_code, conversion_code, divisor_code, checked_code, operator_code, truth_code, test_code, is_in, copy_code, failing_comparison, first_temporary, behind_left, pointer_code, index_of, first_two, pointer_instructions, address_code, addressed_by, guard_code, blocks, element_by, count_code, span_of, tested_code, widened_code, conversion_by, tested_by, bounds_code, stepped_code, scaled_code, summed_code, bounded_code, thinned_code, reached_code, followed_code, followed_operand, followed_by, span_in, reached_operand, word_by_word, load_word, store_word, global_code, keeps_words, scale_of, load_of, store_of, unary_instruction, last_byte_code, blank_code, kind_behind, kind_passed, variable_bytes, masks, masked_by, low_byte, inside_code}
 use Rattle.cyc_lower.specs.ObjectCode.{begun_code, filled_code, ended_code, elements_code, stores_code, cells_code, slots_of_kinds, object_code, right_slot, saved_code, asked_code, load_at, measured_code, sized_code, most_elements}
 use Rattle.cyc_lower.specs.ControlCode.{counter_operand, compared_or, compared_of, outside_loops, inside_loop, leave_code, clause_code, opened_code, closed_code, named_code, dynamic_code, handlers_code, marks_code, kept_code, kept_code_in, restored_code, restored_code_in, behind_record, inside_try, inside_region}
 use Rattle.cyc_lower.specs.ExpressionCode.{source_of, source_slot, operand_of, left_of, value_slot, left_slot, value_operand, converted_operand, printed_operand, load_code, expression_code, arguments_code, converted_code, converted_operand_code, printed_code, initial_code, operations_code, slot_with, made_code, place_operand, place_offset, place_code, pointer_of, pointer_slot, brought_code, is_simple}
@@ -99,7 +99,7 @@ tested_words starts kinds.NonNull o word = check_words starts null_exception o w
 tested_words starts to o word = tt
 
 widened_words : (o : Operand) → HaveWords (widened_code o)
-widened_words (operands.Slot n) = (omega arith, (omega arith, tt))
+widened_words (operands.Slot n) = ((tt, omega arith), (omega arith, tt))
 widened_words (operands.Word w) = tt
 
 bounds_words : (starts : Starts) (index bound : Operand) → IsOfWord index → IsOfWord bound → HaveWords (bounds_code starts index bound)
@@ -130,13 +130,15 @@ summed_words : (span : Option ℕ) (n x t : ℕ) → HaveWords (summed_code span
 summed_words None n x t = tt
 summed_words (Some bytes) n x t = ((tt, tt), tt)
 
-reached_words : (starts : Starts) (span : Option ℕ) (n m t : ℕ) → HaveWords (reached_code starts span n m t)
-reached_words starts span n m t =
+inside_words : (starts : Starts) (n m p : ℕ) → HaveWords (inside_code starts n m p)
+inside_words starts n m p = ((tt, tt), ((tt, omega arith), (tt, tt)))
+
+reached_words : (starts : Starts) (span : Option ℕ) (n m t p : ℕ) → HaveWords (reached_code starts span n m t p)
+reached_words starts span n m t p =
     let scaled = scaled_code span m (t + 3) in
-    let bounds = bounds_code starts (operands.Slot m) (operands.Slot (n + 1)) in
+    let inside = inside_code starts n m (p + length scaled) in
     let summed = summed_code span n (t + 3) t in
-    append (check_code starts null_exception (operands.Slot n)) (scaled ++ (bounds ++ summed)) (check_words starts null_exception (operands.Slot n) tt)
-    (append scaled (bounds ++ summed) (scaled_words span m (t + 3)) (append bounds summed (bounds_words starts (operands.Slot m) (operands.Slot (n + 1)) tt tt) (summed_words span n (t + 3) t)))
+    append scaled (inside ++ summed) (scaled_words span m (t + 3)) (append inside summed (inside_words starts n m (p + length scaled)) (summed_words span n (t + 3) t))
 
 thinned_words : (starts : Starts) (to : Kind) (span : Option ℕ) (o : Operand) (p : ℕ) → HaveWords (thinned_code starts to span o p)
 thinned_words starts kinds.NonNull span (operands.Slot n) p =
@@ -209,10 +211,10 @@ converted_by_words starts known inner from to span o p all word =
     let front = code_unless known inner in
     append front (conversion_code starts from to span o (p + length front)) (unless_words known inner all) (conversion_words starts from to span o (p + length front) word)
 
-followed_words : (starts : Starts) (thin : Bool) (span : Option ℕ) (o : Operand) (t : ℕ) → IsOfWord o → HaveWords (followed_code starts thin span o t)
-followed_words starts true span o t word = check_words starts null_exception o word
-followed_words starts false span (operands.Slot n) t word = reached_words starts span n (n + 2) t
-followed_words starts false span (operands.Word w) t word = check_words starts null_exception (operands.Word w) word
+followed_words : (starts : Starts) (thin : Bool) (span : Option ℕ) (o : Operand) (t p : ℕ) → IsOfWord o → HaveWords (followed_code starts thin span o t p)
+followed_words starts true span o t p word = check_words starts null_exception o word
+followed_words starts false span (operands.Slot n) t p word = reached_words starts span n (n + 2) t p
+followed_words starts false span (operands.Word w) t p word = check_words starts null_exception (operands.Word w) word
 
 reached_word : (span : Option ℕ) (n t : ℕ) → IsOfWord (reached_operand span n t)
 reached_word None n t = tt
@@ -224,14 +226,14 @@ followed_word false None (operands.Slot n) t word = tt
 followed_word false (Some words) (operands.Slot n) t word = tt
 followed_word false span (operands.Word w) t word = word
 
-followed_by_words : (starts : Starts) (known : Option Operand) (inner : List Instruction) (thin : Bool) (span : Option ℕ) (o : Operand) (t : ℕ) → HaveWords inner → IsOfWord o → HaveWords (followed_by starts known inner thin span o t)
-followed_by_words starts known inner thin span o t all word =
-    append (code_unless known inner) (followed_code starts thin span o t) (unless_words known inner all) (followed_words starts thin span o t word)
+followed_by_words : (starts : Starts) (known : Option Operand) (inner : List Instruction) (thin : Bool) (span : Option ℕ) (o : Operand) (t p : ℕ) → HaveWords inner → IsOfWord o → HaveWords (followed_by starts known inner thin span o t p)
+followed_by_words starts known inner thin span o t p all word =
+    append (code_unless known inner) _ (unless_words known inner all) (followed_words starts thin span o t (p + length (code_unless known inner)) word)
 
-element_by_words : (starts : Starts) (there : Option Operand) (front : List Instruction) (known : Option Operand) (inner : List Instruction) (span : Option ℕ) (n : ℕ) (o : Operand) (t : ℕ) → HaveWords front → HaveWords inner → IsOfWord o
-    → HaveWords (element_by starts (code_unless_slot there front) (code_unless known inner) span n o t)
-element_by_words starts there front known inner span n o t first second word =
-    append (code_unless_slot there front) _ (unless_slot_words there front first) (append (code_unless known inner) _ (unless_words known inner second) ((tt, word), reached_words starts span n (t + 2) t))
+element_by_words : (starts : Starts) (there : Option Operand) (front : List Instruction) (known : Option Operand) (inner : List Instruction) (span : Option ℕ) (n : ℕ) (o : Operand) (t p : ℕ) → HaveWords front → HaveWords inner → IsOfWord o
+    → HaveWords (element_by starts (code_unless_slot there front) (code_unless known inner) span n o t p)
+element_by_words starts there front known inner span n o t p first second word =
+    append (code_unless_slot there front) _ (unless_slot_words there front first) (append (code_unless known inner) _ (unless_words known inner second) ((tt, word), reached_words starts span n (t + 2) t (p + length (code_unless_slot there front) + length (code_unless known inner) + 1)))
 
 tested_by_words : (starts : Starts) (known : Option Operand) (inner : List Instruction) (o : Operand) → HaveWords inner → IsOfWord o → HaveWords (tested_by starts known inner o)
 tested_by_words starts known inner o all word = append (code_unless known inner) (check_code starts null_exception o) (unless_words known inner all) (check_words starts null_exception o word)
@@ -379,13 +381,9 @@ module _ (starts : Starts) where
   converted_word : (c : Converted) (t : ℕ) → IsOfWordsConverted c → IsOfWord (converted_operand starts c t)
   converted_word (Convert from to a) t words = by (keeps_words from to)
     where
-      null_word : (x : Expression) → IsOfWord (operand_or (null_of x) t)
-      null_word NullPointer = omega arith
-      null_word x = tt
-
-      by : (same : Bool) → IsOfWord (operand_or (if same then operand_of starts a else null_of a) (if same then value_slot starts a t else t))
+      by : (same : Bool) → IsOfWord (operand_or (if same then operand_of starts a else None) (if same then value_slot starts a t else t))
       by true = known_word a (value_slot starts a t) words
-      by false = null_word a
+      by false = tt
 
   printed_word : (cs : Arguments) (o : Operand) (t : ℕ) → AreOfWordsArguments cs → IsOfWord o → IsOfWord (printed_operand starts cs o t)
   printed_word NoArguments o t words word = word
@@ -514,7 +512,7 @@ mutual
   place_words : (starts : Starts) → (x : Dereference) (p t : ℕ) → IsOfWordsCell x → HaveWords (place_code starts x p t)
   place_words starts (Target k a ty) p t words =
       let slot = value_slot starts a t in
-      followed_by_words starts (operand_of starts a) (expression_code starts a p slot t) (is_thin k) (span_in ty) (value_operand starts a t) t (expression_words starts a p slot t words) (known_word starts a slot words)
+      followed_by_words starts (operand_of starts a) (expression_code starts a p slot t) (is_thin k) (span_in ty) (value_operand starts a t) t p (expression_words starts a p slot t words) (known_word starts a slot words)
   place_words starts (Member k a s f ty) p t words =
       let slot = value_slot starts a t in
       tested_by_words starts (operand_of starts a) (expression_code starts a p slot t) (value_operand starts a t) (expression_words starts a p slot t words) (known_word starts a slot words)
@@ -522,7 +520,7 @@ mutual
       let front = expression_code starts a p t t in
       let q = p + length (code_unless_slot (pointer_of starts a i) front) in
       let slot = value_slot starts i (t + 3) in
-      element_by_words starts (pointer_of starts a i) front (operand_of starts i) (expression_code starts i q slot (t + 3)) (span_in ty) (pointer_slot starts a i t) (value_operand starts i (t + 3)) t (expression_words starts a p t t first) (expression_words starts i q slot (t + 3) second) (known_word starts i slot second)
+      element_by_words starts (pointer_of starts a i) front (operand_of starts i) (expression_code starts i q slot (t + 3)) (span_in ty) (pointer_slot starts a i t) (value_operand starts i (t + 3)) t p (expression_words starts a p t t first) (expression_words starts i q slot (t + 3) second) (known_word starts i slot second)
 
   -- its address comes to a slot
   address_of_words : (starts : Starts) → (x : Dereference) (p d t : ℕ) → IsOfWordsCell x → HaveWords (addressed_by (place_code starts x p t) (place_operand starts x t) (place_offset starts x) d)
@@ -531,7 +529,7 @@ mutual
       let o = value_operand starts a t in
       let x = followed_operand (is_thin k) (span_in ty) o t in
       append (place_code starts (Target k a ty) p t) _
-      (followed_by_words starts (operand_of starts a) (expression_code starts a p slot t) (is_thin k) (span_in ty) o t (expression_words starts a p slot t words) (known_word starts a slot words))
+      (followed_by_words starts (operand_of starts a) (expression_code starts a p slot t) (is_thin k) (span_in ty) o t p (expression_words starts a p slot t words) (known_word starts a slot words))
       (address_words x 0 d (followed_word (is_thin k) (span_in ty) o t (known_word starts a slot words)) (omega arith))
   address_of_words starts (Member k a s f ty) p d t words =
       let slot = value_slot starts a t in
@@ -546,7 +544,7 @@ mutual
       let slot = value_slot starts i (t + 3) in
       let n = pointer_slot starts a i t in
       append (place_code starts (Element a i ty) p t) _
-      (element_by_words starts (pointer_of starts a i) front (operand_of starts i) (expression_code starts i q slot (t + 3)) (span_in ty) n (value_operand starts i (t + 3)) t (expression_words starts a p t t first) (expression_words starts i q slot (t + 3) second) (known_word starts i slot second))
+      (element_by_words starts (pointer_of starts a i) front (operand_of starts i) (expression_code starts i q slot (t + 3)) (span_in ty) n (value_operand starts i (t + 3)) t p (expression_words starts a p t t first) (expression_words starts i q slot (t + 3) second) (known_word starts i slot second))
       (address_words (reached_operand (span_in ty) n t) 0 d (reached_word (span_in ty) n t) (omega arith))
 
   initial_words : (starts : Starts) → (c : Converted) (p d t : ℕ) → IsOfWordsConverted c → HaveWords (initial_code starts c p d t)

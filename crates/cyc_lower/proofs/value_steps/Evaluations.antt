@@ -38,7 +38,7 @@ use Rattle.cyc_lower.proofs.place_steps.PlaceWords.{field_bytes, add_is}
 use Rattle.cyc_lower.proofs.slots.Slots.{slot-room, slot-low, words-there, words_positive, kind-there}
 use Rattle.cyc_lower.proofs.slots.Widths.{keeps_whole, kind_positive, type_words, made_kind, HasRoom, Outside}
 use Rattle.cyc_lower.proofs.relation.Moves.{moved_slots, moves, put_elsewhere, moved_elsewhere, moved_is}
-use Rattle.cyc_lower.specs.ValueCode.{failing_comparison, converts_there, masks, span_of, all_passed, kinds_passed, move_of, left_with, null_of, followed_operand, span_in, operand_or, reached_operand, load_word, address_of_global, keeps_words, variable_bytes}
+use Rattle.cyc_lower.specs.ValueCode.{failing_comparison, converts_there, masks, span_of, all_passed, kinds_passed, move_of, left_with, followed_operand, span_in, operand_or, reached_operand, load_word, address_of_global, keeps_words, variable_bytes}
 use Rattle.cyc_lower.specs.ControlCode.{counter_operand, compared_or, compared_of}
 use Rattle.cyc_lower.specs.ExpressionCode.{operand_of, value_slot, source_of, source_slot, slot_with, pointer_of, is_simple, are_simple}
 use Rattle.cyc_lower.specs.Lowering.{lower_program}
@@ -312,29 +312,6 @@ module _ (source : Program) (pages calls : ℕ) where
       )
       (omega (arith, found.some))
 
-  -- null that is converted is an operand
-  brings_null : (t : Tables) (from to : Kind) (k : List Entry) (e : Environment) (w : World) (c : Configuration) (o : Operand) (m q : ℕ)
-      → o ≡ operands.Word 0 → c.active.next ≡ m
-      → ConversionAt (code_of source c.active.function) (bounds_at source c.active.function) (types_on source c.active.function k) from to (span_of typed.NullPointer) o (top source c.active.function k) m q
-      → Holds t c.active.slots (floor source c.active.function k) (held k) → ValueStack source c.active.function e.locals to o q c.frames k
-      → EvaluatingAt source t typed.NullPointer e.locals c.active.function c.active.next c.active.slots c.frames (Needs (ConvertTo from to (target_by typed.NullPointer)) ∷ k)
-  brings_null t kinds.Int kinds.Char k e w c o m q is end (same, there) holds stack = absurd (let f : operands.Word 0 ≡ operands.Slot (top source c.active.function k) = sym is ∙ same in cc)
-  brings_null t from to k e w c o m q is end at_to holds stack = as_operand o m (is, end) holds (inr (q, refl, at_to, stack))
-
-  -- a value whose words change is brought to a temporary, but null
-  brought : (t : Tables) (from to : Kind) (a : Expression) (k : List Entry) (e : Environment) (w : World) (c : Configuration) (o : Operand) (m q : ℕ)
-      → OperandBy (code_of source c.active.function) (bounds_at source c.active.function) (types_on source c.active.function k) (null_of a)
-      (BroughtAt (code_of source c.active.function) (bounds_at source c.active.function) (types_on source c.active.function k) (Convert from to a) (top source c.active.function k) (top source c.active.function k) c.active.next m)
-      (top source c.active.function k) o c.active.next m
-      → ConversionAt (code_of source c.active.function) (bounds_at source c.active.function) (types_on source c.active.function k) from to (span_of a) o (top source c.active.function k) m q
-      → Holds t c.active.slots (floor source c.active.function k) (held k) → ValueStack source c.active.function e.locals to o q c.frames k
-      → EvaluatingAt source t a e.locals c.active.function c.active.next c.active.slots c.frames (Needs (ConvertTo from to (target_by a)) ∷ k)
-  brought t from to typed.NullPointer k e w c o m q (is, end) at_to holds stack = brings_null t from to k e w c o m q is end at_to holds stack
-  brought t from to a k e w c o m q (is, at) at_to holds stack =
-      brings t from to a k e.locals c.active.function c.active.next c.active.slots c.frames m q at
-      (subst (λ x. ConversionAt (code_of source c.active.function) (bounds_at source c.active.function) (types_on source c.active.function k) from to (span_of a) x (top source c.active.function k) m q) is at_to) holds
-      (subst (λ x. ValueStack source c.active.function e.locals to x q c.frames k) is stack)
-
   -- of what masks nothing the code is that of the expression
   plain_operand : (from to : Kind) (a : Expression) (k : List Entry) (c : Configuration) (slot : ℕ) (o : Operand) (m : ℕ) → masks from to ≡ false
       → OperandBy (code_of source c.active.function) (bounds_at source c.active.function) (types_on source c.active.function k) (operand_of (starts_on source c.active.function k) a)
@@ -358,7 +335,7 @@ module _ (source : Program) (pages calls : ℕ) where
       computed slot = BroughtAt (code_of source c.active.function) (bounds_at source c.active.function) (types_on source c.active.function k) (Convert from to a) slot (top source c.active.function k) c.active.next m
 
       by : (same : Bool) → keeps_words from to ≡ same
-          → OperandBy (code_of source c.active.function) (bounds_at source c.active.function) (types_on source c.active.function k) (if same then operand_of (starts_on source c.active.function k) a else null_of a)
+          → OperandBy (code_of source c.active.function) (bounds_at source c.active.function) (types_on source c.active.function k) (if same then operand_of (starts_on source c.active.function k) a else None)
           (computed (if same then value_slot (starts_on source c.active.function k) a (top source c.active.function k) else top source c.active.function k))
           (if same then value_slot (starts_on source c.active.function k) a (top source c.active.function k) else top source c.active.function k) o c.active.next m
           → EvaluatingAt source t a e.locals c.active.function c.active.next c.active.slots c.frames (Needs (ConvertTo from to (target_by a)) ∷ k)
@@ -366,7 +343,10 @@ module _ (source : Program) (pages calls : ℕ) where
           let slot = value_slot (starts_on source c.active.function k) a (top source c.active.function k) in
           let whole = keeps_whole from to keeps in
           as_operand o m (plain_operand from to a k c slot o m whole at) holds (inr (q, whole, at_to, stack))
-      by false changes at = brought t from to a k e w c o m q at at_to holds stack
+      by false changes (is, at) =
+          brings t from to a k e.locals c.active.function c.active.next c.active.slots c.frames m q at
+          (subst (λ x. ConversionAt (code_of source c.active.function) (bounds_at source c.active.function) (types_on source c.active.function k) from to (span_of a) x (top source c.active.function k) m q) is at_to) holds
+          (subst (λ x. ValueStack source c.active.function e.locals to x q c.frames k) is stack)
 
   -- what is assigned to a local comes to its slots at once, or is moved there once it is converted
   assigns_local : (there : Bool) (n : ℕ) (from to : Kind) (a : Expression) (k : List Entry) (e : Environment) (w : World) (c : Configuration) (object : ℕ) (o : Operand) (m : ℕ)

@@ -101,12 +101,12 @@ module _ (source : Program) (pages calls : ℕ) where
 
   -- the same value goes on, and nothing is executed
   kept_value : (from to : Kind) (target : Option Kind) (i : Kind) (v : Value) (o : Operand) (k : List Entry) (e : Environment) (w : World) (c : Configuration) (q : ℕ)
-      → conversion to v ≡ Gives v
+      → words_of_kind i ≡ words_of_kind to → conversion to v ≡ Gives v
       → step source (Running (Given (of_kind i v)) (Needs (ConvertTo from to target) ∷ k) e w) ≡ Running (Given (of_kind to v)) k e w → Stands (of_kind i v) o k e w c
       → c.active.next ≡ q → ValueStack source c.active.function e.locals to o q c.frames k → GoesBehind (of_kind i v) (Needs (ConvertTo from to target) ∷ k) e w c
-  kept_value from to target i v o k e w c q gives does (shared, facts, is, holds) end stack =
+  kept_value from to target i v o k e w c q wide gives does (shared, facts, is, holds) end stack =
       silently source pages calls (Running (Given (of_kind i v)) (Needs (ConvertTo from to target) ∷ k) e w) (Running (Given (of_kind to v)) k e w) (plain.Running c) does
-      (shared, in_operand o facts (kept_in shared.tables i to v c.active.slots o gives is) (kept_holds _ _ _ k holds) (subst (λ r. ValueStack source c.active.function e.locals to o r c.frames k) (sym end) stack))
+      (shared, in_operand o facts (kept_in shared.tables i to v c.active.slots o wide gives is) (kept_holds _ _ _ k holds) (subst (λ r. ValueStack source c.active.function e.locals to o r c.frames k) (sym end) stack))
       (omega arith)
 
   -- a value is converted from its own kind
@@ -128,7 +128,7 @@ module _ (source : Program) (pages calls : ℕ) where
       → (q : ℕ) × (c.active.next ≡ q) × ValueStack source c.active.function e.locals kinds.Char o q c.frames k → GoesBehind (of_kind kinds.Char (Int a)) (Needs (ConvertTo from kinds.Char target) ∷ k) e w c
   kept_char from target a o k e w c does (shared, facts, is, holds) (q, end, stack) =
       let low = char_low shared.tables a c.active.slots o is in
-      kept_value from kinds.Char target kinds.Char (Int a) o k e w c q (ap (λ n. Gives (Int n)) low) (does ∙ ap (λ n. Running (Given (of_kind kinds.Char (Int n))) k e w) low) (shared, facts, is, holds) end stack
+      kept_value from kinds.Char target kinds.Char (Int a) o k e w c q refl (ap (λ n. Gives (Int n)) low) (does ∙ ap (λ n. Running (Given (of_kind kinds.Char (Int n))) k e w) low) (shared, facts, is, holds) end stack
 
   converted : (from to : Kind) (target : Option Kind) (i : Kind) (v : Value) (o : Operand) (k : List Entry) (e : Environment) (w : World) (c : Configuration) → IsWell (computed to (conversion to v) k e w)
       → step source (Running (Given (of_kind i v)) (Needs (ConvertTo from to target) ∷ k) e w) ≡ computed to (conversion to v) k e w → masks i to ≡ false → words_of_kind i ≡ words_of_kind to → Stands (of_kind i v) o k e w c
@@ -138,31 +138,31 @@ module _ (source : Program) (pages calls : ℕ) where
   converted from kinds.Char target i (Int a) o k e w c well does whole wide (shared, facts, is, holds) stack =
       let (words, p, same, is_it) = in_words shared.tables (of_kind i (Int a)) c.active.slots o is in
       absurd is_it
-  converted from kinds.Int target i (Int a) o k e w c well does whole wide stands (q, end, stack) = kept_value from kinds.Int target i (Int a) o k e w c q refl does stands end stack
-  converted from kinds.Nullable target i Null o k e w c well does whole wide stands (q, end, stack) = kept_value from kinds.Nullable target i Null o k e w c q refl does stands end stack
-  converted from kinds.Fat target i Null o k e w c well does whole wide stands (q, end, stack) = kept_value from kinds.Fat target i Null o k e w c q refl does stands end stack
+  converted from kinds.Int target i (Int a) o k e w c well does whole wide stands (q, end, stack) = kept_value from kinds.Int target i (Int a) o k e w c q wide refl does stands end stack
+  converted from kinds.Nullable target i Null o k e w c well does whole wide stands (q, end, stack) = kept_value from kinds.Nullable target i Null o k e w c q wide refl does stands end stack
+  converted from kinds.Fat target i Null o k e w c well does whole wide stands (q, end, stack) = kept_value from kinds.Fat target i Null o k e w c q wide refl does stands end stack
   converted from kinds.NonNull target i Null o k e w c well does whole wide (shared, facts, is, holds) (q, check, stack) =
       guard_fails null_exception comparisons.Equal o (operands.Word 0) k e w c q does shared shared
       (omega arith) facts check
       (ap (λ x. x == 0) (null_is shared.tables i c.active.slots o is))
-  converted from kinds.Nullable target i (Thin object offset) o k e w c well does whole wide stands (q, end, stack) = kept_value from kinds.Nullable target i (Thin object offset) o k e w c q refl does stands end stack
+  converted from kinds.Nullable target i (Thin object offset) o k e w c well does whole wide stands (q, end, stack) = kept_value from kinds.Nullable target i (Thin object offset) o k e w c q wide refl does stands end stack
   converted from kinds.NonNull target i (Thin object offset) o k e w c well does whole wide (shared, facts, is, holds) (q, check, stack) =
       guard_passes (Running (Given (of_kind kinds.NonNull (Thin object offset))) k e w) null_exception comparisons.Equal o (operands.Word 0) e w c q does shared check
       (not_zero shared.tables i object offset c.active.slots o is)
-      (shared, in_operand o facts (kept_in shared.tables i kinds.NonNull (Thin object offset) c.active.slots o refl is) (kept_holds _ _ _ k holds) stack)
+      (shared, in_operand o facts (kept_in shared.tables i kinds.NonNull (Thin object offset) c.active.slots o wide refl is) (kept_holds _ _ _ k holds) stack)
   converted from kinds.Fat target i (Thin object offset) o k e w c well does whole wide (shared, facts, is, holds) stack =
       let (words, p, same, is_it) = in_words shared.tables (of_kind i (Thin object offset)) c.active.slots o is in
       absurd (not_widened shared.tables i object offset words p is_it wide)
   converted from kinds.Fat target i (Fat object start many index) o k e w c well does whole wide stands (q, end, stack) =
-      kept_value from kinds.Fat target i (Fat object start many index) o k e w c q refl does stands end stack
+      kept_value from kinds.Fat target i (Fat object start many index) o k e w c q wide refl does stands end stack
   converted from kinds.Nullable target i (Fat object start many index) o k e w c well does whole wide (shared, facts, is, holds) stack =
       let (words, p, same, is_it) = in_words shared.tables (of_kind i (Fat object start many index)) c.active.slots o is in
       absurd (not_narrowed shared.tables i object start many index words p is_it wide)
   converted from kinds.NonNull target i (Fat object start many index) o k e w c well does whole wide (shared, facts, is, holds) stack =
       let (words, p, same, is_it) = in_words shared.tables (of_kind i (Fat object start many index)) c.active.slots o is in
       absurd (not_narrowed shared.tables i object start many index words p is_it wide)
-  converted from kinds.Handle target i (Handle region) o k e w c well does whole wide stands (q, end, stack) = kept_value from kinds.Handle target i (Handle region) o k e w c q refl does stands end stack
-  converted from kinds.Key target i (Key region) o k e w c well does whole wide stands (q, end, stack) = kept_value from kinds.Key target i (Key region) o k e w c q refl does stands end stack
+  converted from kinds.Handle target i (Handle region) o k e w c well does whole wide stands (q, end, stack) = kept_value from kinds.Handle target i (Handle region) o k e w c q wide refl does stands end stack
+  converted from kinds.Key target i (Key region) o k e w c well does whole wide stands (q, end, stack) = kept_value from kinds.Key target i (Key region) o k e w c q wide refl does stands end stack
   converted from to target i v o k e w c well does whole wide stands stack = absurd (well refl)
 
   converted_leads : (from to : Kind) (target : Option Kind) (v : Kinded) (k : List Entry) (e : Environment) (w : World) → IsWell (step source (Running (Given v) (Needs (ConvertTo from to target) ∷ k) e w)) → leads_to w target (followed v.value) ≡ true
@@ -230,15 +230,15 @@ module _ (source : Program) (pages calls : ℕ) where
   converted_ahead t from kinds.Char kinds.Int (Int a) words n k e w well quiet whole wide is = absurd (let f : true ≡ false = whole in cc)
   converted_ahead t from kinds.Char i (Int a) words n k e w well quiet whole wide is = absurd is
   converted_ahead t from kinds.NonNull i v words n k e w well quiet whole wide is = absurd (let f : false ≡ true = quiet in cc)
-  converted_ahead t from kinds.Int i (Int a) words n k e w well quiet whole wide is = (refl, kept_at t i kinds.Int (Int a) words n refl is)
-  converted_ahead t from kinds.Nullable i Null words n k e w well quiet whole wide is = (refl, kept_at t i kinds.Nullable Null words n refl is)
-  converted_ahead t from kinds.Fat i Null words n k e w well quiet whole wide is = (refl, kept_at t i kinds.Fat Null words n refl is)
-  converted_ahead t from kinds.Nullable i (Thin object offset) words n k e w well quiet whole wide is = (refl, kept_at t i kinds.Nullable (Thin object offset) words n refl is)
+  converted_ahead t from kinds.Int i (Int a) words n k e w well quiet whole wide is = (refl, kept_at t i kinds.Int (Int a) words n wide refl is)
+  converted_ahead t from kinds.Nullable i Null words n k e w well quiet whole wide is = (refl, kept_at t i kinds.Nullable Null words n wide refl is)
+  converted_ahead t from kinds.Fat i Null words n k e w well quiet whole wide is = (refl, kept_at t i kinds.Fat Null words n wide refl is)
+  converted_ahead t from kinds.Nullable i (Thin object offset) words n k e w well quiet whole wide is = (refl, kept_at t i kinds.Nullable (Thin object offset) words n wide refl is)
   converted_ahead t from kinds.Fat i (Thin object offset) words n k e w well quiet whole wide is = absurd (not_widened t i object offset words n is wide)
   converted_ahead t from kinds.Nullable i (Fat object start many index) words n k e w well quiet whole wide is = absurd (not_narrowed t i object start many index words n is wide)
-  converted_ahead t from kinds.Fat i (Fat object start many index) words n k e w well quiet whole wide is = (refl, kept_at t i kinds.Fat (Fat object start many index) words n refl is)
-  converted_ahead t from kinds.Handle i (Handle region) words n k e w well quiet whole wide is = (refl, kept_at t i kinds.Handle (Handle region) words n refl is)
-  converted_ahead t from kinds.Key i (Key region) words n k e w well quiet whole wide is = (refl, kept_at t i kinds.Key (Key region) words n refl is)
+  converted_ahead t from kinds.Fat i (Fat object start many index) words n k e w well quiet whole wide is = (refl, kept_at t i kinds.Fat (Fat object start many index) words n wide refl is)
+  converted_ahead t from kinds.Handle i (Handle region) words n k e w well quiet whole wide is = (refl, kept_at t i kinds.Handle (Handle region) words n wide refl is)
+  converted_ahead t from kinds.Key i (Key region) words n k e w well quiet whole wide is = (refl, kept_at t i kinds.Key (Key region) words n wide refl is)
   converted_ahead t from to i v words n k e w well quiet whole wide is = absurd (well refl)
 
   -- its kind is the one that it is converted from, and it has as many words behind

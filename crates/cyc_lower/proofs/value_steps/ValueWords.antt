@@ -56,7 +56,7 @@ module _ (t : Tables) where
   zero_at kinds.Nullable Null words p some is = ap (λ y. Some (y == 0)) (sym is)
   zero_at kinds.Nullable (Thin object offset) words p some is = ap Some (sym (false_from_ne_true (words p == 0) (λ h. not-null is (eqb-true (words p) 0 h))))
   zero_at kinds.NonNull (Thin object offset) words p some is = ap Some (sym (false_from_ne_true (words p == 0) (λ h. not-null is (eqb-true (words p) 0 h))))
-  zero_at kinds.Fat Null words p some is = ap (λ y. Some (y == 0)) (sym is)
+  zero_at kinds.Fat Null words p some is = ap (λ y. Some (y == 0)) (sym is.0)
   zero_at kinds.Fat (Fat object start many index) words p some is = ap Some (sym (false_from_ne_true (words p == 0) (λ h. part-not-null is.0 (eqb-true (words p) 0 h))))
   zero_at kinds.Handle (Handle region) words p some is = absurd (some refl)
   zero_at kinds.Key (Key region) words p some is = absurd (some refl)
@@ -138,47 +138,53 @@ module _ (t : Tables) where
   key_at kind region words p is = absurd is
 
   -- one word is no fat pointer
-  no_fat : (kind : Kind) (v : Value) (w : ℕ) → conversion kinds.Fat v ≡ Gives v → IsWord t kind v w → (v ≡ Null → ⊥) → ⊥
-  no_fat kind Null w gives is other = other refl
-  no_fat kind (Thin object offset) w gives is other = let f : Gives (Fat object offset 1 0) ≡ Gives (Thin object offset) = gives in cc
-  no_fat kinds.Fat (Fat object start many index) w gives is other = is
-  no_fat kind (Fat object start many index) w gives is other = is
-  no_fat kind v w gives is other = let f : Misfits ≡ Gives v = gives in cc
+  no_fat : (kind : Kind) (v : Value) (w : ℕ) → words_of_kind kind ≡ 3 → IsWord t kind v w → ⊥
+  no_fat kinds.Fat v w wide is = is
+  no_fat kinds.Int v w wide is = omega (arith, wide)
+  no_fat kinds.Char v w wide is = omega (arith, wide)
+  no_fat kinds.Nullable v w wide is = omega (arith, wide)
+  no_fat kinds.NonNull v w wide is = omega (arith, wide)
+  no_fat kinds.Handle v w wide is = omega (arith, wide)
+  no_fat kinds.Key v w wide is = omega (arith, wide)
+
+  -- null in three words is a fat pointer
+  fat_null : (kind : Kind) (words : Words) (p : ℕ) → words_of_kind kind ≡ 3 → Is t kind Null words p → Is t kinds.Fat Null words p
+  fat_null kinds.Fat words p wide is = is
+  fat_null kinds.Nullable words p wide is = absurd (omega (arith, wide))
+  fat_null kind words p wide is = absurd is
 
   -- a value that is converted without a change keeps its words
-  pub kept_at : (from to : Kind) (v : Value) (words : Words) (p : ℕ) → conversion to v ≡ Gives v → Is t from v words p → Is t to v words p
-  kept_at from kinds.Int (Int a) words p gives is = int_at from a words p is
-  kept_at from kinds.Char (Int a) words p gives is =
+  pub kept_at : (from to : Kind) (v : Value) (words : Words) (p : ℕ) → words_of_kind from ≡ words_of_kind to → conversion to v ≡ Gives v → Is t from v words p → Is t to v words p
+  kept_at from kinds.Int (Int a) words p wide gives is = int_at from a words p is
+  kept_at from kinds.Char (Int a) words p wide gives is =
       let same : Int (a % 256) ≡ Int a = same_value gives in
       let low : a % 256 ≡ a = cc in
       (int_at from a words p is, omega (arith, low))
-  kept_at from kinds.Nullable Null words p gives is = null_at t from words p is
-  kept_at from kinds.Fat Null words p gives is = null_at t from words p is
-  kept_at from kinds.NonNull Null words p gives is = absurd (let f : Raises 1 ≡ Gives Null = gives in cc)
-  kept_at from kinds.Nullable (Thin object offset) words p gives is = points_at t from object offset words p is
-  kept_at from kinds.NonNull (Thin object offset) words p gives is = points_at t from object offset words p is
-  kept_at from kinds.Fat (Thin object offset) words p gives is = absurd (let f : Gives (Fat object offset 1 0) ≡ Gives (Thin object offset) = gives in cc)
-  kept_at from kinds.Fat (Fat object start many index) words p gives is = part_at from object start many index words p is
-  kept_at from kinds.Nullable (Fat object start many index) words p gives is = absurd (not_thinned object start index (nat_lt index many) gives)
-  kept_at from kinds.NonNull (Fat object start many index) words p gives is = absurd (not_thinned object start index (nat_lt index many) gives)
-  kept_at from kinds.Handle (Handle region) words p gives is = handle_at from region words p is
-  kept_at from kinds.Key (Key region) words p gives is = key_at from region words p is
-  kept_at from to v words p gives is = absurd (let f : Misfits ≡ Gives v = gives in cc)
+  kept_at from kinds.Nullable Null words p wide gives is = null_at t from words p is
+  kept_at from kinds.Fat Null words p wide gives is = fat_null from words p wide is
+  kept_at from kinds.NonNull Null words p wide gives is = absurd (let f : Raises 1 ≡ Gives Null = gives in cc)
+  kept_at from kinds.Nullable (Thin object offset) words p wide gives is = points_at t from object offset words p is
+  kept_at from kinds.NonNull (Thin object offset) words p wide gives is = points_at t from object offset words p is
+  kept_at from kinds.Fat (Thin object offset) words p wide gives is = absurd (let f : Gives (Fat object offset 1 0) ≡ Gives (Thin object offset) = gives in cc)
+  kept_at from kinds.Fat (Fat object start many index) words p wide gives is = part_at from object start many index words p is
+  kept_at from kinds.Nullable (Fat object start many index) words p wide gives is = absurd (not_thinned object start index (nat_lt index many) gives)
+  kept_at from kinds.NonNull (Fat object start many index) words p wide gives is = absurd (not_thinned object start index (nat_lt index many) gives)
+  kept_at from kinds.Handle (Handle region) words p wide gives is = handle_at from region words p is
+  kept_at from kinds.Key (Key region) words p wide gives is = key_at from region words p is
+  kept_at from to v words p wide gives is = absurd (let f : Misfits ≡ Gives v = gives in cc)
 
-  kept_word : (from to : Kind) (v : Value) (w : ℕ) → conversion to v ≡ Gives v → IsWord t from v w → IsWord t to v w
-  kept_word from kinds.Fat Null w gives is = kept_at from kinds.Fat Null (λ (i : ℕ). w) 0 gives (IsWord-is t from Null w (λ (i : ℕ). w) 0 refl is)
-  kept_word kinds.Fat kinds.Fat (Fat object start many index) w gives is = absurd is
-  kept_word from kinds.Fat v w gives is = absurd (no_fat from v w gives is (λ same. let f : v ≡ Null = same in cc))
-  kept_word from kinds.Char v w gives is = kept_at from kinds.Char v (λ (i : ℕ). w) 0 gives (IsWord-is t from v w (λ (i : ℕ). w) 0 refl is)
-  kept_word from kinds.Int v w gives is = kept_at from kinds.Int v (λ (i : ℕ). w) 0 gives (IsWord-is t from v w (λ (i : ℕ). w) 0 refl is)
-  kept_word from kinds.Nullable v w gives is = kept_at from kinds.Nullable v (λ (i : ℕ). w) 0 gives (IsWord-is t from v w (λ (i : ℕ). w) 0 refl is)
-  kept_word from kinds.NonNull v w gives is = kept_at from kinds.NonNull v (λ (i : ℕ). w) 0 gives (IsWord-is t from v w (λ (i : ℕ). w) 0 refl is)
-  kept_word from kinds.Handle v w gives is = kept_at from kinds.Handle v (λ (i : ℕ). w) 0 gives (IsWord-is t from v w (λ (i : ℕ). w) 0 refl is)
-  kept_word from kinds.Key v w gives is = kept_at from kinds.Key v (λ (i : ℕ). w) 0 gives (IsWord-is t from v w (λ (i : ℕ). w) 0 refl is)
+  kept_word : (from to : Kind) (v : Value) (w : ℕ) → words_of_kind from ≡ words_of_kind to → conversion to v ≡ Gives v → IsWord t from v w → IsWord t to v w
+  kept_word from kinds.Fat v w wide gives is = absurd (no_fat from v w wide is)
+  kept_word from kinds.Char v w wide gives is = kept_at from kinds.Char v (λ (i : ℕ). w) 0 wide gives (IsWord-is t from v w (λ (i : ℕ). w) 0 refl is)
+  kept_word from kinds.Int v w wide gives is = kept_at from kinds.Int v (λ (i : ℕ). w) 0 wide gives (IsWord-is t from v w (λ (i : ℕ). w) 0 refl is)
+  kept_word from kinds.Nullable v w wide gives is = kept_at from kinds.Nullable v (λ (i : ℕ). w) 0 wide gives (IsWord-is t from v w (λ (i : ℕ). w) 0 refl is)
+  kept_word from kinds.NonNull v w wide gives is = kept_at from kinds.NonNull v (λ (i : ℕ). w) 0 wide gives (IsWord-is t from v w (λ (i : ℕ). w) 0 refl is)
+  kept_word from kinds.Handle v w wide gives is = kept_at from kinds.Handle v (λ (i : ℕ). w) 0 wide gives (IsWord-is t from v w (λ (i : ℕ). w) 0 refl is)
+  kept_word from kinds.Key v w wide gives is = kept_at from kinds.Key v (λ (i : ℕ). w) 0 wide gives (IsWord-is t from v w (λ (i : ℕ). w) 0 refl is)
 
-  pub kept_in : (from to : Kind) (v : Value) (slots : Words) (o : Operand) → conversion to v ≡ Gives v → IsIn t (of_kind from v) slots o → IsIn t (of_kind to v) slots o
-  kept_in from to v slots (operands.Slot n) gives is = kept_at from to v slots n gives is
-  kept_in from to v slots (operands.Word w) gives is = kept_word from to v w gives is
+  pub kept_in : (from to : Kind) (v : Value) (slots : Words) (o : Operand) → words_of_kind from ≡ words_of_kind to → conversion to v ≡ Gives v → IsIn t (of_kind from v) slots o → IsIn t (of_kind to v) slots o
+  kept_in from to v slots (operands.Slot n) wide gives is = kept_at from to v slots n wide gives is
+  kept_in from to v slots (operands.Word w) wide gives is = kept_word from to v w wide gives is
 
 -- a value that is converted where it is to be has as many words before
 pub as_wide : (from to : Kind) → converts_there from to ≡ true → words_of_kind from ≡ words_of_kind to
