@@ -10,16 +10,11 @@ use Rattle.cyc_words.proofs.Simulation.{running_ended, simulates, in_a_row, foll
 use Rattle.cyc_words.proofs.Matching.{by_one}
 use Rattle.cyc_isa.specs.declared.instr.Instr.{Instr}
 use Rattle.cyc_machine.specs.declared.event.Cause.{Cause}
-use Rattle.cyc_machine.specs.declared.event.End.TheVariants.{Trap}
-use Rattle.cyc_machine.specs.declared.event.Event.{Event}
-use Rattle.cyc_machine.specs.declared.event.Event.TheVariants as events
 use Rattle.cyc_machine.specs.declared.phase.Phase.{Phase}
 use Rattle.cyc_machine.specs.declared.phase.Phase.TheVariants as phases
-use Rattle.cyc_machine.specs.State as machines
-use Rattle.cyc_machine.specs.Step.{Action, Acts, cause_of, after, refuses_or_performs}
+use Rattle.cyc_machine.specs.Step.{cause_of}
 use Rattle.cyc_machine.specs.Run.{World, told, ending_of}
 use Rattle.cyc_machine.specs.WorldMachine.{world_machine}
-use Rattle.cyc_machine.proofs.StepLaws.{executes-performs}
 use Rattle.cyc_store.specs.State.{StoreState}
 use Rattle.cyc_select.specs.declared.code.Line.{Line}
 use Rattle.cyc_select.specs.declared.code.Line.TheVariants as lines

@@ -6,6 +6,7 @@ pub mod Arranging
 -- what those lemmas rest on
 pub mod Fillings
 pub mod Moving
+pub mod Passed
 pub mod Passing
 pub mod Exchanging
 pub mod Fetching

@@ -20,14 +20,13 @@ use Rattle.cyc_isa.specs.declared.instr.JumpOp.TheVariants.{Plain, AndLink}
 use Rattle.cyc_machine.specs.declared.constants.TheConstants.{RETURN_ADDRESS}
 use Rattle.cyc_machine.specs.declared.event.Cause.{Cause}
 use Rattle.cyc_machine.specs.declared.event.End.{End}
-use Rattle.cyc_machine.specs.declared.event.End.TheVariants.{Trap}
 use Rattle.cyc_machine.specs.declared.event.Event.{Event}
 use Rattle.cyc_machine.specs.declared.event.Event.TheVariants as events
 use Rattle.cyc_machine.specs.declared.phase.Phase.{Phase}
 use Rattle.cyc_machine.specs.declared.phase.Phase.TheVariants as phases
 use Rattle.cyc_machine.specs.State as machines
 use Rattle.cyc_machine.specs.State.{text_end, with_register}
-use Rattle.cyc_machine.specs.Step.{Action, Acts, Does, cause_of, after, executes, performs, refuses_or_performs}
+use Rattle.cyc_machine.specs.Step.{Action, Acts, Does, cause_of, after, executes, performs}
 use Rattle.cyc_machine.specs.Run.{World, told, Goes, ending_of}
 use Rattle.cyc_machine.specs.WorldMachine.{world_machine, status_in, status_at}
 use Rattle.cyc_machine.proofs.StepLaws.{executes-performs, Step-action}

@@ -64,6 +64,11 @@ tried code number count =
     if nat_le number count then code
     else (if is_some (filling code number) then code else sunk_from code (number - suc count) count)
 
+-- a line that has no slot
+abbrev pub is_ordinary : Line → Bool
+is_ordinary (lines.Ordinary instruction) = true
+is_ordinary line = false
+
 -- what has one to pass is tried first, and then what has two
 abbrev pub settled : List Line → (number : ℕ) → List Line
 settled code number = tried (tried code number 1) number 2

@@ -3,7 +3,7 @@
 ghost use Rattle.std.specs.Prelude.{◌≡◌, ◌+◌, ◌<◌, length, Some, IfOk};
 ghost use Rattle.std.specs.Option.{is_some};
 ghost use Rattle.cyc_asm.specs.Slots.{moved, AreNamed};
-ghost use Rattle.cyc_asm.specs.Order.{is_apart, passes, passes_line, passes_at, passes_all, comes_down, sunk, tried, settled, arranged};
+ghost use Rattle.cyc_asm.specs.Order.{is_apart, passes, passes_line, passes_at, passes_all, comes_down, sunk, tried, is_ordinary, settled, arranged};
 
 use crate::slots::{filling, moves};
 use cyc_isa::{Instr, Register, reads, writes};
@@ -147,13 +147,27 @@ fn try_past(lines: &mut [Line], named: &[bool], number: usize, count: usize)
     }
 }
 
+/// Whether a line has no slot.
+fn is_ordinary(line: &Line) -> bool
+    ensures { result ≡ is_ordinary line.now }
+{
+    match line {
+        Line::Ordinary { .. } => true,
+        Line::Branch { .. } | Line::Jump { .. } | Line::Call { .. } | Line::Return => false,
+    }
+}
+
 /// Brings the instruction that has one to pass, or else two, down to the branch or jump of this number, where it fills the slot
 /// that would be empty.
+/// Most lines have no slot, and are passed over at once.
 fn settle(lines: &mut [Line], named: &[bool], number: usize)
     requires within { number < length lines.old }
     requires named { AreNamed lines.old (length lines.old) named.now }
     ensures { lines.new ≡ settled lines.old number }
 {
+    if is_ordinary(&lines[number]) {
+        return;
+    }
     try_past(lines, named, number, 1);
     try_past(lines, named, number, 2);
 }
