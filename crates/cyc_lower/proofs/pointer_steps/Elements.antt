@@ -16,7 +16,7 @@ use Rattle.cyc_plain.specs.declared.instruction.Instruction.{Instruction}
 use Rattle.cyc_plain.specs.declared.instruction.Instruction.TheVariants as instructions
 use Rattle.cyc_plain.specs.State as plain
 use Rattle.cyc_plain.specs.State.{Words, put, Configuration}
-use Rattle.cyc_plain.specs.Step.{Choice, operand_word, with_slots, at, advanced, performed, branches}
+use Rattle.cyc_plain.specs.Step.{Choice, operand_word, with_slots, at, advanced, performed}
 use Rattle.cyc_plain.specs.Straight.{At}
 use Rattle.cyc_plain.proofs.SlotLaws.{put-same, put-other}
 use Rattle.cyc_meaning.specs.Values.{Value, Int, Null, Thin, Fat, Handle, Key, Operand as Kinded, Cell, kinds_of, is_kind, is_thin, words_of_kind, bytes_of_kind}
@@ -48,6 +48,7 @@ use Rattle.cyc_lower.proofs.relation.Matched.{IsMatched, silently, by_one}
 use Rattle.cyc_lower.proofs.handler_steps.Handling.{raised}
 use Rattle.cyc_lower.proofs.pointer_steps.PointerSteps.{int_word, is_moved, outside_index}
 use Rattle.cyc_lower.proofs.relation.Paths.{Link, IsPath, end_of, end_joined, path_joined, is_quiet, by_path}
+use Rattle.cyc_lower.proofs.value_steps.ValueWords.{goes_wrong, taken, passed}
 
 -- ---- the words of an access
 
@@ -130,12 +131,6 @@ scaled_elsewhere slots t x m (inr long) = put-other slots (t + 3) m x (λ same. 
 -- ---- the instructions of an access
 
 module _ (source : Program) (pages calls : ℕ) where
-  taken : (c : Configuration) (b : Bool) (target : ℕ) → b ≡ true → branches c b target ≡ plain.Running (at c target)
-  taken c b target is = ap (λ (x : Bool). branches c x target) is
-
-  passed : (c : Configuration) (b : Bool) (target : ℕ) → b ≡ false → branches c b target ≡ plain.Running (at c (c.active.next + 1))
-  passed c b target is = ap (λ (x : Bool). branches c x target) is
-
   -- an index becomes a number of bytes in a slot
   scales : (bytes x m : ℕ) (c : Configuration) (choice : Choice)
       → performed (lower_program source) choice c (scale_of bytes x m) ≡ plain.Running (at (with_slots c (put c.active.slots x (scaled bytes (c.active.slots m)))) (c.active.next + 1))
@@ -491,15 +486,11 @@ module _ (source : Program) (pages calls : ℕ) where
     follows_parts x well shared facts is holds low here place = absurd is
 
   -- what is no pointer is not followed
-  wrong_at_all : (b : Bool) (w : World) → IsWell (if b then wrong w else wrong w) → ⊥
-  wrong_at_all true w well = well refl
-  wrong_at_all false w well = well refl
-
   not_followed : (i : Kind) (target : Option Kind) (t : Tables) (kind pointer : Kind) (x : Value) (slots : Words) (n : ℕ) (k : List Entry) (e : Environment) (w : World) → Is t kind x slots n
       → IsWell (step source (Running (Given (record { kind = i; value = x })) (Needs (Follow pointer target) ∷ k) e w)) → is_pointer kind ≡ false → ⊥
-  not_followed i target t kind pointer (Int a) slots n k e w is well no_pointer = wrong_at_all (is_kind i pointer && leads_to w target (followed (Int a))) w well
-  not_followed i target t kind pointer (Handle region) slots n k e w is well no_pointer = wrong_at_all (is_kind i pointer && leads_to w target (followed (Handle region))) w well
-  not_followed i target t kind pointer (Key region) slots n k e w is well no_pointer = wrong_at_all (is_kind i pointer && leads_to w target (followed (Key region))) w well
+  not_followed i target t kind pointer (Int a) slots n k e w is well no_pointer = goes_wrong (is_kind i pointer && leads_to w target (followed (Int a))) w well
+  not_followed i target t kind pointer (Handle region) slots n k e w is well no_pointer = goes_wrong (is_kind i pointer && leads_to w target (followed (Handle region))) w well
+  not_followed i target t kind pointer (Key region) slots n k e w is well no_pointer = goes_wrong (is_kind i pointer && leads_to w target (followed (Key region))) w well
   not_followed i target t kinds.Nullable pointer x slots n k e w is well no_pointer = let f : true ≡ false = no_pointer in cc
   not_followed i target t kinds.NonNull pointer x slots n k e w is well no_pointer = let f : true ≡ false = no_pointer in cc
   not_followed i target t kinds.Fat pointer x slots n k e w is well no_pointer = let f : true ≡ false = no_pointer in cc

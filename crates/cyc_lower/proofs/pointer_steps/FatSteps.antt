@@ -14,7 +14,7 @@ use Rattle.cyc_plain.specs.declared.instruction.Instruction.TheVariants as instr
 use Rattle.cyc_plain.specs.Operators.{truth}
 use Rattle.cyc_plain.specs.State as plain
 use Rattle.cyc_plain.specs.State.{Words, put, Configuration}
-use Rattle.cyc_plain.specs.Step.{Choice, with_slots, at, performed, branches}
+use Rattle.cyc_plain.specs.Step.{Choice, with_slots, at, performed}
 use Rattle.cyc_plain.proofs.SlotLaws.{put-same, put-other}
 use Rattle.cyc_meaning.specs.Values.{Value, Int, Null, Thin, Fat, Handle, Key, Operand as Kinded, words_of_kind}
 use Rattle.cyc_meaning.specs.Operators.{Result, Gives, Misfits}
@@ -37,6 +37,7 @@ use Rattle.cyc_lower.proofs.relation.Accesses.{IsWell}
 use Rattle.cyc_lower.proofs.relation.Matched.{IsMatched, by_one}
 use Rattle.cyc_lower.proofs.relation.Paths.{Link, is_quiet, by_path}
 use Rattle.cyc_lower.proofs.value_steps.Evaluations.{landed_word}
+use Rattle.cyc_lower.proofs.value_steps.ValueWords.{taken, passed}
 
 -- ---- the words of a fat pointer
 
@@ -62,13 +63,6 @@ difference a b below fits = omega (arith, below, fits)
 
 module _ (source : Program) (pages calls : ℕ) where
   -- ---- the number of elements
-
-  -- a branch that is taken, and one that is not
-  pub taken : (c : Configuration) (b : Bool) (target : ℕ) → b ≡ true → branches c b target ≡ plain.Running (at c target)
-  taken c b target is = ap (λ (x : Bool). branches c x target) is
-
-  pub passed : (c : Configuration) (b : Bool) (target : ℕ) → b ≡ false → branches c b target ≡ plain.Running (at c (c.active.next + 1))
-  passed c b target is = ap (λ (x : Bool). branches c x target) is
 
   module _ (v : Kinded) (n d q : ℕ) (k : List Entry) (e : Environment) (w : World) (c : Configuration) (shared : SharedAt source pages calls k e w c) (facts : DataIn source shared.tables c.active.slots k e w c)
       (holds : Holds shared.tables c.active.slots (floor source c.active.function k) (held k))

@@ -32,9 +32,9 @@ use Rattle.cyc_store.specs.declared.range.TheConstants.{MOST_BLOCK_WORDS}
 use Rattle.cyc_meaning.specs.Values.{kind_of, is_thin, words_of_kind}
 use Rattle.cyc_meaning.specs.FrameCount.{result_words, words_of_all, operand_words}
 use Rattle.cyc_lower.specs.Slots.{Types, counted, global_types}
-use Rattle.cyc_lower.specs.ValueCode.{passed_words, all_passed, left_kind, kind_behind, kind_passed}
+use Rattle.cyc_lower.specs.ValueCode.{all_passed, left_kind, kind_behind, kind_passed}
 use Rattle.cyc_lower.specs.Lowering.{types_of, results_of, scopes_of, is_handle, may_open, scopes_if}
-use Rattle.cyc_lower.proofs.slots.Widths.{kind_of_result, result_kind, called_kind, given, type_words, HasRoom, HasGlobal, chain_kind, HasField, HasVariable, HasLocal}
+use Rattle.cyc_lower.proofs.slots.Widths.{kind_of_result, result_kind, called_kind, given, type_words, HasRoom, HasGlobal, chain_kind, HasField, HasVariable, HasLocal, passed_is}
 use Rattle.cyc_lower.proofs.slots.Slots.{words-there, words_positive, kind-there}
 use Rattle.cyc_plain.specs.declared.limits.TheConstants.{RECORD_WORDS}
 use Rattle.cyc_plain.proofs.Placed.{below_of_get}
@@ -415,9 +415,6 @@ module _ (b : Numbering) (types : Types) where
   stored_given : (x : Dereference) (d : Converted) (u : ValueType) (t : Ty) (v : ValueType) → kind_passed d ≡ kind_of t → v ≡ (if tests.is_moved t then Void else Value t) → IsGiven (given b.functions (Store x d u)) v
   stored_given x (Convert from to a) u t v kind is = assigned_given (Global 0) (Convert from to a) u t v kind is
 
-  passed_is : (d : Converted) → passed_words d ≡ words_of_kind (kind_passed d)
-  passed_is (Convert from to a) = refl
-
   -- a value that is looked at is one that is given, or a peek
   pointer_mark : (m : PointerKind) (k : Kind) → k ≡ tests.kind_of_mark m → is_pointer k ≡ true
   pointer_mark marks.Nullable k is = ap is_pointer is
@@ -576,7 +573,7 @@ module _ (b : Numbering) where
     fit_arguments types (MoreArguments d ds) c (t ∷ ts) suits (one, all) (passed, rest) =
         let (kind, fitting) = fits_converted types d c t suits one passed in
         let (words, others) = fit_arguments types ds c ts suits all rest in
-        (omega (arith, words, passed_is b types d, ap words_of_kind kind, type_words t), (fitting, others))
+        (omega (arith, words, passed_is d, ap words_of_kind kind, type_words t), (fitting, others))
 
     -- behind a left operand of at most so many words
     fit_operations : (types : Types) → (os : Operations) (c : Context) (left : ValueType) (u : Ty) (words : ℕ) → Suits b types c → AreLowerableOperations b os → IsChain c left os u → operand_words left ≤ words → FitOperations b types words u os

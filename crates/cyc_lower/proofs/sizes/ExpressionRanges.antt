@@ -26,12 +26,12 @@ use Rattle.cyc_lower.specs.ObjectCode.{begun_code, filled_code, ended_code, elem
 use Rattle.cyc_lower.specs.ControlCode.{closing_code}
 use Rattle.cyc_lower.specs.ExpressionCode.{source_of, source_slot, operand_of, left_of, value_slot, left_slot, value_operand, converted_operand, printed_operand, expression_code, arguments_code, converted_code, converted_operand_code, printed_code, initial_code, operations_code, made_code, place_operand, place_offset, place_code, pointer_of, pointer_slot, brought_code}
 use Rattle.cyc_lower.specs.Lowering.{results_of, store_code}
-use Rattle.cyc_lower.proofs.slots.Widths.{kind_positive, kind_few, result_kind, words_in, chain_kind, made_kind, type_words}
+use Rattle.cyc_lower.proofs.slots.Widths.{kind_positive, kind_few, result_kind, words_in, chain_kind, made_kind, type_words, passed_is}
 use Rattle.cyc_lower.proofs.slots.CellBytes.{passed_slots}
 use Rattle.cyc_lower.proofs.relation.Fitting.{FitsCell, Fits, FitsConverted, FitArguments, FitOperations, FitsObject}
 use Rattle.cyc_lower.proofs.slots.Slots.{words_positive, starts-are, words-there}
 use Rattle.cyc_plain.proofs.Placed.{below_of_get}
-use Rattle.cyc_lower.proofs.sizes.RangeLemmas.{operand_positive, converted_least, passed_is, arguments_words, made_needs, result_least, levels_inside, IsKnown, AreGlobals}
+use Rattle.cyc_lower.proofs.sizes.RangeLemmas.{operand_positive, converted_least, arguments_words, made_needs, result_least, levels_inside, IsKnown, AreGlobals}
 use Rattle.cyc_lower.proofs.sizes.ValueRanges.{AreIn, append, unless_in, unless_slot_in, kind_at, HasOperand, assigned_kind, operator_few, stored_kind, given_needs, slot_fits, value_room, value_in, source_fits, brought_room, converted_room, printed_value_in, next_in, LeftIn, next_left_in, first_left_in, has_room, left_room, left_slot_in, left_in, free_in, check_in, reached_in, followed_in, conversion_in, operator_in, assigned_in, load_in, copy_in, pointer_copied, count_in, test_in, filled_in, object_in, loaded_in, own_needed, pointer_room, place_operand_in, addressed_in, stored_in, right_in, initial_by, unary_in, last_byte_in, begun_in, brought_by}
 
 module _ (program : PlainProgram) (r : Routine) (b : Numbering) (called : (n : ℕ) (s : Signature) → slice_get b.functions n ≡ Some s → IsKnown program n s) (results : r.results ≡ results_of b.result) where

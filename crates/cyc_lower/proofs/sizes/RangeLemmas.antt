@@ -1,8 +1,6 @@
 -- What the bounds of instructions rest on: words that are needed, and instructions that name what is there.
-use Rattle.std.proofs.Common.{◌≡◌, ℕ, zero, suc, ◌+◌, ◌-◌, ◌≤◌, ◌<◌, List, [], ◌∷◌, ◌++◌, length, Option, None, Some, slice_get, refl, ap, arith, length-append, inl, inr}
+use Rattle.std.proofs.Common.{◌≡◌, ℕ, zero, suc, ◌+◌, ◌-◌, ◌≤◌, ◌<◌, List, [], ◌∷◌, ◌++◌, length, Option, None, Some, slice_get, ap, arith, length-append, inl, inr}
 use Rattle.std.specs.List.{AllByRecursion}
-use Rattle.cyc_types.specs.declared.typed.UnaryOperator.{UnaryOperator}
-use Rattle.cyc_types.specs.declared.typed.UnaryOperator.TheVariants as unary
 use Rattle.cyc_types.specs.Types.{Ty, words_of, ValueType, Void, Null, Value}
 use Rattle.cyc_types.specs.TypedTrees.{Initial, Plain, Fields, Array, Converted, Convert, Arguments, NoArguments, MoreArguments, Signature}
 use Rattle.cyc_plain.specs.declared.instruction.Instruction.{Instruction}
@@ -11,13 +9,12 @@ use Rattle.cyc_plain.specs.Program.{Routine, Program as PlainProgram, routine_at
 use Rattle.cyc_plain.specs.WellFormed.{IsInRange}
 use Rattle.std.specs.Prelude.{max}
 use Rattle.cyc_meaning.specs.Values.{kind_of, words_of_kind}
-use Rattle.cyc_meaning.specs.Operators.{unary_kind}
 use Rattle.cyc_meaning.specs.FrameCount.{operand_words, converted_words, argument_words, words_of_all, initial_value_need}
 use Rattle.cyc_lower.proofs.relation.Counters.{found_last}
 use Rattle.cyc_lower.specs.Slots.{counted, Types, slot_in}
-use Rattle.cyc_lower.specs.ValueCode.{passed_words, all_passed, kind_passed}
+use Rattle.cyc_lower.specs.ValueCode.{all_passed, kind_passed}
 use Rattle.cyc_lower.specs.Lowering.{spare_slots, results_of}
-use Rattle.cyc_lower.proofs.slots.Widths.{kind_positive, kind_few, type_words, kind_of_result}
+use Rattle.cyc_lower.proofs.slots.Widths.{kind_positive, kind_few, type_words, kind_of_result, passed_is}
 use Rattle.cyc_lower.proofs.slots.Slots.{words_positive}
 
 -- ---- lists
@@ -37,22 +34,11 @@ operand_positive Void = omega arith
 operand_positive Null = omega arith
 operand_positive (Value t) = words_positive t
 
--- an operator of one operand gives a word
-pub unary_word : (o : UnaryOperator) → words_of_kind (unary_kind o) ≡ 1
-unary_word unary.Negate = refl
-unary_word unary.Not = refl
-unary_word unary.Complement = refl
-unary_word unary.Widen = refl
-unary_word unary.LowByte = refl
-
 converted_positive : (c : Converted) → 1 ≤ converted_words c
 converted_positive (Convert from to a) = omega (arith, kind_positive from)
 
 pub converted_least : (c : Converted) → words_of_kind (kind_passed c) ≤ converted_words c
 converted_least (Convert from to a) = omega arith
-
-pub passed_is : (c : Converted) → passed_words c ≡ words_of_kind (kind_passed c)
-passed_is (Convert from to a) = refl
 
 pub arguments_words : (cs : Arguments) → all_passed cs ≤ argument_words cs
 arguments_words NoArguments = omega arith

@@ -5,16 +5,18 @@ use Rattle.std.proofs.lemmas.Bool.{eqb-true, eqb-false, and_parts, cases_Bool}
 use Rattle.cyc_syntax.specs.declared.tree.PointerKind.TheVariants as marks
 use Rattle.cyc_types.specs.declared.typed.Kind.{Kind}
 use Rattle.cyc_types.specs.declared.typed.Kind.TheVariants as kinds
+use Rattle.cyc_types.specs.declared.typed.UnaryOperator.{UnaryOperator}
+use Rattle.cyc_types.specs.declared.typed.UnaryOperator.TheVariants as unary
 use Rattle.cyc_types.specs.declared.typed.Callee.{Callee}
 use Rattle.cyc_types.specs.declared.typed.Callee.TheVariants as callees
 use Rattle.cyc_types.specs.Types.{Ty, words_of, words_of_mark}
 use Rattle.cyc_types.specs.Types as types
-use Rattle.cyc_types.specs.TypedTrees.{Load, type_of_place, Expression, NullPointer, HeapRegion, Copy, Move, Peek, Call, Unary, Binary, Assign, Convert, Operations, NoOperations, ThenCompute, ThenTest, ThenPointer, ThenPointerPeek, Signature, New, Initial, Array, AddressOfCell, Store, StructType, AddressOf}
+use Rattle.cyc_types.specs.TypedTrees.{Load, type_of_place, Expression, NullPointer, HeapRegion, Copy, Move, Peek, Call, Unary, Binary, Assign, Convert, Operations, NoOperations, ThenCompute, ThenTest, ThenPointer, ThenPointerPeek, Signature, New, Initial, Array, AddressOfCell, Store, StructType, AddressOf, Converted}
 use Rattle.cyc_meaning.specs.Pointers.{result_kind as operator_kind}
 use Rattle.cyc_meaning.specs.Values.{kind_of, number_of_kind, is_kind, words_of_kind, are_kinds}
 use Rattle.cyc_lower.specs.Slots.{Types}
 use Rattle.cyc_meaning.specs.Operators.{unary_kind}
-use Rattle.cyc_lower.specs.ValueCode.{kind_behind, are_as_wide, keeps_words, masks}
+use Rattle.cyc_lower.specs.ValueCode.{kind_behind, are_as_wide, keeps_words, masks, passed_words, kind_passed}
 use Rattle.cyc_lower.specs.Lowerable.{is_converted, is_pointer}
 
 -- ---- kinds and their words
@@ -235,3 +237,15 @@ HasField types number field = (s : StructType) × (slice_get types.structs numbe
 -- so many places from one on are not concerned
 abbrev pub Outside : (first many n : ℕ) → Type 0
 Outside first many n = (n < first) ⊎ (first + many ≤ n)
+
+-- what an operator of one operand gives is one word
+pub unary_word : (o : UnaryOperator) → words_of_kind (unary_kind o) ≡ 1
+unary_word unary.Negate = refl
+unary_word unary.Not = refl
+unary_word unary.Complement = refl
+unary_word unary.Widen = refl
+unary_word unary.LowByte = refl
+
+-- a value is passed with the words of the kind that it is converted to
+pub passed_is : (c : Converted) → passed_words c ≡ words_of_kind (kind_passed c)
+passed_is (Convert from to a) = refl

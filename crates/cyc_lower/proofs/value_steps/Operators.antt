@@ -37,7 +37,7 @@ use Rattle.cyc_meaning.specs.State.{World, Environment, Awaiting, ConvertTo, Ope
 use Rattle.cyc_meaning.specs.Step.{leads_to, wrong, computed, passes, tested, awaits_right, step}
 use Rattle.cyc_meaning.specs.SourceMachine.{status_in}
 use Rattle.cyc_lower.specs.Slots.{Types, Starts}
-use Rattle.cyc_lower.proofs.slots.Widths.{same_kind, Outside, chain_kind, wide_kind, keeps_wide, changes_wide}
+use Rattle.cyc_lower.proofs.slots.Widths.{same_kind, Outside, chain_kind, wide_kind, keeps_wide, changes_wide, unary_word}
 use Rattle.cyc_lower.proofs.relation.Moves.{put_elsewhere}
 use Rattle.cyc_lower.specs.ValueCode.{binary_operator, failing_comparison, next_slot, jump_if_zero, jump_if_nonzero, converts_there, unary_instruction, keeps_words, masks, low_byte}
 use Rattle.cyc_lower.specs.ExpressionCode.{operand_of, value_slot, is_simple}
@@ -288,10 +288,6 @@ module _ (source : Program) (pages calls : ℕ) where
       by_one source pages calls refl shared here (λ choice. goes (Int (a % 256)) x (put-same c.active.slots d x ∙ same, omega arith))
   operates_value u i v o d k e w c well shared is here goes = absurd (well refl)
 
-  one_operated : (u : UnaryOperator) → words_of_kind (unary_kind u) ≡ 1
-  one_operated unary.LowByte = refl
-  one_operated u = refl
-
   -- a value of one word lands where the code brings it
   lands_word : (kind : Kind) (d : ℕ) (k : List Entry) (e : Environment) (w : World) (c : Configuration) → words_of_kind kind ≡ 1 → (shared : SharedAt source pages calls k e w c) → DataIn source shared.tables c.active.slots k e w c
       → Holds shared.tables c.active.slots (floor source c.active.function k) (held k) → LandsStack source c.active.function e.locals kind d (c.active.next + 1) c.frames k → IsLanded shared.tables kind d k e w c
@@ -323,7 +319,7 @@ module _ (source : Program) (pages calls : ℕ) where
       → ValueStack source c.active.function e.locals v.kind o c.active.next c.frames (Needs (Operate u) ∷ k) → GoesBehind v (Needs (Operate u) ∷ k) e w c
   operates unary.Widen v o k e w c well stands stack = widened v.kind v.value o k e w c well stands stack
   operates u v o k e w c well (shared, facts, is, holds) (to_slot (d, here, lands)) =
-      operates_value u v.kind v.value o d k e w c well shared is here (lands_word (unary_kind u) d k e w c (one_operated u) shared facts holds lands)
+      operates_value u v.kind v.value o d k e w c well shared is here (lands_word (unary_kind u) d k e w c (unary_word u) shared facts holds lands)
   operates u v o k e w c well stands (to_jump (is, stack)) = subst (λ x. GoesBehind v (Needs (Operate x) ∷ k) e w c) (sym is) (negates v o k e w c (subst (λ x. IsWell (step source (Running (Given v) (Needs (Operate x) ∷ k) e w))) is well) stands stack)
 
   -- ---- divisions
