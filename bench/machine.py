@@ -7,7 +7,12 @@ Five loops are laid out twice: as images for `cyclone run` and for the interpret
 end by the machine's service, and as Linux executables for qemu-mips, which end by a system call. Each is run five times, in
 turn, and the least processor time counts. One more loop, of loads and stores alone, is run by `cyclone run` on words of the
 stack and of two blocks of the store.
+
+The programs of bench/unseen/ are run by `cyclone run` and by the interpreter, as mips-linux-gnu-gcc -O1 compiles them and, where the
+text is one of this language too, as `cyclone compile` does. No loop of the machine was made with an eye on them.
 """
+import glob
+import math
 import os
 import shutil
 import struct
@@ -16,8 +21,11 @@ import sys
 import tempfile
 import time
 
+import pairs
+
 HERE = os.path.dirname(os.path.abspath(__file__))
 PROGRAM = os.path.join(HERE, "..", "crates", "cyclone", "out", "cyclone")
+UNSEEN = os.path.join(HERE, "unseen")
 TEXT, DATA = 0x00400000, 0x10000000
 TURNS = 20_000_000
 MOST = 10_000_000_000
@@ -188,6 +196,37 @@ def load_time(folder):
     return best["run"], best["--version"]
 
 
+def images_of(folder):
+    """Images of the programs of bench/unseen/, each with a name."""
+    for source in sorted(glob.glob(os.path.join(UNSEEN, "*.c*"))):
+        name, kind = os.path.splitext(os.path.basename(source))
+        if shutil.which(pairs.GCC):
+            image = os.path.join(folder, name + "-gcc.elf")
+            # machine.h declares what a text that is one of both languages cannot
+            text = ["-x", "c", "-include", os.path.join(pairs.PAIRS, "machine.h"), source, "-x", "none"]
+            pairs.compiled([pairs.GCC, "-O1"] + pairs.FLAGS + text + ["-o", image] + pairs.LINKED)
+            yield name + ", gcc", image
+        if kind == ".cyc":
+            image = os.path.join(folder, name + ".elf")
+            pairs.compiled([PROGRAM, "compile", source, "-o", image])
+            yield name, image
+
+
+def unseen(folder, found):
+    """The speed of `cyclone run` to that of the interpreter in C on the programs of bench/unseen/."""
+    both = [command for runner, _, command in found if runner != "qemu-mips"]
+    if len(both) < 2:
+        return
+    print("programs of bench/unseen/: the speed of `cyclone run` to that of the C interpreter")
+    ratios = []
+    for name, image in images_of(folder):
+        times = [[processor_time(command(image), 0) for command in both] for _ in range(7)]
+        ours, in_c = (min(column) for column in zip(*times))
+        ratios.append(in_c / ours)
+        print(f"{name}: {ratios[-1]:.2f}")
+    print(f"geometric mean of {len(ratios)}: {math.exp(sum(math.log(ratio) for ratio in ratios) / len(ratios)):.2f}")
+
+
 def main():
     with tempfile.TemporaryDirectory() as folder:
         found = runners(folder)
@@ -205,6 +244,7 @@ def main():
             speeds = [f"{(count + 3) / best[runner] / 1e6:.0f}" for runner, _, _ in found]
             ratio = f", {best['C interpreter'] / best['cyclone run']:.2f}" if "C interpreter" in best else ""
             print(f"{name}: {', '.join(speeds)}{ratio}")
+        unseen(folder, found)
         best = range_times(folder)
         for name in list(best)[1:]:
             print(f"loads and stores in {name}: {best[name] / best['the stack']:.2f} of the time of those in the stack")
