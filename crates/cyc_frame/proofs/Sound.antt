@@ -17,18 +17,18 @@ use Rattle.cyc_words.proofs.Decisions.{IsDecided, decides}
 use Rattle.cyc_frame.specs.declared.frame.TheConstants.{MOST_FRAME_WORDS}
 use Rattle.cyc_frame.specs.declared.home.Home.{Home}
 use Rattle.cyc_frame.specs.Homes.{AreHomes}
-use Rattle.cyc_frame.specs.Layout.{AreFirstFrames, AreFrames, HasSmallFrames, IsAccepted, IsFrame, IsTooLarge, first_too_large, frame_at, is_too_large}
+use Rattle.cyc_frame.specs.Layout.{AreFirstFrames, AreFrames, HasSmallFrames, IsAccepted, IsFrame, IsTooLarge, first_too_large, frame_at, is_too_large, loses_any}
 
-pub is_frame : (r : Routine) (homes : List Home) → r.slots + LAYOUT_WORDS ≤ r.frame_count → r.frame_count ≤ MOST_FRAME_WORDS
-    → IsFrame r (record { words = LAYOUT_WORDS + r.slots; return_address = 0; first_slot = LAYOUT_WORDS; homes = homes })
-is_frame r homes fits small = record {
+pub is_frame : (r : Routine) (saves : Bool) (homes : List Home) → saves ≡ loses_any r.code → r.slots + LAYOUT_WORDS ≤ r.frame_count → r.frame_count ≤ MOST_FRAME_WORDS
+    → IsFrame r (record { return_address = 0; saves = saves; first_slot = LAYOUT_WORDS; homes = homes })
+is_frame r saves homes saved fits small = record {
   apart = λ a b a_below b_below same. omega (arith, same);
-  inside = λ slot below. omega (arith, below);
-  first_inside = omega arith;
+  inside = λ slot below. omega (arith, below, fits);
+  first_inside = omega (arith, fits);
   beside = λ slot below same. absurd (omega (arith, same));
-  return_inside = omega arith;
-  within = omega (arith, fits);
+  return_inside = omega (arith, fits);
   small = small;
+  saved = saved;
 }
 
 -- ---- the first that is too large

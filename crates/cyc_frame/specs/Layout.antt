@@ -1,9 +1,11 @@
 -- Where a function's words lie in its frame. The System V ABI has a frame grow downward from the caller's; how its words
 -- are used, and how many there may be, is this project's own choice.
-use Rattle.std.specs.Prelude.{◌≡◌, ◌≢◌, ℕ, ◌+◌, ◌<◌, ◌≤◌, Bool, nat_lt, if◌then◌else◌, List, [], ◌∷◌, length, Option, Some, None, slice_index_or}
+use Rattle.std.specs.Prelude.{◌≡◌, ◌≢◌, ℕ, ◌+◌, ◌<◌, ◌≤◌, Bool, true, false, ◌||◌, nat_lt, if◌then◌else◌, List, [], ◌∷◌, length, Option, Some, None, slice_index_or}
 use Rattle.cyc_words.specs.declared.fault.Code.TheVariants as faults
 use Rattle.cyc_words.specs.declared.fault.Fault.{Fault}
 use Rattle.cyc_words.specs.declared.span.Span.{Span}
+use Rattle.cyc_plain.specs.declared.instruction.Instruction.{Instruction}
+use Rattle.cyc_plain.specs.declared.instruction.Instruction.TheVariants as instructions
 use Rattle.cyc_plain.specs.Program.{Routine, Program, routine_at}
 use Rattle.cyc_frame.specs.Frame.{Frame}
 use Rattle.cyc_frame.specs.Homes.{AreHomes}
@@ -13,22 +15,32 @@ use Rattle.cyc_frame.specs.declared.frame.TheConstants.{MOST_FRAME_WORDS}
 abbrev pub slot_word : Frame → ℕ → ℕ
 slot_word frame slot = frame.first_slot + slot
 
--- A function's frame: its slots have words of their own, beside the one for the return address, and all lie within the
--- frame, which is no larger than the function says and may be.
+-- an instruction that loses the register of return addresses: a call, and the opening of a handler
+abbrev pub loses : Instruction → Bool
+loses (instructions.Call function arguments count result) = true
+loses (instructions.Try first handler) = true
+loses instruction = false
+
+abbrev pub loses_any : List Instruction → Bool
+loses_any [] = false
+loses_any (i ∷ code) = loses i || loses_any code
+
+-- A function's frame: its slots have words of their own, beside the one for the return address, and all are among the first
+-- words of the frame, no more of them than the function says and may be.
 pub record IsFrame (r : Routine) (frame : Frame) : Type 0 where
   pub apart : (a b : ℕ) → a < r.slots → b < r.slots → slot_word frame a ≡ slot_word frame b → a ≡ b
-  pub inside : (slot : ℕ) → slot < r.slots → slot_word frame slot < frame.words
+  pub inside : (slot : ℕ) → slot < r.slots → slot_word frame slot < r.frame_count
   -- (of a function without slots `inside` says nothing)
-  pub first_inside : frame.first_slot ≤ frame.words
+  pub first_inside : frame.first_slot ≤ r.frame_count
   pub beside : (slot : ℕ) → slot < r.slots → slot_word frame slot ≢ frame.return_address
-  pub return_inside : frame.return_address < frame.words
-  pub within : frame.words ≤ r.frame_count
+  pub return_inside : frame.return_address < r.frame_count
   pub small : r.frame_count ≤ MOST_FRAME_WORDS
+  pub saved : frame.saves ≡ loses_any r.code
 
 -- the frame of the function of this index; where there is none, an empty one
 abbrev pub frame_at : List Frame → ℕ → Frame
 frame_at frames function =
-    slice_index_or frames function (record { words = 0; return_address = 0; first_slot = 0; homes = [] })
+    slice_index_or frames function (record { return_address = 0; saves = false; first_slot = 0; homes = [] })
 
 -- frames of the first functions, so many of them, with homes of their slots
 pub record AreFirstFrames (program : Program) (count : ℕ) (frames : List Frame) : Type 0 where

@@ -5,17 +5,17 @@ ghost use Rattle.cyc_frame.specs.Homes.{home_of};
 use crate::home::Home;
 use std::marker::Model;
 
-/// A frame has at most so many words, since the machine's stack has so many for each call.
+/// A frame has so many words, since the machine's stack has so many for each call. No function uses more.
 pub const MOST_FRAME_WORDS: usize = 256;
 
 /// How the words of a function's frame are used, and where its slots live. A word is named by its number from the frame's
 /// lowest address on.
 #[derive(Drop)]
 pub struct Frame {
-    /// How many words the frame has.
-    pub words: usize,
     /// The word that keeps the way back while the function calls another.
     pub return_address: usize,
+    /// Whether the function keeps its way back there from its beginning on. Elsewhere it never loses the register.
+    pub saves: bool,
     /// The word of the function's slot 0. The other slots follow it in order.
     pub first_slot: usize,
     /// The home of each slot, by its number.
@@ -28,8 +28,8 @@ impl Model for Frame {
     ghost Value = { Frame };
 
     ghost view = { λ a. record {
-      words = a.words;
       return_address = a.return_address;
+      saves = a.saves;
       first_slot = a.first_slot;
       homes = a.homes.items;
     } };

@@ -1,7 +1,7 @@
 //! Where the words of slots live.
 
 /// The first of the registers that slots may have.
-pub const FIRST_REGISTER: u8 = 8;
+pub const FIRST_REGISTER: u8 = 6;
 
 /// The register behind the last of them.
 pub const REGISTERS_END: u8 = 24;

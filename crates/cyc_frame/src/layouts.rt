@@ -4,12 +4,12 @@ ghost use Rattle.std.specs.Prelude.{◌≡◌, ◌+◌, ◌≤◌, length, map, 
 ghost use Rattle.cyc_words.specs.Decision.{Decides};
 ghost use Rattle.cyc_plain.specs.Program.{routine_of};
 ghost use Rattle.cyc_frame.specs.Homes.{AreHomes};
-ghost use Rattle.cyc_frame.specs.Layout.{AreFirstFrames, AreFrames, HasSmallFrames, IsAccepted, IsFrame, IsTooLarge, first_too_large};
+ghost use Rattle.cyc_frame.specs.Layout.{AreFirstFrames, AreFrames, HasSmallFrames, IsAccepted, IsFrame, IsTooLarge, first_too_large, loses, loses_any};
 
 use crate::allocation::allocate;
 use crate::frame::{Frame, MOST_FRAME_WORDS};
 use crate::frames::Frames;
-use cyc_plain::{Function, LAYOUT_WORDS, Plain};
+use cyc_plain::{Function, Instruction, LAYOUT_WORDS, Plain};
 use cyc_words::{Code, Fault, Span};
 use std::alloc::{AllocError, Global};
 
@@ -25,6 +25,28 @@ fn first_too_large(functions: &[Function]) -> Option<Span>
     None
 }
 
+/// Whether an instruction loses the register of return addresses: a call, and the opening of a handler.
+fn loses(instruction: Instruction) -> bool
+    ensures { result ≡ loses instruction }
+{
+    matches!(
+        instruction,
+        Instruction::Call { .. } | Instruction::Try { .. }
+    )
+}
+
+/// Whether code has such an instruction.
+fn loses_any(code: &[Instruction]) -> bool
+    ensures { result ≡ loses_any code.now }
+{
+    for instruction in code {
+        if loses(*instruction) {
+            return true;
+        }
+    }
+    false
+}
+
 /// The frame of a function: the words that are kept for the layout, of which the first is for the return address, and
 /// then the slots in order.
 #[tactic(auto, using(crate::proofs::Sound::is_frame))]
@@ -36,8 +58,8 @@ fn frame_of(alloc: Global, plain: &Plain, function: &Function) -> Result<Frame, 
 {
     let homes = allocate(alloc, plain, function)?;
     Ok(Frame {
-        words: LAYOUT_WORDS + function.slots,
         return_address: 0,
+        saves: loses_any(&function.code),
         first_slot: LAYOUT_WORDS,
         homes,
     })

@@ -316,16 +316,30 @@ source_catches_null = refl
 abbrev code_of_body : Items → List Instruction
 code_of_body body = function_code [] [] None (function [] ints body)
 
--- a loop, with its two jumps in front and its condition behind its body
+-- a loop, with its condition in front and behind its body, and the jump to its end before that
 loop_code : code_of_body (all (While nowhere (local 0) Break ∷ returns (local 1) ∷ [])) ≡
-    Jump 3 ∷ Jump 4 ∷ Jump 1 ∷ jump_if_nonzero (Slot 0) 2
+    jump_if_nonzero (Slot 0) 2 ∷ Jump 4 ∷ Jump 1 ∷ jump_if_nonzero (Slot 0) 2
     ∷ instructions.Finish 1
     ∷ instructions.Finish 2 ∷ blocks
 loop_code = refl
 
--- `continue` goes by the first jump, and a turn is one jump by what the condition compares
+-- each operand of `||` in the condition of a branch has a jump of its own, and nothing is computed
+alternatives_code : code_of_body (all (If (two (local 0) (ThenTest OrElse (two (local 1) (ThenCompute Less (Number 3) NoOperations)) NoOperations)) (returns (local 1)) Empty ∷ returns (local 0) ∷ [])) ≡
+    jump_if_nonzero (Slot 0) 2 ∷ instructions.Branch comparisons.GreaterOrEqual (Slot 1) (Constant 3) 4
+    ∷ instructions.Finish 1 ∷ Jump 4
+    ∷ instructions.Finish 0
+    ∷ instructions.Finish 2 ∷ blocks
+alternatives_code = refl
+
+-- a condition that is not simple stands behind the body alone
+jumped_code : code_of_body (all (While nowhere (sets 0 (local 1)) Empty ∷ [])) ≡
+    Jump 2 ∷ Jump 4 ∷ Move 0 (Slot 1) ∷ jump_if_nonzero (Slot 0) 2
+    ∷ instructions.Finish 2 ∷ blocks
+jumped_code = refl
+
+-- `continue` goes to the first condition, and a turn is one jump by what the condition compares
 continued_code : code_of_body (all (While nowhere (two (local 0) (ThenCompute LessOrEqual (local 1) NoOperations)) (If (local 1) Continue Empty) ∷ [])) ≡
-    Jump 5 ∷ Jump 6
+    instructions.Branch comparisons.LessOrEqual (Slot 0) (Slot 1) 2 ∷ Jump 6
     ∷ jump_if_zero (Slot 1) 5 ∷ Jump 0 ∷ Jump 5
     ∷ instructions.Branch comparisons.LessOrEqual (Slot 0) (Slot 1) 2
     ∷ instructions.Finish 2 ∷ blocks
@@ -348,9 +362,24 @@ compared_code : code_of_body (all (If (two (local 0) (ThenCompute Less (local 1)
 compared_code = refl
 
 negated_code : code_of_body (all (While nowhere (Unary unary.Not (local 0)) Break ∷ [])) ≡
-    Jump 3 ∷ Jump 4 ∷ Jump 1 ∷ jump_if_zero (Slot 0) 2
+    jump_if_zero (Slot 0) 2 ∷ Jump 4 ∷ Jump 1 ∷ jump_if_zero (Slot 0) 2
     ∷ instructions.Finish 2 ∷ blocks
 negated_code = refl
+
+-- each operand of the condition of a loop leaves it where it fails
+both_code : code_of_body (all (While nowhere (two (local 0) (ThenTest AndThen (two (local 1) (ThenCompute Less (Number 3) NoOperations)) NoOperations)) Break ∷ [])) ≡
+    Jump 3 ∷ Jump 5 ∷ Jump 1 ∷ jump_if_zero (Slot 0) 5
+    ∷ instructions.Branch comparisons.Less (Slot 1) (Constant 3) 2
+    ∷ instructions.Finish 2 ∷ blocks
+both_code = refl
+
+-- where what it negates compares, the comparison is turned round
+turned_code : code_of_body (all (If (Unary unary.Not (two (local 0) (ThenCompute Equal (local 1) NoOperations))) (returns (local 0)) Empty ∷ [])) ≡
+    instructions.Branch comparisons.Equal (Slot 0) (Slot 1) 3
+    ∷ instructions.Finish 0
+    ∷ Jump 3
+    ∷ instructions.Finish 2 ∷ blocks
+turned_code = refl
 
 -- a local gets a sum by one instruction, and a byte is printed by one
 direct_code : code_of_body (all (Evaluate (sets 0 (two (local 0) (ThenCompute Add (Number 1) NoOperations))) ∷ Evaluate (call Putchar (local 1 ∷ [])) ∷ [])) ≡

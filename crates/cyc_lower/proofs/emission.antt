@@ -2,6 +2,7 @@
 pub mod Emitting
 pub mod CellCode
 pub mod Branching
+pub mod Loops
 pub mod Conditions
 pub mod Handlers
 pub mod Lengths

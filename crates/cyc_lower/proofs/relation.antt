@@ -4,6 +4,7 @@ pub mod Leads
 pub mod Rows
 pub mod GlobalRows
 pub mod Stands
+pub mod Tested
 pub mod Fitting
 pub mod HeldValues
 pub mod Relation

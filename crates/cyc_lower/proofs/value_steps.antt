@@ -1,5 +1,6 @@
 -- the steps that begin an expression, and that hand a value on
 pub mod Assignments
+pub mod Decided
 pub mod Evaluations
 pub mod GlobalSteps
 pub mod Operators

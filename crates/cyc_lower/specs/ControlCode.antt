@@ -1,7 +1,9 @@
 -- The code of conditions, branches, loops, regions, ways out of a statement, and handlers.
-use Rattle.std.specs.Prelude.{ℕ, ◌+◌, List, [], ◌∷◌, ◌++◌, length, Option, None, Some, ◌%◌, ◌^◌}
+use Rattle.std.specs.Prelude.{ℕ, ◌+◌, Bool, true, false, ◌&&◌, List, [], ◌∷◌, ◌++◌, length, Option, None, Some, ◌%◌, ◌^◌}
 use Rattle.cyc_types.specs.declared.typed.UnaryOperator.TheVariants as unary
-use Rattle.cyc_types.specs.TypedTrees.{Expression, Number, Unary, Binary, NoOperations, ThenCompute}
+use Rattle.cyc_types.specs.declared.typed.LogicalOperator.{LogicalOperator}
+use Rattle.cyc_types.specs.declared.typed.LogicalOperator.TheVariants as logical
+use Rattle.cyc_types.specs.TypedTrees.{Expression, Number, Unary, Binary, Operations, NoOperations, ThenCompute, ThenTest}
 use Rattle.cyc_plain.specs.declared.instruction.Comparison.{Comparison}
 use Rattle.cyc_plain.specs.declared.instruction.Comparison.TheVariants as comparisons
 use Rattle.cyc_plain.specs.declared.instruction.Operand.{Operand}
@@ -24,20 +26,6 @@ pub record Compared : Type 0 where
   pub left : Expression
   pub right : Expression
 
--- a condition that compares nothing fails where its value is 0
-abbrev pub with_zero : Comparison → Expression → Compared
-with_zero failing a = record { failing = failing; left = a; right = Number 0 }
-
-abbrev pub compared_or : Option Comparison → (left right whole : Expression) → Compared
-compared_or (Some failing) left right whole = record { failing = failing; left = left; right = right }
-compared_or None left right whole = with_zero comparisons.Equal whole
-
-abbrev pub compared_of : Expression → Compared
-compared_of (Unary unary.Not a) = with_zero comparisons.NotEqual a
-compared_of (Binary a (ThenCompute o b NoOperations) ty) =
-    compared_or (failing_comparison o) a b (Binary a (ThenCompute o b NoOperations) ty)
-compared_of a = with_zero comparisons.Equal a
-
 -- the comparison that holds where another one fails
 abbrev pub opposite : Comparison → Comparison
 opposite comparisons.Equal = comparisons.NotEqual
@@ -49,12 +37,53 @@ opposite comparisons.GreaterOrEqual = comparisons.Less
 opposite comparisons.LessUnsigned = comparisons.GreaterOrEqualUnsigned
 opposite comparisons.GreaterOrEqualUnsigned = comparisons.LessUnsigned
 
+-- a condition that compares nothing fails where its value is 0
+abbrev pub with_zero : Expression → Compared
+with_zero a = record { failing = comparisons.Equal; left = a; right = Number 0 }
+
+abbrev pub compared_or : Option Comparison → (left right whole : Expression) → Compared
+compared_or (Some failing) left right whole = record { failing = failing; left = left; right = right }
+compared_or None left right whole = with_zero whole
+
+-- one that is negated compares the same, and fails where that holds
+abbrev pub negated : Compared → Compared
+negated x = record { failing = opposite x.failing; left = x.left; right = x.right }
+
+abbrev pub compared_of : Expression → Compared
+compared_of (Unary unary.Not a) = negated (compared_of a)
+compared_of (Binary a (ThenCompute o b NoOperations) ty) =
+    compared_or (failing_comparison o) a b (Binary a (ThenCompute o b NoOperations) ty)
+compared_of a = with_zero a
+
+abbrev pub negated_condition : Condition → Condition
+negated_condition c = record { failing = opposite c.failing; left = c.left; right = c.right }
+
 -- jumps where a condition fails, and where it holds
 abbrev pub failing_jump : Condition → (target : ℕ) → Instruction
 failing_jump c target = instructions.Branch c.failing c.left c.right target
 
 abbrev pub holding_jump : Condition → (target : ℕ) → Instruction
 holding_jump c target = instructions.Branch (opposite c.failing) c.left c.right target
+
+-- where its left operand decides what a test gives
+abbrev pub deciding_jump : LogicalOperator → Condition → (target : ℕ) → Instruction
+deciding_jump logical.AndThen c target = failing_jump c target
+deciding_jump logical.OrElse c target = holding_jump c target
+
+-- a chain has tests by this operator alone, and one at least
+abbrev pub is_same : (u o : LogicalOperator) → Bool
+is_same logical.AndThen logical.AndThen = true
+is_same logical.OrElse logical.OrElse = true
+is_same u o = false
+
+abbrev pub all_test : LogicalOperator → Operations → Bool
+all_test u NoOperations = true
+all_test u (ThenTest o b os) = is_same u o && all_test u os
+all_test u os = false
+
+abbrev pub are_tests : LogicalOperator → Operations → Bool
+are_tests u NoOperations = false
+are_tests u os = all_test u os
 
 -- A branch whose condition stands at place p, the first statement behind the jump over it, and the other behind the jump
 -- to the end.
@@ -66,26 +95,41 @@ if_code condition jump first second p =
     ++ instructions.Jump (p + length condition + 1 + length first + 1 + length second)
     ∷ second
 
--- A loop begins with two jumps: one to its condition, which stands behind its body, and one to its end. So a continue, which jumps to the
--- first, and a break, which jumps to the second, have targets that are known before the body's code is made. Where the condition holds, a
--- turn is one jump back.
-abbrev pub continue_target : (head : ℕ) → ℕ
-continue_target head = head
+-- A loop begins with what leads to its body where its condition holds, and else to the jump behind it, which leads to the loop's end. So a
+-- continue, which goes to where the loop begins, and a break, which goes to that jump, have targets that are known before the body's code
+-- is made. Behind the body stands the condition, with a jump back to the body where it holds.
+abbrev pub continue_target : Exits → ℕ
+continue_target exits = exits.head
 
-abbrev pub break_target : (head : ℕ) → ℕ
-break_target head = head + 1
+abbrev pub break_target : Exits → ℕ
+break_target exits = exits.leaving
 
-abbrev pub body_target : (head : ℕ) → ℕ
-body_target head = head + 2
+abbrev pub body_target : (leaving : ℕ) → ℕ
+body_target leaving = leaving + 1
 
-abbrev pub while_code : (body condition : List Instruction) → (jump : ℕ → Instruction) → (p : ℕ) → List Instruction
-while_code body condition jump p =
-    instructions.Jump (p + 2 + length body)
-    ∷ instructions.Jump (p + 2 + length body + length condition + 1)
-    ∷ body
-    ++ condition
-    ++ jump (body_target p)
-    ∷ []
+-- A loop whose condition is simple has it in front too: then nothing goes to the one behind its body, but what stands before that. Any
+-- other begins with a jump to it, at place `test`.
+abbrev pub entry_code : (simple : Bool) → (condition : List Instruction) → (jump : ℕ → Instruction) → (test p : ℕ) → List Instruction
+entry_code true condition jump test p = condition ++ jump (p + length condition + 1 + 1) ∷ []
+entry_code false condition jump test p = instructions.Jump test ∷ []
+
+abbrev pub entry_length : (simple : Bool) → (condition : List Instruction) → ℕ
+entry_length true condition = length condition + 1
+entry_length false condition = 1
+
+abbrev pub while_code : (entry body condition : List Instruction) → (jump : ℕ → Instruction) → (leaving : ℕ) → List Instruction
+while_code entry body condition jump leaving =
+    entry ++ (instructions.Jump (body_target leaving + length body + length condition + 1) ∷ ((body ++ condition) ++ jump (body_target leaving) ∷ []))
+
+-- A loop at place p with the jump to its end at place `leaving`. The code of its condition is made for its place, and that of its body for
+-- that of the jump.
+abbrev pub entered_code : (simple : Bool) → (condition : ℕ → List Instruction) → (body : List Instruction) → (jump : ℕ → Instruction) → (p leaving : ℕ) → List Instruction
+entered_code simple condition body jump p leaving =
+    while_code (entry_code simple (condition p) jump (body_target leaving + length body) p) body (condition (body_target leaving + length body)) jump leaving
+
+abbrev pub looped_code : (simple : Bool) → (condition body : ℕ → List Instruction) → (jump : ℕ → Instruction) → (p : ℕ) → List Instruction
+looped_code simple condition body jump p =
+    entered_code simple condition (body (p + entry_length simple (condition p))) jump p (p + entry_length simple (condition p))
 
 -- ---- regions
 
@@ -203,18 +247,18 @@ goes_on t = instructions.Throw (operands.Slot t) (operands.Slot (t + 1))
 
 -- The ways out of a statement: what is known of the loop and the function round it. Here they are outside any loop.
 abbrev pub outside_loops : Exits
-outside_loops = record { head = 0; in_loop = nothing_opened; in_function = nothing_opened }
+outside_loops = record { head = 0; leaving = 0; in_loop = nothing_opened; in_function = nothing_opened }
 
--- in a loop that begins at this place
-abbrev pub inside_loop : (head : ℕ) → Exits → Exits
-inside_loop head exits = record { head = head; in_loop = nothing_opened; in_function = exits.in_function }
+-- in a loop that begins at this place, with the jump to its end at this one
+abbrev pub inside_loop : (head leaving : ℕ) → Exits → Exits
+inside_loop head leaving exits = record { head = head; leaving = leaving; in_loop = nothing_opened; in_function = exits.in_function }
 
 -- in the body of a `try`, whose handler's record begins with this slot, and behind a region, whose mark is in this slot
 abbrev pub inside_try : Exits → (slot : ℕ) → Exits
-inside_try exits slot = record { head = exits.head; in_loop = with_handler exits.in_loop slot; in_function = with_handler exits.in_function slot }
+inside_try exits slot = record { head = exits.head; leaving = exits.leaving; in_loop = with_handler exits.in_loop slot; in_function = with_handler exits.in_function slot }
 
 abbrev pub inside_region : Exits → (slot : ℕ) → Exits
-inside_region exits slot = record { head = exits.head; in_loop = with_mark exits.in_loop slot; in_function = with_mark exits.in_function slot }
+inside_region exits slot = record { head = exits.head; leaving = exits.leaving; in_loop = with_mark exits.in_loop slot; in_function = with_mark exits.in_function slot }
 
 -- a counter that has a slot is in it
 abbrev pub counter_operand : Option ℕ → Option Operand

@@ -1,8 +1,10 @@
 -- What the code that emits says of itself: what it adds to the code made so far.
-use Rattle.std.specs.Prelude.{◌≡◌, ℕ, suc, ◌+◌, ◌^◌, ◌≤◌, Bool, false, Option, IfOk, List, [], ◌∷◌, ◌++◌, length, map, Some, option_map, Result, OnOk, slice_get}
+use Rattle.std.specs.Prelude.{◌≡◌, ℕ, suc, ◌+◌, ◌^◌, ◌≤◌, Bool, false, if◌then◌else◌, Option, IfOk, List, [], ◌∷◌, ◌++◌, length, map, set, Some, option_map, Result, OnOk, slice_get}
 use Rattle.std.specs.declared.alloc.AllocError.{AllocError}
 use Rattle.cyc_types.specs.declared.typed.Operation.{Operation}
 use Rattle.cyc_types.specs.declared.typed.Operation.TheVariants as operation
+use Rattle.cyc_types.specs.declared.typed.LogicalOperator.{LogicalOperator}
+use Rattle.cyc_types.specs.declared.typed.LogicalOperator.TheVariants as logical
 use Rattle.cyc_types.specs.declared.typed.PointerOperator.{PointerOperator}
 use Rattle.cyc_types.specs.declared.typed.Item.{Item}
 use Rattle.cyc_types.specs.declared.typed.Clause.{Clause}
@@ -14,15 +16,15 @@ use Rattle.cyc_types.specs.TypedTreeView.{view_struct, view_expression, view_con
 use Rattle.cyc_plain.specs.declared.instruction.Operand.{Operand}
 use Rattle.cyc_plain.specs.declared.instruction.Operand.TheVariants.{Slot, Word}
 use Rattle.cyc_plain.specs.declared.instruction.Instruction.{Instruction}
-use Rattle.cyc_plain.specs.declared.instruction.Instruction.TheVariants.{WriteByte, Throw}
+use Rattle.cyc_plain.specs.declared.instruction.Instruction.TheVariants.{WriteByte, Throw, Jump}
 use Rattle.cyc_frame_count.specs.Needs.{most_frame_count}
 use Rattle.cyc_lower.specs.Slots.{Starts, slot_of}
 use Rattle.cyc_lower.specs.ValueCode.{code_unless, slot_or, code_unless_slot, conversion_code, compute_code, test_code, behind_left, pointer_code, span_of}
-use Rattle.cyc_lower.specs.ControlCode.{holding_jump, while_code, inside_loop, tag_operand, clause_code, opened_code, named_code, dynamic_code, inside_region}
+use Rattle.cyc_lower.specs.ControlCode.{is_same, deciding_jump, holding_jump, inside_loop, tag_operand, clause_code, opened_code, named_code, dynamic_code, inside_region, entry_code, looped_code, body_target}
 use Rattle.cyc_lower.specs.ExpressionCode.{operand_of, source_of, source_slot, printed_operand, printed_code, left_of, value_slot, left_slot, value_operand, expression_code, brought_code, are_simple, is_simple}
-use Rattle.cyc_lower.specs.Lowering.{condition_code, statement_code, declaration_code, condition_of, thrown_operand, thrown_code, caught_code, items_code, clauses_code}
+use Rattle.cyc_lower.specs.Lowering.{condition_code, choice_code, choice_of, statement_code, declaration_code, condition_of, thrown_operand, thrown_code, caught_code, items_code, clauses_code}
 use Rattle.cyc_meaning.specs.FrameCount.{frame_count}
-use Rattle.cyc_plain.specs.declared.instruction.Comparison.{Comparison}
+use Rattle.cyc_plain.specs.declared.instruction.Comparison.TheVariants as comparisons
 use Rattle.cyc_lower.specs.declared.emitter.Emitter.{Emitter}
 use Rattle.cyc_lower.specs.declared.starts.Starts.{Starts as StartsCode}
 use Rattle.cyc_lower.specs.declared.operands.Condition.{Condition}
@@ -49,6 +51,11 @@ most_locals = 2 ^ 32
 abbrev pub IsChain : (whole first : Expression) → Operations → Type 0
 IsChain whole first os = (ty : Ty) × (whole ≡ Binary first os ty)
 
+-- a test by this operator
+abbrev pub is_test : LogicalOperator → Operation → Bool
+is_test u (operation.Test o e) = is_same u o
+is_test u o = false
+
 -- Locals that have these first slots, in a program with these structs.
 module _ (starts : Starts) where
   -- the code of an expression that is an operand
@@ -56,8 +63,8 @@ module _ (starts : Starts) where
   value_code a p t = code_unless (operand_of starts a) (expression_code starts a p (value_slot starts a t) t)
 
   -- a condition that is such an expression compared with 0
-  abbrev pub zero_condition : Comparison → Expression → (t : ℕ) → Condition
-  zero_condition failing a t = record { failing = failing; left = value_operand starts a t; right = Word 0 }
+  abbrev pub zero_condition : Expression → (t : ℕ) → Condition
+  zero_condition a t = record { failing = comparisons.Equal; left = value_operand starts a t; right = Word 0 }
 
   -- `putchar` of its argument
   abbrev pub print_code : Arguments → (p t : ℕ) → List Instruction
@@ -107,6 +114,15 @@ module _ (starts : Starts) where
   operation_code (operation.Pointer o e) p l d t = pointer_operation_code o (view_expression e) p l d t
   operation_code (operation.PointerPeek n o e) p l d t = pointer_operation_code o (view_expression e) p l d t
 
+  -- the right operand of a test, behind a jump that is taken where the left one decides, and its condition
+  abbrev pub other_code : LogicalOperator → Operation → Condition → (behind p t : ℕ) → List Instruction
+  other_code u (operation.Test o e) c behind p t = deciding_jump u c behind ∷ condition_code starts (view_expression e) (p + 1) t
+  other_code u o c behind p t = []
+
+  abbrev pub other_condition : Operation → Condition → (t : ℕ) → Condition
+  other_condition (operation.Test o e) c t = condition_of starts (view_expression e) t
+  other_condition o c t = c
+
   -- an exception is thrown
   abbrev pub throw_code : (tag : ℕ) → Option Expression → (p t : ℕ) → List Instruction
   throw_code tag v p t = thrown_code starts v p t ++ Throw (tag_operand tag) (thrown_operand starts v t) ∷ []
@@ -134,10 +150,18 @@ module _ (starts : Starts) where
       (default : Clauses)
       → new ++ clauses_code starts default (length new) out exits t ≡ old ++ clauses_code starts (clauses_of cs default) (length old) out exits t
 
+  -- what a loop begins with, where it is not known yet at which place its condition is behind its body
+  abbrev pub begun_loop : Expression → (p t : ℕ) → List Instruction
+  begun_loop a p t = entry_code (is_simple starts a) (choice_code starts logical.AndThen a p t) (holding_jump (choice_of starts logical.AndThen a t)) 0 p
+
+  -- and once that is known, as the next place, in code that has the loop from this place on
+  abbrev pub entered_loop : Expression → (code : List Instruction) → (head : ℕ) → List Instruction
+  entered_loop a code head = if is_simple starts a then code else set code head (Jump (length code))
+
   -- a loop
   abbrev pub loop_code : Expression → Statement → (p : ℕ) → Exits → (t : ℕ) → List Instruction
   loop_code a s p exits t =
-      while_code (statement_code starts s (p + 2) (inside_loop p exits) t) (condition_code starts a (p + 2 + length (statement_code starts s (p + 2) (inside_loop p exits) t)) t) (holding_jump (condition_of starts a t)) p
+      looped_code (is_simple starts a) (λ q. choice_code starts logical.AndThen a q t) (λ leaving. statement_code starts s (body_target leaving) (inside_loop p leaving exits) t) (holding_jump (choice_of starts logical.AndThen a t)) p
 
 -- behind an item of a block: the ways out, and the first slot for temporaries
 abbrev pub exits_behind : Item → Exits → (t : ℕ) → Exits

@@ -3,15 +3,17 @@
 -- is read on the way. Else it writes to the slots from t on alone. Numbers and locals are operands where they are used.
 --
 -- A value has as many slots as its kind has words, one behind the other, and a global as many words.
-use Rattle.std.specs.Prelude.{ℕ, suc, ◌+◌, Bool, false, List, [], ◌∷◌, ◌++◌, length, map, replicate, ◌-◌, Option, None, Some, true, ◌||◌}
+use Rattle.std.specs.Prelude.{ℕ, suc, ◌+◌, Bool, false, List, [], ◌∷◌, ◌++◌, length, map, replicate, ◌-◌, Option, None, Some, true, ◌||◌, if◌then◌else◌}
 use Rattle.std.specs.List.{list_any}
 use Rattle.cyc_words.specs.declared.span.Span.{Span}
 use Rattle.cyc_syntax.specs.Symbols.{Place}
 use Rattle.cyc_types.specs.declared.typed.Kind.{Kind}
 use Rattle.cyc_types.specs.declared.typed.Callee.TheVariants as callees
+use Rattle.cyc_types.specs.declared.typed.LogicalOperator.{LogicalOperator}
+use Rattle.cyc_types.specs.declared.typed.LogicalOperator.TheVariants as logical
 use Rattle.cyc_types.specs.Types.{Ty, Handle, words_of}
 use Rattle.cyc_types.specs.typing.Expressions.{type_of_side}
-use Rattle.cyc_types.specs.TypedTrees.{Dereference, Lvalue, Local, Global, Expression, Call, Assign, Converted, Convert, Statement, Block, Empty, Evaluate, If, While, Return, Break, Continue, Items, NoItems, MoreItems, Execute, Declare, DeclareRegion, OpenRegion, DeclareAlias, DeclareKey, Constant, Word, Null, GlobalVariable, StructType, Function, Program, Store, Side, VariableSide, CellSide, Swap, Throw, Try, Clauses, NoClauses, Default, Case}
+use Rattle.cyc_types.specs.TypedTrees.{Dereference, Lvalue, Local, Global, Expression, Call, Binary, Assign, Converted, Convert, Operations, NoOperations, ThenCompute, ThenTest, ThenPointer, ThenPointerPeek, Statement, Block, Empty, Evaluate, If, While, Return, Break, Continue, Items, NoItems, MoreItems, Execute, Declare, DeclareRegion, OpenRegion, DeclareAlias, DeclareKey, Constant, Word, Null, GlobalVariable, StructType, Function, Program, Store, Side, VariableSide, CellSide, Swap, Throw, Try, Clauses, NoClauses, Default, Case}
 use Rattle.cyc_plain.specs.declared.instruction.Operand.{Operand}
 use Rattle.cyc_plain.specs.declared.instruction.Operand.TheVariants as operands
 use Rattle.cyc_plain.specs.declared.instruction.Instruction.{Instruction}
@@ -25,7 +27,7 @@ use Rattle.cyc_lower.specs.declared.operands.Condition.{Condition}
 use Rattle.cyc_lower.specs.declared.statements.Exits.{Exits}
 use Rattle.cyc_lower.specs.ValueCode.{slot_types, first_temporary, operand_or, code_unless, slot_or, code_unless_slot, left_with, blocks, move_of, conversion_code, span_of, addressed_by, word_by_word, global_code, passed_words, kind_passed, blank_code}
 use Rattle.cyc_lower.specs.ObjectCode.{stores_code, stored_by, load_at, right_slot}
-use Rattle.cyc_lower.specs.ControlCode.{compared_of, failing_jump, holding_jump, if_code, break_target, continue_target, while_code, named_code, opened_code, closed_code, dynamic_code, leave_code, behind_record, kept_code, tag_operand, handled_code, clause_code, goes_on, outside_loops, inside_loop, inside_try, inside_region}
+use Rattle.cyc_lower.specs.ControlCode.{compared_of, failing_jump, holding_jump, deciding_jump, are_tests, if_code, break_target, continue_target, named_code, opened_code, closed_code, dynamic_code, leave_code, behind_record, kept_code, tag_operand, handled_code, clause_code, goes_on, outside_loops, inside_loop, inside_try, inside_region, body_target, looped_code}
 use Rattle.cyc_lower.specs.ExpressionCode.{operand_of, value_slot, slot_with, value_operand, source_of, converted_operand, printed_operand, place_operand, place_offset, load_code, expression_code, place_code, converted_operand_code, printed_code, initial_code, brought_code, is_simple}
 
 module _ (starts : Starts) where
@@ -81,6 +83,40 @@ module _ (starts : Starts) where
     left = first_operand (compared_of a).left (compared_of a).right t;
     right = value_operand starts (compared_of a).right (suc t);
   }
+
+  -- The operands of a condition behind the first, which is made. Where the one before decides, a jump leads to place `behind`.
+  abbrev pub others_code : LogicalOperator → Operations → Condition → (behind p t : ℕ) → List Instruction
+  others_code u NoOperations c behind p t = []
+  others_code u (ThenTest o b os) c behind p t =
+      (deciding_jump u c behind ∷ condition_code b (p + 1) t)
+      ++ others_code u os (condition_of b t) behind (p + length (deciding_jump u c behind ∷ condition_code b (p + 1) t)) t
+  others_code u (ThenCompute o b os) c behind p t = others_code u os c behind p t
+  others_code u (ThenPointer o b os) c behind p t = others_code u os c behind p t
+  others_code u (ThenPointerPeek n o b os) c behind p t = others_code u os c behind p t
+
+  abbrev pub last_condition : Operations → Condition → (t : ℕ) → Condition
+  last_condition NoOperations c t = c
+  last_condition (ThenTest o b os) c t = last_condition os (condition_of b t) t
+  last_condition (ThenCompute o b os) c t = last_condition os c t
+  last_condition (ThenPointer o b os) c t = last_condition os c t
+  last_condition (ThenPointerPeek n o b os) c t = last_condition os c t
+
+  abbrev pub tests_code : LogicalOperator → Expression → Operations → (behind p t : ℕ) → List Instruction
+  tests_code u a os behind p t = condition_code a p t ++ others_code u os (condition_of a t) behind (p + length (condition_code a p t)) t
+
+  -- A condition with tests by one operator: the last operand alone is left to the jump behind it. Where one before it decides, all go on
+  -- behind that jump. How long the code is does not depend on where that is: so it is made twice, and at first for any place.
+  abbrev pub behind_tests : LogicalOperator → Expression → Operations → (p t : ℕ) → ℕ
+  behind_tests u a os p t = p + length (tests_code u a os 0 p t) + 1
+
+  abbrev pub choice_code : LogicalOperator → Expression → (p t : ℕ) → List Instruction
+  choice_code u (Binary a os ty) p t =
+      if are_tests u os then tests_code u a os (behind_tests u a os p t) p t else condition_code (Binary a os ty) p t
+  choice_code u a p t = condition_code a p t
+
+  abbrev pub choice_of : LogicalOperator → Expression → (t : ℕ) → Condition
+  choice_of u (Binary a os ty) t = if are_tests u os then last_condition os (condition_of a t) t else condition_of (Binary a os ty) t
+  choice_of u a t = condition_of a t
 
   -- A value is returned from a slot: that of a local, or t. It is converted before handlers are closed.
   abbrev pub return_code : Option Converted → (p : ℕ) → Exits → (t : ℕ) → List Instruction
@@ -146,15 +182,15 @@ module _ (starts : Starts) where
     statement_code (Evaluate a) p exits t = discarded_code a p t
     statement_code (Swap a b) p exits t = swap_code a b p t
     statement_code (If a s u) p exits t =
-        if_code (condition_code a p t) (failing_jump (condition_of a t))
-        (statement_code s (p + length (condition_code a p t) + 1) exits t)
-        (statement_code u (p + length (condition_code a p t) + 1 + length (statement_code s (p + length (condition_code a p t) + 1) exits t) + 1) exits t)
+        if_code (choice_code logical.OrElse a p t) (failing_jump (choice_of logical.OrElse a t))
+        (statement_code s (p + length (choice_code logical.OrElse a p t) + 1) exits t)
+        (statement_code u (p + length (choice_code logical.OrElse a p t) + 1 + length (statement_code s (p + length (choice_code logical.OrElse a p t) + 1) exits t) + 1) exits t)
         p
     statement_code (While w a s) p exits t =
-        while_code (statement_code s (p + 2) (inside_loop p exits) t) (condition_code a (p + 2 + length (statement_code s (p + 2) (inside_loop p exits) t)) t) (holding_jump (condition_of a t)) p
+        looped_code (is_simple starts a) (λ q. choice_code logical.AndThen a q t) (λ leaving. statement_code s (body_target leaving) (inside_loop p leaving exits) t) (holding_jump (choice_of logical.AndThen a t)) p
     statement_code (Return v) p exits t = return_code v p exits t
-    statement_code Break p exits t = leave_code exits.in_loop ++ instructions.Jump (break_target exits.head) ∷ []
-    statement_code Continue p exits t = leave_code exits.in_loop ++ instructions.Jump (continue_target exits.head) ∷ []
+    statement_code Break p exits t = leave_code exits.in_loop ++ instructions.Jump (break_target exits) ∷ []
+    statement_code Continue p exits t = leave_code exits.in_loop ++ instructions.Jump (continue_target exits) ∷ []
     statement_code (Throw n v) p exits t = thrown_code v p t ++ instructions.Throw (tag_operand n) (thrown_operand v t) ∷ []
     statement_code (Try s cs) p exits t =
         kept_code starts t

@@ -1,32 +1,76 @@
 //! The code of conditions: two operands that are compared, before a jump that is taken where the condition fails.
-ghost use Rattle.std.specs.Prelude.{◌≤◌, ◌+◌, length};
+ghost use Rattle.std.specs.Prelude.{◌≡◌, ◌≤◌, ◌+◌, length};
 ghost use Rattle.cyc_types.specs.TypedTreeView.{view_expression, operations_of};
-ghost use Rattle.cyc_lower.specs.Lowering.{condition_of, condition_code};
-ghost use Rattle.cyc_lower.specs.Emission.{Gives, most_locals, value_code, IsChain, zero_condition, view_starts};
+ghost use Rattle.cyc_lower.specs.ControlCode.{is_same, all_test, are_tests};
+ghost use Rattle.cyc_lower.specs.Lowering.{condition_of, condition_code, tests_code, last_condition, behind_tests, choice_of, choice_code};
+ghost use Rattle.cyc_lower.specs.Emission.{Gives, most_locals, value_code, IsChain, is_test, other_code, other_condition, zero_condition, view_starts};
 
 use crate::emitter::Emitter;
 use crate::operands::{Condition, slot_behind};
-use crate::operators::failing_comparison;
+use crate::operators::{deciding_jump, failing_comparison, negated_condition};
 use crate::starts::Starts;
 use cyc_plain::{Comparison, Operand};
-use cyc_types::typed::{Expr, Kind, Operation, UnaryOperator};
+use cyc_types::typed::{Expr, Kind, LogicalOperator, Operation, UnaryOperator};
 use std::alloc::AllocError;
+
+fn is_same(operator: LogicalOperator, other: LogicalOperator) -> bool
+    ensures { result ≡ is_same operator other }
+{
+    match operator {
+        LogicalOperator::AndThen => matches!(other, LogicalOperator::AndThen),
+        LogicalOperator::OrElse => matches!(other, LogicalOperator::OrElse),
+    }
+}
+
+/// Whether an operator of a chain is a test by this one.
+fn is_test(operator: LogicalOperator, operation: &Operation) -> bool
+    ensures { result ≡ is_test operator operation.now }
+{
+    match operation {
+        Operation::Test {
+            operator: other,
+            ..
+        } => is_same(operator, *other),
+        _ => false,
+    }
+}
+
+/// Whether a chain has tests by this operator alone.
+fn all_test(operator: LogicalOperator, operations: &[Operation]) -> bool
+    ensures { result ≡ all_test operator (operations_of operations.now) }
+{
+    for operation in operations {
+        if !is_test(operator, operation) {
+            return false;
+        }
+    }
+    true
+}
+
+/// The same, and it has one at least.
+fn are_tests(operator: LogicalOperator, operations: &[Operation]) -> bool
+    ensures { result ≡ are_tests operator (operations_of operations.now) }
+{
+    if operations.is_empty() {
+        return false;
+    }
+    all_test(operator, operations)
+}
 
 impl Emitter {
     /// A condition that is a value compared with 0.
     fn compare_with_zero(
         &mut self,
         starts: &Starts,
-        failing: Comparison,
         value: &Expr,
         free: usize,
     ) -> Result<Condition, AllocError>
         requires { free ≤ most_locals + length self.old.code.items }
-        ensures { Gives (zero_condition (view_starts starts.now) failing (view_expression value.now) free) result self.old self.new (value_code (view_starts starts.now) (view_expression value.now) (length self.old.code.items) free) }
+        ensures { Gives (zero_condition (view_starts starts.now) (view_expression value.now) free) result self.old self.new (value_code (view_starts starts.now) (view_expression value.now) (length self.old.code.items) free) }
     {
         let left = self.lower_operand(starts, value, free)?;
         Ok(Condition {
-            failing,
+            failing: Comparison::Equal,
             left,
             right: Operand::Word { word: 0 },
         })
@@ -46,7 +90,7 @@ impl Emitter {
         ensures { Gives (condition_of (view_starts starts.now) (view_expression value.now) free) result self.old self.new (condition_code (view_starts starts.now) (view_expression value.now) (length self.old.code.items) free) }
     {
         if rest.len() != 1 {
-            return self.compare_with_zero(starts, Comparison::Equal, value, free);
+            return self.compare_with_zero(starts, value, free);
         }
         if let Some(Operation::Compute { operator, operand }) = rest.first() {
             if let Some(failing) = failing_comparison(*operator) {
@@ -60,7 +104,7 @@ impl Emitter {
                 });
             }
         }
-        self.compare_with_zero(starts, Comparison::Equal, value, free)
+        self.compare_with_zero(starts, value, free)
     }
 
     /// A condition: two operands that are compared.
@@ -80,8 +124,118 @@ impl Emitter {
             Expr::Unary {
                 operator: UnaryOperator::Not,
                 operand,
-            } => self.compare_with_zero(starts, Comparison::NotEqual, operand, free),
-            _ => self.compare_with_zero(starts, Comparison::Equal, value, free),
+            } => {
+                let condition = self.lower_condition(starts, operand, free)?;
+                Ok(negated_condition(condition))
+            }
+            _ => self.compare_with_zero(starts, value, free),
+        }
+    }
+
+    /// The right operand of a test, and a jump before it that is taken where the left one decides, whose condition is made.
+    fn lower_other(
+        &mut self,
+        starts: &Starts,
+        operator: LogicalOperator,
+        operation: &Operation,
+        before: Condition,
+        behind: usize,
+        free: usize,
+    ) -> Result<Condition, AllocError>
+        requires { free ≤ most_locals + length self.old.code.items }
+        ensures { Gives (other_condition (view_starts starts.now) operation.now before free) result self.old self.new (other_code (view_starts starts.now) operator operation.now before behind (length self.old.code.items) free) }
+    {
+        match operation {
+            Operation::Test { operand, .. } => {
+                self.emit(deciding_jump(operator, before, behind))?;
+                self.lower_condition(starts, operand, free)
+            }
+            _ => Ok(before),
+        }
+    }
+
+    /// The operands of a chain of tests. Where one before the last decides, a jump leads to a place; the last one is answered.
+    fn lower_tests(
+        &mut self,
+        starts: &Starts,
+        operator: LogicalOperator,
+        first: &Expr,
+        rest: &[Operation],
+        behind: usize,
+        free: usize,
+    ) -> Result<Condition, AllocError>
+        requires { free ≤ most_locals + length self.old.code.items }
+        ensures { Gives (last_condition (view_starts starts.now) (operations_of rest.now) (condition_of (view_starts starts.now) (view_expression first.now) free) free) result self.old self.new (tests_code (view_starts starts.now) operator (view_expression first.now) (operations_of rest.now) behind (length self.old.code.items) free) }
+    {
+        let mut condition = self.lower_condition(starts, first, free)?;
+        for operation in rest {
+            condition = self.lower_other(starts, operator, operation, condition, behind, free)?;
+        }
+        Ok(condition)
+    }
+
+    /// The same, where all go on behind the jump that follows. Where that is, is known when the code was made once.
+    fn lower_chain(
+        &mut self,
+        starts: &Starts,
+        operator: LogicalOperator,
+        first: &Expr,
+        rest: &[Operation],
+        free: usize,
+    ) -> Result<Condition, AllocError>
+        requires { free ≤ most_locals + length self.old.code.items }
+        ensures { Gives (last_condition (view_starts starts.now) (operations_of rest.now) (condition_of (view_starts starts.now) (view_expression first.now) free) free) result self.old self.new (tests_code (view_starts starts.now) operator (view_expression first.now) (operations_of rest.now) (behind_tests (view_starts starts.now) operator (view_expression first.now) (operations_of rest.now) (length self.old.code.items) free) (length self.old.code.items) free) }
+    {
+        let begin = self.place();
+        self.lower_tests(starts, operator, first, rest, 0, free)?;
+        let behind = self.place() + 1;
+        self.take_back(begin);
+        self.lower_tests(starts, operator, first, rest, behind, free)
+    }
+
+    /// A condition that is a chain, of tests or not.
+    fn choose_chain(
+        &mut self,
+        starts: &Starts,
+        operator: LogicalOperator,
+        value: &Expr,
+        first: &Expr,
+        rest: &[Operation],
+        free: usize,
+    ) -> Result<Condition, AllocError>
+        requires low { free ≤ most_locals + length self.old.code.items }
+        requires chain { IsChain (view_expression value.now) (view_expression first.now) (operations_of rest.now) }
+        ensures { Gives (choice_of (view_starts starts.now) operator (view_expression value.now) free) result self.old self.new (choice_code (view_starts starts.now) operator (view_expression value.now) (length self.old.code.items) free) }
+    {
+        if are_tests(operator, rest) {
+            return self.lower_chain(starts, operator, first, rest, free);
+        }
+        self.lower_condition(starts, value, free)
+    }
+
+    /// A condition before a jump. One of tests by this operator is made operand by operand: where one decides, all go on behind the jump.
+    pub(crate) fn lower_choice(
+        &mut self,
+        starts: &Starts,
+        operator: LogicalOperator,
+        value: &Expr,
+        free: usize,
+    ) -> Result<Condition, AllocError>
+        requires { free ≤ most_locals + length self.old.code.items }
+        ensures { Gives (choice_of (view_starts starts.now) operator (view_expression value.now) free) result self.old self.new (choice_code (view_starts starts.now) operator (view_expression value.now) (length self.old.code.items) free) }
+    {
+        match value {
+            Expr::Binary { first, rest, .. } => self.choose_chain(
+                starts, operator, value, first, rest, free,
+            ),
+            Expr::Unary {
+                operator: UnaryOperator::Not,
+                operand,
+            } => {
+                let condition = self.lower_condition(starts, operand, free)?;
+                Ok(negated_condition(condition))
+            }
+            _ => self.compare_with_zero(starts, value, free),
         }
     }
 }

@@ -1,5 +1,5 @@
 //! Code that is being made.
-ghost use Rattle.std.specs.Prelude.{◌≡◌, ◌<◌, [], ◌∷◌, ◌++◌, length, set, IfOk};
+ghost use Rattle.std.specs.Prelude.{◌≡◌, ◌<◌, [], ◌∷◌, ◌++◌, length, set, take, IfOk};
 ghost use Rattle.cyc_types.specs.TypedTreeView.{view_lvalue};
 ghost use Rattle.cyc_lower.specs.ControlCode.{failing_jump};
 ghost use Rattle.cyc_lower.specs.ExpressionCode.{load_code};
@@ -59,6 +59,13 @@ impl Emitter {
         let place = self.place();
         self.emit(Instruction::Jump { target: 0 })?;
         Ok(place)
+    }
+
+    /// The code from a place on is given up.
+    pub(crate) fn take_back(&mut self, place: usize)
+        ensures { self.new.code.items ≡ take place self.old.code.items }
+    {
+        self.code.truncate(place);
     }
 
     /// At a place that was kept comes a jump to the next instruction.

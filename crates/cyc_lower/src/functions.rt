@@ -51,6 +51,7 @@ fn lower_body(
     let mut emitter = Emitter::new(alloc);
     let exits = Exits {
         head: 0,
+        leaving: 0,
         in_loop: nothing_opened(),
         in_function: nothing_opened(),
     };

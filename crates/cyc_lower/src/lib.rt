@@ -13,6 +13,7 @@ mod globals;
 pub mod laws;
 mod limits;
 mod locals;
+mod loops;
 mod objects;
 mod operands;
 mod operators;

@@ -1,7 +1,7 @@
 //! What operators become.
 ghost use Rattle.std.specs.Prelude.{◌≡◌, ◌≤◌};
 ghost use Rattle.cyc_lower.specs.ValueCode.{low_byte, unary_instruction, binary_operator, left_kind, pointer_operator, failing_comparison, move_of, jump_if_zero, jump_if_nonzero, test_jump, scale_of, load_of, store_of};
-ghost use Rattle.cyc_lower.specs.ControlCode.{opposite, failing_jump, holding_jump, tag_operand, other_jump, goes_on};
+ghost use Rattle.cyc_lower.specs.ControlCode.{opposite, negated_condition, failing_jump, holding_jump, deciding_jump, tag_operand, other_jump, goes_on};
 ghost use Rattle.cyc_lower.specs.Emission.{most_locals};
 
 use crate::operands::Condition;
@@ -250,6 +250,31 @@ pub(crate) fn holding_jump(condition: Condition, target: usize) -> Instruction
         left: condition.left,
         right: condition.right,
         target,
+    }
+}
+
+/// A condition that is negated compares the same.
+pub(crate) fn negated_condition(condition: Condition) -> Condition
+    ensures { result ≡ negated_condition condition }
+{
+    Condition {
+        failing: opposite(condition.failing),
+        left: condition.left,
+        right: condition.right,
+    }
+}
+
+/// A jump where the left operand of a test decides what it gives.
+pub(crate) fn deciding_jump(
+    operator: typed::LogicalOperator,
+    condition: Condition,
+    target: usize,
+) -> Instruction
+    ensures { result ≡ deciding_jump operator condition target }
+{
+    match operator {
+        typed::LogicalOperator::AndThen => failing_jump(condition, target),
+        typed::LogicalOperator::OrElse => holding_jump(condition, target),
     }
 }
 

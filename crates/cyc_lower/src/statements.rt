@@ -18,7 +18,7 @@ use crate::starts::Starts;
 use cyc_frame_count::words_of;
 use cyc_plain::{Instruction, Operand};
 use cyc_types::Ty;
-use cyc_types::typed::{Body, Clause, Converted, Expr, Item, Kind, Stmt};
+use cyc_types::typed::{Body, Clause, Converted, Expr, Item, Kind, LogicalOperator, Stmt};
 use std::alloc::AllocError;
 
 /// What was opened round a statement since a loop began, or its function: the first slot of the outermost handler's record, and that
@@ -74,6 +74,8 @@ fn with_mark(opened: Opened, slot: usize) -> Opened
 pub(crate) struct Exits {
     /// Where the loop round the statement begins, if one is around it.
     pub(crate) head: usize,
+    /// Where the jump to its end stands.
+    pub(crate) leaving: usize,
     /// What was opened in that loop.
     pub(crate) in_loop: Opened,
     /// The same for the function.
@@ -86,6 +88,7 @@ fn inside_try(exits: Exits, slot: usize) -> Exits
 {
     Exits {
         head: exits.head,
+        leaving: exits.leaving,
         in_loop: with_handler(exits.in_loop, slot),
         in_function: with_handler(exits.in_function, slot),
     }
@@ -97,6 +100,7 @@ fn inside_region(exits: Exits, slot: usize) -> Exits
 {
     Exits {
         head: exits.head,
+        leaving: exits.leaving,
         in_loop: with_mark(exits.in_loop, slot),
         in_function: with_mark(exits.in_function, slot),
     }
@@ -317,24 +321,23 @@ impl Emitter {
         Ok(out)
     }
 
-    /// A jump to the end of the loop that begins at this place, by the second of its two jumps.
-    fn lower_break(&mut self, head: usize) -> Result<(), AllocError>
-        requires { head ≤ length self.old.code.items }
-        ensures { Appends result self.old self.new (Instruction.Jump (break_target head) ∷ []) }
+    /// A jump to the end of a loop, by the jump to it.
+    fn lower_break(&mut self, exits: Exits) -> Result<(), AllocError>
+        ensures { Appends result self.old self.new (Instruction.Jump (break_target exits) ∷ []) }
     {
-        self.emit(Instruction::Jump { target: head + 1 })
+        self.emit(Instruction::Jump {
+            target: exits.leaving,
+        })
     }
 
-    /// A jump to the condition of the loop that begins at this place, by the first of its two jumps.
-    fn lower_continue(&mut self, head: usize) -> Result<(), AllocError>
-        requires { head ≤ length self.old.code.items }
-        ensures { Appends result self.old self.new (Instruction.Jump (continue_target head) ∷ []) }
+    /// A jump to the condition that a loop begins with.
+    fn lower_continue(&mut self, exits: Exits) -> Result<(), AllocError>
+        ensures { Appends result self.old self.new (Instruction.Jump (continue_target exits) ∷ []) }
     {
-        self.emit(Instruction::Jump { target: head })
+        self.emit(Instruction::Jump { target: exits.head })
     }
 
-    /// A loop begins with two jumps, one to its condition, which stands behind its body, and one to its end. So the targets of a
-    /// `continue` and of a `break` are known before the body's code is made.
+    /// A loop. The jump to its end stands before its body, so that its place is known before the body's code is made.
     #[cycle(statement)]
     fn lower_loop(
         &mut self,
@@ -347,17 +350,19 @@ impl Emitter {
         requires { free + kept_by (view_statement body.now) ≤ most_locals }
         ensures { Appends result self.old self.new (loop_code (view_starts starts.now) (view_expression condition.now) (view_statement body.now) (length self.old.code.items) exits free) }
     {
-        let head = self.reserve()?;
+        let head = self.place();
+        self.begin_loop(starts, condition, free)?;
         let leaving = self.reserve()?;
         let inside = Exits {
             head,
+            leaving,
             in_loop: nothing_opened(),
             in_function: exits.in_function,
         };
         let again = self.place();
         self.lower_statement(starts, body, inside, free)?;
-        self.jump_here(head);
-        let condition = self.lower_condition(starts, condition, free)?;
+        self.enter_loop(starts, condition, head);
+        let condition = self.lower_choice(starts, LogicalOperator::AndThen, condition, free)?;
         self.emit(holding_jump(condition, again))?;
         self.jump_here(leaving);
         Ok(())
@@ -386,7 +391,12 @@ impl Emitter {
                 then,
                 otherwise,
             } => {
-                let condition = self.lower_condition(starts, condition, free)?;
+                let condition = self.lower_choice(
+                    starts,
+                    LogicalOperator::OrElse,
+                    condition,
+                    free,
+                )?;
                 let over_then = self.reserve()?;
                 self.lower_statement(starts, then, exits, free)?;
                 let over_otherwise = self.reserve()?;
@@ -403,11 +413,11 @@ impl Emitter {
             Stmt::Return { value } => self.lower_return(starts, value, exits, free),
             Stmt::Break => {
                 self.lower_leave(exits.in_loop)?;
-                self.lower_break(exits.head)
+                self.lower_break(exits)
             }
             Stmt::Continue => {
                 self.lower_leave(exits.in_loop)?;
-                self.lower_continue(exits.head)
+                self.lower_continue(exits)
             }
             Stmt::Throw { tag, value } => self.lower_throw(starts, *tag, value, free),
             Stmt::Try {

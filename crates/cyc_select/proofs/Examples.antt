@@ -1,5 +1,5 @@
 -- How many lines some code has, proved by computation.
-use Rattle.std.proofs.Common.{◌≡◌, ℕ, List, [], ◌∷◌, refl}
+use Rattle.std.proofs.Common.{◌≡◌, ℕ, false, List, [], ◌∷◌, refl}
 use Rattle.std.specs.Prelude.{sum_by, length}
 use Rattle.cyc_plain.specs.declared.instruction.Instruction.{Instruction}
 use Rattle.cyc_plain.specs.declared.instruction.Instruction.TheVariants.{AddressOf, Ask, Binary, Branch, Load, MoveWords, Store}
@@ -16,7 +16,7 @@ abbrev nothing : Program
 nothing = record { functions = []; globals = []; main = 0 }
 
 abbrev frame : Frame
-frame = record { words = 12; first_slot = 0; return_address = 11; homes = [] }
+frame = record { first_slot = 0; return_address = 11; saves = false; homes = [] }
 
 abbrev lines_of : List Instruction → ℕ
 lines_of code = sum_by (body_count nothing (frame ∷ []) 0) code

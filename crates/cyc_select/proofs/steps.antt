@@ -5,9 +5,11 @@ pub mod Moves
 pub mod Accesses
 pub mod Requests
 pub mod Calls
+pub mod Entries
 pub mod Passing
 pub mod Copies
 pub mod Returns
+pub mod Leaving
 pub mod Records
 pub mod Handlers
 pub mod Throws

@@ -4,4 +4,5 @@ pub mod Operations
 pub mod Halves
 pub mod Plans
 pub mod Computing
+pub mod Reaching
 pub mod Found

@@ -1,8 +1,8 @@
 -- What the code that emits says of itself: what it adds to the lines made so far, and the tables of line numbers that it
 -- looks targets up in. This project's own choice.
-use Rattle.std.specs.Prelude.{◌≡◌, ℕ, suc, ◌+◌, ◌*◌, ◌<◌, ◌≤◌, ◌⊎◌, List, [], ◌∷◌, ◌++◌, length, sum_by, Option, Some, None, Result, OnOk}
+use Rattle.std.specs.Prelude.{◌≡◌, ℕ, suc, ◌+◌, ◌<◌, ◌≤◌, ◌⊎◌, List, [], ◌∷◌, ◌++◌, length, sum_by, Option, Some, None, Result, OnOk}
 use Rattle.std.specs.declared.alloc.AllocError.{AllocError}
-use Rattle.cyc_machine.specs.declared.constants.TheConstants.{END_FULL, RETURN_ADDRESS, SERVICE}
+use Rattle.cyc_machine.specs.declared.constants.TheConstants.{END_FULL, SERVICE}
 use Rattle.cyc_plain.specs.declared.instruction.Instruction.{Instruction}
 use Rattle.cyc_plain.specs.declared.instruction.Operand.{Operand}
 use Rattle.cyc_plain.specs.declared.instruction.Operand.TheVariants as operands
@@ -12,11 +12,11 @@ use Rattle.cyc_plain.specs.Program.{Routine, Program, routine_at, size}
 use Rattle.cyc_plain.specs.WellFormed.{IsWellFormed}
 use Rattle.cyc_plain.specs.declared.limits.TheConstants.{GREATEST_VALUE, MOST_SIZE}
 use Rattle.cyc_frame.specs.declared.frame.TheConstants.{MOST_FRAME_WORDS}
-use Rattle.cyc_frame.specs.Layout.{AreFrames, slot_word}
+use Rattle.cyc_frame.specs.Layout.{AreFrames, frame_at, slot_word}
 use Rattle.cyc_frame.specs.Frame.{Frame}
-use Rattle.cyc_select.specs.declared.constants.TheConstants.{CALLS, START_LINES}
+use Rattle.cyc_select.specs.declared.constants.TheConstants.{START_LINES}
 use Rattle.cyc_select.specs.declared.code.Line.{Line}
-use Rattle.cyc_select.specs.Selection.{store, add_immediate, minus, push_frame, small, syscall, ordinary, count_of, function_count, function_line}
+use Rattle.cyc_select.specs.Selection.{push_frame, small, syscall, ordinary, saving_count, count_of, function_count, function_line}
 use Rattle.cyc_select.specs.declared.emitter.Emitter.{Emitter}
 use Rattle.cyc_select.specs.declared.plan.Plan.{Plan}
 use Rattle.cyc_select.specs.declared.plan.Test.{Test}
@@ -29,15 +29,8 @@ abbrev pub AddsLines : {T : Type 0} → Result T AllocError → (old new : Emitt
 AddsLines result old new lines = OnOk result (new.lines.items ≡ old.lines.items ++ lines)
 
 -- a call up to its arguments
-abbrev pub enter_code : (caller callee : Frame) → List Line
-enter_code caller callee =
-    ordinary (
-    small SERVICE END_FULL
-    ∷ syscall
-    ∷ store RETURN_ADDRESS (4 * caller.return_address)
-    ∷ add_immediate CALLS CALLS (minus 1)
-    ∷ push_frame callee
-    ∷ [])
+abbrev pub enter_code : List Line
+enter_code = ordinary (small SERVICE END_FULL ∷ syscall ∷ push_frame ∷ [])
 
 -- a slot lies where an offset reaches
 abbrev pub IsReached : Frame → (slot : ℕ) → Type 0
@@ -105,7 +98,7 @@ IsReady ready = AreReady ready.plain.now ready.frames.now ready.starts.now
 pub record AreTables (program : Program) (frames : List Frame) (starts lines : List ℕ) (function : ℕ) : Type 0 where
   pub ready : AreReady program frames starts
   pub function_in_range : function < length program.functions
-  pub lines_are : lines ≡ instruction_lines program frames function (function_line program frames function) (routine_at program function).code
+  pub lines_are : lines ≡ instruction_lines program frames function (function_line program frames function + saving_count (frame_at frames function)) (routine_at program function).code
 
 abbrev pub IsKnown : Tables → Type 0
 IsKnown tables =

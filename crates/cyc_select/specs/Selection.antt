@@ -14,6 +14,7 @@ use Rattle.cyc_isa.specs.declared.instr.MemoryOp.TheVariants.{LoadWord, StoreWor
 use Rattle.cyc_isa.specs.declared.instr.BranchOp.{BranchOp}
 use Rattle.cyc_isa.specs.declared.instr.BranchOp.TheVariants as branch
 use Rattle.cyc_isa.specs.declared.instr.ShiftOp.{ShiftOp}
+use Rattle.cyc_isa.specs.declared.instr.ShiftOp.TheVariants as shift
 use Rattle.cyc_isa.specs.declared.instr.ExceptionOp.TheVariants.{Syscall}
 use Rattle.cyc_isa.specs.declared.instr.MoveFromOp.{MoveFromOp}
 use Rattle.cyc_isa.specs.declared.instr.MoveFromOp.TheVariants.{High, Low}
@@ -34,12 +35,13 @@ use Rattle.cyc_plain.specs.declared.instruction.Request.TheVariants as requests
 use Rattle.cyc_plain.specs.Requests.{first_operand, second_operand, answer_count, destination_of}
 use Rattle.cyc_plain.specs.Program.{Routine, Program, routine_at}
 use Rattle.cyc_frame.specs.Layout.{slot_word, frame_at}
+use Rattle.cyc_frame.specs.declared.frame.TheConstants.{MOST_FRAME_WORDS}
 use Rattle.cyc_frame.specs.declared.home.Home.{Home}
 use Rattle.cyc_frame.specs.declared.home.Home.TheVariants as homes
 use Rattle.cyc_frame.specs.Homes as homing
 use Rattle.cyc_frame.specs.Uses.{is_crossing}
 use Rattle.cyc_frame.specs.Frame.{Frame}
-use Rattle.cyc_select.specs.declared.constants.TheConstants.{ZERO, FIRST_RESULT, SECOND_RESULT, THIRD_RESULT, FIRST, SECOND, THIRD, FRAME, CALLS, HANDLERS, REGIONS, START_LINES}
+use Rattle.cyc_select.specs.declared.constants.TheConstants.{ZERO, FIRST_RESULT, SECOND_RESULT, THIRD_RESULT, FIRST, SECOND, THIRD, FRAME, FRAME_SHIFT, LOWEST, HANDLERS, REGIONS, START_LINES, GLOBALS, GLOBALS_MIDDLE, NEAR_GLOBALS}
 use Rattle.cyc_select.specs.declared.code.Line.{Line}
 use Rattle.cyc_select.specs.declared.code.Condition.TheVariants as conditions
 use Rattle.cyc_select.specs.declared.code.Line.TheVariants as lines
@@ -183,23 +185,51 @@ reloads_from frame slot (h ∷ hs) = reload frame h slot ++ reloads_from frame (
 abbrev pub reloads : Frame → List Instr
 reloads frame = reloads_from frame 0 frame.homes
 
--- A global's word lies at an offset, which is extended by its sign, from this half's multiple of 2 ^ 16.
+-- A register has the address in the middle of the first globals, which an offset from it reaches: the offset is extended by
+-- its sign. Any other global lies at an offset from a half's multiple of 2 ^ 16, which comes into a register before.
 abbrev pub global_address : ℕ → ℕ
 global_address global = data_base + 4 * global
+
+abbrev pub is_near : (global : ℕ) → Bool
+is_near global = nat_lt global NEAR_GLOBALS
 
 abbrev pub upper_of_global : ℕ → Instr
 upper_of_global global = machine.LoadUpper (register_of SECOND) ((global_address global + 2 ^ 15) / 2 ^ 16)
 
+abbrev pub reach_code : (global : ℕ) → List Instr
+reach_code global = if is_near global then [] else upper_of_global global ∷ []
+
+abbrev pub reach_register : (global : ℕ) → ℕ
+reach_register global = if is_near global then GLOBALS else SECOND
+
+abbrev pub reach_half : (global : ℕ) → ℕ
+reach_half global = (if is_near global then global_address global + 2 ^ 15 else global_address global) % 2 ^ 16
+
 abbrev pub at_global : MemoryOp → (register global : ℕ) → Instr
 at_global op register global =
-    machine.Memory op (register_of register) (register_of SECOND) (global_address global % 2 ^ 16)
+    machine.Memory op (register_of register) (register_of (reach_register global)) (reach_half global)
+
+-- a global's word is loaded into a register, or stored from one
+abbrev pub global_code : MemoryOp → (register global : ℕ) → List Instr
+global_code op register global = reach_code global ++ at_global op register global ∷ []
 
 -- the frame's address moved
-abbrev pub push_frame : Frame → Instr
-push_frame frame = add_immediate FRAME FRAME (minus (4 * frame.words))
+abbrev pub push_frame : Instr
+push_frame = add_immediate FRAME FRAME (minus (4 * MOST_FRAME_WORDS))
 
-abbrev pub pop_frame : Frame → Instr
-pop_frame frame = add_immediate FRAME FRAME (4 * frame.words)
+abbrev pub pop_frame : Instr
+pop_frame = add_immediate FRAME FRAME (4 * MOST_FRAME_WORDS)
+
+-- The way back comes into the frame of a function that loses it, where the function begins, and from there again where it
+-- returns.
+abbrev pub saving_code : Frame → List Instr
+saving_code frame = if frame.saves then store RETURN_ADDRESS (4 * frame.return_address) ∷ [] else []
+
+abbrev pub restoring_code : Frame → List Instr
+restoring_code frame = if frame.saves then load RETURN_ADDRESS (4 * frame.return_address) ∷ [] else []
+
+abbrev pub saving_count : Frame → ℕ
+saving_count frame = if frame.saves then 1 else 0
 
 -- ---- operands
 
@@ -350,6 +380,10 @@ gives_count frame slot (suc count) = give_count frame slot + gives_count frame (
 abbrev pub reload_count : Frame → ℕ
 reload_count frame = sum_by homing.both_count frame.homes
 
+-- what brings the address near a global into a register
+abbrev pub reach_count : (global : ℕ) → ℕ
+reach_count global = if is_near global then 0 else 1
+
 -- what copies an operand into a slot
 abbrev pub move_count_to : Option ℕ → Frame → (destination : ℕ) → Operand → ℕ
 move_count_to None frame destination source = operand_count frame source + 1
@@ -492,7 +526,7 @@ spills_count caller callee source slot (suc count) =
 -- passed from memory comes by the register that the callee has it in.
 abbrev pub pass_from : Option ℕ → (caller callee : Frame) → (source slot : ℕ) → List Instr
 pass_from None caller callee source slot =
-    load (made_in callee slot) (4 * callee.words + slot_offset caller source) ∷ keep_code callee slot
+    load (made_in callee slot) (4 * MOST_FRAME_WORDS + slot_offset caller source) ∷ keep_code callee slot
 pass_from (Some register) caller callee source slot = give_code callee register slot
 
 abbrev pub pass : (caller callee : Frame) → (source slot : ℕ) → List Instr
@@ -576,18 +610,18 @@ body_count program frames function (plain.Jump target) = 1
 body_count program frames function (plain.Branch comparison left right target) =
     test_count (frame_at frames function) (test_of comparison left right) + 1
 body_count program frames function (plain.Call callee arguments count result) =
-    spills_count (frame_at frames function) (frame_at frames callee) arguments 0 count + 7
+    spills_count (frame_at frames function) (frame_at frames callee) arguments 0 count + 5
     + copies_count (frame_at frames function) (frame_at frames callee) arguments 0 count
 body_count program frames function (plain.Return value) =
-    ending_count program function + (routine_at program function).results + 2
+    saving_count (frame_at frames function) + ending_count program function + (routine_at program function).results + 2
 body_count program frames function (plain.ReadByte destination) = 2 + give_count (frame_at frames function) destination
 body_count program frames function (plain.AddressOf destination slot count) =
     1 + keep_count (frame_at frames function) destination
 body_count program frames function (plain.WriteByte source) = load_count source + 2
 body_count program frames function (plain.LoadGlobal destination global) =
-    2 + keep_count (frame_at frames function) destination
+    reach_count global + 1 + keep_count (frame_at frames function) destination
 body_count program frames function (plain.StoreGlobal global source) =
-    operand_count (frame_at frames function) source + 2
+    operand_count (frame_at frames function) source + reach_count global + 1
 body_count program frames function (plain.Load destination address offset) =
     address_count (frame_at frames function) address offset + 1 + keep_count (frame_at frames function) destination
 body_count program frames function (plain.Store address offset source) =
@@ -599,24 +633,24 @@ body_count program frames function (plain.StoreByte address offset source) =
 body_count program frames function (plain.Ask request) = ask_count (frame_at frames function) request
 body_count program frames function (plain.CountLexical destination) =
     give_count (frame_at frames function) destination
-body_count program frames function (plain.Try first handler) = 12 + reload_count (frame_at frames function)
+body_count program frames function (plain.Try first handler) = 8 + reload_count (frame_at frames function)
 body_count program frames function (plain.Leave first) = 1
-body_count program frames function (plain.Throw tag value) = load_count tag + load_count value + 8
+body_count program frames function (plain.Throw tag value) = load_count tag + load_count value + 7
 body_count program frames function (plain.Finish value) =
-    ending_count program function + (routine_at program function).results + 2
+    saving_count (frame_at frames function) + ending_count program function + (routine_at program function).results + 2
 body_count program frames function (plain.Uncaught tag value) = word_count tag + load_count value + 2
 
 -- behind a call, the lines that are executed after it returned
 abbrev pub behind_count : Program → List Frame → (function : ℕ) → Instruction → ℕ
 behind_count program frames function (plain.Call callee arguments count result) =
-    2 + (routine_at program callee).results + reload_count (frame_at frames function)
+    (routine_at program callee).results + reload_count (frame_at frames function)
 behind_count program frames function instruction = 0
 
 abbrev pub count_of : Program → List Frame → (function : ℕ) → Instruction → ℕ
 count_of program frames function instruction = body_count program frames function instruction + behind_count program frames function instruction
 
 abbrev pub function_count : Program → List Frame → (function : ℕ) → Routine → ℕ
-function_count program frames function r = sum_by (count_of program frames function) r.code
+function_count program frames function r = saving_count (frame_at frames function) + sum_by (count_of program frames function) r.code
 
 abbrev pub functions_count : Program → List Frame → (first : ℕ) → List Routine → ℕ
 functions_count program frames first [] = 0
@@ -629,7 +663,7 @@ function_line program frames function = START_LINES + functions_count program fr
 -- the number of the first line of an instruction
 abbrev pub instruction_line : Program → List Frame → (function index : ℕ) → ℕ
 instruction_line program frames function index =
-    function_line program frames function + sum_by (count_of program frames function) (take index (routine_at program function).code)
+    function_line program frames function + saving_count (frame_at frames function) + sum_by (count_of program frames function) (take index (routine_at program function).code)
 
 -- ---- the lines
 
@@ -654,16 +688,11 @@ write_code frame source = ordinary (load_code frame ARGUMENT source ++ small SER
 -- a global into a slot, and an operand into a global
 abbrev pub load_global : Frame → (destination global : ℕ) → List Line
 load_global frame destination global =
-    ordinary (
-    upper_of_global global
-    ∷ at_global LoadWord (made_in frame destination) global
-    ∷ keep_code frame destination)
+    ordinary (global_code LoadWord (made_in frame destination) global ++ keep_code frame destination)
 
 abbrev pub store_global : Frame → (global : ℕ) → Operand → List Line
 store_global frame global source =
-    ordinary (
-    operand_code frame FIRST source
-    ++ upper_of_global global ∷ at_global StoreWord (operand_register frame FIRST source) global ∷ [])
+    ordinary (operand_code frame FIRST source ++ global_code StoreWord (operand_register frame FIRST source) global)
 
 -- words from slots to slots, one by one
 abbrev pub moves : Frame → (destination source count : ℕ) → List Instr
@@ -750,27 +779,20 @@ uncaught_code frame tag value =
     word_code ARGUMENT tag ++ (load_code frame SECOND_ARGUMENT value ++ small SERVICE END_UNCAUGHT ∷ syscall ∷ []))
 
 -- A call of the function whose first line has this label. Where no more may be under way the run ends; otherwise the
--- return address is kept, and the callee's frame is the current one.
+-- callee's frame is the current one.
 abbrev pub calling_code : (caller callee : Frame) → (here label arguments count : ℕ) → List Line
 calling_code caller callee here label arguments count =
-    lines.Branch (conditions.Registers branch.NotEqual (register_of CALLS) (register_of ZERO)) (here + 3) ∷ []
+    lines.Branch (conditions.Registers branch.NotEqual (register_of FRAME) (register_of LOWEST)) (here + 3) ∷ []
     ++ ordinary (
     small SERVICE END_FULL
     ∷ syscall
-    ∷ store RETURN_ADDRESS (4 * caller.return_address)
-    ∷ add_immediate CALLS CALLS (minus 1)
-    ∷ push_frame callee
+    ∷ push_frame
     ∷ copies caller callee arguments 0 count)
     ++ lines.Call label ∷ []
 
--- After a call of a function with so many results, the caller has its return address and the number of calls again, and
--- gets what was returned.
+-- After a call of a function with so many results, the caller gets what was returned.
 abbrev pub returned_code : Frame → (result results : ℕ) → List Line
-returned_code frame result results =
-    ordinary (
-    load RETURN_ADDRESS (4 * frame.return_address)
-    ∷ add_immediate CALLS CALLS 1
-    ∷ (bring_all true frame result (result_registers results) ++ reloads frame))
+returned_code frame result results = ordinary (bring_all true frame result (result_registers results) ++ reloads frame)
 
 -- where `main` was called first its result ends the run
 abbrev pub ending_code : Bool → Frame → (here value : ℕ) → List Line
@@ -783,39 +805,35 @@ ending_code is_main frame here value =
 -- the return of a function with so many results, which may be the one that was called first
 abbrev pub returning_code : (is_main : Bool) → Frame → (here value results : ℕ) → List Line
 returning_code is_main frame here value results =
-    ending_code is_main frame here value
-    ++ ordinary (load_all frame value (result_registers results) ++ pop_frame frame ∷ [])
-    ++ lines.Return ∷ []
+    ordinary (restoring_code frame)
+    ++ (ending_code is_main frame (here + saving_count frame) value
+    ++ ordinary (load_all frame value (result_registers results) ++ pop_frame ∷ [])
+    ++ lines.Return ∷ [])
 
--- A handler is opened. Its record has the handler before it, its frame, the line behind the call here, and how many more calls
--- may be under way.
+-- A handler is opened. Its record has the handler before it, its frame, and the line behind the call here.
 abbrev pub recorded_code : Frame → (first : ℕ) → List Instr
 recorded_code frame first =
     store_slot frame HANDLERS first
     ∷ store_slot frame FRAME (first + 1)
-    ∷ store_slot frame CALLS (first + 3)
-    ∷ store RETURN_ADDRESS (4 * frame.return_address)
     ∷ []
 
 -- where an exception comes to it
 abbrev pub caught_code : Frame → (first : ℕ) → List Instr
 caught_code frame first =
-    load RETURN_ADDRESS (4 * frame.return_address)
-    ∷ store_slot frame ARGUMENT first
+    store_slot frame ARGUMENT first
     ∷ store_slot frame SECOND_ARGUMENT (suc first)
     ∷ reloads frame
 
 abbrev pub opened_code : Frame → (first : ℕ) → List Instr
 opened_code frame first =
     store_slot frame RETURN_ADDRESS (first + 2)
-    ∷ load RETURN_ADDRESS (4 * frame.return_address)
     ∷ add_immediate HANDLERS FRAME (slot_offset frame first)
     ∷ []
 
 abbrev pub try_code : Frame → (here first label : ℕ) → List Line
 try_code frame here first label =
     ordinary (recorded_code frame first)
-    ++ (lines.Call (here + 9 + reload_count frame)
+    ++ (lines.Call (here + 6 + reload_count frame)
     ∷ ordinary (caught_code frame first)
     ++ (lines.Jump label ∷ ordinary (opened_code frame first)))
 
@@ -826,7 +844,7 @@ load_record target offset = machine.Memory LoadWord (register_of target) (regist
 -- An exception goes to the newest handler, or ends the run.
 abbrev pub unwound_code : List Instr
 unwound_code =
-    load_record RETURN_ADDRESS 8 ∷ load_record CALLS 12 ∷ load_record FRAME 4 ∷ load_record HANDLERS 0 ∷ []
+    load_record RETURN_ADDRESS 8 ∷ load_record FRAME 4 ∷ load_record HANDLERS 0 ∷ []
 
 abbrev pub throw_code : Frame → (here : ℕ) → (tag value : Operand) → List Line
 throw_code frame here tag value =
@@ -895,20 +913,32 @@ code_lines program frames function here (i ∷ code) =
     body program frames function here i ++ behind program frames function i
     ++ code_lines program frames function (here + count_of program frames function i) code
 
+abbrev pub routine_lines : Program → List Frame → (function here : ℕ) → Routine → List Line
+routine_lines program frames function here r =
+    ordinary (saving_code (frame_at frames function))
+    ++ code_lines program frames function (here + saving_count (frame_at frames function)) r.code
+
 abbrev pub function_lines : Program → List Frame → (function here : ℕ) → List Routine → List Line
 function_lines program frames function here [] = []
 function_lines program frames function here (r ∷ routines) =
-    code_lines program frames function here r.code
+    routine_lines program frames function here r
     ++ function_lines program frames (suc function) (here + function_count program frames function r) routines
 
--- `main`, whose first line has this label, is called: one call more is under way, and its frame lies below the end of
--- the stack
-abbrev pub start_code : Frame → (label : ℕ) → List Line
-start_code frame label =
-    ordinary (add_immediate CALLS ARGUMENT (minus 1) ∷ push_frame frame ∷ []) ++ lines.Jump label ∷ []
+-- The globals are reached from a register. `main`, whose first line has this label, is called: its frame lies below the end of
+-- the stack, and there is room for those of as many calls as may be under way.
+abbrev pub start_code : (label : ℕ) → List Line
+start_code label =
+    ordinary (
+    load_upper GLOBALS GLOBALS_MIDDLE
+    ∷ or_lower GLOBALS GLOBALS_MIDDLE
+    ∷ shift_by_of shift.Left LOWEST ARGUMENT FRAME_SHIFT
+    ∷ arithmetic_of arithmetic.SubtractUnsigned LOWEST FRAME LOWEST
+    ∷ push_frame
+    ∷ [])
+    ++ lines.Jump label ∷ []
 
 abbrev pub start_lines : Program → List Frame → List Line
-start_lines program frames = start_code (frame_at frames program.main) (function_line program frames program.main)
+start_lines program frames = start_code (function_line program frames program.main)
 
 abbrev pub select_of : Program → List Frame → Labelled
 select_of program frames =

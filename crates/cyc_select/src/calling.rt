@@ -1,14 +1,14 @@
 //! The lines of calls and returns, and of moves of several words.
 ghost use Rattle.std.specs.Prelude.{◌≡◌, ◌+◌, ◌*◌, ◌<◌, ◌≤◌, [], ◌∷◌, ◌++◌, true, length, OnOk};
-ghost use Rattle.cyc_select.specs.Selection.{pass, spill, spills, copies, ordinary, load_all, load_words, store_all, moves, all_moved, move_words, calling_code, returned_code, ending_code, returning_code};
+ghost use Rattle.cyc_select.specs.Selection.{pass, spill, spills, copies, ordinary, load_all, load_words, store_all, moves, all_moved, move_words, calling_code, returned_code, saving_code, restoring_code, ending_code, returning_code};
 ghost use Rattle.cyc_select.specs.Emission.{AddsLines, IsReached, AreReached, most_lines, enter_code};
 
 use crate::code::Line;
-use crate::constants::{CALLS, FIRST_RESULT, SECOND_RESULT, THIRD_RESULT, ZERO};
+use crate::constants::{FIRST_RESULT, FRAME, LOWEST, SECOND_RESULT, THIRD_RESULT, ZERO};
+use crate::counting::saving_count;
 use crate::emitter::Emitter;
 use crate::instructions::{
-    add_immediate, load, load_slot, load_word, minus, offset_of, pop_frame, push_frame, small,
-    store, store_slot, syscall,
+    load, load_slot, load_word, offset_of, pop_frame, push_frame, small, store, store_slot, syscall,
 };
 use crate::operands::{is_kept, made_in, passed_from};
 use cyc_frame::{Frame, MOST_FRAME_WORDS, is_crossing};
@@ -30,7 +30,6 @@ impl Emitter {
         source: usize,
         slot: usize,
     ) -> Result<(), AllocError>
-        requires words { callee.now.words ≤ MOST_FRAME_WORDS }
         requires source { IsReached caller.now source }
         requires target { IsReached callee.now slot }
         ensures { AddsLines result self.old self.new (ordinary (pass caller.now callee.now source slot)) }
@@ -38,7 +37,7 @@ impl Emitter {
         match passed_from(caller, callee, source, slot) {
             Some(register) => self.give(callee, register, slot),
             None => {
-                let offset = offset_of(callee.words) + offset_of(caller.first_slot + source);
+                let offset = offset_of(MOST_FRAME_WORDS) + offset_of(caller.first_slot + source);
                 self.ordinary(&[load(made_in(callee, slot), offset)])?;
                 self.keep(callee, slot)
             }
@@ -90,7 +89,6 @@ impl Emitter {
         source: usize,
         count: usize,
     ) -> Result<(), AllocError>
-        requires words { callee.now.words ≤ MOST_FRAME_WORDS }
         requires source { AreReached caller.now source count }
         requires target { AreReached callee.now 0 count }
         ensures { AddsLines result self.old self.new (ordinary (copies caller.now callee.now source 0 count)) }
@@ -102,19 +100,10 @@ impl Emitter {
     }
 
     /// The end of a run where too many calls are under way, and the change to the callee's frame.
-    fn enter(&mut self, caller: &Frame, callee: &Frame) -> Result<(), AllocError>
-        requires return_address { caller.now.return_address ≤ MOST_FRAME_WORDS }
-        requires some { 0 < callee.now.words }
-        requires words { callee.now.words ≤ MOST_FRAME_WORDS }
-        ensures { AddsLines result self.old self.new (enter_code caller.now callee.now) }
+    fn enter(&mut self) -> Result<(), AllocError>
+        ensures { AddsLines result self.old self.new enter_code }
     {
-        self.ordinary(&[
-            small(SERVICE, END_FULL as u16),
-            syscall(),
-            store(RETURN_ADDRESS, offset_of(caller.return_address)),
-            add_immediate(CALLS, CALLS, minus(1)),
-            push_frame(callee),
-        ])
+        self.ordinary(&[small(SERVICE, END_FULL as u16), syscall(), push_frame()])
     }
 
     /// A call of the function whose first line is the label.
@@ -128,15 +117,12 @@ impl Emitter {
         count: usize,
     ) -> Result<(), AllocError>
         requires fits { here ≤ most_lines + MOST_FRAME_WORDS }
-        requires return_address { caller.now.return_address ≤ MOST_FRAME_WORDS }
-        requires some { 0 < callee.now.words }
-        requires words { callee.now.words ≤ MOST_FRAME_WORDS }
         requires source { AreReached caller.now arguments count }
         requires target { AreReached callee.now 0 count }
         ensures { AddsLines result self.old self.new (calling_code caller.now callee.now here label arguments count) }
     {
-        self.branch(BranchOp::NotEqual, CALLS, ZERO, here + 3)?;
-        self.enter(caller, callee)?;
+        self.branch(BranchOp::NotEqual, FRAME, LOWEST, here + 3)?;
+        self.enter()?;
         self.arguments(caller, callee, arguments, count)?;
         self.line(Line::Call { label })
     }
@@ -238,25 +224,42 @@ impl Emitter {
         }
     }
 
-    /// Behind a call: the caller has its return address and the number of calls again, and gets what was returned.
+    /// Behind a call: the caller gets what was returned.
     pub(crate) fn returned(
         &mut self,
         frame: &Frame,
         slot: usize,
         results: usize,
     ) -> Result<(), AllocError>
-        requires return_address { frame.now.return_address ≤ MOST_FRAME_WORDS }
         requires few { results ≤ GREATEST_VALUE }
         requires target { AreReached frame.now slot results }
         requires homes { AreReached frame.now 0 (length frame.now.homes) }
         ensures { AddsLines result self.old self.new (returned_code frame.now slot results) }
     {
-        self.ordinary(&[
-            load(RETURN_ADDRESS, offset_of(frame.return_address)),
-            add_immediate(CALLS, CALLS, 1),
-        ])?;
         self.bring_all(frame, true, slot, &RESULTS[..results])?;
         self.reloads(frame)
+    }
+
+    /// The way back comes into the frame, where a function that loses it begins.
+    pub(crate) fn saving(&mut self, frame: &Frame) -> Result<(), AllocError>
+        requires { frame.now.return_address ≤ MOST_FRAME_WORDS }
+        ensures { AddsLines result self.old self.new (ordinary (saving_code frame.now)) }
+    {
+        if !frame.saves {
+            return Ok(());
+        }
+        self.ordinary(&[store(RETURN_ADDRESS, offset_of(frame.return_address))])
+    }
+
+    /// And from there again, where it returns.
+    fn restoring(&mut self, frame: &Frame) -> Result<(), AllocError>
+        requires { frame.now.return_address ≤ MOST_FRAME_WORDS }
+        ensures { AddsLines result self.old self.new (ordinary (restoring_code frame.now)) }
+    {
+        if !frame.saves {
+            return Ok(());
+        }
+        self.ordinary(&[load(RETURN_ADDRESS, offset_of(frame.return_address))])
     }
 
     /// The end of a run, where `main` was called first.
@@ -267,7 +270,7 @@ impl Emitter {
         here: usize,
         value: usize,
     ) -> Result<(), AllocError>
-        requires fits { here ≤ most_lines }
+        requires fits { here ≤ most_lines + 1 }
         requires source { is_main ≡ true → IsReached frame.now value }
         ensures { AddsLines result self.old self.new (ending_code is_main frame.now here value) }
     {
@@ -292,15 +295,16 @@ impl Emitter {
         results: usize,
     ) -> Result<(), AllocError>
         requires fits { here ≤ most_lines }
-        requires words { frame.now.words ≤ MOST_FRAME_WORDS }
+        requires return_address { frame.now.return_address ≤ MOST_FRAME_WORDS }
         requires few { results ≤ GREATEST_VALUE }
         requires main { is_main ≡ true → IsReached frame.now value }
         requires source { AreReached frame.now value results }
         ensures { AddsLines result self.old self.new (returning_code is_main frame.now here value results) }
     {
-        self.ending(is_main, frame, here, value)?;
+        self.restoring(frame)?;
+        self.ending(is_main, frame, here + saving_count(frame), value)?;
         self.load_all(frame, value, &RESULTS[..results])?;
-        self.ordinary(&[pop_frame(frame)])?;
+        self.ordinary(&[pop_frame()])?;
         self.line(Line::Return)
     }
 }

@@ -4,11 +4,12 @@ ghost use Rattle.cyc_plain.specs.Program.{routine_of, routine_at, instruction_si
 ghost use Rattle.cyc_plain.specs.WellFormed.{IsPlain, IsInRange};
 ghost use Rattle.cyc_frame.specs.Layout.{AreFrames, frame_at};
 ghost use Rattle.cyc_frame.specs.declared.home.TheConstants.{MOST_BOTH};
-ghost use Rattle.cyc_select.specs.Selection.{reload_count, spill_count, spills_count, pass_count, copies_count, moves_count, move_words_count, operator_count, ending_count, body_count, behind_count, count_of};
+ghost use Rattle.cyc_select.specs.Selection.{saving_count, reload_count, spill_count, spills_count, pass_count, copies_count, moves_count, move_words_count, operator_count, ending_count, body_count, behind_count, count_of, function_count};
 ghost use Rattle.cyc_select.specs.Emission.{AreFew, most_lines, instruction_lines, function_starts};
 
 use crate::asking::ask_count;
 use crate::constants::START_LINES;
+use crate::globals::reach_count;
 use crate::memory::address_count;
 use crate::operands::{
     give_count, is_kept, keep_count, load_count, move_count, operand_count, passed_from,
@@ -143,21 +144,30 @@ fn copies_count(caller: &Frame, callee: &Frame, source: usize, count: usize) -> 
 /// The lines of a call up to where it leaves for the callee.
 fn call_count(caller: &Frame, callee: &Frame, arguments: usize, count: usize) -> usize
     requires { arguments + count ≤ MOST_FRAME_WORDS }
-    ensures { result ≡ spills_count caller.now callee.now arguments 0 count + 7 + copies_count caller.now callee.now arguments 0 count }
+    ensures { result ≡ spills_count caller.now callee.now arguments 0 count + 5 + copies_count caller.now callee.now arguments 0 count }
 {
     spills_count(caller, callee, arguments, count)
-        + 7
+        + 5
         + copies_count(caller, callee, arguments, count)
 }
 
+/// The line that keeps the way back where a function begins, and the one that it comes from where the function returns.
+pub(crate) fn saving_count(frame: &Frame) -> usize
+    ensures value { result ≡ saving_count frame.now }
+    ensures few { result ≤ 1 }
+{
+    if frame.saves { 1 } else { 0 }
+}
+
 /// The lines of a return.
-fn return_count(plain: &Plain, function: usize) -> usize
+fn return_count(plain: &Plain, frames: &[Frame], function: usize) -> usize
+    requires fit { AreFrames plain.now frames.now }
     requires function { function < length plain.now.functions }
     requires few { AreFew plain.now }
-    ensures { result ≡ ending_count plain.now function + (routine_at plain.now function).results + 2 }
+    ensures { result ≡ saving_count (frame_at frames.now function) + ending_count plain.now function + (routine_at plain.now function).results + 2 }
 {
     let ending = if function == plain.main() { 4 } else { 0 };
-    ending + results_of(plain, function) + 2
+    saving_count(frame_in(plain, frames, function)) + ending + results_of(plain, function) + 2
 }
 
 /// The lines of an instruction up to what it does.
@@ -234,17 +244,22 @@ fn body_count(plain: &Plain, frames: &[Frame], function: usize, instruction: Ins
             count,
             ..
         } => call_count(frame, frame_in(plain, frames, callee), arguments, count),
-        Instruction::Return { .. } => return_count(plain, function),
+        Instruction::Return { .. } => return_count(plain, frames, function),
         Instruction::ReadByte { destination } => 2 + give_count(frame, destination),
-        Instruction::LoadGlobal { destination, .. } => 2 + keep_count(frame, destination),
+        Instruction::LoadGlobal {
+            destination,
+            global,
+        } => reach_count(global) + 1 + keep_count(frame, destination),
         Instruction::WriteByte { source } => load_count(source) + 2,
-        Instruction::StoreGlobal { source, .. } => operand_count(frame, source) + 2,
+        Instruction::StoreGlobal { global, source } => {
+            operand_count(frame, source) + reach_count(global) + 1
+        }
         Instruction::Ask { request } => ask_count(frame, request),
         Instruction::CountLexical { destination } => give_count(frame, destination),
-        Instruction::Try { .. } => 12 + reload_count(frame),
+        Instruction::Try { .. } => 8 + reload_count(frame),
         Instruction::Leave { .. } => 1,
-        Instruction::Throw { tag, value } => load_count(tag) + load_count(value) + 8,
-        Instruction::Finish { .. } => return_count(plain, function),
+        Instruction::Throw { tag, value } => load_count(tag) + load_count(value) + 7,
+        Instruction::Finish { .. } => return_count(plain, frames, function),
         Instruction::Uncaught { tag, value } => word_count(tag) + load_count(value) + 2,
     }
 }
@@ -259,9 +274,7 @@ fn behind_count(plain: &Plain, frames: &[Frame], function: usize, instruction: I
 {
     let frame = frame_in(plain, frames, function);
     match instruction {
-        Instruction::Call { function, .. } => {
-            2 + results_of(plain, function) + reload_count(frame)
-        }
+        Instruction::Call { function, .. } => { results_of(plain, function) + reload_count(frame) }
         _ => 0,
     }
 }
@@ -298,6 +311,20 @@ fn code_count(plain: &Plain, frames: &[Frame], function: usize, code: &[Instruct
     lines
 }
 
+/// The lines of a function.
+fn function_count(plain: &Plain, frames: &[Frame], function: usize, code: &[Instruction]) -> usize
+    requires fit { AreFrames plain.now frames.now }
+    requires function { function < length plain.now.functions }
+    requires few { AreFew plain.now }
+    requires in_range { All (IsInRange plain.now (routine_at plain.now function)) code.now }
+    requires small { sum_by instruction_size code.now ≤ MOST_SIZE }
+    requires code { code.now ≡ (routine_at plain.now function).code }
+    ensures value { result ≡ function_count plain.now frames.now function (routine_at plain.now function) }
+    ensures small { result ≤ size (routine_at plain.now function) }
+{
+    saving_count(frame_in(plain, frames, function)) + code_count(plain, frames, function, code)
+}
+
 /// The number of the first line of each instruction of a function's code, where the first one has this.
 pub(crate) fn instruction_lines(
     alloc: Global,
@@ -312,7 +339,7 @@ pub(crate) fn instruction_lines(
     requires few { AreFew plain.now }
     requires in_range { All (IsInRange plain.now (routine_at plain.now function)) code.now }
     requires small { sum_by instruction_size code.now ≤ MOST_SIZE }
-    requires fits { first + sum_by instruction_size code.now ≤ most_lines }
+    requires fits { first + sum_by instruction_size code.now ≤ most_lines + 1 }
     ensures { IfOk result (λ lines. lines.items ≡ instruction_lines plain.now frames.now function first code.now) }
 {
     let mut lines = Vec::new(alloc);
@@ -337,7 +364,7 @@ pub(crate) fn function_starts(
     let mut starts = Vec::new(alloc);
     let mut here = START_LINES;
     for function in plain.functions() {
-        let lines = code_count(plain, frames, starts.len(), &function.code);
+        let lines = function_count(plain, frames, starts.len(), &function.code);
         starts.push(here)?;
         here += lines;
     }

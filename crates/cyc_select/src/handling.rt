@@ -6,13 +6,13 @@ ghost use Rattle.cyc_select.specs.Selection.{ordinary, load, store_slot, slot_of
 ghost use Rattle.cyc_select.specs.Emission.{AddsLines, IsFound, AreReached, most_lines};
 
 use crate::code::Line;
-use crate::constants::{CALLS, FRAME, HANDLERS, ZERO};
+use crate::constants::{FRAME, HANDLERS, ZERO};
 use crate::emitter::Emitter;
 use crate::instructions::{
-    add_immediate, load, load_word, offset_of, register, small, store, store_slot, syscall,
+    add_immediate, load_word, offset_of, register, small, store_slot, syscall,
 };
 use crate::operands::{load_count, reload_count};
-use cyc_frame::{Frame, MOST_FRAME_WORDS};
+use cyc_frame::Frame;
 use cyc_isa::{BranchOp, Instr, MemoryOp};
 use cyc_machine::constants::{ARGUMENT, END_UNCAUGHT, RETURN_ADDRESS, SECOND_ARGUMENT, SERVICE};
 use cyc_plain::{Operand, RECORD_WORDS};
@@ -33,26 +33,21 @@ fn load_record(target: u8, offset: u16) -> Instr
 impl Emitter {
     /// What a record has, but for the line that an exception comes to.
     fn recorded(&mut self, frame: &Frame, first: usize) -> Result<(), AllocError>
-        requires return_address { frame.now.return_address ≤ MOST_FRAME_WORDS }
-        requires target { AreReached frame.now first RECORD_WORDS }
+        requires { AreReached frame.now first RECORD_WORDS }
         ensures { AddsLines result self.old self.new (ordinary (recorded_code frame.now first)) }
     {
         self.ordinary(&[
             store_slot(frame, HANDLERS, first),
             store_slot(frame, FRAME, first + 1),
-            store_slot(frame, CALLS, first + 3),
-            store(RETURN_ADDRESS, offset_of(frame.return_address)),
         ])
     }
 
     /// An exception has come to a handler: its tag and its word come into the record.
     fn landed(&mut self, frame: &Frame, first: usize) -> Result<(), AllocError>
-        requires return_address { frame.now.return_address ≤ MOST_FRAME_WORDS }
-        requires target { AreReached frame.now first RECORD_WORDS }
-        ensures { AddsLines result self.old self.new (ordinary (load RETURN_ADDRESS (4 * frame.now.return_address) ∷ store_slot frame.now ARGUMENT first ∷ store_slot frame.now SECOND_ARGUMENT (suc first) ∷ [])) }
+        requires { AreReached frame.now first RECORD_WORDS }
+        ensures { AddsLines result self.old self.new (ordinary (store_slot frame.now ARGUMENT first ∷ store_slot frame.now SECOND_ARGUMENT (suc first) ∷ [])) }
     {
         self.ordinary(&[
-            load(RETURN_ADDRESS, offset_of(frame.return_address)),
             store_slot(frame, ARGUMENT, first),
             store_slot(frame, SECOND_ARGUMENT, first + 1),
         ])
@@ -60,7 +55,6 @@ impl Emitter {
 
     /// Where an exception comes to a handler.
     fn caught(&mut self, frame: &Frame, first: usize) -> Result<(), AllocError>
-        requires return_address { frame.now.return_address ≤ MOST_FRAME_WORDS }
         requires target { AreReached frame.now first RECORD_WORDS }
         requires homes { AreReached frame.now 0 (length frame.now.homes) }
         ensures { AddsLines result self.old self.new (ordinary (caught_code frame.now first)) }
@@ -71,13 +65,11 @@ impl Emitter {
 
     /// The rest of a record, which is the newest one then.
     fn opened(&mut self, frame: &Frame, first: usize) -> Result<(), AllocError>
-        requires return_address { frame.now.return_address ≤ MOST_FRAME_WORDS }
-        requires target { AreReached frame.now first RECORD_WORDS }
+        requires { AreReached frame.now first RECORD_WORDS }
         ensures { AddsLines result self.old self.new (ordinary (opened_code frame.now first)) }
     {
         self.ordinary(&[
             store_slot(frame, RETURN_ADDRESS, first + 2),
-            load(RETURN_ADDRESS, offset_of(frame.return_address)),
             add_immediate(HANDLERS, FRAME, offset_of(frame.first_slot + first)),
         ])
     }
@@ -91,7 +83,6 @@ impl Emitter {
         label: usize,
     ) -> Result<(), AllocError>
         requires fits { here ≤ most_lines }
-        requires return_address { frame.now.return_address ≤ MOST_FRAME_WORDS }
         requires target { AreReached frame.now first RECORD_WORDS }
         requires homes { AreReached frame.now 0 (length frame.now.homes) }
         requires few { reload_count frame.now ≤ MOST_BOTH }
@@ -99,7 +90,7 @@ impl Emitter {
     {
         self.recorded(frame, first)?;
         self.line(Line::Call {
-            label: here + 9 + reload_count(frame),
+            label: here + 6 + reload_count(frame),
         })?;
         self.caught(frame, first)?;
         self.line(Line::Jump { label })?;
@@ -120,7 +111,6 @@ impl Emitter {
     {
         self.ordinary(&[
             load_record(RETURN_ADDRESS, 8),
-            load_record(CALLS, 12),
             load_record(FRAME, 4),
             load_record(HANDLERS, 0),
         ])

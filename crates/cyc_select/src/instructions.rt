@@ -182,18 +182,15 @@ pub(crate) fn or_lower(target: u8, word: u32) -> Instr
 }
 
 /// The frame of a function that is called comes below the current one.
-pub(crate) fn push_frame(frame: &Frame) -> Instr
-    requires some { 0 < frame.now.words }
-    requires small { frame.now.words ≤ MOST_FRAME_WORDS }
-    ensures { result ≡ push_frame frame.now }
+pub(crate) fn push_frame() -> Instr
+    ensures { result ≡ push_frame }
 {
-    add_immediate(FRAME, FRAME, minus(offset_of(frame.words)))
+    add_immediate(FRAME, FRAME, minus(offset_of(MOST_FRAME_WORDS)))
 }
 
 /// The current frame is left.
-pub(crate) fn pop_frame(frame: &Frame) -> Instr
-    requires { frame.now.words ≤ MOST_FRAME_WORDS }
-    ensures { result ≡ pop_frame frame.now }
+pub(crate) fn pop_frame() -> Instr
+    ensures { result ≡ pop_frame }
 {
-    add_immediate(FRAME, FRAME, offset_of(frame.words))
+    add_immediate(FRAME, FRAME, offset_of(MOST_FRAME_WORDS))
 }

@@ -8,6 +8,7 @@ mod code;
 pub mod constants;
 mod counting;
 mod emitter;
+mod globals;
 mod handling;
 mod instructions;
 mod memory;

@@ -1,6 +1,6 @@
 //! The lines of an operator, of a test, and of what else a function does with its own slots.
 ghost use Rattle.std.specs.Prelude.{◌≡◌, ◌+◌, ◌*◌, ◌<◌, ◌≤◌, ◌^◌, [], ◌∷◌, ◌++◌, OnOk};
-ghost use Rattle.cyc_select.specs.Selection.{give_code, small, syscall, arithmetic_of, immediate_of, shift_of, shift_by_of, multiply_divide_of, move_from_of, upper_of_global, at_global, operation_code, outcome_code, operands_code, operation_of, computed_code, plan_code, test_code, branch_on, branch_line, operation_count, outcome_count, count_of_operation, plan_count, test_count, ordinary, product_code, quotient_code, divided_code, divide_code, is_tested, part_of, operator_code, move_code, branch_code, write_code, load_global, store_global, uncaught_code};
+ghost use Rattle.cyc_select.specs.Selection.{give_code, small, syscall, arithmetic_of, immediate_of, shift_of, shift_by_of, multiply_divide_of, move_from_of, operation_code, outcome_code, operands_code, operation_of, computed_code, plan_code, test_code, branch_on, branch_line, operation_count, outcome_count, count_of_operation, plan_count, test_count, ordinary, product_code, quotient_code, divided_code, divide_code, is_tested, part_of, operator_code, move_code, branch_code, write_code, uncaught_code};
 ghost use Rattle.cyc_select.specs.Emission.{AddsLines, IsReached, IsFound, IsPlanFound, IsTestFound, most_lines};
 
 use crate::code::{Condition, Line};
@@ -13,13 +13,11 @@ use crate::numbers::is_plain_divisor;
 use crate::operands::{keep_count, made_in, operand_count, operand_register, value_register};
 use crate::plan::{Operation, Outcome, Plan, Test, binary_plan};
 use cyc_frame::Frame;
-use cyc_isa::{
-    ArithmeticOp, BranchOp, ImmediateOp, Instr, MemoryOp, MoveFromOp, MultiplyDivideOp, ShiftOp,
-};
+use cyc_isa::{ArithmeticOp, BranchOp, ImmediateOp, Instr, MoveFromOp, MultiplyDivideOp, ShiftOp};
 use cyc_machine::constants::{
-    ARGUMENT, DATA_BASE, END_UNCAUGHT, GET_BYTE, PUT_BYTE, SECOND_ARGUMENT, SERVICE,
+    ARGUMENT, END_UNCAUGHT, GET_BYTE, PUT_BYTE, SECOND_ARGUMENT, SERVICE,
 };
-use cyc_plain::{BinaryOperator, MOST_GLOBALS, Operand};
+use cyc_plain::{BinaryOperator, Operand};
 use std::alloc::AllocError;
 
 /// What a binary operator works on, and where its result goes.
@@ -31,7 +29,7 @@ pub(crate) struct Parts {
 }
 
 /// An operation on two registers, into another one.
-fn arithmetic(op: ArithmeticOp, target: u8, left: u8, right: u8) -> Instr
+pub(crate) fn arithmetic(op: ArithmeticOp, target: u8, left: u8, right: u8) -> Instr
     ensures { result ≡ arithmetic_of op target left right }
 {
     Instr::Arithmetic {
@@ -66,7 +64,7 @@ fn immediate(op: ImmediateOp, target: u8, left: u8, half: u16) -> Instr
 }
 
 /// A shift by a number, which counts modulo 32.
-fn shift_by(op: ShiftOp, target: u8, source: u8, amount: u8) -> Instr
+pub(crate) fn shift_by(op: ShiftOp, target: u8, source: u8, amount: u8) -> Instr
     ensures { result ≡ shift_by_of op target source amount }
 {
     Instr::Shift {
@@ -93,32 +91,6 @@ fn move_from(op: MoveFromOp, target: u8) -> Instr
     Instr::MoveFrom {
         op,
         destination: register(target),
-    }
-}
-
-/// The upper half of a global's address, for an offset that is extended by its sign.
-fn upper_of_global(global: usize) -> Instr
-    requires { global < MOST_GLOBALS }
-    ensures { result ≡ upper_of_global global }
-{
-    let address = DATA_BASE + 4 * global as u32;
-    Instr::LoadUpper {
-        target: register(SECOND),
-        immediate: ((address + 0x8000) / 0x1_0000) as u16,
-    }
-}
-
-/// A global's word, where the upper half of its address is in a register.
-fn at_global(op: MemoryOp, target: u8, global: usize) -> Instr
-    requires { global < MOST_GLOBALS }
-    ensures { result ≡ at_global op target global }
-{
-    let address = DATA_BASE + 4 * global as u32;
-    Instr::Memory {
-        op,
-        target: register(target),
-        base: register(SECOND),
-        offset: (address % 0x1_0000) as u16,
     }
 }
 
@@ -475,47 +447,6 @@ impl Emitter {
     {
         self.load(frame, ARGUMENT, source)?;
         self.ordinary(&[small(SERVICE, PUT_BYTE as u16), syscall()])
-    }
-
-    /// A global comes into a slot.
-    pub(crate) fn load_global(
-        &mut self,
-        frame: &Frame,
-        destination: usize,
-        global: usize,
-    ) -> Result<(), AllocError>
-        requires global { global < MOST_GLOBALS }
-        requires target { IsReached frame.now destination }
-        ensures { AddsLines result self.old self.new (load_global frame.now destination global) }
-    {
-        let target = made_in(frame, destination);
-        self.ordinary(&[
-            upper_of_global(global),
-            at_global(MemoryOp::LoadWord, target, global),
-        ])?;
-        self.keep(frame, destination)
-    }
-
-    /// An operand goes into a global.
-    pub(crate) fn store_global(
-        &mut self,
-        frame: &Frame,
-        global: usize,
-        source: Operand,
-    ) -> Result<(), AllocError>
-        requires global { global < MOST_GLOBALS }
-        requires source { IsFound frame.now source }
-        ensures { AddsLines result self.old self.new (store_global frame.now global source) }
-    {
-        self.operand(frame, FIRST, source)?;
-        self.ordinary(&[
-            upper_of_global(global),
-            at_global(
-                MemoryOp::StoreWord,
-                operand_register(frame, FIRST, source),
-                global,
-            ),
-        ])
     }
 
     /// The run ends with an exception that nothing caught.

@@ -2,33 +2,39 @@
 ghost use Rattle.std.specs.Prelude.{◌≡◌, ℕ, ◌+◌, ◌<◌, ◌≤◌, ◌++◌, length, sum_by, IfOk, IfErr, OnOk};
 ghost use Rattle.cyc_plain.specs.Program.{routine_at};
 ghost use Rattle.cyc_plain.specs.WellFormed.{IsPlain};
-ghost use Rattle.cyc_frame.specs.Layout.{AreFrames};
+ghost use Rattle.cyc_frame.specs.Layout.{AreFrames, frame_at};
 ghost use Rattle.cyc_words.specs.Fault.{memory_fault};
 ghost use Rattle.cyc_select.specs.Selected.{IsCodeOf};
-ghost use Rattle.cyc_select.specs.Selection.{start_code, code_lines, function_lines, function_line, select_of};
+ghost use Rattle.cyc_select.specs.Selection.{saving_count, routine_lines, start_code, code_lines, function_lines, function_line, select_of};
 ghost use Rattle.cyc_select.specs.Emission.{AddsLines, IsKnown, IsReady};
 
 use crate::code::{Code, Line};
-use crate::constants::{CALLS, START_LINES};
-use crate::counting::{frame_in, function_starts, instruction_lines};
+use crate::constants::{FRAME, FRAME_SHIFT, GLOBALS, GLOBALS_MIDDLE, LOWEST, START_LINES};
+use crate::counting::{frame_in, function_starts, instruction_lines, saving_count};
 use crate::emitter::Emitter;
-use crate::instructions::{add_immediate, minus, push_frame};
+use crate::instructions::{load_upper, or_lower, push_frame};
+use crate::operators::{arithmetic, shift_by};
 use crate::tables::{Ready, Tables};
-use cyc_frame::{Frame, Frames, MOST_FRAME_WORDS};
+use cyc_frame::Frames;
+use cyc_isa::{ArithmeticOp, ShiftOp};
 use cyc_machine::constants::ARGUMENT;
 use cyc_plain::{Instruction, Plain};
 use cyc_words::Fault;
 use std::alloc::{AllocError, Global};
 
 impl Emitter {
-    /// The call of `main`, whose first line is the label: one call more is under way, and its frame lies below the end of
-    /// the stack.
-    fn start(&mut self, frame: &Frame, label: usize) -> Result<(), AllocError>
-        requires some { 0 < frame.now.words }
-        requires words { frame.now.words ≤ MOST_FRAME_WORDS }
-        ensures { AddsLines result self.old self.new (start_code frame.now label) }
+    /// The register of globals is set, and `main`, whose first line is the label, is called: its frame lies below the end of
+    /// the stack, and there is room for those of as many calls as may be under way.
+    fn start(&mut self, label: usize) -> Result<(), AllocError>
+        ensures { AddsLines result self.old self.new (start_code label) }
     {
-        self.ordinary(&[add_immediate(CALLS, ARGUMENT, minus(1)), push_frame(frame)])?;
+        self.ordinary(&[
+            load_upper(GLOBALS, GLOBALS_MIDDLE),
+            or_lower(GLOBALS, GLOBALS_MIDDLE),
+            shift_by(ShiftOp::Left, LOWEST, ARGUMENT, FRAME_SHIFT),
+            arithmetic(ArithmeticOp::SubtractUnsigned, LOWEST, FRAME, LOWEST),
+            push_frame(),
+        ])?;
         self.line(Line::Jump { label })
     }
 
@@ -36,7 +42,7 @@ impl Emitter {
     fn code(&mut self, tables: &Tables, code: &[Instruction]) -> Result<(), AllocError>
         requires known { IsKnown tables.now }
         requires code { code.now ≡ (routine_at tables.now.plain.now tables.now.function).code }
-        ensures { AddsLines result self.old self.new (code_lines tables.now.plain.now tables.now.frames.now tables.now.function (function_line tables.now.plain.now tables.now.frames.now tables.now.function) code.now) }
+        ensures { AddsLines result self.old self.new (code_lines tables.now.plain.now tables.now.frames.now tables.now.function (function_line tables.now.plain.now tables.now.frames.now tables.now.function + saving_count (frame_at tables.now.frames.now tables.now.function)) code.now) }
     {
         for index in 0..code.len() {
             self.instruction(tables, tables.line(index), code[index])?;
@@ -53,11 +59,12 @@ impl Emitter {
     ) -> Result<(), AllocError>
         requires ready { IsReady program.now }
         requires function { function < length program.now.plain.now.functions }
-        ensures { AddsLines result self.old self.new (code_lines program.now.plain.now program.now.frames.now function (function_line program.now.plain.now program.now.frames.now function) (routine_at program.now.plain.now function).code) }
+        ensures { AddsLines result self.old self.new (routine_lines program.now.plain.now program.now.frames.now function (function_line program.now.plain.now program.now.frames.now function) (routine_at program.now.plain.now function)) }
     {
         let routine = program.plain.function(function);
         let code = &routine.code;
-        let first = program.starts[function];
+        let frame = frame_in(program.plain, program.frames, function);
+        let first = program.starts[function] + saving_count(frame);
         let lines = instruction_lines(alloc, program.plain, program.frames, function, first, code)?;
         let tables = Tables {
             plain: program.plain,
@@ -66,6 +73,7 @@ impl Emitter {
             lines: &lines,
             function,
         };
+        self.saving(frame)?;
         self.code(&tables, code)
     }
 
@@ -93,8 +101,7 @@ fn selected(alloc: Global, plain: &Plain, frames: &Frames) -> Result<Code, Alloc
     let globals = Vec::from_slice(alloc, plain.globals())?;
     let main = plain.main();
     let mut emitter = Emitter::new(alloc);
-    let frame = frame_in(plain, frames, main);
-    emitter.start(frame, starts[main])?;
+    emitter.start(starts[main])?;
     emitter.functions(
         alloc,
         &Ready {

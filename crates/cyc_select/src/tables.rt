@@ -36,8 +36,7 @@ impl<'a> Tables<'a> {
         requires known { IsKnown self.now }
         requires function { function < length self.now.plain.now.functions }
         ensures value { result.now ≡ frame_at self.now.frames.now function }
-        ensures words { result.now.words ≤ MOST_FRAME_WORDS }
-        ensures return_address { result.now.return_address < result.now.words }
+        ensures return_address { result.now.return_address < MOST_FRAME_WORDS }
         ensures homes { AreReached result.now 0 (length result.now.homes) }
         ensures few { reload_count result.now ≤ MOST_BOTH }
         ensures slots { AreReached result.now 0 (routine_at self.now.plain.now function).slots }

@@ -1,5 +1,5 @@
 -- The steps of statements, and those that leave entries.
-use Rattle.std.proofs.Common.{◌≡◌, ◌≢◌, ℕ, zero, suc, ◌≤◌, ◌<◌, Bool, true, false, List, [], ◌∷◌, length, map, slice_index_or, Option, None, Some, slice_get, refl, sym, ap, subst, ◌∙◌, arith, inr}
+use Rattle.std.proofs.Common.{◌≡◌, ◌≢◌, ℕ, zero, suc, ◌≤◌, ◌<◌, Bool, true, false, List, [], ◌∷◌, length, map, slice_index_or, Option, None, Some, slice_get, refl, sym, ap, subst, ◌∙◌, arith, inl, inr}
 use Rattle.std.specs.Prelude.{if◌then◌else◌}
 use Rattle.std.proofs.lemmas.Option.{same_Some, none-some}
 use Rattle.cyc_words.specs.Word.{signed}
@@ -31,17 +31,17 @@ use Rattle.cyc_lower.proofs.slots.Slots.{slot-room, room-inside}
 use Rattle.cyc_lower.proofs.slots.Widths.{HasRoom, Outside, HasLocal, kind_in, kind_positive, keeps_whole}
 use Rattle.cyc_lower.proofs.relation.Moves.{copied_is, copied_elsewhere, put_elsewhere}
 use Rattle.cyc_lower.specs.ValueCode.{converts_there, keeps_words, span_of}
-use Rattle.cyc_lower.specs.ControlCode.{break_target, continue_target, inside_loop}
+use Rattle.cyc_lower.specs.ControlCode.{break_target, continue_target, body_target, inside_loop}
 use Rattle.cyc_lower.specs.ExpressionCode.{operand_of, value_slot, source_of}
 use Rattle.cyc_lower.specs.Lowering.{scopes_of, results_of, lower_function, lower_program, globals_of}
-use Rattle.cyc_lower.proofs.relation.Stands.{OperandBy, ExpressionAt, InitialAt, InitialBy, ReturnedAt, ItemsAt, BlankAt, BroughtAt, ConversionAt}
+use Rattle.cyc_lower.proofs.relation.Stands.{BranchesAt, OperandBy, ExpressionAt, InitialAt, InitialBy, ReturnedAt, ItemsAt, BlankAt, BroughtAt, ConversionAt}
 use Rattle.cyc_objects.specs.Tables.{Tables, with_row, with_handle, Row}
 use Rattle.cyc_objects.specs.Related.{scopes}
 use Rattle.cyc_objects.specs.Words.{Is}
 use Rattle.cyc_objects.proofs.Values.{Grows-row, Grows-handle}
 use Rattle.cyc_lower.proofs.relation.Sharing.{shared_declared, row_declared, shared_opened, shared_closed}
 use Rattle.cyc_lower.proofs.relation.HeldValues.{kept, Holds, held, callers, homes, behind_records, row_of, IsLocalRow}
-use Rattle.cyc_lower.proofs.relation.Relation.{CountsBy, opened_by, types_on, starts_on, types_at, starts_at, returned_at, Shared, DataAt, SharedAt, in_temporary, in_local, ValueStack, AheadStack, StatementStack, LandsStack, Related, EvaluatingAt, as_operand, for_effect, as_condition, in_operand, ahead, behind_statement, behind_call, behind_wrong, Below, IsLast, Arrives, in_place, by_jump, code_of, bounds_in, bounds_at, top, by_jumps, HandlersStand, DataIn, Matches, floor, call_slots}
+use Rattle.cyc_lower.proofs.relation.Relation.{CountsBy, opened_by, types_on, starts_on, types_at, starts_at, returned_at, Shared, DataAt, SharedAt, in_temporary, in_local, ValueStack, AheadStack, StatementStack, LandsStack, LoopAt, Related, EvaluatingAt, as_operand, for_effect, as_condition, in_operand, ahead, behind_statement, behind_call, behind_wrong, Below, IsLast, Arrives, in_place, by_jump, code_of, bounds_in, bounds_at, top, by_jumps, HandlersStand, DataIn, Matches, floor, call_slots}
 use Rattle.cyc_lower.proofs.relation.Data.{height-least, Holds-same, Holds-above, data_declared, data_returned, data_grows, held_by_caller, floor-least, handlers_same, calls_counted, handlers_beside}
 use Rattle.cyc_lower.proofs.value_steps.ValueWords.{int_at}
 use Rattle.cyc_lower.proofs.relation.Accesses.{IsWell, is_declared, is_closed, home_there}
@@ -114,6 +114,18 @@ module _ (source : Program) (pages calls : ℕ) where
       by true keeps at = by_operand (operand_of (starts_on source g k) a) refl keeps at
       by false changes (is, at) = brought is at
 
+  -- the condition of a loop is tried, behind its body or in front of it
+  tries : (a : Expression) (s : Statement) (k : List Entry) (g : ℕ) (exits outer : Exits) (p q : ℕ) (frames : List Frame) (t : Tables) (slots : Words) (locals : ℕ → Option ℕ)
+      → LoopAt source g (floor source g k) a s exits outer p q → StatementStack source g outer q frames k → EvaluatingAt source t a locals g p slots frames (Needs (Test a s) ∷ k)
+  tries a s k g exits outer p q frames t slots locals (loop_is, function_is, entry, leave, at_s, again, after) stack =
+      as_condition q (body_target exits.leaving) again tt (outer, q, inl refl, stack) (exits, outer, p, q, (loop_is, function_is, entry, leave, at_s, again, after), refl, stack)
+
+  tries_first : (a : Expression) (s : Statement) (k : List Entry) (g : ℕ) (exits outer : Exits) (p q : ℕ) (frames : List Frame) (t : Tables) (slots : Words) (locals : ℕ → Option ℕ)
+      → BranchesAt (code_of source g) (bounds_at source g) (types_at source g) a exits.leaving (body_target exits.leaving) (floor source g k) (continue_target exits) → At (code_of source g) (break_target exits) (instructions.Jump q)
+      → LoopAt source g (floor source g k) a s exits outer p q → StatementStack source g outer q frames k → EvaluatingAt source t a locals g (continue_target exits) slots frames (Needs (Test a s) ∷ k)
+  tries_first a s k g exits outer p q frames t slots locals first leave loop stack =
+      as_condition exits.leaving (body_target exits.leaving) first tt (outer, q, inr leave, stack) (exits, outer, p, q, loop, refl, stack)
+
   pub executing : (s : Statement) (k : List Entry) (e : Environment) (w : World) (c : Configuration) → IsNested k e w → IsStep source pages calls (Executing s) k e w c
   executing (Block r js) k e w c nested well (shared, facts, (exits, q, items, stack)) =
       silently source pages calls (Running (Executing (Block r js)) k e w) (Running Proceeding (Rest js ∷ region_end e w ∷ k) (inside e w) (opened w)) (plain.Running c) refl (
@@ -132,13 +144,17 @@ module _ (source : Program) (pages calls : ℕ) where
       (shared, facts, for_effect q here tt (exits, stack))
       (omega arith)
   executing (Swap a b) k e w c nested well related = begins_swap source pages calls a b k e w c well related
-  executing (If a s t) k e w c nested well (shared, facts, (exits, q, (x, y, m, r, at_a, jump, at_s, over, at_t), stack)) =
+  executing (If a s t) k e w c nested well (shared, facts, (exits, q, (f, h, r, at_a, at_s, over, at_t), stack)) =
       silently source pages calls (Running (Executing (If a s t)) k e w) (Running (Evaluating a) (Needs (Choose s t) ∷ k) e w) (plain.Running c) refl
-      (shared, facts, as_condition x y m at_a tt (exits, r, q, jump, at_s, over, at_t, stack))
+      (shared, facts, as_condition f h at_a tt (exits, q, at_t, stack) (exits, r, q, at_s, by_jump over, stack))
       (omega arith)
-  executing (While p a s) k e w c nested well (shared, facts, (exits, q, (x, y, r, m, enter, leave, at_s, at_a, again, end, behind, after), stack)) =
+  executing (While p a s) k e w c nested well (shared, facts, (exits, q, (l, r, inl first, leave, at_s, again, after), stack)) =
+      silently source pages calls (Running (Executing (While p a s)) k e w) (Running (Evaluating a) (Needs (Test a s) ∷ k) e w) (plain.Running c) refl
+      (shared, facts, tries_first a s k c.active.function (inside_loop c.active.next l exits) exits r q c.frames shared.tables c.active.slots e.locals first leave (refl, refl, inl first, leave, at_s, again, after) stack)
+      (omega arith)
+  executing (While p a s) k e w c nested well (shared, facts, (exits, q, (l, r, inr (enter, on), leave, at_s, again, after), stack)) =
       by_one source pages calls refl shared enter
-      (λ choice. (shared, facts, as_condition x y m at_a tt (inside_loop c.active.next exits, exits, r, q, (refl, refl, x, y, m, enter, leave, at_s, at_a, again, end, behind, after), again, end, stack)))
+      (λ choice. (shared, facts, tries a s k c.active.function (inside_loop c.active.next l exits) exits r q c.frames shared.tables c.active.slots e.locals (refl, refl, inr (enter, on), leave, at_s, again, after) stack))
   executing (typed.Return None) k e w c nested well (shared, facts, (exits, q, (s, m, (r, closing, marks), here), stack)) =
       leaving source pages calls false (Executing (typed.Return None)) (Returning None) k k e w c exits.in_function r m refl shared (omega arith) (record_left source c.active.function exits q c.frames k stack).1 closing marks facts.1
       (λ handlers stand marks_there marked. (shared_leaving source pages calls false k e w c shared, (facts.0, stand), m, marks_there, marked, (exits, q, s, here, stack)))
@@ -403,9 +419,9 @@ module _ (source : Program) (pages calls : ℕ) where
   after_statement (Rest (MoreItems (DeclareKey r n) js) ∷ k) e w c exits nested well shared facts (q, items, stack) =
       declares_key source pages calls r n js k e w c exits q shared facts items stack
   after_statement (Join ∷ k) e w c exits nested well shared facts (q, comes, stack) = arrives (Join ∷ k) k e e w w c exits q refl shared (omega arith) shared facts comes stack
-  after_statement (Loop a s ∷ k) e w c exits nested well shared facts (outer, q, (loop_is, function_is, x, y, m, enter, leave, at_s, at_a, again, end, behind, after), stack) =
+  after_statement (Loop a s ∷ k) e w c exits nested well shared facts (outer, q, (loop_is, function_is, entry, leave, at_s, again, after), stack) =
       silently source pages calls (Running Proceeding (Loop a s ∷ k) e w) (Running (Evaluating a) (Needs (Test a s) ∷ k) e w) (plain.Running c) refl
-      (shared, facts, as_condition x y m at_a tt (exits, outer, c.active.next, q, (loop_is, function_is, x, y, m, enter, leave, at_s, at_a, again, end, behind, after), again, end, stack))
+      (shared, facts, tries a s k c.active.function exits outer c.active.next q c.frames shared.tables c.active.slots e.locals (loop_is, function_is, entry, leave, at_s, again, after) stack)
       (omega arith)
   after_statement (CloseRegion region home ∷ k) e w c exits nested well shared facts (q, comes, stack) =
       let found = is_closed Proceeding region home k e w well in
@@ -459,10 +475,10 @@ module _ (source : Program) (pages calls : ℕ) where
       silently source pages calls (Running Breaking (Rest js ∷ k) e w) (Running Breaking k e w) (plain.Running c) refl (shared, facts, r, marks, marked, (exits, u, here, stack)) (omega arith)
   breaking (Join ∷ k) e w c nested well (shared, facts, r, marks, marked, (exits, q, here, (u, arrives, stack))) =
       silently source pages calls (Running Breaking (Join ∷ k) e w) (Running Breaking k e w) (plain.Running c) refl (shared, facts, r, marks, marked, (exits, u, here, stack)) (omega arith)
-  breaking (Loop a s ∷ k) e w c nested well (shared, facts, r, end, marked, (exits, q, jumps, (outer, u, (loop_is, function_is, x, y, m, enter, leave, at_s, at_a, again, over, behind, after), stack))) =
-      let here : At (code_of source c.active.function) c.active.next (instructions.Jump (break_target exits.head)) = subst (λ n. At (code_of source c.active.function) n (instructions.Jump (break_target exits.head))) (sym end) jumps in
-      by_two source pages calls (at c (break_target exits.head)) refl shared shared here (λ choice. refl) leave
-      (jumps_apart (code_of source c.active.function) c.active.next (break_target exits.head) u here leave after)
+  breaking (Loop a s ∷ k) e w c nested well (shared, facts, r, end, marked, (exits, q, jumps, (outer, u, (loop_is, function_is, entry, leave, at_s, again, after), stack))) =
+      let here : At (code_of source c.active.function) c.active.next (instructions.Jump (break_target exits)) = subst (λ n. At (code_of source c.active.function) n (instructions.Jump (break_target exits))) (sym end) jumps in
+      by_two source pages calls (at c (break_target exits)) refl shared shared here (λ choice. refl) leave
+      (jumps_apart (code_of source c.active.function) c.active.next (break_target exits) u here leave after)
       (λ choice. (shared, behind_statement outer facts stack))
   breaking (CloseRegion region home ∷ k) e w c nested well (shared, facts, r, marks, marked, (exits, q, here, (u, comes, stack))) =
       let found = is_closed Breaking region home k e w well in
@@ -473,12 +489,12 @@ module _ (source : Program) (pages calls : ℕ) where
   breaking (NeedsPlace a ∷ k) e w c nested well (shared, facts, r, marks, marked, (exits, q, here, stack)) = absurd stack
   breaking (CloseLexical region ∷ k) e w c nested well (shared, facts, r, marks, marked, (exits, q, here, (outer, u, is, closing, stack))) =
       leaves_region source pages calls true Breaking region k e w c (λ r found. ap (λ (a : Access Region). closing_lexical a Breaking region k e w) found) (λ v. omega arith) (λ v d leaves. leaves) nested shared facts r marks marked
-      (outer, u, subst (λ n. At (code_of source c.active.function) r (instructions.Jump n)) (ap (λ (x : Exits). break_target x.head) is) here, stack)
+      (outer, u, subst (λ n. At (code_of source c.active.function) r (instructions.Jump n)) (ap break_target is) here, stack)
   breaking (EndLoan lent ∷ k) e w c nested well (shared, facts, r, marks, marked, (exits, q, here, stack)) =
       silently source pages calls (Running Breaking (EndLoan lent ∷ k) e w) (Running Breaking k e w) (plain.Running c) refl (shared, facts, r, marks, marked, (exits, q, here, stack)) (omega arith)
   breaking (Handler handler ∷ k) e w c nested well (shared, facts, r, marks, marked, (exits, q, here, (outer, u, is, leave, over, stack))) =
       silently source pages calls (Running Breaking (Handler handler ∷ k) e w) (Running Breaking k e w) (plain.Running c) refl
-      (shared, facts, r, marks, marked, (outer, u, subst (λ n. At (code_of source c.active.function) r (instructions.Jump n)) (ap (λ (x : Exits). break_target x.head) is) here, stack))
+      (shared, facts, r, marks, marked, (outer, u, subst (λ n. At (code_of source c.active.function) r (instructions.Jump n)) (ap break_target is) here, stack))
       (omega arith)
   breaking (Main ∷ k) e w c nested well related = absurd (well refl)
 
@@ -490,11 +506,15 @@ module _ (source : Program) (pages calls : ℕ) where
       silently source pages calls (Running Continuing (Rest js ∷ k) e w) (Running Continuing k e w) (plain.Running c) refl (shared, facts, r, marks, marked, (exits, u, here, stack)) (omega arith)
   continuing (Join ∷ k) e w c nested well (shared, facts, r, marks, marked, (exits, q, here, (u, arrives, stack))) =
       silently source pages calls (Running Continuing (Join ∷ k) e w) (Running Continuing k e w) (plain.Running c) refl (shared, facts, r, marks, marked, (exits, u, here, stack)) (omega arith)
-  continuing (Loop a s ∷ k) e w c nested well (shared, facts, r, end, marked, (exits, q, jumps, (outer, u, (loop_is, function_is, x, y, m, enter, leave, at_s, at_a, again, over, behind, after), stack))) =
-      let here : At (code_of source c.active.function) c.active.next (instructions.Jump (continue_target exits.head)) = subst (λ n. At (code_of source c.active.function) n (instructions.Jump (continue_target exits.head))) (sym end) jumps in
-      by_two source pages calls (at c (continue_target exits.head)) refl shared shared here (λ choice. refl) enter
-      (jumps_apart (code_of source c.active.function) c.active.next (continue_target exits.head) q here enter behind)
-      (λ choice. (shared, facts, as_condition x y m at_a tt (exits, outer, q, u, (loop_is, function_is, x, y, m, enter, leave, at_s, at_a, again, over, behind, after), again, over, stack)))
+  continuing (Loop a s ∷ k) e w c nested well (shared, facts, r, end, marked, (exits, q, jumps, (outer, u, (loop_is, function_is, inl first, leave, at_s, again, after), stack))) =
+      let here : At (code_of source c.active.function) c.active.next (instructions.Jump (continue_target exits)) = subst (λ n. At (code_of source c.active.function) n (instructions.Jump (continue_target exits))) (sym end) jumps in
+      by_one source pages calls refl shared here
+      (λ choice. (shared, facts, tries_first a s k c.active.function exits outer q u c.frames shared.tables c.active.slots e.locals first leave (loop_is, function_is, inl first, leave, at_s, again, after) stack))
+  continuing (Loop a s ∷ k) e w c nested well (shared, facts, r, end, marked, (exits, q, jumps, (outer, u, (loop_is, function_is, inr (enter, on), leave, at_s, again, after), stack))) =
+      let here : At (code_of source c.active.function) c.active.next (instructions.Jump (continue_target exits)) = subst (λ n. At (code_of source c.active.function) n (instructions.Jump (continue_target exits))) (sym end) jumps in
+      by_two source pages calls (at c (continue_target exits)) refl shared shared here (λ choice. refl) enter
+      (jumps_apart (code_of source c.active.function) c.active.next (continue_target exits) q here enter on)
+      (λ choice. (shared, facts, tries a s k c.active.function exits outer q u c.frames shared.tables c.active.slots e.locals (loop_is, function_is, inr (enter, on), leave, at_s, again, after) stack))
   continuing (CloseRegion region home ∷ k) e w c nested well (shared, facts, r, marks, marked, (exits, q, here, (u, comes, stack))) =
       let found = is_closed Continuing region home k e w well in
       silently source pages calls (Running Continuing (CloseRegion region home ∷ k) e w) (Running Continuing k (record e { home = home }) (closed w region found.region)) (plain.Running c) found.gives
@@ -504,12 +524,12 @@ module _ (source : Program) (pages calls : ℕ) where
   continuing (NeedsPlace a ∷ k) e w c nested well (shared, facts, r, marks, marked, (exits, q, here, stack)) = absurd stack
   continuing (CloseLexical region ∷ k) e w c nested well (shared, facts, r, marks, marked, (exits, q, here, (outer, u, is, closing, stack))) =
       leaves_region source pages calls true Continuing region k e w c (λ r found. ap (λ (a : Access Region). closing_lexical a Continuing region k e w) found) (λ v. omega arith) (λ v d leaves. leaves) nested shared facts r marks marked
-      (outer, u, subst (λ n. At (code_of source c.active.function) r (instructions.Jump n)) (ap (λ (x : Exits). continue_target x.head) is) here, stack)
+      (outer, u, subst (λ n. At (code_of source c.active.function) r (instructions.Jump n)) (ap continue_target is) here, stack)
   continuing (EndLoan lent ∷ k) e w c nested well (shared, facts, r, marks, marked, (exits, q, here, stack)) =
       silently source pages calls (Running Continuing (EndLoan lent ∷ k) e w) (Running Continuing k e w) (plain.Running c) refl (shared, facts, r, marks, marked, (exits, q, here, stack)) (omega arith)
   continuing (Handler handler ∷ k) e w c nested well (shared, facts, r, marks, marked, (exits, q, here, (outer, u, is, leave, over, stack))) =
       silently source pages calls (Running Continuing (Handler handler ∷ k) e w) (Running Continuing k e w) (plain.Running c) refl
-      (shared, facts, r, marks, marked, (outer, u, subst (λ n. At (code_of source c.active.function) r (instructions.Jump n)) (ap (λ (x : Exits). continue_target x.head) is) here, stack))
+      (shared, facts, r, marks, marked, (outer, u, subst (λ n. At (code_of source c.active.function) r (instructions.Jump n)) (ap continue_target is) here, stack))
       (omega arith)
   continuing (Main ∷ k) e w c nested well related = absurd (well refl)
 

@@ -1,15 +1,16 @@
--- Code of statements that is made piece by piece: blocks, with the regions that they open, and branches and loops whose jumps are written back.
+-- Code of statements that is made piece by piece: blocks, with the regions that they open, and branches whose jumps are written back.
 use Rattle.std.proofs.Common.{◌≡◌, ℕ, zero, suc, ◌+◌, ◌-◌, ◌<◌, ◌≤◌, List, [], ◌∷◌, ◌++◌, length, get_or, drop, set, refl, sym, ap, ◌∙◌, arith, append_assoc, append-nil}
 use Rattle.std.proofs.lemmas.List.{drop_all, drop_more, length-append}
 use Rattle.std.specs.declared.vec.Vec.{Vec}
 use Rattle.std.specs.declared.boxed.Box.{Box}
 use Rattle.std.specs.declared.alloc.Global.{Global as Heap}
+use Rattle.cyc_types.specs.declared.typed.LogicalOperator.TheVariants as logical
 use Rattle.cyc_types.specs.declared.typed.Expr.{Expr}
 use Rattle.cyc_types.specs.declared.typed.Stmt.{Stmt}
 use Rattle.cyc_types.specs.declared.typed.Stmt.TheVariants as stmt
 use Rattle.cyc_types.specs.declared.typed.Item.{Item as ItemCode}
 use Rattle.cyc_types.specs.declared.typed.Item.TheVariants as item
-use Rattle.cyc_types.specs.TypedTrees.{Expression, Statement, Block, If}
+use Rattle.cyc_types.specs.TypedTrees.{Statement, Block, If}
 use Rattle.cyc_types.specs.TypedTreeView.{view_expression, view_statement, items_of}
 use Rattle.cyc_types.proofs.TypedTreeViewLemmas.{view_block}
 use Rattle.cyc_meaning.specs.FrameCount.{kept_by_items}
@@ -18,10 +19,10 @@ use Rattle.cyc_plain.specs.declared.instruction.Instruction.TheVariants as instr
 use Rattle.cyc_lower.specs.declared.operands.Condition.{Condition}
 use Rattle.cyc_lower.specs.declared.statements.Exits.{Exits}
 use Rattle.cyc_lower.specs.Slots.{Starts}
-use Rattle.cyc_lower.specs.ControlCode.{failing_jump, holding_jump, body_target, inside_loop, inside_region, opened_code, closed_code}
-use Rattle.cyc_lower.specs.Lowering.{condition_code, condition_of, statement_code, items_code}
+use Rattle.cyc_lower.specs.ControlCode.{failing_jump, inside_region, opened_code, closed_code}
+use Rattle.cyc_lower.specs.Lowering.{choice_code, choice_of, statement_code, items_code}
 use Rattle.cyc_frame_count.specs.Needs.{kept_by_item}
-use Rattle.cyc_lower.specs.Emission.{most_locals, loop_code, item_code, exits_behind, free_behind}
+use Rattle.cyc_lower.specs.Emission.{most_locals, item_code, exits_behind, free_behind}
 use Rattle.cyc_lower.proofs.emission.Emitting.{Remains, goes_on_by, no_shorter_than, written_back}
 
 -- ---- blocks
@@ -199,13 +200,13 @@ module _ (old condition : List Instruction) (x y : Instruction) (first second : 
       ∙ ap (λ (l : List Instruction). l ++ (over q ∷ (t ++ rest))) e0
       ∙ append_assoc old condition (over q ∷ (t ++ rest))
 
-module _ (starts : Starts) (value : Stmt) (e : Expr) (b b' : Box Stmt Heap) (is : value ≡ stmt.If e b b') (s t : Stmt) (at : s ≡ b.value) (at' : t ≡ b'.value) (exits : Exits) (d : ℕ) (o : Condition) (o_is : o ≡ condition_of starts (view_expression e) d) (old : List Instruction) (x y : Instruction) (m0 m1 m2 m3 m4 m5 m6 : List Instruction) (p1 p2 : ℕ) where
-  pub made_if : m0 ≡ old ++ condition_code starts (view_expression e) (length old) d → p1 ≡ length m0 → m1 ≡ m0 ++ x ∷ [] → m2 ≡ m1 ++ statement_code starts (view_statement s) (length m1) exits d → p2 ≡ length m2 → m3 ≡ m2 ++ y ∷ []
+module _ (starts : Starts) (value : Stmt) (e : Expr) (b b' : Box Stmt Heap) (is : value ≡ stmt.If e b b') (s t : Stmt) (at : s ≡ b.value) (at' : t ≡ b'.value) (exits : Exits) (d : ℕ) (o : Condition) (o_is : o ≡ choice_of starts logical.OrElse (view_expression e) d) (old : List Instruction) (x y : Instruction) (m0 m1 m2 m3 m4 m5 m6 : List Instruction) (p1 p2 : ℕ) where
+  pub made_if : m0 ≡ old ++ choice_code starts logical.OrElse (view_expression e) (length old) d → p1 ≡ length m0 → m1 ≡ m0 ++ x ∷ [] → m2 ≡ m1 ++ statement_code starts (view_statement s) (length m1) exits d → p2 ≡ length m2 → m3 ≡ m2 ++ y ∷ []
       → m4 ≡ set m3 p1 (failing_jump o (length m3)) → m5 ≡ m4 ++ statement_code starts (view_statement t) (length m4) exits d → m6 ≡ set m5 p2 (instructions.Jump (length m5))
       → m6 ≡ old ++ statement_code starts (view_statement value) (length old) exits d
   made_if e0 h1 e1 e2 h2 e3 e4 e5 e6 =
-      let condition = condition_code starts (view_expression e) (length old) d in
-      let jump : ℕ → Instruction = λ n. failing_jump (condition_of starts (view_expression e) d) n in
+      let condition = choice_code starts logical.OrElse (view_expression e) (length old) d in
+      let jump : ℕ → Instruction = λ n. failing_jump (choice_of starts logical.OrElse (view_expression e) d) n in
       let first : ℕ → List Instruction = λ p. statement_code starts (view_statement s) p exits d in
       let second : ℕ → List Instruction = λ p. statement_code starts (view_statement t) p exits d in
       let p = length old + length condition + 1 in
@@ -219,64 +220,3 @@ module _ (starts : Starts) (value : Stmt) (e : Expr) (b b' : Box Stmt Heap) (is 
       p refl q refl
       ∙ ap (λ (l : List Instruction). old ++ l) (sym (append_assoc condition (jump q ∷ first p) (instructions.Jump (q + length (second q)) ∷ second q)))
       ∙ ap (λ (z : Statement). old ++ statement_code starts z (length old) exits d) (sym tree)
-
--- ---- loops
-
--- Behind two jumps, whose targets are written back, stand two pieces, with another jump behind them. The first jump goes behind the first
--- piece, and the second behind all.
-module _ (old : List Instruction) (x y test : Instruction) (first second : ℕ → List Instruction) (into out : ℕ → Instruction) (m1 m2 m3 m4 m5 m6 m7 : List Instruction) where
-  pub looped : m1 ≡ old ++ x ∷ [] → m2 ≡ m1 ++ y ∷ [] → m3 ≡ m2 ++ first (length m2) → m4 ≡ set m3 (length old) (into (length m3)) → m5 ≡ m4 ++ second (length m4) → m6 ≡ m5 ++ test ∷ []
-      → m7 ≡ set m6 (length old + 1) (out (length m6)) → (p : ℕ) → p ≡ length old + 2 → (q : ℕ) → q ≡ p + length (first p)
-      → m7 ≡ old ++ (into q ∷ (out (q + length (second q) + 1) ∷ ((first p ++ second q) ++ test ∷ [])))
-  looped e1 e2 e3 e4 e5 e6 e7 p at_first q at_second =
-      let begin = length old in
-      let l2 : length m2 ≡ length m1 + 1 = ap length e2 ∙ length-append m1 (y ∷ []) in
-      let b3 : m3 ≡ m1 ++ (y ∷ first (length m1 + 1))
-      = e3 ∙ ap (λ (n : ℕ). m2 ++ first n) l2 ∙ ap (λ (l : List Instruction). l ++ first (length m1 + 1)) e2 ∙ append_assoc m1 (y ∷ []) (first (length m1 + 1)) in
-      let b4 : m4 ≡ old ++ (into q ∷ (y ∷ first p))
-      = written_back old x (λ (n : ℕ). y ∷ first (n + 1)) into m1 m3 m4 e1 b3 e4
-      ∙ ap (λ (n : ℕ). old ++ (into (begin + 1 + length (y ∷ first n)) ∷ (y ∷ first n))) (let e : begin + 1 + 1 ≡ p = omega (arith, at_first) in e)
-      ∙ ap (λ (n : ℕ). old ++ (into n ∷ (y ∷ first p))) (let e : begin + 1 + length (y ∷ first p) ≡ q = omega (arith, at_first, at_second) in e) in
-      let before = old ++ into q ∷ [] in
-      let begun = before ++ y ∷ [] in
-      let c4 : m4 ≡ begun ++ first p = b4 ∙ sym (append_assoc old (into q ∷ []) (y ∷ first p)) ∙ sym (append_assoc before (y ∷ []) (first p)) in
-      let lb : length before ≡ begin + 1 = length-append old (into q ∷ []) in
-      let lp : length begun ≡ p = let a : length begun ≡ length before + 1 = length-append before (y ∷ []) in omega (arith, a, lb, at_first) in
-      let l4 : length m4 ≡ q = let a : length m4 ≡ length begun + length (first p) = ap length c4 ∙ length-append begun (first p) in omega (arith, a, lp, at_second) in
-      let rest : ℕ → List Instruction = λ n. (first n ++ second (n + length (first n))) ++ test ∷ [] in
-      let whole = (first p ++ second q) ++ test ∷ [] in
-      let b5 : m5 ≡ begun ++ (first p ++ second q) = e5 ∙ ap (λ (n : ℕ). m4 ++ second n) l4 ∙ ap (λ (l : List Instruction). l ++ second q) c4 ∙ append_assoc begun (first p) (second q) in
-      let b6 : m6 ≡ begun ++ rest (length begun)
-      = e6 ∙ ap (λ (l : List Instruction). l ++ test ∷ []) b5 ∙ append_assoc begun (first p ++ second q) (test ∷ [])
-      ∙ ap (λ (n : ℕ). begun ++ ((first p ++ second n) ++ test ∷ [])) at_second ∙ ap (λ (n : ℕ). begun ++ rest n) (sym lp) in
-      let long : p + length whole ≡ q + length (second q) + 1
-      = let a : length whole ≡ length (first p ++ second q) + 1 = length-append (first p ++ second q) (test ∷ []) in
-      let b : length (first p ++ second q) ≡ length (first p) + length (second q) = length-append (first p) (second q) in
-      omega (arith, a, b, at_second) in
-      written_back before y rest out begun m6 m7 refl b6 (e7 ∙ ap (λ (n : ℕ). set m6 n (out (length m6))) (sym lb))
-      ∙ ap (λ (n : ℕ). before ++ (out (n + length (rest n)) ∷ rest n)) (let e : length before + 1 ≡ p = omega (arith, lb, at_first) in e)
-      ∙ ap (λ (n : ℕ). before ++ (out (p + length ((first p ++ second n) ++ test ∷ [])) ∷ ((first p ++ second n) ++ test ∷ []))) (sym at_second)
-      ∙ ap (λ (n : ℕ). before ++ (out n ∷ whole)) long
-      ∙ append_assoc old (into q ∷ []) (out (q + length (second q) + 1) ∷ whole)
-
-module _ (starts : Starts) (a : Expression) (s : Statement) (exits : Exits) (d : ℕ) (o : Condition) (o_is : o ≡ condition_of starts a d) (old : List Instruction) (x y : Instruction) (m1 m2 m3 m4 m5 m6 m7 : List Instruction) (head leaving again : ℕ) (here : head ≡ length old) where
-  pub made_loop : m1 ≡ old ++ x ∷ [] → leaving ≡ length m1 → m2 ≡ m1 ++ y ∷ [] → again ≡ length m2 → m3 ≡ m2 ++ statement_code starts s (length m2) (inside_loop head exits) d → m4 ≡ set m3 head (instructions.Jump (length m3))
-      → m5 ≡ m4 ++ condition_code starts a (length m4) d → m6 ≡ m5 ++ holding_jump o again ∷ [] → m7 ≡ set m6 leaving (instructions.Jump (length m6))
-      → m7 ≡ old ++ loop_code starts a s (length old) exits d
-  made_loop e1 k1 e2 k2 e3 e4 e5 e6 e7 =
-      let begin = length old in
-      let first : ℕ → List Instruction = λ p. statement_code starts s p (inside_loop begin exits) d in
-      let second : ℕ → List Instruction = λ p. condition_code starts a p d in
-      let test = holding_jump (condition_of starts a d) (body_target begin) in
-      let p = begin + 2 in
-      let q = p + length (first p) in
-      let left : leaving ≡ begin + 1 = k1 ∙ ap length e1 ∙ length-append old (x ∷ []) in
-      let turned : again ≡ body_target begin
-      = let a : length m2 ≡ length m1 + 1 = ap length e2 ∙ length-append m1 (y ∷ []) in omega (arith, a, k1, k2, left) in
-      looped old x y test first second (λ (n : ℕ). instructions.Jump n) (λ (n : ℕ). instructions.Jump n) m1 m2 m3 m4 m5 m6 m7
-      e1 e2
-      (e3 ∙ ap (λ (n : ℕ). m2 ++ statement_code starts s (length m2) (inside_loop n exits) d) here)
-      (e4 ∙ ap (λ (n : ℕ). set m3 n (instructions.Jump (length m3))) here) e5
-      (e6 ∙ ap (λ (n : ℕ). m5 ++ holding_jump o n ∷ []) turned ∙ ap (λ (r : Condition). m5 ++ holding_jump r (body_target begin) ∷ []) o_is)
-      (e7 ∙ ap (λ (n : ℕ). set m6 n (instructions.Jump (length m6))) left)
-      p refl q refl

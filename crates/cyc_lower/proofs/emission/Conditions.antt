@@ -1,29 +1,32 @@
 -- Code of conditions that is made piece by piece.
-use Rattle.std.proofs.Common.{◌≡◌, ℕ, suc, ◌+◌, List, [], ◌∷◌, ◌++◌, length, Option, Some, slice_get, refl, sym, ap, subst, ◌∙◌, arith, append-nil}
+use Rattle.std.proofs.Common.{◌≡◌, ℕ, suc, ◌+◌, ◌≤◌, ◌<◌, Bool, true, false, take, drop, get_or, length-append, append_assoc, List, [], ◌∷◌, ◌++◌, length, Option, Some, slice_get, refl, sym, ap, subst, ◌∙◌, arith, append-nil}
 use Rattle.std.proofs.lemmas.Option.{same_Some}
+use Rattle.std.proofs.lemmas.List.{drop_all, drop_more}
+use Rattle.std.proofs.Math.Seq.{take-append_seam}
+use Rattle.std.specs.Prelude.{if◌then◌else◌, ◌&&◌, ◌==◌}
 use Rattle.cyc_types.specs.declared.typed.Operator.{Operator}
+use Rattle.cyc_types.specs.declared.typed.LogicalOperator.{LogicalOperator}
 use Rattle.cyc_types.specs.declared.typed.Expr.{Expr}
 use Rattle.cyc_types.specs.declared.typed.Operation.{Operation}
 use Rattle.cyc_types.specs.declared.typed.Operation.TheVariants as operation
 use Rattle.cyc_types.specs.Types.{Ty}
-use Rattle.cyc_types.specs.TypedTrees.{Expression, Binary, ThenCompute, NoOperations}
+use Rattle.cyc_types.specs.TypedTrees.{Expression, Binary, Operations, ThenCompute, ThenTest, ThenPointer, ThenPointerPeek, NoOperations}
 use Rattle.cyc_types.specs.TypedTreeView.{view_expression, operations_of}
 use Rattle.cyc_plain.specs.declared.instruction.Comparison.{Comparison}
-use Rattle.cyc_plain.specs.declared.instruction.Comparison.TheVariants as comparisons
 use Rattle.cyc_plain.specs.declared.instruction.Operand.{Operand}
 use Rattle.cyc_plain.specs.declared.instruction.Instruction.{Instruction}
 use Rattle.cyc_lower.specs.declared.operands.Condition.{Condition}
 use Rattle.cyc_lower.specs.Slots.{Starts}
 use Rattle.cyc_lower.specs.ValueCode.{operand_or, failing_comparison}
-use Rattle.cyc_lower.specs.ControlCode.{Compared, with_zero, compared_or, compared_of}
+use Rattle.cyc_lower.specs.ControlCode.{Compared, with_zero, compared_or, compared_of, deciding_jump, all_test, are_tests}
 use Rattle.cyc_lower.specs.ExpressionCode.{left_of, left_slot, value_operand}
-use Rattle.cyc_lower.specs.Lowering.{first_operand, first_code, second_code, pair_code, condition_code, condition_of}
-use Rattle.cyc_lower.specs.Emission.{value_code, left_code, zero_condition}
-use Rattle.cyc_lower.proofs.emission.Emitting.{joined}
+use Rattle.cyc_lower.specs.Lowering.{first_operand, first_code, second_code, pair_code, condition_code, condition_of, others_code, last_condition, tests_code, behind_tests, choice_code, choice_of}
+use Rattle.cyc_lower.specs.Emission.{most_locals, is_test, other_code, other_condition, value_code, left_code, zero_condition}
+use Rattle.cyc_lower.proofs.emission.Emitting.{joined, Lowers, Remains, goes_on, all_made, no_shorter_than}
 
 -- ---- chains that are tested whole
 
-pub not_single : (first : Expression) (os : List Operation) (ty : Ty) → (length os ≡ 1 → ⊥) → compared_of (Binary first (operations_of os) ty) ≡ with_zero comparisons.Equal (Binary first (operations_of os) ty)
+pub not_single : (first : Expression) (os : List Operation) (ty : Ty) → (length os ≡ 1 → ⊥) → compared_of (Binary first (operations_of os) ty) ≡ with_zero (Binary first (operations_of os) ty)
 not_single first [] ty many = refl
 not_single first (operation.Test o e ∷ os) ty many = refl
 not_single first (operation.Pointer o e ∷ os) ty many = refl
@@ -44,9 +47,9 @@ module _ (starts : Starts) where
   abbrev operands_of : Compared → ℕ → Condition
   operands_of x t = record { failing = x.failing; left = first_operand starts x.left x.right t; right = value_operand starts x.right (suc t) }
 
-  pub made_alone : (whole a : Expression) (failing : Comparison) (answer : Condition) (old new : List Instruction) (t : ℕ) → compared_of whole ≡ with_zero failing a
-      → (answer ≡ zero_condition starts failing a t) × (new ≡ old ++ value_code starts a (length old) t) → IsMade whole answer old new t
-  made_alone whole a failing answer old new t is (answers, made) = (
+  pub made_alone : (whole a : Expression) (answer : Condition) (old new : List Instruction) (t : ℕ) → compared_of whole ≡ with_zero a
+      → (answer ≡ zero_condition starts a t) × (new ≡ old ++ value_code starts a (length old) t) → IsMade whole answer old new t
+  made_alone whole a answer old new t is (answers, made) = (
     answers ∙ sym (ap (λ (x : Compared). operands_of x t) is),
     made ∙ ap (λ (l : List Instruction). old ++ l) (sym (append-nil (value_code starts a (length old) t)))
         ∙ sym (ap (λ (x : Compared). old ++ pair_code starts x.left x.right (length old) t) is),
@@ -85,3 +88,142 @@ module _ (starts : Starts) where
       (made_left ∙ ap (λ (z : Operation). old ++ left_code starts first (operations_of (z ∷ [])) (length old) t t) same)
       (right ∙ ap (value_operand starts (view_expression e)) next)
       (made_right ∙ ap (λ (n : ℕ). m1 ++ value_code starts (view_expression e) (length m1) n) next))
+
+-- ---- conditions with several operands
+
+module _ (starts : Starts) where
+  -- how long the code of the operands is does not depend on where they lead
+  others_same : (u : LogicalOperator) (os : Operations) (c : Condition) (x y p t : ℕ) → length (others_code starts u os c x p t) ≡ length (others_code starts u os c y p t)
+  others_same u NoOperations c x y p t = refl
+  others_same u (ThenTest o b os) c x y p t =
+      let operand = condition_code starts b (p + 1) t in
+      let q = p + suc (length operand) in
+      let first = others_code starts u os (condition_of starts b t) x q t in
+      let second = others_code starts u os (condition_of starts b t) y q t in
+      omega (arith, length-append (deciding_jump u c x ∷ operand) first, length-append (deciding_jump u c y ∷ operand) second, others_same u os (condition_of starts b t) x y q t)
+  others_same u (ThenCompute o b os) c x y p t = others_same u os c x y p t
+  others_same u (ThenPointer o b os) c x y p t = others_same u os c x y p t
+  others_same u (ThenPointerPeek n o b os) c x y p t = others_same u os c x y p t
+
+  pub tests_same : (u : LogicalOperator) (a : Expression) (os : Operations) (x y p t : ℕ) → length (tests_code starts u a os x p t) ≡ length (tests_code starts u a os y p t)
+  tests_same u a os x y p t =
+      let first = condition_code starts a p t in
+      let q = p + length first in
+      let c = condition_of starts a t in
+      omega (arith, length-append first (others_code starts u os c x q t), length-append first (others_code starts u os c y q t), others_same u os c x y q t)
+
+  -- the operands behind the first, where the state is the condition that is made of the one before
+  abbrev pub all_others : LogicalOperator → (behind t : ℕ) → List Operation → ℕ → Condition → List Instruction
+  all_others u behind t os p c = others_code starts u (operations_of os) c behind p t
+
+  abbrev pub one_other : LogicalOperator → (behind t : ℕ) → Operation → List Operation → ℕ → Condition → List Instruction
+  one_other u behind t o os p c = other_code starts u o c behind p t
+
+  abbrev pub next_other : (t : ℕ) → Operation → List Operation → Condition → Condition
+  next_other t o os c = other_condition starts o c t
+
+  other_more : (u : LogicalOperator) (behind t : ℕ) (o : Operation) (os : List Operation) (p : ℕ) (c : Condition)
+      → all_others u behind t (o ∷ os) p c ≡ one_other u behind t o os p c ++ all_others u behind t os (p + length (one_other u behind t o os p c)) (next_other t o os c)
+  other_more u behind t (operation.Test o e) os p c = refl
+  other_more u behind t (operation.Compute o e) os p c = ap (λ (n : ℕ). all_others u behind t os n c) (let z : p ≡ p + 0 = omega arith in z)
+  other_more u behind t (operation.Pointer o e) os p c = ap (λ (n : ℕ). all_others u behind t os n c) (let z : p ≡ p + 0 = omega arith in z)
+  other_more u behind t (operation.PointerPeek n o e) os p c = ap (λ (n : ℕ). all_others u behind t os n c) (let z : p ≡ p + 0 = omega arith in z)
+
+  pub others_lower : (u : LogicalOperator) (behind t : ℕ) → Lowers (all_others u behind t) (one_other u behind t) (next_other t)
+  others_lower u behind t = record { none = λ p c. refl; more = other_more u behind t }
+
+  -- the operands that are made so far, and the condition of the last of them
+  abbrev pub OthersRemain : LogicalOperator → Expression → List Operation → (behind t : ℕ) → (old : List Instruction) → (i : ℕ) → (code : List Instruction) → Condition → Type 0
+  OthersRemain u a os behind t old i code c =
+      Remains (all_others u behind t) (old ++ condition_code starts a (length old) t) os (condition_of starts a t) i code c
+      × (last_condition starts (operations_of (drop i os)) c t ≡ last_condition starts (operations_of os) (condition_of starts a t) t)
+      × (t ≤ most_locals + length code)
+
+  pub others_begin : (u : LogicalOperator) (a : Expression) (os : List Operation) (behind t : ℕ) (old code : List Instruction) (c : Condition) → t ≤ most_locals + length old
+      → c ≡ condition_of starts a t → code ≡ old ++ condition_code starts a (length old) t → OthersRemain u a os behind t old 0 code c
+  others_begin u a os behind t old code c low is made = (
+    ap (λ (l : List Instruction). l ++ all_others u behind t os (length l) c) made ∙ ap (λ (x : Condition). (old ++ condition_code starts a (length old) t) ++ all_others u behind t os (length (old ++ condition_code starts a (length old) t)) x) is,
+    ap (λ (x : Condition). last_condition starts (operations_of os) x t) is,
+    omega (arith, low, no_shorter_than old _ code made),
+  )
+
+  -- the condition of the last one stays where no test is passed over
+  last_more : (o : Operation) (os : List Operation) (c : Condition) (t : ℕ) → last_condition starts (operations_of (o ∷ os)) c t ≡ last_condition starts (operations_of os) (next_other t o os c) t
+  last_more (operation.Test o e) os c t = refl
+  last_more (operation.Compute o e) os c t = refl
+  last_more (operation.Pointer o e) os c t = refl
+  last_more (operation.PointerPeek n o e) os c t = refl
+
+  pub others_next : (u : LogicalOperator) (a : Expression) (os : List Operation) (behind t : ℕ) (old : List Instruction) (i : ℕ) (code new : List Instruction) (c d : Condition) (x : Operation) → i < length os → x ≡ get_or os i x
+      → new ≡ code ++ one_other u behind t x (drop (i + 1) os) (length code) c → d ≡ next_other t x (drop (i + 1) os) c → OthersRemain u a os behind t old i code c → OthersRemain u a os behind t old (i + 1) new d
+  others_next u a os behind t old i code new c d x inside at made is (remains, last, low) =
+      let rest = drop (i + 1) os in
+      let here : drop i os ≡ x ∷ rest = drop_more os i x inside ∙ ap (λ (y : Operation). y ∷ rest) (sym at) in (
+        subst (λ (z : Condition). Remains (all_others u behind t) (old ++ condition_code starts a (length old) t) os (condition_of starts a t) (i + 1) new z) (sym is)
+            (goes_on (all_others u behind t) (one_other u behind t) (next_other t) (others_lower u behind t) (old ++ condition_code starts a (length old) t) os (condition_of starts a t) i code new c x inside at made remains),
+        ap (λ (z : Condition). last_condition starts (operations_of rest) z t) is ∙ sym (last_more x rest c t) ∙ sym (ap (λ (l : List Operation). last_condition starts (operations_of l) c t) here) ∙ last,
+        omega (arith, low, no_shorter_than code _ new made),
+      )
+
+  pub others_end : (u : LogicalOperator) (a : Expression) (os : List Operation) (behind t : ℕ) (old : List Instruction) (i : ℕ) (code : List Instruction) (c : Condition) → length os ≤ i → OthersRemain u a os behind t old i code c
+      → (c ≡ last_condition starts (operations_of os) (condition_of starts a t) t) × (code ≡ old ++ tests_code starts u a (operations_of os) behind (length old) t)
+  others_end u a os behind t old i code c done (remains, last, low) =
+      let first = condition_code starts a (length old) t in (
+        sym (ap (λ (l : List Operation). last_condition starts (operations_of l) c t) (drop_all i os done)) ∙ last,
+        all_made (all_others u behind t) (one_other u behind t) (next_other t) (others_lower u behind t) (old ++ first) os (condition_of starts a t) i code c done remains
+            ∙ ap (λ (n : ℕ). (old ++ first) ++ all_others u behind t os n (condition_of starts a t)) (length-append old first)
+            ∙ append_assoc old first (others_code starts u (operations_of os) (condition_of starts a t) behind (length old + length first) t),
+      )
+
+  -- the operands are made once to know where they end, given up, and made for that place
+  pub given_up : (u : LogicalOperator) (a : Expression) (os : Operations) (old made left : List Instruction) (begin t : ℕ) → begin ≡ length old → made ≡ old ++ tests_code starts u a os 0 (length old) t → left ≡ take begin made → left ≡ old
+  given_up u a os old made left begin t begins is taken =
+      taken ∙ ap (λ (n : ℕ). take n made) begins ∙ ap (λ (l : List Instruction). take (length old) l) is ∙ take-append_seam old (tests_code starts u a os 0 (length old) t)
+
+  pub chain_made : (u : LogicalOperator) (a : Expression) (os : Operations) (answer : Condition) (old made left new : List Instruction) (behind t : ℕ) → made ≡ old ++ tests_code starts u a os 0 (length old) t → behind ≡ length made + 1 → left ≡ old
+      → (answer ≡ last_condition starts os (condition_of starts a t) t) × (new ≡ left ++ tests_code starts u a os behind (length left) t)
+      → (answer ≡ last_condition starts os (condition_of starts a t) t) × (new ≡ old ++ tests_code starts u a os (behind_tests starts u a os (length old) t) (length old) t)
+  chain_made u a os answer old made left new behind t is behind_is left_is (answers, made_is) =
+      let there : behind ≡ behind_tests starts u a os (length old) t = omega (arith, behind_is, ap (λ (l : List Instruction). length l) is, length-append old (tests_code starts u a os 0 (length old) t)) in
+      (answers, made_is ∙ ap (λ (l : List Instruction). l ++ tests_code starts u a os behind (length l) t) left_is ∙ ap (λ (n : ℕ). old ++ tests_code starts u a os n (length old) t) there)
+
+  -- a condition that is a chain of tests, and one that is not
+  pub chain_chosen : (u : LogicalOperator) (a : Expression) (os : Operations) (ty : Ty) (whole : Expression) (answer : Condition) (old new : List Instruction) (t : ℕ) → whole ≡ Binary a os ty → are_tests u os ≡ true
+      → (answer ≡ last_condition starts os (condition_of starts a t) t) × (new ≡ old ++ tests_code starts u a os (behind_tests starts u a os (length old) t) (length old) t)
+      → (answer ≡ choice_of starts u whole t) × (new ≡ old ++ choice_code starts u whole (length old) t)
+  chain_chosen u a os ty whole answer old new t is tests (answers, made) =
+      let p = length old in
+      let x = behind_tests starts u a os p t in
+      let chosen : choice_of starts u whole t ≡ last_condition starts os (condition_of starts a t) t
+      = ap (λ (z : Expression). choice_of starts u z t) is ∙ ap (λ (b : Bool). if b then last_condition starts os (condition_of starts a t) t else condition_of starts (Binary a os ty) t) tests in
+      let code : choice_code starts u whole p t ≡ tests_code starts u a os x p t
+      = ap (λ (z : Expression). choice_code starts u z p t) is ∙ ap (λ (b : Bool). if b then tests_code starts u a os x p t else condition_code starts (Binary a os ty) p t) tests in
+      (answers ∙ sym chosen, made ∙ ap (λ (l : List Instruction). old ++ l) (sym code))
+
+  pub whole_chosen : (u : LogicalOperator) (a : Expression) (os : Operations) (ty : Ty) (whole : Expression) (answer : Condition) (old new : List Instruction) (t : ℕ) → whole ≡ Binary a os ty → are_tests u os ≡ false
+      → (answer ≡ condition_of starts whole t) × (new ≡ old ++ condition_code starts whole (length old) t) → (answer ≡ choice_of starts u whole t) × (new ≡ old ++ choice_code starts u whole (length old) t)
+  whole_chosen u a os ty whole answer old new t is other (answers, made) =
+      let p = length old in
+      let chosen : choice_of starts u whole t ≡ condition_of starts whole t
+      = ap (λ (z : Expression). choice_of starts u z t) is ∙ ap (λ (b : Bool). if b then last_condition starts os (condition_of starts a t) t else condition_of starts (Binary a os ty) t) other ∙ ap (λ (z : Expression). condition_of starts z t) (sym is) in
+      let code : choice_code starts u whole p t ≡ condition_code starts whole p t
+      = ap (λ (z : Expression). choice_code starts u z p t) is ∙ ap (λ (b : Bool). if b then tests_code starts u a os (behind_tests starts u a os p t) p t else condition_code starts (Binary a os ty) p t) other ∙ ap (λ (z : Expression). condition_code starts z p t) (sym is) in
+      (answers ∙ sym chosen, made ∙ ap (λ (l : List Instruction). old ++ l) (sym code))
+
+-- these are tests where the first is one and the others are
+pub all_test_step : (u : LogicalOperator) (x : Operation) (xs : List Operation) → all_test u (operations_of (x ∷ xs)) ≡ (is_test u x && all_test u (operations_of xs))
+all_test_step u (operation.Test o e) xs = refl
+all_test_step u (operation.Compute o e) xs = refl
+all_test_step u (operation.Pointer o e) xs = refl
+all_test_step u (operation.PointerPeek n o e) xs = refl
+
+pub all_test_at : (u : LogicalOperator) (xs : List Operation) (i : ℕ) (x : Operation) → i < length xs → x ≡ get_or xs i x → all_test u (operations_of (drop i xs)) ≡ (is_test u x && all_test u (operations_of (drop (i + 1) xs)))
+all_test_at u xs i x inside at =
+    ap (λ (l : List Operation). all_test u (operations_of l)) (drop_more xs i x inside ∙ ap (λ (y : Operation). y ∷ drop (i + 1) xs) (sym at)) ∙ all_test_step u x (drop (i + 1) xs)
+
+pub some_tests : (u : LogicalOperator) (xs : List Operation) → (length xs == 0) ≡ false → are_tests u (operations_of xs) ≡ all_test u (operations_of xs)
+some_tests u [] some = absurd (let z : true ≡ false = some in cc)
+some_tests u (operation.Test o e ∷ xs) some = refl
+some_tests u (operation.Compute o e ∷ xs) some = refl
+some_tests u (operation.Pointer o e ∷ xs) some = refl
+some_tests u (operation.PointerPeek n o e ∷ xs) some = refl

@@ -11,6 +11,8 @@ use Rattle.cyc_types.specs.declared.typed.Operator.{Operator}
 use Rattle.cyc_types.specs.declared.typed.Operator.TheVariants as operators
 use Rattle.cyc_types.specs.declared.typed.PointerOperator.{PointerOperator}
 use Rattle.cyc_types.specs.declared.typed.PointerOperator.TheVariants as pointers
+use Rattle.cyc_types.specs.declared.typed.LogicalOperator.{LogicalOperator}
+use Rattle.cyc_types.specs.declared.typed.LogicalOperator.TheVariants as logical
 use Rattle.cyc_types.specs.TypedTrees.{Load, New, OnHeap, Initial, Plain, Fields, Array, Dereference, Target, Member, Element, Lvalue, Local, Global, Expression, Copy, Call, Unary, Binary, Assign, Converted, Convert, Arguments, NoArguments, MoreArguments, Operations, NoOperations, ThenCompute, ThenTest, ThenPointer, ThenPointerPeek, Statement, Block, Empty, Evaluate, If, While, Return, Break, Continue, Items, NoItems, MoreItems, Execute, Declare, StructType, Function, Move, Peek, AddressOf, AddressOfCell, Store, AsUnique, FreeUnique, Side, VariableSide, CellSide, Swap, Throw, Try, Clauses, NoClauses, Default, Case, NumberOfElements, type_of_place, ByHandle, FreeKey, DeclareRegion, OpenRegion, DeclareAlias, DeclareKey}
 use Rattle.cyc_types.specs.Types.{Ty, words_of}
 use Rattle.cyc_plain.specs.declared.instruction.Operand.{Operand}
@@ -21,9 +23,10 @@ use Rattle.cyc_lower.specs.declared.statements.Exits.{Exits}
 use Rattle.cyc_lower.specs.Slots.{with_counter, Starts, slot_of, global_of}
 use Rattle.cyc_lower.specs.ValueCode.{first_temporary, keeps_words, kind_behind, last_byte_code, kind_passed, converts_there, passed_words, operand_or, code_unless, code_unless_slot, left_with, next_slot, converted_by, conversion_code, divisor_code, operator_code, pointer_instructions, first_two, copy_code, address_code, behind_left, checked_code, span_of, span_in, followed_operand, followed_code, conversion_by, widened_code, count_code, loaded_code, slot_or, kinds_passed, thinned_code, bounded_code, past_bounded, reached_operand, reached_code, word_by_word, load_word, global_code, masks}
 use Rattle.cyc_lower.specs.ObjectCode.{begun_code, filled_code, elements_code, ended_code, object_code, right_slot, saved_code, stores_code}
-use Rattle.cyc_lower.specs.ControlCode.{outside_loops, if_code, while_code, failing_jump, holding_jump, compared_of, inside_loop, leave_code, try_code, clause_code, break_target, continue_target, kept_code, restored_code, behind_record, inside_try, inside_region, opened_code, closed_code}
+use Rattle.cyc_lower.specs.ControlCode.{outside_loops, if_code, failing_jump, holding_jump, deciding_jump, are_tests, compared_of, inside_loop, leave_code, try_code, clause_code, break_target, continue_target, kept_code, restored_code, behind_record, inside_try, inside_region, opened_code, closed_code, entry_code, entry_length, entered_code, body_target}
 use Rattle.cyc_lower.specs.ExpressionCode.{operand_of, left_of, value_slot, slot_with, left_slot, value_operand, source_of, source_slot, converted_operand, load_code, place_operand, place_offset, expression_code, place_code, made_code, arguments_code, converted_code, converted_operand_code, printed_code, initial_code, operations_code, pointer_of, brought_code, is_simple, are_simple}
-use Rattle.cyc_lower.specs.Lowering.{raises_of, body_code, assignment_code, discarded_code, pair_code, condition_code, return_code, declaration_code, statement_code, items_code, condition_of, side_code, swap_code, thrown_code, caught_code, clauses_code, starts_with, read_side, write_side, exchange_code}
+use Rattle.cyc_lower.specs.declared.operands.Condition.{Condition}
+use Rattle.cyc_lower.specs.Lowering.{others_code, tests_code, behind_tests, choice_code, choice_of, raises_of, body_code, assignment_code, discarded_code, pair_code, condition_code, return_code, declaration_code, statement_code, items_code, side_code, swap_code, thrown_code, caught_code, clauses_code, starts_with, read_side, write_side, exchange_code}
 use Rattle.cyc_plain.specs.declared.instruction.Instruction.TheVariants as instructions
 use Rattle.cyc_meaning.specs.Values.{is_thin, kind_of, words_of_kind}
 
@@ -67,8 +70,18 @@ if_long : (a b c x y z : List Instruction) (jump same : ℕ → Instruction) (p 
 if_long a b c x y z jump same p q first second third =
     joined (a ++ _ ∷ b) (_ ∷ c) (x ++ _ ∷ y) (_ ∷ z) (joined a (_ ∷ b) x (_ ∷ y) first (ap suc second)) (ap suc third)
 
-while_long : (a b x y : List Instruction) (jump same : ℕ → Instruction) (p q : ℕ) → length a ≡ length x → length b ≡ length y → length (while_code a b jump p) ≡ length (while_code x y same q)
-while_long a b x y jump same p q first second = ap (λ n. suc (suc n)) (joined (a ++ b) (_ ∷ []) (x ++ y) (_ ∷ []) (joined a b x y first second) refl)
+entries_long : (simple same : Bool) (a x : List Instruction) (jump other : ℕ → Instruction) (test aim p q : ℕ) → simple ≡ same → length a ≡ length x → length (entry_code simple a jump test p) ≡ length (entry_code same x other aim q)
+entries_long true same a x jump other test aim p q is long = joined a (_ ∷ []) x (_ ∷ []) long refl ∙ ap (λ z. length (entry_code z x other aim q)) is
+entries_long false same a x jump other test aim p q is long = ap (λ z. length (entry_code z x other aim q)) is
+
+entered_long : (simple same : Bool) (condition others : ℕ → List Instruction) (body inner : List Instruction) (jump other : ℕ → Instruction) (p q leaving out : ℕ) → simple ≡ same → ((m n : ℕ) → length (condition m) ≡ length (others n)) → length body ≡ length inner
+    → length (entered_code simple condition body jump p leaving) ≡ length (entered_code same others inner other q out)
+entered_long simple same condition others body inner jump other p q leaving out is long first =
+    let r = body_target leaving + length body in
+    let s = body_target out + length inner in
+    joined (entry_code simple (condition p) jump r p) (_ ∷ ((body ++ condition r) ++ _ ∷ [])) (entry_code same (others q) other s q) (_ ∷ ((inner ++ others s) ++ _ ∷ []))
+    (entries_long simple same (condition p) (others q) jump other r s p q is (long p q))
+    (ap suc (joined (body ++ condition r) (_ ∷ []) (inner ++ others s) (_ ∷ []) (joined body (condition r) inner (others s) first (long r s)) refl))
 
 try_long : (a b x y : List Instruction) (t p q : ℕ) → length a ≡ length x → length b ≡ length y → length (try_code t a b p) ≡ length (try_code t x y q)
 try_long a b x y t p q first second = ap suc (joined a (_ ∷ b) x (_ ∷ y) first (ap suc second))
@@ -334,9 +347,28 @@ module _ (starts : Starts) (raises : ℕ) where
       (unless_long _ _ _ _ (λ i. left_with (same_simple starts raises b i) (same_operand starts raises a i)) (expression_long raises starts a p q _ _ t (same_with starts raises (is_simple starts b) (is_simple (other starts raises) b) a t (same_simple starts raises b))))
       (operand_by starts raises b _ _ (suc t) (expression_long raises starts b _ _ _ _ (suc t) (same_slot starts raises b (suc t))))
 
-  return_long : (v : Option Converted) (p q head : ℕ) (exits : Exits) (t : ℕ) → length (return_code starts v p exits t) ≡ length (return_code (other starts raises) v q (record exits { head = head }) t)
-  return_long None p q head exits t = refl
-  return_long (Some (Convert from to a)) p q head exits t =
+  -- the operands of tests
+  others_long : (u : LogicalOperator) (os : Operations) (c d : Condition) (x y p q t : ℕ) → length (others_code starts u os c x p t) ≡ length (others_code (other starts raises) u os d y q t)
+  others_long u NoOperations c d x y p q t = refl
+  others_long u (ThenTest o b os) c d x y p q t =
+      joined (deciding_jump u c x ∷ condition_code starts b (p + 1) t) _ (deciding_jump u d y ∷ condition_code (other starts raises) b (q + 1) t) _
+      (ap suc (condition_long (compared_of b).left (compared_of b).right (p + 1) (q + 1) t)) (others_long u os _ _ x y _ _ t)
+  others_long u (ThenCompute o b os) c d x y p q t = others_long u os c d x y p q t
+  others_long u (ThenPointer o b os) c d x y p q t = others_long u os c d x y p q t
+  others_long u (ThenPointerPeek n o b os) c d x y p q t = others_long u os c d x y p q t
+
+  choice_long : (u : LogicalOperator) (a : Expression) (p q t : ℕ) → length (choice_code starts u a p t) ≡ length (choice_code (other starts raises) u a q t)
+  choice_long u (Binary a os ty) p q t = by (are_tests u os)
+    where
+      by : (tests : Bool) → length (if tests then tests_code starts u a os (behind_tests starts u a os p t) p t else condition_code starts (Binary a os ty) p t)
+          ≡ length (if tests then tests_code (other starts raises) u a os (behind_tests (other starts raises) u a os q t) q t else condition_code (other starts raises) (Binary a os ty) q t)
+      by true = joined _ _ _ _ (condition_long (compared_of a).left (compared_of a).right p q t) (others_long u os _ _ _ _ _ _ t)
+      by false = condition_long (compared_of (Binary a os ty)).left (compared_of (Binary a os ty)).right p q t
+  choice_long u a p q t = condition_long (compared_of a).left (compared_of a).right p q t
+
+  return_long : (v : Option Converted) (p q head leaving : ℕ) (exits : Exits) (t : ℕ) → length (return_code starts v p exits t) ≡ length (return_code (other starts raises) v q (record exits { head = head; leaving = leaving }) t)
+  return_long None p q head leaving exits t = refl
+  return_long (Some (Convert from to a)) p q head leaving exits t =
       joined _ _ _ _ (joined _ _ _ _ (joined _ _ _ _ (unless_slot_long _ _ _ _ (same_source starts raises (Convert from to a)) (brought_long starts raises from to a p q t t t (expression_long raises starts a p q _ _ t (same_slot starts raises a t)) (expression_long raises starts a p q t t t refl))) (conversion_long starts raises from to (span_of a) _ _ _ _ (λ i. operands.Slot (slot_or (same_source starts raises (Convert from to a) i) t)))) refl) refl
 
   declaration_long : (n : ℕ) (ty : Ty) (v : Option Converted) (p q t : ℕ) → length (declaration_code starts n ty v p t) ≡ length (declaration_code (other starts raises) n ty v q t)
@@ -374,37 +406,37 @@ module _ (starts : Starts) (raises : ℕ) where
   caught_long None t = refl
   caught_long (Some n) t = refl
 
-  -- with loops that begin at any places
+  -- with loops that begin at any places, and that are left at any
   mutual
-    statement_long : (s : Statement) (p q head : ℕ) (exits : Exits) (t : ℕ) → length (statement_code starts s p exits t) ≡ length (statement_code (other starts raises) s q (record exits { head = head }) t)
-    statement_long (Block r js) p q head exits t = items_long js p q head exits t
-    statement_long Empty p q head exits t = refl
-    statement_long (Evaluate a) p q head exits t = discarded_long a p q t
-    statement_long (If a s u) p q head exits t =
-        let others = record exits { head = head } in
-        let m = p + length (condition_code starts a p t) in
-        let n = q + length (condition_code (other starts raises) a q t) in
+    statement_long : (s : Statement) (p q head leaving : ℕ) (exits : Exits) (t : ℕ) → length (statement_code starts s p exits t) ≡ length (statement_code (other starts raises) s q (record exits { head = head; leaving = leaving }) t)
+    statement_long (Block r js) p q head leaving exits t = items_long js p q head leaving exits t
+    statement_long Empty p q head leaving exits t = refl
+    statement_long (Evaluate a) p q head leaving exits t = discarded_long a p q t
+    statement_long (If a s u) p q head leaving exits t =
+        let others = record exits { head = head; leaving = leaving } in
+        let m = p + length (choice_code starts logical.OrElse a p t) in
+        let n = q + length (choice_code (other starts raises) logical.OrElse a q t) in
         let first = statement_code starts s (m + 1) exits t in
         let same_first = statement_code (other starts raises) s (n + 1) others t in
         let second = statement_code starts u (m + 1 + length first + 1) exits t in
         let same_second = statement_code (other starts raises) u (n + 1 + length same_first + 1) others t in
-        if_long (condition_code starts a p t) first second (condition_code (other starts raises) a q t) same_first same_second (failing_jump (condition_of starts a t)) (failing_jump (condition_of (other starts raises) a t)) p q
-        (condition_long (compared_of a).left (compared_of a).right p q t) (statement_long s (m + 1) (n + 1) head exits t) (statement_long u (m + 1 + length first + 1) (n + 1 + length same_first + 1) head exits t)
-    statement_long (While w a s) p q head exits t =
-        let around = inside_loop p exits in
-        let body = statement_code starts s (p + 2) around t in
-        let same_body = statement_code (other starts raises) s (q + 2) (record around { head = q }) t in
-        let m = p + 2 + length body in
-        let n = q + 2 + length same_body in
-        while_long body (condition_code starts a m t) same_body (condition_code (other starts raises) a n t) (holding_jump (condition_of starts a t)) (holding_jump (condition_of (other starts raises) a t)) p q
-        (statement_long s (p + 2) (q + 2) q around t) (condition_long (compared_of a).left (compared_of a).right m n t)
-    statement_long (Return v) p q head exits t = return_long v p q head exits t
-    statement_long Break p q head exits t =
-        joined (leave_code exits.in_loop) (instructions.Jump (break_target exits.head) ∷ []) (leave_code exits.in_loop) (instructions.Jump (break_target head) ∷ []) refl refl
-    statement_long Continue p q head exits t =
-        joined (leave_code exits.in_loop) (instructions.Jump (continue_target exits.head) ∷ []) (leave_code exits.in_loop) (instructions.Jump (continue_target head) ∷ []) refl refl
-    statement_long (Throw tag v) p q head exits t = joined _ _ _ _ (thrown_long v p q t) refl
-    statement_long (Try s cs) p q head exits t =
+        if_long (choice_code starts logical.OrElse a p t) first second (choice_code (other starts raises) logical.OrElse a q t) same_first same_second (failing_jump (choice_of starts logical.OrElse a t)) (failing_jump (choice_of (other starts raises) logical.OrElse a t)) p q
+        (choice_long logical.OrElse a p q t) (statement_long s (m + 1) (n + 1) head leaving exits t) (statement_long u (m + 1 + length first + 1) (n + 1 + length same_first + 1) head leaving exits t)
+    statement_long (While w a s) p q head leaving exits t =
+        let same = other starts raises in
+        let l = p + entry_length (is_simple starts a) (choice_code starts logical.AndThen a p t) in
+        let m = q + entry_length (is_simple same a) (choice_code same logical.AndThen a q t) in
+        let around = inside_loop p l exits in
+        entered_long (is_simple starts a) (is_simple same a) (λ n. choice_code starts logical.AndThen a n t) (λ n. choice_code same logical.AndThen a n t) (statement_code starts s (body_target l) around t) (statement_code same s (body_target m) (record around { head = q; leaving = m }) t)
+        (holding_jump (choice_of starts logical.AndThen a t)) (holding_jump (choice_of same logical.AndThen a t)) p q l m (same_simple starts raises a)
+        (λ i j. choice_long logical.AndThen a i j t) (statement_long s (body_target l) (body_target m) q m around t)
+    statement_long (Return v) p q head leaving exits t = return_long v p q head leaving exits t
+    statement_long Break p q head leaving exits t =
+        joined (leave_code exits.in_loop) (instructions.Jump (break_target exits) ∷ []) (leave_code exits.in_loop) (instructions.Jump (break_target (record exits { head = head; leaving = leaving })) ∷ []) refl refl
+    statement_long Continue p q head leaving exits t =
+        joined (leave_code exits.in_loop) (instructions.Jump (continue_target exits) ∷ []) (leave_code exits.in_loop) (instructions.Jump (continue_target (record exits { head = head; leaving = leaving })) ∷ []) refl refl
+    statement_long (Throw tag v) p q head leaving exits t = joined _ _ _ _ (thrown_long v p q t) refl
+    statement_long (Try s cs) p q head leaving exits t =
         let close = instructions.Leave t ∷ [] in
         let kept = kept_code starts t in
         let restored = restored_code starts t in
@@ -412,37 +444,37 @@ module _ (starts : Starts) (raises : ℕ) where
         let m = p + length kept in
         let n = q + length kept in
         let a = statement_code starts s (m + 1) within (behind_record starts t) in
-        let x = statement_code (other starts raises) s (n + 1) (record within { head = head }) (behind_record starts t) in
+        let x = statement_code (other starts raises) s (n + 1) (record within { head = head; leaving = leaving }) (behind_record starts t) in
         let out = m + 1 + length (a ++ close) in
         let aim = n + 1 + length (x ++ close) in
         let first = clauses_code starts cs (out + 1 + length restored) out exits t in
-        let second = clauses_code (other starts raises) cs (aim + 1 + length restored) aim (record exits { head = head }) t in
+        let second = clauses_code (other starts raises) cs (aim + 1 + length restored) aim (record exits { head = head; leaving = leaving }) t in
         joined kept (try_code t (a ++ close) (restored ++ first) m) kept (try_code t (x ++ close) (restored ++ second) n) refl
         (try_long (a ++ close) (restored ++ first) (x ++ close) (restored ++ second) t m n
-        (joined a close x close (statement_long s (m + 1) (n + 1) head within (behind_record starts t)) refl)
-        (joined restored first restored second refl (clauses_long cs (out + 1 + length restored) (aim + 1 + length restored) out aim head exits t)))
-    statement_long (Swap x y) p q head exits t = swap_long x y p q t
+        (joined a close x close (statement_long s (m + 1) (n + 1) head leaving within (behind_record starts t)) refl)
+        (joined restored first restored second refl (clauses_long cs (out + 1 + length restored) (aim + 1 + length restored) out aim head leaving exits t)))
+    statement_long (Swap x y) p q head leaving exits t = swap_long x y p q t
 
-    items_long : (js : Items) (p q head : ℕ) (exits : Exits) (t : ℕ) → length (items_code starts js p exits t) ≡ length (items_code (other starts raises) js q (record exits { head = head }) t)
-    items_long NoItems p q head exits t = refl
-    items_long (MoreItems (Execute s) js) p q head exits t = joined _ _ _ _ (statement_long s p q head exits t) (items_long js _ _ head exits t)
-    items_long (MoreItems (Declare n ty v) js) p q head exits t = joined _ _ _ _ (declaration_long n ty v p q t) (items_long js _ _ head exits t)
-    items_long (MoreItems (DeclareRegion r n) js) p q head exits t =
+    items_long : (js : Items) (p q head leaving : ℕ) (exits : Exits) (t : ℕ) → length (items_code starts js p exits t) ≡ length (items_code (other starts raises) js q (record exits { head = head; leaving = leaving }) t)
+    items_long NoItems p q head leaving exits t = refl
+    items_long (MoreItems (Execute s) js) p q head leaving exits t = joined _ _ _ _ (statement_long s p q head leaving exits t) (items_long js _ _ head leaving exits t)
+    items_long (MoreItems (Declare n ty v) js) p q head leaving exits t = joined _ _ _ _ (declaration_long n ty v p q t) (items_long js _ _ head leaving exits t)
+    items_long (MoreItems (DeclareRegion r n) js) p q head leaving exits t =
         let opened = opened_code starts n t in
         let closed = closed_code t in
         let within = inside_region exits t in
         let first = items_code starts js (p + length opened) within (t + 1) in
-        let second = items_code (other starts raises) js (q + length opened) (record within { head = head }) (t + 1) in
-        joined opened (first ++ closed) opened (second ++ closed) refl (joined first closed second closed (items_long js (p + length opened) (q + length opened) head within (t + 1)) refl)
-    items_long (MoreItems (OpenRegion r n w k) js) p q head exits t = ap suc (items_long js (p + 1) (q + 1) head exits t)
-    items_long (MoreItems (DeclareAlias r n ty w s) js) p q head exits t = ap suc (items_long js (p + 1) (q + 1) head exits t)
-    items_long (MoreItems (DeclareKey r n) js) p q head exits t = ap (λ m. suc (suc m)) (items_long js (p + 2) (q + 2) head exits t)
+        let second = items_code (other starts raises) js (q + length opened) (record within { head = head; leaving = leaving }) (t + 1) in
+        joined opened (first ++ closed) opened (second ++ closed) refl (joined first closed second closed (items_long js (p + length opened) (q + length opened) head leaving within (t + 1)) refl)
+    items_long (MoreItems (OpenRegion r n w k) js) p q head leaving exits t = ap suc (items_long js (p + 1) (q + 1) head leaving exits t)
+    items_long (MoreItems (DeclareAlias r n ty w s) js) p q head leaving exits t = ap suc (items_long js (p + 1) (q + 1) head leaving exits t)
+    items_long (MoreItems (DeclareKey r n) js) p q head leaving exits t = ap (λ m. suc (suc m)) (items_long js (p + 2) (q + 2) head leaving exits t)
 
-    clauses_long : (cs : Clauses) (p q out aim head : ℕ) (exits : Exits) (t : ℕ) → length (clauses_code starts cs p out exits t) ≡ length (clauses_code (other starts raises) cs q aim (record exits { head = head }) t)
-    clauses_long NoClauses p q out aim head exits t = refl
-    clauses_long (Default r js) p q out aim head exits t = items_long js p q head exits t
-    clauses_long (Case tag x r js cs) p q out aim head exits t =
-        let others = record exits { head = head } in
+    clauses_long : (cs : Clauses) (p q out aim head leaving : ℕ) (exits : Exits) (t : ℕ) → length (clauses_code starts cs p out exits t) ≡ length (clauses_code (other starts raises) cs q aim (record exits { head = head; leaving = leaving }) t)
+    clauses_long NoClauses p q out aim head leaving exits t = refl
+    clauses_long (Default r js) p q out aim head leaving exits t = items_long js p q head leaving exits t
+    clauses_long (Case tag x r js cs) p q out aim head leaving exits t =
+        let others = record exits { head = head; leaving = leaving } in
         let a = caught_code starts x t ++ items_code starts js (p + 1 + length (caught_code starts x t)) exits t in
         let b = caught_code (other starts raises) x t ++ items_code (other starts raises) js (q + 1 + length (caught_code (other starts raises) x t)) others t in
         let m = p + length (clause_code tag t a p out) in
@@ -450,9 +482,9 @@ module _ (starts : Starts) (raises : ℕ) where
         joined (clause_code tag t a p out) (clauses_code starts cs m out exits t) (clause_code tag t b q aim) (clauses_code (other starts raises) cs n aim others t)
         (clause_long a b tag t p q out aim
         (joined (caught_code starts x t) (items_code starts js (p + 1 + length (caught_code starts x t)) exits t) (caught_code (other starts raises) x t) (items_code (other starts raises) js (q + 1 + length (caught_code (other starts raises) x t)) others t)
-        (caught_long x t) (items_long js (p + 1 + length (caught_code starts x t)) (q + 1 + length (caught_code (other starts raises) x t)) head exits t)))
-        (clauses_long cs m n out aim head exits t)
+        (caught_long x t) (items_long js (p + 1 + length (caught_code starts x t)) (q + 1 + length (caught_code (other starts raises) x t)) head leaving exits t)))
+        (clauses_long cs m n out aim head leaving exits t)
 
 -- so the blocks stand behind the place that the checks are told
 pub body_long : (structs : List StructType) (globals : List ℕ) (scopes : Option ℕ) (h : Function) → length (body_code (starts_with (raises_of structs globals scopes h) structs globals scopes h) h) ≡ raises_of structs globals scopes h
-body_long structs globals scopes h = sym (items_long (starts_with 0 structs globals scopes h) (raises_of structs globals scopes h) h.body 0 0 0 outside_loops (first_temporary h))
+body_long structs globals scopes h = sym (items_long (starts_with 0 structs globals scopes h) (raises_of structs globals scopes h) h.body 0 0 0 0 outside_loops (first_temporary h))

@@ -1,11 +1,13 @@
 -- Statements stand where the code of a function is.
-use Rattle.std.proofs.Common.{◌≡◌, ℕ, suc, ◌+◌, ◌<◌, Bool, true, List, [], ◌∷◌, ◌++◌, length, Option, None, Some, refl, sym, ap, subst, ◌∙◌, arith, length-append}
+use Rattle.std.specs.Prelude.{if◌then◌else◌}
+use Rattle.std.proofs.Common.{◌≡◌, ℕ, suc, ◌+◌, ◌<◌, Bool, true, false, inl, inr, List, [], ◌∷◌, ◌++◌, length, Option, None, Some, refl, sym, ap, subst, ◌∙◌, arith, length-append}
 use Rattle.cyc_types.specs.declared.typed.Kind.{Kind}
 use Rattle.cyc_types.specs.declared.typed.Kind.TheVariants as kinds
 use Rattle.cyc_types.specs.declared.typed.Callee.TheVariants as callees
 use Rattle.cyc_types.specs.declared.typed.UnaryOperator.TheVariants as unary
-use Rattle.cyc_types.specs.Types.{Ty}
-use Rattle.cyc_types.specs.TypedTrees.{Lvalue, Local, Global, Expression, Call, Unary, Binary, Assign, Converted, Convert, NoOperations, ThenCompute, Statement, Block, Empty, Evaluate, If, While, Return, Break, Continue, Items, NoItems, MoreItems, Execute, Declare, Signature, Store, Side, VariableSide, CellSide, Swap, Throw, Try, Clauses, NoClauses, Default, Case, DeclareRegion, OpenRegion, DeclareAlias, DeclareKey}
+use Rattle.cyc_types.specs.declared.typed.LogicalOperator.TheVariants as logical
+use Rattle.cyc_types.specs.Types.{Ty, words_of}
+use Rattle.cyc_types.specs.TypedTrees.{Lvalue, Local, Global, Expression, Call, Unary, Binary, Assign, Converted, Convert, Operations, NoOperations, ThenCompute, ThenTest, ThenPointer, ThenPointerPeek, type_of, Statement, Block, Empty, Evaluate, If, While, Return, Break, Continue, Items, NoItems, MoreItems, Execute, Declare, Signature, Store, Side, VariableSide, CellSide, Swap, Throw, Try, Clauses, NoClauses, Default, Case, DeclareRegion, OpenRegion, DeclareAlias, DeclareKey}
 use Rattle.cyc_types.specs.Numbered.{Numbering, argument_count}
 use Rattle.cyc_plain.specs.declared.limits.TheConstants.{RECORD_WORDS}
 use Rattle.cyc_plain.specs.declared.instruction.Comparison.{Comparison}
@@ -15,19 +17,24 @@ use Rattle.cyc_plain.specs.declared.instruction.Instruction.TheVariants as instr
 use Rattle.cyc_plain.specs.Straight.{At, HasAt}
 use Rattle.cyc_plain.proofs.Straight.{has_front, has_back}
 use Rattle.cyc_meaning.specs.Values.{kind_of, words_of_kind}
+use Rattle.cyc_meaning.specs.FrameCount.{operand_words}
 use Rattle.cyc_lower.specs.Slots.{Types, starts_of, slot_of, global_of}
 use Rattle.cyc_lower.specs.ValueCode.{passed_words, move_of, operand_or, slot_or, code_unless_slot, left_with, conversion_code, failing_comparison, address_code, span_of, global_code, kind_passed}
 use Rattle.cyc_lower.specs.ObjectCode.{right_slot, saved_code, load_at}
-use Rattle.cyc_lower.specs.ControlCode.{compared_or, compared_of, failing_jump, holding_jump, break_target, continue_target, body_target, inside_loop, leave_code, other_jump, clause_code, kept_code, kept_code_in, restored_code, restored_code_in, behind_record, inside_try, closed_code, handlers_code, marks_code, try_code, opened_code, inside_region, dynamic_code}
+use Rattle.cyc_lower.specs.ControlCode.{compared_or, compared_of, failing_jump, holding_jump, all_test, are_tests, break_target, continue_target, body_target, inside_loop, leave_code, other_jump, clause_code, kept_code, kept_code_in, restored_code, restored_code_in, behind_record, inside_try, closed_code, handlers_code, marks_code, try_code, opened_code, inside_region, dynamic_code, entry_code, entry_length}
 use Rattle.cyc_lower.specs.ExpressionCode.{source_of, operand_of, value_slot, slot_with, value_operand, converted_operand, printed_operand, expression_code, converted_operand_code, printed_code, place_operand, place_offset, place_code, brought_code, is_simple}
-use Rattle.cyc_lower.specs.Lowering.{assignment_code, assigned_operand, discarded_code, first_operand, first_code, second_code, pair_code, condition_code, condition_of, return_code, declaration_code, statement_code, items_code, results_of, side_code, read_side, write_side, exchange_code, swap_code, thrown_code, thrown_operand, caught_code, clauses_code}
+use Rattle.cyc_lower.specs.Lowering.{assignment_code, assigned_operand, discarded_code, first_operand, first_code, second_code, pair_code, condition_code, condition_of, others_code, last_condition, tests_code, behind_tests, choice_code, choice_of, return_code, declaration_code, statement_code, items_code, results_of, side_code, read_side, write_side, exchange_code, swap_code, thrown_code, thrown_operand, caught_code, clauses_code}
+use Rattle.cyc_lower.specs.declared.operands.Condition.{Condition}
 use Rattle.cyc_lower.specs.declared.statements.Exits.{Exits}
 use Rattle.cyc_lower.specs.declared.statements.Opened.{Opened}
-use Rattle.cyc_lower.proofs.relation.Stands.{PairAt, ConditionAt, AssignmentAt, DiscardedAt, ReturnAt, DeclarationAt, StatementAt, ItemsAt, HasSide, SideAt, ReadAt, WriteAt, SwapAt, LeaveAt, ThrownAt, CaughtAt, ClausesAt, ExchangeAt, ClosedAt, HandlersAt, MarksAt, KeptAt, RestoredAt, OpenedAt, LeftBy}
+use Rattle.cyc_lower.proofs.relation.Stands.{PairAt, ConditionAt, ForkAt, BranchesAt, TestsAt, Ends, AssignmentAt, DiscardedAt, ReturnAt, DeclarationAt, StatementAt, ItemsAt, HasSide, SideAt, ReadAt, WriteAt, SwapAt, LeaveAt, ThrownAt, CaughtAt, ClausesAt, ExchangeAt, ClosedAt, HandlersAt, MarksAt, KeptAt, RestoredAt, OpenedAt, LeftBy, EntryAt}
 use Rattle.cyc_types.specs.typing.Expressions.{type_of_side}
 use Rattle.cyc_lower.proofs.slots.Widths.{kind_of_result, type_words, HasLocal}
-use Rattle.cyc_lower.proofs.relation.Fitting.{FitsPlace, Fits, FitsConverted, FitsReturn, FitsInitial, FitsStatement, FitItems, FitsSide, FitsThrown, FitsCaught, FitClauses}
+use Rattle.cyc_lower.proofs.relation.Fitting.{FitsPlace, Fits, FitOperations, FitsConverted, FitsReturn, FitsInitial, FitsStatement, FitItems, FitsSide, FitsThrown, FitsCaught, FitClauses}
 use Rattle.cyc_lower.proofs.place_steps.Sources.{stored_apart}
+use Rattle.cyc_lower.proofs.relation.Tested.{compared_whole}
+use Rattle.cyc_lower.proofs.emission.Conditions.{tests_same}
+use Rattle.cyc_lower.proofs.emission.Loops.{entry_long}
 use Rattle.cyc_lower.proofs.emission.OperandBridge.{cut, BlocksStand, operand_by, returned_by, right_by, left_first, returned_brought, conversion_stands, each_stands, global_stands, load_stands, stores_stand, saved_stands, address_stands, blank_stands}
 use Rattle.cyc_lower.proofs.emission.ExpressionBridge.{expression_stands, place_stands, initial_stands, converted_operand_stands, printed_stands, brought_stands}
 
@@ -92,7 +99,7 @@ module _ (code : List Instruction) (b : Numbering) (types : Types) (raised : Blo
       )
 
   compared_numbered : (a : Expression) → Fits b types a → Fits b types (compared_of a).left × Fits b types (compared_of a).right
-  compared_numbered (Unary unary.Not a) numbered = (numbered, tt)
+  compared_numbered (Unary unary.Not a) numbered = compared_numbered a numbered
   compared_numbered (Binary a (ThenCompute o c NoOperations) ty) (first, (second, none)) = by (failing_comparison o)
     where
       by : (f : Option Comparison) → Fits b types (compared_or f a c (Binary a (ThenCompute o c NoOperations) ty)).left × Fits b types (compared_or f a c (Binary a (ThenCompute o c NoOperations) ty)).right
@@ -106,7 +113,167 @@ module _ (code : List Instruction) (b : Numbering) (types : Types) (raised : Blo
       let (first, second) = compared_numbered a numbered in
       pair_stands (compared_of a).left (compared_of a).right t p q first second end has
 
+  -- behind tests by `||` all goes on where one holds
+  all_through : (os : Operations) (f h t : ℕ) → all_test logical.OrElse os ≡ true → TestsAt code b types os false t h (Ends code b types f h)
+  all_through NoOperations f h t all = refl
+  all_through (ThenTest logical.OrElse c os) f h t all = all_through os f h t all
+  all_through (ThenTest logical.AndThen c os) f h t all = absurd (let z : false ≡ true = all in cc)
+  all_through (ThenCompute o c os) f h t all = absurd (let z : false ≡ true = all in cc)
+  all_through (ThenPointer o c os) f h t all = absurd (let z : false ≡ true = all in cc)
+  all_through (ThenPointerPeek n o c os) f h t all = absurd (let z : false ≡ true = all in cc)
+
+  -- a condition whose operands behind the first stand from place p on, with the jump that is left to the last one at place q
+  others_stand : (os : Operations) (ty : Ty) (words : ℕ) (o : Condition) (f t p q : ℕ) → all_test logical.OrElse os ≡ true → FitOperations b types words ty os
+      → p + length (others_code (starts_of types) logical.OrElse os o (q + 1) p t) ≡ q → HasAt code p (others_code (starts_of types) logical.OrElse os o (q + 1) p t)
+      → At code q (failing_jump (last_condition (starts_of types) os o t) f)
+      → (x : ℕ) × (y : ℕ) × ForkAt code b types o.failing o.left o.right p x y × TestsAt code b types os true t x (Ends code b types f (q + 1)) × TestsAt code b types os false t y (Ends code b types f (q + 1))
+  others_stand NoOperations ty words o f t p q all fits end has jump =
+      let here : p ≡ q = omega (arith, end) in
+      (f, q + 1, inl (subst (λ n. At code n (failing_jump o f)) (sym here) jump, ap (λ n. n + 1) here), refl, refl)
+  others_stand (ThenTest logical.OrElse a os) ty words o f t p q all (first, fits) end has jump =
+      let next = condition_of (starts_of types) a t in
+      let operand = condition_code (starts_of types) a (p + 1) t in
+      let front = holding_jump o (q + 1) ∷ operand in
+      let m = p + length front in
+      let rest = others_code (starts_of types) logical.OrElse os next (q + 1) m t in
+      let (leads, has_operand) = has_front code p front rest has in
+      let (x, y, fork, fails, passes) = others_stand os ty (words_of ty) next f t m q all fits (cut p q front rest end) (has_back code p front rest has) jump in
+      let there = condition_stands a t (p + 1) m first (omega arith) has_operand in
+      let tried : BranchesAt code b types a x y t (p + 1) = compared_whole code b types a x y t (p + 1) (next.left, next.right, m, there, fork) in
+      (p + 1, q + 1, inr (leads, refl), (x, y, tried, fails, passes), all_through os f (q + 1) t all)
+  others_stand (ThenTest logical.AndThen a os) ty words o f t p q all fits end has jump = absurd (let z : false ≡ true = all in cc)
+  others_stand (ThenCompute u a os) ty words o f t p q all fits end has jump = absurd (let z : false ≡ true = all in cc)
+  others_stand (ThenPointer u a os) ty words o f t p q all fits end has jump = absurd (let z : false ≡ true = all in cc)
+  others_stand (ThenPointerPeek n u a os) ty words o f t p q all fits end has jump = absurd (let z : false ≡ true = all in cc)
+
+  tests_stand : (a : Expression) (os : Operations) (ty : Ty) (f t p q : ℕ) → are_tests logical.OrElse os ≡ true → Fits b types (Binary a os ty)
+      → p + length (tests_code (starts_of types) logical.OrElse a os (q + 1) p t) ≡ q → HasAt code p (tests_code (starts_of types) logical.OrElse a os (q + 1) p t)
+      → At code q (failing_jump (last_condition (starts_of types) os (condition_of (starts_of types) a t) t) f) → BranchesAt code b types (Binary a os ty) f (q + 1) t p
+  tests_stand a (ThenTest u c os) ty f t p q all (first, fits) end has jump =
+      let front = condition_code (starts_of types) a p t in
+      let m = p + length front in
+      let next = condition_of (starts_of types) a t in
+      let rest = others_code (starts_of types) logical.OrElse (ThenTest u c os) next (q + 1) m t in
+      let (x, y, fork, fails, passes) = others_stand (ThenTest u c os) ty (operand_words (type_of a)) next f t m q all fits (cut p q front rest end) (has_back code p front rest has) jump in
+      inr (x, y, compared_whole code b types a x y t p (next.left, next.right, m, condition_stands a t p m first refl (has_front code p front rest has), fork), fails, passes)
+  tests_stand a NoOperations ty f t p q all fits end has jump = absurd (let z : false ≡ true = all in cc)
+  tests_stand a (ThenCompute u c os) ty f t p q all fits end has jump = absurd (let z : false ≡ true = all in cc)
+  tests_stand a (ThenPointer u c os) ty f t p q all fits end has jump = absurd (let z : false ≡ true = all in cc)
+  tests_stand a (ThenPointerPeek n u c os) ty f t p q all fits end has jump = absurd (let z : false ≡ true = all in cc)
+
+  -- a condition with the jump that is taken where it fails
+  choice_stands : (a : Expression) (f t p q : ℕ) → Fits b types a → p + length (choice_code (starts_of types) logical.OrElse a p t) ≡ q → HasAt code p (choice_code (starts_of types) logical.OrElse a p t)
+      → At code q (failing_jump (choice_of (starts_of types) logical.OrElse a t) f) → BranchesAt code b types a f (q + 1) t p
+  choice_stands a f t p q fits end has jump = by a fits end has jump
+    where
+      whole : (a : Expression) → Fits b types a → p + length (condition_code (starts_of types) a p t) ≡ q → HasAt code p (condition_code (starts_of types) a p t)
+          → At code q (failing_jump (condition_of (starts_of types) a t) f) → BranchesAt code b types a f (q + 1) t p
+      whole a fits end has jump =
+          compared_whole code b types a f (q + 1) t p ((condition_of (starts_of types) a t).left, (condition_of (starts_of types) a t).right, q, condition_stands a t p q fits end has, inl (jump, refl))
+
+      chain : (a : Expression) (os : Operations) (ty : Ty) (tests : Bool) → are_tests logical.OrElse os ≡ tests → Fits b types (Binary a os ty)
+          → p + length (if tests then tests_code (starts_of types) logical.OrElse a os (behind_tests (starts_of types) logical.OrElse a os p t) p t else condition_code (starts_of types) (Binary a os ty) p t) ≡ q
+          → HasAt code p (if tests then tests_code (starts_of types) logical.OrElse a os (behind_tests (starts_of types) logical.OrElse a os p t) p t else condition_code (starts_of types) (Binary a os ty) p t)
+          → At code q (failing_jump (if tests then last_condition (starts_of types) os (condition_of (starts_of types) a t) t else condition_of (starts_of types) (Binary a os ty) t) f)
+          → BranchesAt code b types (Binary a os ty) f (q + 1) t p
+      chain a os ty false is fits end has jump = whole (Binary a os ty) fits end has jump
+      chain a os ty true is fits end has jump =
+          let made : ℕ → List Instruction = λ x. tests_code (starts_of types) logical.OrElse a os x p t in
+          let there : behind_tests (starts_of types) logical.OrElse a os p t ≡ q + 1 = omega (arith, end, tests_same (starts_of types) logical.OrElse a os 0 (behind_tests (starts_of types) logical.OrElse a os p t) p t) in
+          tests_stand a os ty f t p q is fits (subst (λ x. p + length (made x) ≡ q) there end) (subst (λ x. HasAt code p (made x)) there has) jump
+
+      by : (a : Expression) → Fits b types a → p + length (choice_code (starts_of types) logical.OrElse a p t) ≡ q → HasAt code p (choice_code (starts_of types) logical.OrElse a p t)
+          → At code q (failing_jump (choice_of (starts_of types) logical.OrElse a t) f) → BranchesAt code b types a f (q + 1) t p
+      by (Binary a os ty) fits end has jump = chain a os ty (are_tests logical.OrElse os) refl fits end has jump
+      by a fits end has jump = whole a fits end has jump
+
+  -- the same of tests by `&&`, with the jump that is taken where the last one holds: behind them all goes on where one fails
+  all_over : (os : Operations) (f h t : ℕ) → all_test logical.AndThen os ≡ true → TestsAt code b types os true t f (Ends code b types f h)
+  all_over NoOperations f h t all = refl
+  all_over (ThenTest logical.AndThen c os) f h t all = all_over os f h t all
+  all_over (ThenTest logical.OrElse c os) f h t all = absurd (let z : false ≡ true = all in cc)
+  all_over (ThenCompute o c os) f h t all = absurd (let z : false ≡ true = all in cc)
+  all_over (ThenPointer o c os) f h t all = absurd (let z : false ≡ true = all in cc)
+  all_over (ThenPointerPeek n o c os) f h t all = absurd (let z : false ≡ true = all in cc)
+
+  others_follow : (os : Operations) (ty : Ty) (words : ℕ) (o : Condition) (h t p q : ℕ) → all_test logical.AndThen os ≡ true → FitOperations b types words ty os
+      → p + length (others_code (starts_of types) logical.AndThen os o (q + 1) p t) ≡ q → HasAt code p (others_code (starts_of types) logical.AndThen os o (q + 1) p t)
+      → At code q (holding_jump (last_condition (starts_of types) os o t) h)
+      → (x : ℕ) × (y : ℕ) × ForkAt code b types o.failing o.left o.right p x y × TestsAt code b types os true t x (Ends code b types (q + 1) h) × TestsAt code b types os false t y (Ends code b types (q + 1) h)
+  others_follow NoOperations ty words o h t p q all fits end has jump =
+      let here : p ≡ q = omega (arith, end) in
+      (q + 1, h, inr (subst (λ n. At code n (holding_jump o h)) (sym here) jump, ap (λ n. n + 1) here), refl, refl)
+  others_follow (ThenTest logical.AndThen a os) ty words o h t p q all (first, fits) end has jump =
+      let next = condition_of (starts_of types) a t in
+      let operand = condition_code (starts_of types) a (p + 1) t in
+      let front = failing_jump o (q + 1) ∷ operand in
+      let m = p + length front in
+      let rest = others_code (starts_of types) logical.AndThen os next (q + 1) m t in
+      let (leads, has_operand) = has_front code p front rest has in
+      let (x, y, fork, fails, passes) = others_follow os ty (words_of ty) next h t m q all fits (cut p q front rest end) (has_back code p front rest has) jump in
+      let there = condition_stands a t (p + 1) m first (omega arith) has_operand in
+      let tried : BranchesAt code b types a x y t (p + 1) = compared_whole code b types a x y t (p + 1) (next.left, next.right, m, there, fork) in
+      (q + 1, p + 1, inl (leads, refl), all_over os (q + 1) h t all, (x, y, tried, fails, passes))
+  others_follow (ThenTest logical.OrElse a os) ty words o h t p q all fits end has jump = absurd (let z : false ≡ true = all in cc)
+  others_follow (ThenCompute u a os) ty words o h t p q all fits end has jump = absurd (let z : false ≡ true = all in cc)
+  others_follow (ThenPointer u a os) ty words o h t p q all fits end has jump = absurd (let z : false ≡ true = all in cc)
+  others_follow (ThenPointerPeek n u a os) ty words o h t p q all fits end has jump = absurd (let z : false ≡ true = all in cc)
+
+  tests_follow : (a : Expression) (os : Operations) (ty : Ty) (h t p q : ℕ) → are_tests logical.AndThen os ≡ true → Fits b types (Binary a os ty)
+      → p + length (tests_code (starts_of types) logical.AndThen a os (q + 1) p t) ≡ q → HasAt code p (tests_code (starts_of types) logical.AndThen a os (q + 1) p t)
+      → At code q (holding_jump (last_condition (starts_of types) os (condition_of (starts_of types) a t) t) h) → BranchesAt code b types (Binary a os ty) (q + 1) h t p
+  tests_follow a (ThenTest u c os) ty h t p q all (first, fits) end has jump =
+      let front = condition_code (starts_of types) a p t in
+      let m = p + length front in
+      let next = condition_of (starts_of types) a t in
+      let rest = others_code (starts_of types) logical.AndThen (ThenTest u c os) next (q + 1) m t in
+      let (x, y, fork, fails, passes) = others_follow (ThenTest u c os) ty (operand_words (type_of a)) next h t m q all fits (cut p q front rest end) (has_back code p front rest has) jump in
+      inr (x, y, compared_whole code b types a x y t p (next.left, next.right, m, condition_stands a t p m first refl (has_front code p front rest has), fork), fails, passes)
+  tests_follow a NoOperations ty h t p q all fits end has jump = absurd (let z : false ≡ true = all in cc)
+  tests_follow a (ThenCompute u c os) ty h t p q all fits end has jump = absurd (let z : false ≡ true = all in cc)
+  tests_follow a (ThenPointer u c os) ty h t p q all fits end has jump = absurd (let z : false ≡ true = all in cc)
+  tests_follow a (ThenPointerPeek n u c os) ty h t p q all fits end has jump = absurd (let z : false ≡ true = all in cc)
+
+  -- a condition with the jump that is taken where it holds
+  choice_follows : (a : Expression) (h t p q : ℕ) → Fits b types a → p + length (choice_code (starts_of types) logical.AndThen a p t) ≡ q → HasAt code p (choice_code (starts_of types) logical.AndThen a p t)
+      → At code q (holding_jump (choice_of (starts_of types) logical.AndThen a t) h) → BranchesAt code b types a (q + 1) h t p
+  choice_follows a h t p q fits end has jump = by a fits end has jump
+    where
+      whole : (a : Expression) → Fits b types a → p + length (condition_code (starts_of types) a p t) ≡ q → HasAt code p (condition_code (starts_of types) a p t)
+          → At code q (holding_jump (condition_of (starts_of types) a t) h) → BranchesAt code b types a (q + 1) h t p
+      whole a fits end has jump =
+          compared_whole code b types a (q + 1) h t p ((condition_of (starts_of types) a t).left, (condition_of (starts_of types) a t).right, q, condition_stands a t p q fits end has, inr (jump, refl))
+
+      chain : (a : Expression) (os : Operations) (ty : Ty) (tests : Bool) → are_tests logical.AndThen os ≡ tests → Fits b types (Binary a os ty)
+          → p + length (if tests then tests_code (starts_of types) logical.AndThen a os (behind_tests (starts_of types) logical.AndThen a os p t) p t else condition_code (starts_of types) (Binary a os ty) p t) ≡ q
+          → HasAt code p (if tests then tests_code (starts_of types) logical.AndThen a os (behind_tests (starts_of types) logical.AndThen a os p t) p t else condition_code (starts_of types) (Binary a os ty) p t)
+          → At code q (holding_jump (if tests then last_condition (starts_of types) os (condition_of (starts_of types) a t) t else condition_of (starts_of types) (Binary a os ty) t) h)
+          → BranchesAt code b types (Binary a os ty) (q + 1) h t p
+      chain a os ty false is fits end has jump = whole (Binary a os ty) fits end has jump
+      chain a os ty true is fits end has jump =
+          let made : ℕ → List Instruction = λ x. tests_code (starts_of types) logical.AndThen a os x p t in
+          let there : behind_tests (starts_of types) logical.AndThen a os p t ≡ q + 1 = omega (arith, end, tests_same (starts_of types) logical.AndThen a os 0 (behind_tests (starts_of types) logical.AndThen a os p t) p t) in
+          tests_follow a os ty h t p q is fits (subst (λ x. p + length (made x) ≡ q) there end) (subst (λ x. HasAt code p (made x)) there has) jump
+
+      by : (a : Expression) → Fits b types a → p + length (choice_code (starts_of types) logical.AndThen a p t) ≡ q → HasAt code p (choice_code (starts_of types) logical.AndThen a p t)
+          → At code q (holding_jump (choice_of (starts_of types) logical.AndThen a t) h) → BranchesAt code b types a (q + 1) h t p
+      by (Binary a os ty) fits end has jump = chain a os ty (are_tests logical.AndThen os) refl fits end has jump
+      by a fits end has jump = whole a fits end has jump
+
   -- ---- statements
+
+  -- what leads into a loop
+  entry_stands : (simple : Bool) (a : Expression) (exits : Exits) (t p l r : ℕ) → Fits b types a → l ≡ p + entry_length simple (choice_code (starts_of types) logical.AndThen a p t) → p < r
+      → HasAt code p (entry_code simple (choice_code (starts_of types) logical.AndThen a p t) (holding_jump (choice_of (starts_of types) logical.AndThen a t)) r p)
+      → EntryAt code b types a (inside_loop p l exits) t r
+  entry_stands true a exits t p l r numbered at before has =
+      let first = choice_code (starts_of types) logical.AndThen a p t in
+      let m = p + length first in
+      let jump = holding_jump (choice_of (starts_of types) logical.AndThen a t) (m + 1 + 1) in
+      let (here, none) = has_back code p first (jump ∷ []) has in
+      let next : m + 1 ≡ l = omega (arith, at) in
+      inl (subst (λ n. BranchesAt code b types a n (n + 1) t p) next (choice_follows a (m + 1 + 1) t p m numbered refl (has_front code p first (jump ∷ []) has) here))
+  entry_stands false a exits t p l r numbered at before (enter, none) = inr (enter, before)
 
   -- what is returned is what the function returns, and has its words
   returns_kind : (result : Option Ty) (c : Converted) → FitsReturn b types result (Some c) → (results_of result ≡ words_of_kind (kind_passed c)) × (kind_passed c ≡ kind_of_result result)
@@ -272,63 +439,64 @@ module _ (code : List Instruction) (b : Numbering) (types : Types) (raised : Blo
     statement_stands (Evaluate a) in_loop exits t p q numbered end has = discarded_stands a t p q numbered end has
     statement_stands (Swap x y) in_loop exits t p q (fits_x, fits_y) end has = swap_stands x y t p q fits_x fits_y end has
     statement_stands (If a s u) in_loop exits t p q (numbered_a, numbered_s, numbered_u) end has =
-        let condition = condition_code (starts_of types) a p t in
+        let condition = choice_code (starts_of types) logical.OrElse a p t in
         let m = p + length condition in
         let first = statement_code (starts_of types) s (m + 1) exits t in
         let r = m + 1 + length first in
         let second = statement_code (starts_of types) u (r + 1) exits t in
-        let jump_first = failing_jump (condition_of (starts_of types) a t) (r + 1) ∷ first in
+        let jump_first = failing_jump (choice_of (starts_of types) logical.OrElse a t) (r + 1) ∷ first in
         let jump_second = instructions.Jump (r + 1 + length second) ∷ second in
         let front = condition ++ jump_first in
         let long : length front ≡ length condition + suc (length first) = length-append condition jump_first in
         let (jump, has_first) = has_back code p condition jump_first (has_front code p front jump_second has) in
         let (over, has_second) = subst (λ x. HasAt code x jump_second) (let e : p + length front ≡ r = omega (arith, long) in e) (has_back code p front jump_second has) in
         let end_is : r + 1 + length second ≡ q = omega (arith, cut p q front jump_second end, long) in (
-          (condition_of (starts_of types) a t).left,
-          (condition_of (starts_of types) a t).right,
-          m,
+          r + 1,
+          m + 1,
           r,
-          condition_stands a t p m numbered_a refl (has_front code p condition jump_first (has_front code p front jump_second has)),
-          jump,
+          choice_stands a (r + 1) t p m numbered_a refl (has_front code p condition jump_first (has_front code p front jump_second has)) jump,
           statement_stands s in_loop exits t (m + 1) r numbered_s refl has_first,
           subst (λ x. At code r (instructions.Jump x)) end_is over,
           statement_stands u in_loop exits t (r + 1) q numbered_u end_is has_second,
         )
     statement_stands (While w a s) in_loop exits t p q (numbered_a, numbered_s) end has =
-        let body = statement_code (starts_of types) s (p + 2) (inside_loop p exits) t in
-        let r = p + 2 + length body in
-        let condition = condition_code (starts_of types) a r t in
+        let simple = is_simple (starts_of types) a in
+        let first = choice_code (starts_of types) logical.AndThen a p t in
+        let jump : ℕ → Instruction = λ n. holding_jump (choice_of (starts_of types) logical.AndThen a t) n in
+        let l = p + entry_length simple first in
+        let body = statement_code (starts_of types) s (body_target l) (inside_loop p l exits) t in
+        let r = body_target l + length body in
+        let condition = choice_code (starts_of types) logical.AndThen a r t in
         let m = r + length condition in
-        let test = holding_jump (condition_of (starts_of types) a t) (body_target p) ∷ [] in
-        let (enter, (leave, inner)) = has in
-        let inner_has = subst (λ x. HasAt code x ((body ++ condition) ++ test)) (let e : p + 1 + 1 ≡ p + 2 = omega arith in e) inner in
+        let entry = entry_code simple first jump r p in
+        let test = jump (body_target l) ∷ [] in
+        let inner = (body ++ condition) ++ test in
+        let entered : p + length entry ≡ l = ap (λ (n : ℕ). p + n) (entry_long simple first jump r p) in
+        let (leave, inner_at) = subst (λ x. HasAt code x (instructions.Jump (m + 1) ∷ inner)) entered (has_back code p entry (instructions.Jump (m + 1) ∷ inner) has) in
         let long : length (body ++ condition) ≡ length body + length condition = length-append body condition in
-        let all : length ((body ++ condition) ++ test) ≡ length (body ++ condition) + 1 = length-append (body ++ condition) test in
-        let front_has = has_front code (p + 2) (body ++ condition) test inner_has in
-        let (again, none) = has_back code (p + 2) (body ++ condition) test inner_has in
-        let end_is : m + 1 ≡ q = omega (arith, end, long, all) in (
-          (condition_of (starts_of types) a t).left,
-          (condition_of (starts_of types) a t).right,
+        let all : length inner ≡ length (body ++ condition) + 1 = length-append (body ++ condition) test in
+        let whole : length (entry ++ (instructions.Jump (m + 1) ∷ inner)) ≡ length entry + suc (length inner) = length-append entry (instructions.Jump (m + 1) ∷ inner) in
+        let front_has = has_front code (body_target l) (body ++ condition) test inner_at in
+        let (again, none) = has_back code (body_target l) (body ++ condition) test inner_at in
+        let end_is : m + 1 ≡ q = omega (arith, end, whole, long, all, entered) in (
+          l,
           r,
-          m,
-          enter,
-          subst (λ x. At code (p + 1) (instructions.Jump x)) end_is leave,
-          statement_stands s true (inside_loop p exits) t (p + 2) r numbered_s refl (has_front code (p + 2) body condition front_has),
-          condition_stands a t r m numbered_a refl (has_back code (p + 2) body condition front_has),
-          subst (λ x. At code x (holding_jump (condition_of (starts_of types) a t) (body_target p))) (let e : p + 2 + length (body ++ condition) ≡ m = omega (arith, long) in e) again,
-          end_is,
-          omega arith,
+          entry_stands simple a exits t p l r numbered_a refl (omega arith) (has_front code p entry (instructions.Jump (m + 1) ∷ inner) has),
+          subst (λ x. At code l (instructions.Jump x)) end_is leave,
+          statement_stands s true (inside_loop p l exits) t (body_target l) r numbered_s refl (has_front code (body_target l) body condition front_has),
+          subst (λ x. BranchesAt code b types a x (body_target l) t r) end_is
+              (choice_follows a (body_target l) t r m numbered_a refl (has_back code (body_target l) body condition front_has) (subst (λ x. At code x (jump (body_target l))) (let e : body_target l + length (body ++ condition) ≡ m = omega (arith, long) in e) again)),
           omega (arith, end_is),
         )
     statement_stands (Return v) in_loop exits d p q numbered end has = return_stands v exits d p q numbered end has
     statement_stands Break in_loop exits d p q numbered end has =
         let leave = leave_code exits.in_loop in
-        let (here, none) = has_back code p leave (instructions.Jump (break_target exits.head) ∷ []) has in
-        (p + length leave, leave_stands exits.in_loop p (p + length leave) refl (has_front code p leave (instructions.Jump (break_target exits.head) ∷ []) has), here)
+        let (here, none) = has_back code p leave (instructions.Jump (break_target exits) ∷ []) has in
+        (p + length leave, leave_stands exits.in_loop p (p + length leave) refl (has_front code p leave (instructions.Jump (break_target exits) ∷ []) has), here)
     statement_stands Continue in_loop exits d p q numbered end has =
         let leave = leave_code exits.in_loop in
-        let (here, none) = has_back code p leave (instructions.Jump (continue_target exits.head) ∷ []) has in
-        (p + length leave, leave_stands exits.in_loop p (p + length leave) refl (has_front code p leave (instructions.Jump (continue_target exits.head) ∷ []) has), here)
+        let (here, none) = has_back code p leave (instructions.Jump (continue_target exits) ∷ []) has in
+        (p + length leave, leave_stands exits.in_loop p (p + length leave) refl (has_front code p leave (instructions.Jump (continue_target exits) ∷ []) has), here)
     statement_stands (Throw tag v) in_loop exits t p q (word, numbered) end has =
         let front = thrown_code (starts_of types) v p t in
         let (here, none) = has_back code p front _ has in

@@ -1,14 +1,12 @@
 -- Where a value goes that waits for it, the arrays that are being filled are as many as there are slots of counters: behind a statement
 -- there is none.
-use Rattle.std.proofs.Common.{length-append, ◌≡◌, ℕ, ◌+◌, List, [], ◌∷◌, length, Option, refl, arith, inl, inr}
-use Rattle.std.specs.Prelude.{option_map}
+use Rattle.std.proofs.Common.{length-append, ◌≡◌, ℕ, ◌+◌, Bool, true, false, List, [], ◌∷◌, length, Option, refl, arith, inl, inr}
+use Rattle.std.specs.Prelude.{option_map, not}
 use Rattle.cyc_types.specs.declared.typed.Kind.{Kind}
 use Rattle.cyc_types.specs.declared.typed.Kind.TheVariants as kinds
 use Rattle.cyc_types.specs.declared.typed.Callee.TheVariants as callees
 use Rattle.cyc_types.specs.TypedTrees.{Expression, Convert, NoOperations, Program}
 use Rattle.cyc_meaning.specs.Values.{is_thin, bytes_of_kind}
-use Rattle.cyc_plain.specs.declared.instruction.Comparison.{Comparison}
-use Rattle.cyc_plain.specs.declared.instruction.Comparison.TheVariants as comparisons
 use Rattle.cyc_plain.specs.declared.instruction.Operand.{Operand}
 use Rattle.cyc_plain.specs.declared.instruction.Operand.TheVariants as operands
 use Rattle.cyc_plain.specs.State.{Frame}
@@ -17,7 +15,8 @@ use Rattle.cyc_lower.specs.declared.statements.Exits.{Exits}
 use Rattle.cyc_lower.specs.ValueCode.{reached_operand, followed_operand}
 use Rattle.cyc_meaning.specs.Pointers.{result_kind as operator_kind}
 use Rattle.cyc_lower.proofs.slots.Widths.{chain_kind, made_kind}
-use Rattle.cyc_lower.proofs.relation.Relation.{to_slot, to_jump, ValueStack, PlaceStack, ConditionStack, DroppedStack, AheadStack, StatementStack, LandsMade, called_at, top}
+use Rattle.cyc_lower.proofs.relation.Relation.{to_slot, to_jump, ValueStack, PlaceStack, DecidedStack, DroppedStack, AheadStack, StatementStack, LandsMade, called_at, top, code_of, bounds_at, types_on}
+use Rattle.cyc_lower.proofs.relation.Tested.{tests_reach}
 use Rattle.cyc_lower.proofs.relation.HeldValues.{held, height, counters_of, arrays_in}
 use Rattle.cyc_lower.proofs.relation.Matched.{by_lands, by_hands, by_prints}
 use Rattle.cyc_meaning.specs.Operators.{unary_kind}
@@ -39,19 +38,22 @@ module _ (source : Program) where
     value_arrays g locals kind o p frames (Needs (Operate unary.Widen) ∷ k) stack = value_arrays g locals kinds.Int o p frames k stack
     value_arrays g locals kind o p frames (Needs (Operate u) ∷ k) (to_slot (d, at, lands)) =
         by_lands source lands (λ stack. value_arrays g locals (unary_kind u) (operands.Slot d) (p + 1) frames k stack) (λ stack. ahead_arrays g locals (unary_kind u) d (p + 1) frames k stack)
-    value_arrays g locals kind o p frames (Needs (Operate u) ∷ k) (to_jump (is, stack)) = condition_arrays g comparisons.NotEqual o (operands.Word 0) p frames k stack
+    value_arrays g locals kind o p frames (Needs (Operate u) ∷ k) (to_jump (is, (f, h, fork, first, second))) = decided_arrays g false f frames k first
     value_arrays g locals kind o p frames (Needs (Chain NoOperations) ∷ k) stack = value_arrays g locals kind o p frames k stack
     value_arrays g locals kind o p frames (Needs (Chain os) ∷ k) (low, to_slot (d, q, at, lands)) =
         by_lands source lands (λ stack. value_arrays g locals (chain_kind kind os) (operands.Slot d) q frames k stack) (λ stack. ahead_arrays g locals (chain_kind kind os) d q frames k stack)
-    value_arrays g locals kind o p frames (Needs (Chain os) ∷ k) (low, to_jump (failing, r, q, at, stack)) = condition_arrays g failing o r q frames k stack
+    value_arrays g locals kind o p frames (Needs (Chain os) ∷ k) (low, to_jump (inl (failing, r, q, at, (f, h, fork, first, second)))) = decided_arrays g true f frames k first
+    value_arrays g locals kind o p frames (Needs (Chain os) ∷ k) (low, to_jump (inr (f, h, fork, first, second))) =
+        tests_reach (code_of source g) (bounds_at source g) (types_on source g k) (λ fails q stack. decided_arrays g fails q frames k stack) os true (top source g k) f first
     value_arrays g locals kind o p frames (Needs (Apply u left) ∷ k) (to_slot (d, q, at, lands)) =
         by_lands source lands (λ stack. value_arrays g locals kinds.Int (operands.Slot d) q frames k stack) (λ stack. ahead_arrays g locals kinds.Int d q frames k stack)
-    value_arrays g locals kind o p frames (Needs (Apply u left) ∷ k) (to_jump (failing, is, stack)) = condition_arrays g failing (operands.Slot (top source g k)) o p frames k stack
+    value_arrays g locals kind o p frames (Needs (Apply u left) ∷ k) (to_jump (failing, is, (f, h, fork, first, second))) = decided_arrays g true f frames k first
     value_arrays g locals kind o p frames (Needs (ApplyPointer peek u left) ∷ k) (d, q, at, lands) =
         by_lands source lands (λ stack. value_arrays g locals (operator_kind u) (operands.Slot d) q frames k stack) (λ stack. ahead_arrays g locals (operator_kind u) d q frames k stack)
     value_arrays g locals kind o p frames (Needs CountElements ∷ k) (d, q, at, lands) =
         by_lands source lands (λ stack. value_arrays g locals kinds.Int (operands.Slot d) q frames k stack) (λ stack. ahead_arrays g locals kinds.Int d q frames k stack)
-    value_arrays g locals kind o p frames (Needs Decide ∷ k) (d, q, is, at, lands) =
+    value_arrays g locals kind o p frames (Needs Decide ∷ k) (to_jump (f, h, fork, first, second)) = decided_arrays g true f frames k first
+    value_arrays g locals kind o p frames (Needs Decide ∷ k) (to_slot (d, q, is, at, lands)) =
         by_lands source lands (λ stack. value_arrays g locals kinds.Int (operands.Slot d) q frames k stack) (λ stack. ahead_arrays g locals kinds.Int d q frames k stack)
     value_arrays g locals kind o p frames (Needs (Store place) ∷ k) (l, to, q, at, is, hands) =
         by_hands source hands (λ stack. dropped_arrays g q frames k stack) (λ stack. value_arrays g locals kind to q frames k stack)
@@ -78,8 +80,8 @@ module _ (source : Program) where
     value_arrays g locals kind o p frames (Needs (FillElement object count index level wanted a) ∷ k) (d, h, s, q, is, inside, few, level_is, at, lands) =
         fill_counts object count index level wanted a k (by_lands source lands (λ stack. value_arrays g locals kinds.Fat (operands.Slot d) q frames k stack) (λ stack. ahead_arrays g locals kinds.Fat d q frames k stack))
     value_arrays g locals kind o p frames (Needs (Initialise n wanted items) ∷ k) (exits, q, at, below, of_type, items_at, stack) = statement_arrays g exits q frames k stack
-    value_arrays g locals kind o p frames (Needs (Choose s t) ∷ k) (exits, r, q, at, at_s, jump, at_t, stack) = statement_arrays g exits q frames k stack
-    value_arrays g locals kind o p frames (Needs (Test a s) ∷ k) (exits, outer, m, q, at, jump, end, stack) = statement_arrays g outer q frames k stack
+    value_arrays g locals kind o p frames (Needs (Choose s t) ∷ k) (f, h, fork, (exits, q, at_t, stack), second) = statement_arrays g exits q frames k stack
+    value_arrays g locals kind o p frames (Needs (Test a s) ∷ k) (f, h, fork, (outer, q, comes, stack), second) = statement_arrays g outer q frames k stack
     value_arrays g locals kind o p frames (Needs Return ∷ k) (exits, q, s, r, is, leave, at, one, stack) = statement_arrays g exits q frames k stack
     value_arrays g locals kind o p frames (Needs (Follow pointer target) ∷ k) (q, low, at, place) = place_arrays g locals (followed_operand (is_thin pointer) (option_map bytes_of_kind target) o (top source g k)) 0 q frames k place
     value_arrays g locals kind o p frames (Needs (Index peek target i) ∷ k) (inl (x, m, q, there, at, sum, reached, place)) =
@@ -111,11 +113,16 @@ module _ (source : Program) where
     place_arrays g locals o c p frames (NeedsPlace (SwapRight kind peek is_cell left) ∷ k) (exits, a, y, m, q, has, is, address, exchange, stack) = statement_arrays g exits q frames k stack
     place_arrays g locals o c p frames k place = absurd place
 
-    condition_arrays : (g : ℕ) (failing : Comparison) (l r : Operand) (p : ℕ) (frames : List Frame) (k : List Entry) → ConditionStack source g failing l r p frames k → AllCount k
-    condition_arrays g failing l r p frames (Needs (Chain NoOperations) ∷ k) stack = condition_arrays g failing l r p frames k stack
-    condition_arrays g failing l r p frames (Needs (Choose s t) ∷ k) (exits, m, q, at, at_s, jump, at_t, stack) = statement_arrays g exits q frames k stack
-    condition_arrays g failing l r p frames (Needs (Test a s) ∷ k) (exits, outer, m, q, at, jump, end, stack) = statement_arrays g outer q frames k stack
-    condition_arrays g failing l r p frames k stack = absurd stack
+    decided_arrays : (g : ℕ) (fails : Bool) (p : ℕ) (frames : List Frame) (k : List Entry) → DecidedStack source g fails p frames k → AllCount k
+    decided_arrays g fails p frames (Needs (Chain os) ∷ k) stack =
+        tests_reach (code_of source g) (bounds_at source g) (types_on source g k) (λ after q stack. decided_arrays g after q frames k stack) os fails (top source g k) p stack
+    decided_arrays g fails p frames (Needs Decide ∷ k) stack = decided_arrays g fails p frames k stack
+    decided_arrays g fails p frames (Needs (Operate unary.Not) ∷ k) stack = decided_arrays g (not fails) p frames k stack
+    decided_arrays g true p frames (Needs (Choose s t) ∷ k) (exits, q, at_t, stack) = statement_arrays g exits q frames k stack
+    decided_arrays g false p frames (Needs (Choose s t) ∷ k) (exits, m, q, at_s, comes, stack) = statement_arrays g exits q frames k stack
+    decided_arrays g true p frames (Needs (Test a s) ∷ k) (outer, q, comes, stack) = statement_arrays g outer q frames k stack
+    decided_arrays g false p frames (Needs (Test a s) ∷ k) (exits, outer, m, q, at, is, stack) = statement_arrays g outer q frames k stack
+    decided_arrays g fails p frames k stack = absurd stack
 
     dropped_arrays : (g p : ℕ) (frames : List Frame) (k : List Entry) → DroppedStack source g p frames k → AllCount k
     dropped_arrays g p frames (Discard ∷ k) (exits, stack) = statement_arrays g exits p frames k stack

@@ -31,7 +31,7 @@ use Rattle.cyc_meaning.specs.SourceMachine.{status_in, source_machine}
 use Rattle.cyc_lower.proofs.relation.Weights.{weight}
 use Rattle.cyc_lower.proofs.relation.Data.{calls_counted, calls_left}
 use Rattle.cyc_lower.proofs.relation.HeldValues.{handling}
-use Rattle.cyc_lower.proofs.relation.Relation.{Lands, in_temporary, in_local, HandsOn, drops, leaves, copies, Prints, prints_only, gives_byte, SharedAt, SharedBy, opened_by, GivenAt, in_operand, nowhere, ahead, compared, with_left, in_parts, ProceedingAt, behind_statement, behind_call, behind_wrong, Related, Matches, code_of, DataFor}
+use Rattle.cyc_lower.proofs.relation.Relation.{Lands, in_temporary, in_local, HandsOn, drops, leaves, copies, Prints, prints_only, gives_byte, SharedAt, SharedBy, opened_by, GivenAt, in_operand, nowhere, ahead, decided, with_left, in_parts, ProceedingAt, behind_statement, behind_call, behind_wrong, Related, Matches, code_of, DataFor}
 
 module _ (source : Program) where
   -- ---- where a value goes
@@ -90,7 +90,7 @@ module _ (source : Program) where
   depth_given t v k e w c (in_operand o facts is holds stack) = counted_in t c.active.slots k k e w c refl facts
   depth_given t v k e w c (nowhere facts stack) = counted_in t c.active.slots k k e w c refl facts
   depth_given t v k e w c (ahead n (old, same, facts) is holds stack) = counted_in t old k k e w c refl facts
-  depth_given t v k e w c (compared failing l r facts zero stack) = counted_in t c.active.slots k k e w c refl facts
+  depth_given t v k e w c (decided fails p facts zero holds leads stack) = counted_in t c.active.slots k k e w c refl facts
   depth_given t v k e w c (with_left facts ready) = counted_in t c.active.slots k k e w c refl facts
   depth_given t v k e w c (in_parts facts parts) = counted_in t c.active.slots k k e w c refl facts
 

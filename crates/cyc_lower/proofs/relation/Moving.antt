@@ -1,13 +1,12 @@
 -- Stores through pointers change slots of calls that wait, but neither where these go on nor what stands behind their locals: so what is said
 -- of the control stack and its code stays.
-use Rattle.std.proofs.Common.{◌≡◌, ℕ, suc, ◌+◌, ◌≤◌, ◌<◌, List, [], ◌∷◌, length, Option, Some, refl, sym, ap, subst, ◌∙◌, arith, inl, inr, zero, set, slice_get, option_map}
-use Rattle.std.specs.Prelude.{option_map}
+use Rattle.std.proofs.Common.{◌≡◌, ℕ, Bool, true, false, suc, ◌+◌, ◌≤◌, ◌<◌, List, [], ◌∷◌, length, Option, Some, refl, sym, ap, subst, ◌∙◌, arith, inl, inr, zero, set, slice_get, option_map}
+use Rattle.std.specs.Prelude.{option_map, not}
 use Rattle.cyc_types.specs.declared.typed.Kind.{Kind}
 use Rattle.cyc_types.specs.declared.typed.Kind.TheVariants as kinds
 use Rattle.cyc_types.specs.declared.typed.Callee.TheVariants as callees
-use Rattle.cyc_types.specs.TypedTrees.{Convert, NoOperations, Program, Clauses}
+use Rattle.cyc_types.specs.TypedTrees.{Expression, Convert, NoOperations, Statement, Program, Clauses}
 use Rattle.cyc_meaning.specs.Values.{is_thin, words_of_kind, bytes_of_kind}
-use Rattle.cyc_plain.specs.declared.instruction.Comparison.{Comparison}
 use Rattle.cyc_plain.specs.declared.instruction.Comparison.TheVariants as comparisons
 use Rattle.cyc_plain.specs.declared.instruction.Operand.{Operand}
 use Rattle.cyc_plain.specs.declared.instruction.Operand.TheVariants as operands
@@ -19,8 +18,9 @@ use Rattle.cyc_lower.specs.declared.statements.Exits.{Exits}
 use Rattle.cyc_lower.specs.ValueCode.{reached_operand, followed_operand}
 use Rattle.cyc_meaning.specs.Pointers.{result_kind as operator_kind}
 use Rattle.cyc_lower.proofs.slots.Widths.{chain_kind, made_kind}
-use Rattle.cyc_lower.proofs.relation.Relation.{base_of, Lands, in_temporary, in_local, HandsOn, drops, leaves, copies, Prints, prints_only, gives_byte, to_slot, to_jump, ValueStack, PlaceStack, ConditionStack, DroppedStack, AheadStack, StatementStack, called_at, returned_at, top, LandsStack, LandsMade, HandsOnStack, HandlersStand, CatchesAt}
+use Rattle.cyc_lower.proofs.relation.Relation.{base_of, Lands, in_temporary, in_local, HandsOn, drops, leaves, copies, Prints, prints_only, gives_byte, to_slot, to_jump, ValueStack, PlaceStack, DecidedStack, ChosenAt, RepeatedAt, DroppedStack, AheadStack, StatementStack, called_at, returned_at, top, floor, code_of, bounds_at, types_on, LandsStack, LandsMade, HandsOnStack, HandlersStand, CatchesAt}
 use Rattle.cyc_lower.proofs.relation.Data.{handlers_same}
+use Rattle.cyc_lower.proofs.relation.Tested.{tests_go, forks_go}
 use Rattle.cyc_plain.proofs.MemoryLaws.{with_slot_of}
 use Rattle.cyc_plain.proofs.SlotLaws.{put-other}
 use Rattle.std.proofs.lemmas.Option.{same_Some, none-some}
@@ -112,6 +112,16 @@ module _ (source : Program) where
   prints_move first second (prints_only stack) = prints_only (first stack)
   prints_move first second (gives_byte d at stack) = gives_byte d at (second d stack)
 
+  chosen_move : {waits others : Exits → ℕ → Type 0} → ((exits : Exits) (q : ℕ) → waits exits q → others exits q) → (g t : ℕ) (s u : Statement) (fails : Bool) (p : ℕ)
+      → ChosenAt source g t s u waits fails p → ChosenAt source g t s u others fails p
+  chosen_move leads g t s u true p (exits, q, at_u, stack) = (exits, q, at_u, leads exits q stack)
+  chosen_move leads g t s u false p (exits, m, q, at_s, comes, stack) = (exits, m, q, at_s, comes, leads exits q stack)
+
+  repeated_move : {waits others : Exits → ℕ → Type 0} → ((exits : Exits) (q : ℕ) → waits exits q → others exits q) → (g t : ℕ) (a : Expression) (s : Statement) (fails : Bool) (p : ℕ)
+      → RepeatedAt source g t a s waits fails p → RepeatedAt source g t a s others fails p
+  repeated_move leads g t a s true p (outer, q, comes, stack) = (outer, q, comes, leads outer q stack)
+  repeated_move leads g t a s false p (exits, outer, m, q, at, is, stack) = (exits, outer, m, q, at, is, leads outer q stack)
+
   mutual
     pub value_moves : (g : ℕ) (locals : ℕ → Option ℕ) (kind : Kind) (o : Operand) (p : ℕ) (frames others : List Frame) → Like frames others → (k : List Entry) → ValueStack source g locals kind o p frames k → ValueStack source g locals kind o p others k
     value_moves g locals kind o p frames others like [] stack = absurd stack
@@ -123,22 +133,29 @@ module _ (source : Program) where
     value_moves g locals kind o p frames others like (Needs (Operate u) ∷ k) (to_slot (d, at, lands)) =
         to_slot (d, at, lands_move (λ stack. value_moves g locals (unary_kind u) (operands.Slot d) (p + 1) frames others like k stack) (λ stack. ahead_moves g locals (unary_kind u) d (p + 1) frames others like k stack) lands)
     value_moves g locals kind o p frames others like (Needs (Operate u) ∷ k) (to_jump (is, stack)) =
-        to_jump (is, condition_moves g comparisons.NotEqual o (operands.Word 0) p frames others like k stack)
+        to_jump (is, forks_go (code_of source g) (bounds_at source g) (types_on source g k) (λ fails q stack. decided_moves g (not fails) q frames others like k stack) comparisons.Equal o (operands.Word 0) p stack)
     value_moves g locals kind o p frames others like (Needs (Chain NoOperations) ∷ k) stack = value_moves g locals kind o p frames others like k stack
     value_moves g locals kind o p frames others like (Needs (Chain os) ∷ k) (low, to_slot (d, q, at, lands)) =
         (low, to_slot (d, q, at, lands_move (λ stack. value_moves g locals (chain_kind kind os) (operands.Slot d) q frames others like k stack) (λ stack. ahead_moves g locals (chain_kind kind os) d q frames others like k stack) lands))
-    value_moves g locals kind o p frames others like (Needs (Chain os) ∷ k) (low, to_jump (failing, r, q, at, stack)) =
-        (low, to_jump (failing, r, q, at, condition_moves g failing o r q frames others like k stack))
+    value_moves g locals kind o p frames others like (Needs (Chain os) ∷ k) (low, to_jump (inl (failing, r, q, at, stack))) =
+        (low, to_jump (inl (failing, r, q, at, forks_go (code_of source g) (bounds_at source g) (types_on source g k) (λ fails s stack. decided_moves g fails s frames others like k stack) failing o r q stack)))
+    value_moves g locals kind o p frames others like (Needs (Chain os) ∷ k) (low, to_jump (inr stack)) = (
+      low,
+      to_jump (inr (forks_go (code_of source g) (bounds_at source g) (types_on source g k)
+          (λ fails q at. tests_go (code_of source g) (bounds_at source g) (types_on source g k) (λ after s stack. decided_moves g after s frames others like k stack) os fails (top source g k) q at) comparisons.Equal o (operands.Word 0) p stack)),
+    )
     value_moves g locals kind o p frames others like (Needs (Apply u left) ∷ k) (to_slot (d, q, at, lands)) =
         to_slot (d, q, at, lands_move (λ stack. value_moves g locals kinds.Int (operands.Slot d) q frames others like k stack) (λ stack. ahead_moves g locals kinds.Int d q frames others like k stack) lands)
     value_moves g locals kind o p frames others like (Needs (Apply u left) ∷ k) (to_jump (failing, is, stack)) =
-        to_jump (failing, is, condition_moves g failing (operands.Slot (top source g k)) o p frames others like k stack)
+        to_jump (failing, is, forks_go (code_of source g) (bounds_at source g) (types_on source g k) (λ fails q stack. decided_moves g fails q frames others like k stack) failing (operands.Slot (top source g k)) o p stack)
     value_moves g locals kind o p frames others like (Needs (ApplyPointer peek u left) ∷ k) (d, q, at, lands) =
         (d, q, at, lands_move (λ stack. value_moves g locals (operator_kind u) (operands.Slot d) q frames others like k stack) (λ stack. ahead_moves g locals (operator_kind u) d q frames others like k stack) lands)
     value_moves g locals kind o p frames others like (Needs CountElements ∷ k) (d, q, at, lands) =
         (d, q, at, lands_move (λ stack. value_moves g locals kinds.Int (operands.Slot d) q frames others like k stack) (λ stack. ahead_moves g locals kinds.Int d q frames others like k stack) lands)
-    value_moves g locals kind o p frames others like (Needs Decide ∷ k) (d, q, is, at, lands) =
-        (d, q, is, at, lands_move (λ stack. value_moves g locals kinds.Int (operands.Slot d) q frames others like k stack) (λ stack. ahead_moves g locals kinds.Int d q frames others like k stack) lands)
+    value_moves g locals kind o p frames others like (Needs Decide ∷ k) (to_jump stack) =
+        to_jump (forks_go (code_of source g) (bounds_at source g) (types_on source g k) (λ fails q stack. decided_moves g fails q frames others like k stack) comparisons.Equal o (operands.Word 0) p stack)
+    value_moves g locals kind o p frames others like (Needs Decide ∷ k) (to_slot (d, q, is, at, lands)) =
+        to_slot (d, q, is, at, lands_move (λ stack. value_moves g locals kinds.Int (operands.Slot d) q frames others like k stack) (λ stack. ahead_moves g locals kinds.Int d q frames others like k stack) lands)
     value_moves g locals kind o p frames others like (Needs (Store place) ∷ k) (l, to, q, at, is, hands) =
         (l, to, q, at, is, hands_move (λ stack. dropped_moves g q frames others like k stack) (λ stack. value_moves g locals kind to q frames others like k stack) (λ d r lands. lands_move (λ stack. value_moves g locals kind (operands.Slot d) r frames others like k stack) (λ stack. ahead_moves g locals kind d r frames others like k stack) lands) hands)
     value_moves g locals kind o p frames others like (Needs (StoreCell peek place) ∷ k) (q, at, hands) =
@@ -162,10 +179,10 @@ module _ (source : Program) where
         (d, h, s, q, is, inside, few, level_is, at, lands_move (λ stack. value_moves g locals kinds.Fat (operands.Slot d) q frames others like k stack) (λ stack. ahead_moves g locals kinds.Fat d q frames others like k stack) lands)
     value_moves g locals kind o p frames others like (Needs (Initialise n wanted items) ∷ k) (exits, q, at, below, of_type, items_at, stack) =
         (exits, q, at, below, of_type, items_at, statement_moves g exits q frames others like k stack)
-    value_moves g locals kind o p frames others like (Needs (Choose s t) ∷ k) (exits, r, q, at, at_s, jump, at_t, stack) =
-        (exits, r, q, at, at_s, jump, at_t, statement_moves g exits q frames others like k stack)
-    value_moves g locals kind o p frames others like (Needs (Test a s) ∷ k) (exits, outer, m, q, at, jump, end, stack) =
-        (exits, outer, m, q, at, jump, end, statement_moves g outer q frames others like k stack)
+    value_moves g locals kind o p frames others like (Needs (Choose s t) ∷ k) stack =
+        forks_go (code_of source g) (bounds_at source g) (types_on source g k) (λ fails q at. chosen_move (λ exits r stack. statement_moves g exits r frames others like k stack) g (floor source g k) s t fails q at) comparisons.Equal o (operands.Word 0) p stack
+    value_moves g locals kind o p frames others like (Needs (Test a s) ∷ k) stack =
+        forks_go (code_of source g) (bounds_at source g) (types_on source g k) (λ fails q at. repeated_move (λ exits r stack. statement_moves g exits r frames others like k stack) g (floor source g k) a s fails q at) comparisons.Equal o (operands.Word 0) p stack
     value_moves g locals kind o p frames others like (Needs Return ∷ k) (exits, q, s, r, is, leave, at, one, stack) =
         (exits, q, s, r, is, leave, at, one, statement_moves g exits q frames others like k stack)
     value_moves g locals kind o p frames others like (Needs (Follow pointer target) ∷ k) (q, low, at, place) =
@@ -205,13 +222,14 @@ module _ (source : Program) where
         (exits, a, y, m, q, has, is, address, exchange, statement_moves g exits q frames others like k stack)
     place_moves g locals o c p frames others like k place = absurd place
 
-    pub condition_moves : (g : ℕ) (failing : Comparison) (l r : Operand) (p : ℕ) (frames others : List Frame) → Like frames others → (k : List Entry) → ConditionStack source g failing l r p frames k → ConditionStack source g failing l r p others k
-    condition_moves g failing l r p frames others like (Needs (Chain NoOperations) ∷ k) stack = condition_moves g failing l r p frames others like k stack
-    condition_moves g failing l r p frames others like (Needs (Choose s t) ∷ k) (exits, m, q, at, at_s, jump, at_t, stack) =
-        (exits, m, q, at, at_s, jump, at_t, statement_moves g exits q frames others like k stack)
-    condition_moves g failing l r p frames others like (Needs (Test a s) ∷ k) (exits, outer, m, q, at, jump, end, stack) =
-        (exits, outer, m, q, at, jump, end, statement_moves g outer q frames others like k stack)
-    condition_moves g failing l r p frames others like k stack = absurd stack
+    pub decided_moves : (g : ℕ) (fails : Bool) (p : ℕ) (frames others : List Frame) → Like frames others → (k : List Entry) → DecidedStack source g fails p frames k → DecidedStack source g fails p others k
+    decided_moves g fails p frames others like (Needs (Chain os) ∷ k) stack =
+        tests_go (code_of source g) (bounds_at source g) (types_on source g k) (λ after q stack. decided_moves g after q frames others like k stack) os fails (top source g k) p stack
+    decided_moves g fails p frames others like (Needs Decide ∷ k) stack = decided_moves g fails p frames others like k stack
+    decided_moves g fails p frames others like (Needs (Operate unary.Not) ∷ k) stack = decided_moves g (not fails) p frames others like k stack
+    decided_moves g fails p frames others like (Needs (Choose s t) ∷ k) stack = chosen_move (λ exits r waits. statement_moves g exits r frames others like k waits) g (floor source g k) s t fails p stack
+    decided_moves g fails p frames others like (Needs (Test a s) ∷ k) stack = repeated_move (λ exits r waits. statement_moves g exits r frames others like k waits) g (floor source g k) a s fails p stack
+    decided_moves g fails p frames others like k stack = absurd stack
 
     pub dropped_moves : (g p : ℕ) (frames others : List Frame) → Like frames others → (k : List Entry) → DroppedStack source g p frames k → DroppedStack source g p others k
     dropped_moves g p frames others like (Discard ∷ k) (exits, stack) =

@@ -1,7 +1,7 @@
 -- What a state of the source and one of the plain program have in common while the one is matched by the other.
 use Rattle.std.proofs.Common.{max, reverse, ◌≡◌, ◌⊎◌, ℕ, suc, ◌+◌, ◌*◌, ◌≤◌, ◌<◌, true, List, [], ◌∷◌, ◌++◌, length, Option, None, Some, slice_get, ◌^◌, false, Bool}
 use Rattle.cyc_words.specs.Word.{add_of, IsWord as IsNumber}
-use Rattle.std.specs.Prelude.{if◌then◌else◌, option_map}
+use Rattle.std.specs.Prelude.{if◌then◌else◌, option_map, not}
 use Rattle.cyc_types.specs.declared.typed.Kind.{Kind}
 use Rattle.cyc_types.specs.declared.typed.Kind.TheVariants as kinds
 use Rattle.cyc_types.specs.declared.typed.Callee.{Callee}
@@ -45,11 +45,11 @@ use Rattle.cyc_meaning.specs.Pointers.{takes_kind, result_kind as operator_kind}
 use Rattle.cyc_lower.specs.Slots.{Types, Starts, starts_of, slot_of, global_of, global_types}
 use Rattle.cyc_lower.specs.ValueCode.{failing_comparison, move_of, low_byte, masks, converts_there, all_passed, kinds_passed, slot_types, followed_operand, reached_operand, unary_instruction}
 use Rattle.cyc_lower.specs.ObjectCode.{right_slot}
-use Rattle.cyc_lower.specs.ControlCode.{opposite, compared_of, break_target, continue_target, body_target, outside_loops, tag_operand, nothing_opened, with_handler, with_mark, inside_try, inside_region}
+use Rattle.cyc_lower.specs.ControlCode.{break_target, continue_target, body_target, outside_loops, tag_operand, nothing_opened, with_handler, with_mark, inside_try, inside_region}
 use Rattle.cyc_lower.specs.ExpressionCode.{are_simple, is_simple}
 use Rattle.cyc_lower.specs.Lowering.{results_of, lower_program, raises_of, globals_of, scopes_of}
 use Rattle.cyc_lower.proofs.slots.Widths.{kind_of_result, given, called_kind, HasRoom, Outside, chain_kind, HasGlobal, made_kind, HasLocal, kind_in}
-use Rattle.cyc_lower.proofs.relation.Stands.{BegunAt, ElementsAt, CheckAt, ConversionAt, PlaceAt, OperatorAt, TruthAt, CopyAt, ExpressionAt, ArgumentsAt, OperationsAt, ValueAt, ConditionAt, HoldingAt, ComparesAt, DiscardedAt, StatementAt, ItemsAt, PointerAt, CellsAt, ObjectAt, AddressAt, ConvertedOperandAt, FreedAt, HasSide, SideAt, ReadAt, WriteAt, ExchangeAt, LeaveAt, ClausesAt, CountAt, SavedAt, LoadedAt, FollowedAt, ReachedAt, GlobalAt, ClosedAt, MarksAt, RestoredAt, MadeAt, NamedAt}
+use Rattle.cyc_lower.proofs.relation.Stands.{BegunAt, ElementsAt, CheckAt, ConversionAt, PlaceAt, OperatorAt, TruthAt, CopyAt, ExpressionAt, ArgumentsAt, OperationsAt, ValueAt, ComparesAt, Forks, BranchesAt, TestsAt, DiscardedAt, StatementAt, ItemsAt, PointerAt, CellsAt, ObjectAt, AddressAt, ConvertedOperandAt, FreedAt, HasSide, SideAt, ReadAt, WriteAt, ExchangeAt, LeaveAt, ClausesAt, CountAt, SavedAt, LoadedAt, FollowedAt, ReachedAt, GlobalAt, ClosedAt, MarksAt, RestoredAt, MadeAt, NamedAt, EntryAt}
 use Rattle.cyc_lower.proofs.relation.HeldValues.{IsIn, IsLow, IsParts, words_held, height, Holds, HoldsFrom, held, kept, counters_of, AreCounted, IsHandleOf, IsObject, CallSlots, LocalsHold, GlobalsHold, behind_records, scopes_in, MayBeOpen, Waiting, callers, Newest, IsIntact, IsKept, left_by, handling, homes}
 
 -- ---- what is shared
@@ -227,27 +227,25 @@ module _ (source : Program) where
     to_slot : value → Yields value tested
     to_jump : tested → Yields value tested
 
-  -- a loop, whose condition stands from place p on
+  -- a loop, whose condition stands behind its body from place p on
   abbrev pub LoopAt : (g t : ℕ) → Expression → Statement → (exits outer : Exits) → (p q : ℕ) → Type 0
-  LoopAt g t condition body exits outer p q = (exits.in_loop ≡ nothing_opened) × (exits.in_function ≡ outer.in_function) × (x : Operand) × (y : Operand) × (m : ℕ)
-      × At (code_of g) exits.head (instructions.Jump p) × At (code_of g) (exits.head + 1) (instructions.Jump q)
-      × StatementAt (code_of g) (bounds_at g) (types_at g) body exits t (body_target exits.head) p
-      × ConditionAt (code_of g) (bounds_at g) (types_at g) condition x y t p m
-      × HoldingAt (code_of g) (bounds_at g) (types_at g) condition x y m (body_target exits.head)
-      × (m + 1 ≡ q) × (exits.head < p) × (exits.head + 1 < q)
+  LoopAt g t condition body exits outer p q = (exits.in_loop ≡ nothing_opened) × (exits.in_function ≡ outer.in_function)
+      × EntryAt (code_of g) (bounds_at g) (types_at g) condition exits t p × At (code_of g) (break_target exits) (instructions.Jump q)
+      × StatementAt (code_of g) (bounds_at g) (types_at g) body exits t (body_target exits.leaving) p
+      × BranchesAt (code_of g) (bounds_at g) (types_at g) condition q (body_target exits.leaving) t p × (break_target exits < q)
 
-  -- A branch that is taken where a condition has failed, and what stands behind it.
-  abbrev pub ChoosesAt : (g t : ℕ) → Comparison → (l r : Operand) → (p : ℕ) → (first second : Statement) → (waits : Exits → (q : ℕ) → Type 0) → Type 0
-  ChoosesAt g t failing l r p first second waits =
-      (exits : Exits) × (m : ℕ) × (q : ℕ) × At (code_of g) p (instructions.Branch failing l r (m + 1))
-      × StatementAt (code_of g) (bounds_at g) (types_at g) first exits t (p + 1) m × At (code_of g) m (instructions.Jump q)
-      × StatementAt (code_of g) (bounds_at g) (types_at g) second exits t (m + 1) q × waits exits q
+  -- the statement that a condition chooses, with what waits behind both
+  abbrev pub ChosenAt : (g t : ℕ) → (first second : Statement) → (waits : Exits → (q : ℕ) → Type 0) → (fails : Bool) → (p : ℕ) → Type 0
+  ChosenAt g t first second waits true p =
+      (exits : Exits) × (q : ℕ) × StatementAt (code_of g) (bounds_at g) (types_at g) second exits t p q × waits exits q
+  ChosenAt g t first second waits false p =
+      (exits : Exits) × (m : ℕ) × (q : ℕ) × StatementAt (code_of g) (bounds_at g) (types_at g) first exits t p m × Arrives (code_of g) m q × waits exits q
 
-  -- One that is taken where the condition of a loop holds. Behind it stands what waits.
-  abbrev pub RepeatsAt : (g t : ℕ) → Comparison → (l r : Operand) → (p : ℕ) → Expression → Statement → (waits : Exits → (q : ℕ) → Type 0) → Type 0
-  RepeatsAt g t failing l r p condition body waits =
-      (exits : Exits) × (outer : Exits) × (m : ℕ) × (q : ℕ) × LoopAt g t condition body exits outer m q
-      × At (code_of g) p (instructions.Branch (opposite failing) l r (body_target exits.head)) × (p + 1 ≡ q) × waits outer q
+  -- The body of a loop, where its condition holds. Where it fails, what waits stands there, or a jump to it.
+  abbrev pub RepeatedAt : (g t : ℕ) → Expression → Statement → (waits : Exits → (q : ℕ) → Type 0) → (fails : Bool) → (p : ℕ) → Type 0
+  RepeatedAt g t condition body waits true p = (outer : Exits) × (q : ℕ) × ((p ≡ q) ⊎ At (code_of g) p (instructions.Jump q)) × waits outer q
+  RepeatedAt g t condition body waits false p =
+      (exits : Exits) × (outer : Exits) × (m : ℕ) × (q : ℕ) × LoopAt g t condition body exits outer m q × (body_target exits.leaving ≡ p) × waits outer q
 
   abbrev pub Below : List Frame → (Frame → List Frame → Type 0) → Type 0
   Below [] P = ⊥
@@ -319,17 +317,21 @@ module _ (source : Program) where
     ValueStack g locals kind o p frames (Needs (Operate operator) ∷ k) =
         Yields ((d : ℕ) × At (code_of g) p (unary_instruction operator d o)
         × Lands (base_of g) (top g k) d 1 (ValueStack g locals (unary_kind operator) (operands.Slot d) (p + 1) frames k) (AheadStack g locals (unary_kind operator) d (p + 1) frames k))
-        ((operator ≡ unary.Not) × ConditionStack g comparisons.NotEqual o (operands.Word 0) p frames k)
+        ((operator ≡ unary.Not) × Forks (code_of g) (bounds_at g) (types_on g k) comparisons.Equal o (operands.Word 0) p (λ fails q. DecidedStack g (not fails) q frames k))
     ValueStack g locals kind o p frames (Needs (Chain NoOperations) ∷ k) = ValueStack g locals kind o p frames k
     ValueStack g locals kind o p frames (Needs (Chain operations) ∷ k) =
         IsLow o (top g k)
         × Yields ((d : ℕ) × (q : ℕ) × OperationsAt (code_of g) (bounds_at g) (types_on g k) operations o d (top g k) p q
         × Lands (base_of g) (top g k) d (words_of_kind (chain_kind kind operations)) (ValueStack g locals (chain_kind kind operations) (operands.Slot d) q frames k) (AheadStack g locals (chain_kind kind operations) d q frames k))
-        ((failing : Comparison) × (r : Operand) × (q : ℕ) × ComparesAt (code_of g) (bounds_at g) (types_on g k) operations failing o r (top g k) p q × ConditionStack g failing o r q frames k)
+        (((failing : Comparison) × (r : Operand) × (q : ℕ) × ComparesAt (code_of g) (bounds_at g) (types_on g k) operations failing o r (top g k) p q
+        × Forks (code_of g) (bounds_at g) (types_on g k) failing o r q (λ fails s. DecidedStack g fails s frames k))
+        ⊎ Forks (code_of g) (bounds_at g) (types_on g k) comparisons.Equal o (operands.Word 0) p
+        (λ fails q. TestsAt (code_of g) (bounds_at g) (types_on g k) operations fails (top g k) q (λ fails s. DecidedStack g fails s frames k)))
     ValueStack g locals kind o p frames (Needs (Apply operator left) ∷ k) =
         Yields ((d : ℕ) × (q : ℕ) × OperatorAt (code_of g) (bounds_at g) (types_on g k) operator d (operands.Slot (top g k)) o p q
         × Lands (base_of g) (top g k) d 1 (ValueStack g locals kinds.Int (operands.Slot d) q frames k) (AheadStack g locals kinds.Int d q frames k))
-        ((failing : Comparison) × (failing_comparison operator ≡ Some failing) × ConditionStack g failing (operands.Slot (top g k)) o p frames k)
+        ((failing : Comparison) × (failing_comparison operator ≡ Some failing)
+        × Forks (code_of g) (bounds_at g) (types_on g k) failing (operands.Slot (top g k)) o p (λ fails q. DecidedStack g fails q frames k))
     ValueStack g locals kind o p frames (Needs (ApplyPointer peek operator left) ∷ k) =
         (d : ℕ) × (q : ℕ) × ((takes_kind operator left.kind ≡ true) × PointerAt (code_of g) (bounds_at g) (types_on g k) operator o (top g k) d p q)
         × Lands (base_of g) (top g k) d (words_of_kind (operator_kind operator)) (ValueStack g locals (operator_kind operator) (operands.Slot d) q frames k)
@@ -338,8 +340,9 @@ module _ (source : Program) where
         (d : ℕ) × (q : ℕ) × CountAt (code_of g) (bounds_at g) (types_on g k) o d p q
         × Lands (base_of g) (top g k) d 1 (ValueStack g locals kinds.Int (operands.Slot d) q frames k) (AheadStack g locals kinds.Int d q frames k)
     ValueStack g locals kind o p frames (Needs Decide ∷ k) =
-        (d : ℕ) × (q : ℕ) × (o ≡ operands.Slot (top g k)) × TruthAt (code_of g) (bounds_at g) (types_on g k) (top g k) d p q
-        × Lands (base_of g) (top g k) d 1 (ValueStack g locals kinds.Int (operands.Slot d) q frames k) (AheadStack g locals kinds.Int d q frames k)
+        Yields ((d : ℕ) × (q : ℕ) × (o ≡ operands.Slot (top g k)) × TruthAt (code_of g) (bounds_at g) (types_on g k) (top g k) d p q
+        × Lands (base_of g) (top g k) d 1 (ValueStack g locals kinds.Int (operands.Slot d) q frames k) (AheadStack g locals kinds.Int d q frames k))
+        (Forks (code_of g) (bounds_at g) (types_on g k) comparisons.Equal o (operands.Word 0) p (λ fails q. DecidedStack g fails q frames k))
     ValueStack g locals kind o p frames (Needs (Store place) ∷ k) =
         (l : Lvalue) × (to : Operand) × (q : ℕ) × StoreAt g kind l o to p q × IsPlaceOf locals l place
         × HandsOn (code_of g) (words_of_kind kind) to q (DroppedStack g q frames k) (ValueStack g locals kind to q frames k)
@@ -383,9 +386,9 @@ module _ (source : Program) where
         (exits : Exits) × (q : ℕ) × At (code_of g) p (move_of (words_of_kind kind) (slot_of (starts_at g) number) o) × HasRoom (types_at g) number kind × (kind_in (types_at g).locals number ≡ wanted)
         × ItemsAt (code_of g) (bounds_at g) (types_at g) items exits (floor g k) (p + 1) q × StatementStack g exits q frames k
     ValueStack g locals kind o p frames (Needs (Choose first second) ∷ k) =
-        ChoosesAt g (floor g k) comparisons.Equal o (operands.Word 0) p first second (λ exits q. StatementStack g exits q frames k)
+        Forks (code_of g) (bounds_at g) (types_on g k) comparisons.Equal o (operands.Word 0) p (ChosenAt g (floor g k) first second (λ exits q. StatementStack g exits q frames k))
     ValueStack g locals kind o p frames (Needs (Test condition body) ∷ k) =
-        RepeatsAt g (floor g k) comparisons.Equal o (operands.Word 0) p condition body (λ exits q. StatementStack g exits q frames k)
+        Forks (code_of g) (bounds_at g) (types_on g k) comparisons.Equal o (operands.Word 0) p (RepeatedAt g (floor g k) condition body (λ exits q. StatementStack g exits q frames k))
     ValueStack g locals kind o p frames (Needs Return ∷ k) =
         (exits : Exits) × (q : ℕ) × (s : ℕ) × (r : ℕ) × (o ≡ operands.Slot s) × LeaveAt (code_of g) (bounds_at g) (types_at g) exits.in_function p r
         × At (code_of g) r (instructions.Finish s) × IsReturned g kind
@@ -451,12 +454,15 @@ module _ (source : Program) where
         × ExchangeAt (code_of g) (bounds_at g) (types_at g) kind a (CellSide y) (floor g k) m q × StatementStack g exits q frames k
     PlaceStack g locals o c p frames k = ⊥
 
-    -- the same for a condition, which fails where this comparison holds
-    pub ConditionStack : (g : ℕ) → Comparison → (l r : Operand) → (p : ℕ) → List Frame → List Entry → Type 0
-    ConditionStack g failing l r p frames (Needs (Chain NoOperations) ∷ k) = ConditionStack g failing l r p frames k
-    ConditionStack g failing l r p frames (Needs (Choose first second) ∷ k) = ChoosesAt g (floor g k) failing l r p first second (λ exits q. StatementStack g exits q frames k)
-    ConditionStack g failing l r p frames (Needs (Test condition body) ∷ k) = RepeatsAt g (floor g k) failing l r p condition body (λ exits q. StatementStack g exits q frames k)
-    ConditionStack g failing l r p frames k = ⊥
+    -- the same for a condition of which it is known whether it fails
+    pub DecidedStack : (g : ℕ) → (fails : Bool) → (p : ℕ) → List Frame → List Entry → Type 0
+    DecidedStack g fails p frames (Needs (Chain operations) ∷ k) =
+        TestsAt (code_of g) (bounds_at g) (types_on g k) operations fails (top g k) p (λ fails q. DecidedStack g fails q frames k)
+    DecidedStack g fails p frames (Needs Decide ∷ k) = DecidedStack g fails p frames k
+    DecidedStack g fails p frames (Needs (Operate unary.Not) ∷ k) = DecidedStack g (not fails) p frames k
+    DecidedStack g fails p frames (Needs (Choose first second) ∷ k) = ChosenAt g (floor g k) first second (λ exits q. StatementStack g exits q frames k) fails p
+    DecidedStack g fails p frames (Needs (Test condition body) ∷ k) = RepeatedAt g (floor g k) condition body (λ exits q. StatementStack g exits q frames k) fails p
+    DecidedStack g fails p frames k = ⊥
 
     -- the same for a value that stands nowhere, since nobody wants it
     pub DroppedStack : (g p : ℕ) → List Frame → List Entry → Type 0
@@ -500,6 +506,10 @@ module _ (source : Program) where
         (AheadStack f.caller.function e.locals (returned_at g) f.result f.caller.next rest k))
     StatementStack g exits p frames (Main ∷ k) = (s : ℕ) × At (code_of g) p (instructions.Finish s) × IsOutside exits × IsLast frames k
     StatementStack g exits p frames k = ⊥
+
+  -- the same for a condition, which fails where this comparison holds
+  abbrev pub ConditionStack : (g : ℕ) → Comparison → (l r : Operand) → (p : ℕ) → List Frame → List Entry → Type 0
+  ConditionStack g failing l r p frames k = Forks (code_of g) (bounds_at g) (types_on g k) failing l r p (λ fails q. DecidedStack g fails q frames k)
 
   -- a value of a kind comes to slot d, and what is done with it stands from place p on
   abbrev pub LandsStack : (g : ℕ) → (ℕ → Option ℕ) → Kind → (d p : ℕ) → List Frame → List Entry → Type 0
@@ -578,8 +588,8 @@ module _ (source : Program) where
     for_effect : (q : ℕ) → DiscardedAt (code_of g) (bounds_at g) (types_on g k) a (top g k) p q → Holds t slots (floor g k) (held k)
         → DroppedStack g q frames k → EvaluatingAt t a locals g p slots frames k
     as_right : RightAt t a locals g p slots frames k → EvaluatingAt t a locals g p slots frames k
-    as_condition : (l r : Operand) → (q : ℕ) → ConditionAt (code_of g) (bounds_at g) (types_on g k) a l r (top g k) p q → Holds t slots (floor g k) (held k)
-        → ConditionStack g (compared_of a).failing l r q frames k → EvaluatingAt t a locals g p slots frames k
+    as_condition : (f h : ℕ) → BranchesAt (code_of g) (bounds_at g) (types_on g k) a f h (top g k) p → Holds t slots (floor g k) (held k)
+        → DecidedStack g true f frames k → DecidedStack g false h frames k → EvaluatingAt t a locals g p slots frames k
 
   abbrev pub FocusAt : Tables → Focus → List Entry → (ℕ → Option ℕ) → (g p : ℕ) → Words → List Frame → Type 0
   FocusAt t (Evaluating a) k locals g p slots frames = EvaluatingAt t a locals g p slots frames k
@@ -640,9 +650,9 @@ module _ (source : Program) where
       (exits : Exits) × (out : ℕ) × (q : ℕ) × ClausesAt (code_of g) (bounds_at g) (types_at g) handler out exits (floor g k) p q × At (code_of g) out (instructions.Jump q)
       × StatementStack g exits q frames k × IsNumber tag × (slots (floor g k) ≡ tag) × (slots (floor g k + 1) ≡ value)
   FocusAt t Breaking k locals g p slots frames =
-      (exits : Exits) × (q : ℕ) × At (code_of g) p (instructions.Jump (break_target exits.head)) × StatementStack g exits q frames k
+      (exits : Exits) × (q : ℕ) × At (code_of g) p (instructions.Jump (break_target exits)) × StatementStack g exits q frames k
   FocusAt t Continuing k locals g p slots frames =
-      (exits : Exits) × (q : ℕ) × At (code_of g) p (instructions.Jump (continue_target exits.head)) × StatementStack g exits q frames k
+      (exits : Exits) × (q : ℕ) × At (code_of g) p (instructions.Jump (continue_target exits)) × StatementStack g exits q frames k
   FocusAt t (Returning (Some v)) k locals g p slots frames =
       (exits : Exits) × (q : ℕ) × (s : ℕ) × At (code_of g) p (instructions.Finish s) × Is t v.kind v.value slots s × IsReturned g v.kind
       × StatementStack g exits q frames k
@@ -706,16 +716,22 @@ module _ (source : Program) where
       (shared : SharedAt pages calls k e w c) × DataFor shared.tables c.active.slots (handling focus k) k e w c
       × FocusAt shared.tables focus k e.locals c.active.function c.active.next c.active.slots c.frames
 
-  -- where a value stands that is handed on; one that is only tested is the comparison of two operands
+  -- a branch leads on to this place
+  abbrev pub LeadsTo : Configuration → (p : ℕ) → Type 0
+  LeadsTo c p =
+      (comparison : Comparison) × (l : Operand) × (r : Operand) × (target : ℕ) × At (code_of c.active.function) c.active.next (instructions.Branch comparison l r target)
+      × ((if compares comparison (operand_word c.active.slots l) (operand_word c.active.slots r) then target else c.active.next + 1) ≡ p)
+
+  -- Where a value stands that is handed on. One that is only tested stands nowhere: the plain program is before the branch by which it goes
+  -- on, and that is taken where the next operand is evaluated, or a statement is chosen.
   pub data GivenAt (t : Tables) (v : Kinded) (k : List Entry) (e : Environment) (w : World) (c : Configuration) : Type 0 where
     in_operand : (o : Operand) → DataIn t c.active.slots k e w c → IsIn t v c.active.slots o
         → Holds t c.active.slots (floor c.active.function k) (kept k) → ValueStack c.active.function e.locals v.kind o c.active.next c.frames k → GivenAt t v k e w c
     nowhere : DataIn t c.active.slots k e w c → DroppedStack c.active.function c.active.next c.frames k → GivenAt t v k e w c
     ahead : (n : ℕ) → DataBut t n (words_of_kind v.kind) k e w c → Is t v.kind v.value c.active.slots n
         → Holds t c.active.slots (floor c.active.function k) (kept k) → AheadStack c.active.function e.locals v.kind n c.active.next c.frames k → GivenAt t v k e w c
-    compared : (failing : Comparison) → (l r : Operand) → DataIn t c.active.slots k e w c
-        → is_zero v.value ≡ Some (compares failing (operand_word c.active.slots l) (operand_word c.active.slots r))
-        → ConditionStack c.active.function failing l r c.active.next c.frames k → GivenAt t v k e w c
+    decided : (fails : Bool) → (p : ℕ) → DataIn t c.active.slots k e w c → is_zero v.value ≡ Some fails → Holds t c.active.slots (floor c.active.function k) (held k)
+        → LeadsTo c p → DecidedStack c.active.function fails p c.frames k → GivenAt t v k e w c
     with_left : DataIn t c.active.slots k e w c → ReadyAt t v e.locals c.active.function c.active.next c.active.slots c.frames k → GivenAt t v k e w c
     in_parts : DataIn t c.active.slots k e w c → PartsAt t v e.locals c.active.function c.active.next c.active.slots c.frames k → GivenAt t v k e w c
 

@@ -7,6 +7,7 @@ use Rattle.cyc_types.specs.declared.typed.Kind.TheVariants as kinds
 use Rattle.cyc_types.specs.declared.typed.Callee.TheVariants as callees
 use Rattle.cyc_types.specs.declared.typed.Operator.{Operator}
 use Rattle.cyc_types.specs.declared.typed.Operator.TheVariants as operators
+use Rattle.cyc_types.specs.declared.typed.LogicalOperator.TheVariants as logical
 use Rattle.cyc_types.specs.declared.typed.PointerOperator.{PointerOperator}
 use Rattle.cyc_types.specs.declared.typed.PointerOperator.TheVariants as pointers
 use Rattle.cyc_types.specs.TypedTrees.{Array, Counter, type_of_place, Load, Dereference, Target, Lvalue, Local, Global, Expression, Number, NullPointer, Copy, Call, Unary, Binary, Assign, Converted, Convert, Arguments, NoArguments, MoreArguments, Operations, NoOperations, ThenCompute, ThenTest, ThenPointer, Statement, Block, Empty, Evaluate, If, While, Return, Break, Continue, Items, NoItems, MoreItems, Execute, Declare, Move, Peek, ThenPointerPeek, New, OnHeap, Initial, Plain, Fields, AddressOfCell, Store, Member, AsUnique, ByHandle, FreeUnique, FreeKey, HeapRegion, Side, VariableSide, CellSide, Swap, Throw, Try, Clauses, NoClauses, Default, Case, NumberOfElements, Element, DeclareRegion, OpenRegion, DeclareAlias, DeclareKey, AddressOf}
@@ -462,13 +463,50 @@ module _ (code : List Instruction) (bounds : Numbering) (types : Types) where
   abbrev pub ConditionAt : Expression → (l r : Operand) → (t p q : ℕ) → Type 0
   ConditionAt a l r t p q = PairAt (compared_of a).left (compared_of a).right l r t p q
 
-  -- a jump that is taken where a condition fails, with these operands
-  abbrev pub FailingAt : Expression → (l r : Operand) → (p target : ℕ) → Type 0
-  FailingAt a l r p target = At code p (instructions.Branch (compared_of a).failing l r target)
+  -- A jump by the comparison of two operands leads to f where a condition fails, and to h where it holds.
+  abbrev pub ForkAt : Comparison → (l r : Operand) → (p f h : ℕ) → Type 0
+  ForkAt failing l r p f h =
+      (At code p (instructions.Branch failing l r f) × (p + 1 ≡ h)) ⊎ (At code p (instructions.Branch (opposite failing) l r h) × (p + 1 ≡ f))
 
-  -- the same where it holds
-  abbrev pub HoldingAt : Expression → (l r : Operand) → (p target : ℕ) → Type 0
-  HoldingAt a l r p target = At code p (instructions.Branch (opposite (compared_of a).failing) l r target)
+  -- and there stands what is done in either case
+  abbrev pub Forks : Comparison → (l r : Operand) → (p : ℕ) → (goes : (fails : Bool) → (p : ℕ) → Type 0) → Type 0
+  Forks failing l r p goes = (f : ℕ) × (h : ℕ) × ForkAt failing l r p f h × goes true f × goes false h
+
+  -- a condition that compares two operands
+  abbrev pub ComparedAt : Expression → (f h t p : ℕ) → Type 0
+  ComparedAt a f h t p = (l : Operand) × (r : Operand) × (m : ℕ) × ConditionAt a l r t p m × ForkAt (compared_of a).failing l r m f h
+
+  -- the places to which a condition leads
+  abbrev pub Ends : (f h : ℕ) → (fails : Bool) → (p : ℕ) → Type 0
+  Ends f h true p = p ≡ f
+  Ends f h false p = p ≡ h
+
+  -- A condition whose code leads to f where it fails, and to h where it holds. It is compared whole, or its operands are conditions in turn.
+  abbrev mutual
+    pub BranchesAt : Expression → (f h t p : ℕ) → Type 0
+    BranchesAt (Unary unary.Not a) f h t p = ComparedAt (Unary unary.Not a) f h t p ⊎ BranchesAt a h f t p
+    BranchesAt (Binary a (ThenTest u b os) ty) f h t p =
+        ComparedAt (Binary a (ThenTest u b os) ty) f h t p
+        ⊎ ((x : ℕ) × (y : ℕ) × BranchesAt a x y t p × TestsAt (ThenTest u b os) true t x (Ends f h) × TestsAt (ThenTest u b os) false t y (Ends f h))
+    BranchesAt a f h t p = ComparedAt a f h t p
+
+    -- what stands where the left operand of tests is known to fail, or to hold: it decides, or the right one is tried
+    pub TestsAt : Operations → (fails : Bool) → (t p : ℕ) → (goes : (fails : Bool) → (p : ℕ) → Type 0) → Type 0
+    TestsAt NoOperations fails t p goes = goes fails p
+    TestsAt (ThenTest logical.AndThen b os) true t p goes = TestsAt os true t p goes
+    TestsAt (ThenTest logical.OrElse b os) false t p goes = TestsAt os false t p goes
+    TestsAt (ThenTest logical.AndThen b os) false t p goes =
+        (f : ℕ) × (h : ℕ) × BranchesAt b f h t p × TestsAt os true t f goes × TestsAt os false t h goes
+    TestsAt (ThenTest logical.OrElse b os) true t p goes =
+        (f : ℕ) × (h : ℕ) × BranchesAt b f h t p × TestsAt os true t f goes × TestsAt os false t h goes
+    TestsAt os fails t p goes = ⊥
+
+  -- What leads into a loop with these ways out: its condition, and a jump over the next instruction where it holds, or a jump to the condition
+  -- behind its body.
+  abbrev pub EntryAt : Expression → Exits → (t test : ℕ) → Type 0
+  EntryAt a exits t test =
+      BranchesAt a exits.leaving (body_target exits.leaving) t (continue_target exits)
+      ⊎ (At code (continue_target exits) (instructions.Jump test) × (continue_target exits < test))
 
   -- the only operator of a condition, which compares, with its right operand
   abbrev pub ComparesAt : Operations → Comparison → (l r : Operand) → (t p q : ℕ) → Type 0
@@ -598,15 +636,13 @@ module _ (code : List Instruction) (bounds : Numbering) (types : Types) where
     StatementAt (Evaluate a) exits t p q = DiscardedAt a t p q
     StatementAt (Swap a b) exits t p q = SwapAt a b t p q
     StatementAt (If a s u) exits t p q =
-        (x : Operand) × (y : Operand) × (m : ℕ) × (r : ℕ) × ConditionAt a x y t p m × FailingAt a x y m (r + 1) × StatementAt s exits t (m + 1) r
-        × At code r (instructions.Jump q) × StatementAt u exits t (r + 1) q
+        (f : ℕ) × (h : ℕ) × (r : ℕ) × BranchesAt a f h t p × StatementAt s exits t h r × At code r (instructions.Jump q) × StatementAt u exits t f q
     StatementAt (While w a s) exits t p q =
-        (x : Operand) × (y : Operand) × (r : ℕ) × (m : ℕ) × At code p (instructions.Jump r) × At code (p + 1) (instructions.Jump q)
-        × StatementAt s (inside_loop p exits) t (body_target p) r × ConditionAt a x y t r m × HoldingAt a x y m (body_target p)
-        × (m + 1 ≡ q) × (p < r) × (p + 1 < q)
+        (l : ℕ) × (r : ℕ) × EntryAt a (inside_loop p l exits) t r × At code l (instructions.Jump q)
+        × StatementAt s (inside_loop p l exits) t (body_target l) r × BranchesAt a q (body_target l) t r × (l < q)
     StatementAt (Return v) exits t p q = ReturnAt v exits t p
-    StatementAt Break exits t p q = (m : ℕ) × LeaveAt exits.in_loop p m × At code m (instructions.Jump (break_target exits.head))
-    StatementAt Continue exits t p q = (m : ℕ) × LeaveAt exits.in_loop p m × At code m (instructions.Jump (continue_target exits.head))
+    StatementAt Break exits t p q = (m : ℕ) × LeaveAt exits.in_loop p m × At code m (instructions.Jump (break_target exits))
+    StatementAt Continue exits t p q = (m : ℕ) × LeaveAt exits.in_loop p m × At code m (instructions.Jump (continue_target exits))
     StatementAt (Throw tag v) exits t p q = IsWord tag × (o : Operand) × (m : ℕ) × ThrownAt v o t p m × At code m (instructions.Throw (tag_operand tag) o)
     StatementAt (Try s cs) exits t p q =
         (r : ℕ) × (m : ℕ) × (u : ℕ) × KeptAt types.scopes (t + RECORD_WORDS) p r × At code r (instructions.Try t (m + 1 + 1))

@@ -4,7 +4,8 @@ use Rattle.cyc_types.specs.TypedTrees.{Array, Load, New, ByHandle, Initial, Heap
 use Rattle.cyc_types.specs.TypedTrees as typed
 use Rattle.cyc_meaning.specs.State.{Awaiting, Chain, Pass, PlaceBy, MakeFields, Initialise, OpenBy, AliasOf, Entry, Needs, Rest, Loop, Focus, Evaluating, Locating, Executing, Entering, Binding, State, Running, AwaitingPlace, StoreTo, NeedsPlace, SwapLeft, Writing, Catching, Index}
 
--- An expression that is an operand may have no code. One that begins with another weighs more than that and what waits for it.
+-- An expression that is an operand may have no code. One that begins with another weighs more than that and what waits for it. A test that
+-- is decided has none, and where it is not, what it begins needs no weight.
 abbrev mutual
   pub expression_weight : Expression → ℕ
   expression_weight (Number n) = 1
@@ -50,9 +51,9 @@ abbrev mutual
   pub operations_weight : Operations → ℕ
   operations_weight NoOperations = 0
   operations_weight (ThenCompute o a os) = suc (suc (expression_weight a + operations_weight os))
+  operations_weight (ThenTest o a os) = suc (operations_weight os)
   operations_weight (ThenPointer o a os) = suc (suc (expression_weight a + operations_weight os))
   operations_weight (ThenPointerPeek n o a os) = suc (suc (expression_weight a + operations_weight os))
-  operations_weight os = 0
 
 -- a side of a swap, with what waits for it
 abbrev pub side_weight : Side → ℕ
@@ -74,7 +75,7 @@ abbrev mutual
   statement_weight (Evaluate a) = suc (suc (expression_weight a))
   statement_weight (Swap a b) = suc (suc (side_weight a + side_weight b))
   statement_weight (If a s t) = suc (suc (expression_weight a))
-  statement_weight (While p a s) = 0
+  statement_weight (While p a s) = suc (suc (expression_weight a))
   statement_weight (typed.Return v) = suc (initial_weight v)
   statement_weight Break = 1
   statement_weight Continue = 1

@@ -2,7 +2,8 @@
 -- and takes some eighty words.
 use Rattle.cyc_types.specs.typing.Expressions.{type_of_side}
 use Rattle.std.proofs.Common.{◌≡◌, ℕ, zero, suc, ◌+◌, ◌*◌, ◌≤◌, Bool, true, false, List, [], ◌∷◌, ◌++◌, length, Option, None, Some, max, refl, arith}
-use Rattle.std.specs.Prelude.{◌==◌, sum_by, if◌then◌else◌}
+use Rattle.std.specs.Prelude.{◌==◌, ◌&&◌, is_some, sum_by, if◌then◌else◌}
+use Rattle.cyc_words.proofs.Booleans.{and_left, and_right}
 use Rattle.std.proofs.lemmas.List.Sums.{sum_by-append, sum_by-cons}
 use Rattle.cyc_types.specs.declared.typed.Kind.{Kind}
 use Rattle.cyc_types.specs.declared.typed.Kind.TheVariants as kinds
@@ -15,7 +16,7 @@ use Rattle.cyc_types.specs.declared.typed.PointerOperator.{PointerOperator}
 use Rattle.cyc_types.specs.declared.typed.PointerOperator.TheVariants as pointers
 use Rattle.cyc_types.specs.declared.typed.LogicalOperator.{LogicalOperator}
 use Rattle.cyc_types.specs.declared.typed.LogicalOperator.TheVariants as logical
-use Rattle.cyc_types.specs.TypedTrees.{Load, New, OnHeap, AsUnique, ByHandle, Initial, Plain, Fields, Array, Dereference, Target, Member, Element, Lvalue, Local, Global, Expression, Number, Copy, Call, Unary, Binary, Assign, Converted, Convert, Arguments, NoArguments, MoreArguments, Operations, NoOperations, ThenCompute, ThenTest, ThenPointer, ThenPointerPeek, Statement, Block, Empty, Evaluate, If, While, Return, Break, Continue, Items, NoItems, MoreItems, Execute, Declare, StructType, Function, Move, Peek, AddressOfCell, Store, FreeUnique, Side, VariableSide, CellSide, Swap, Throw, Try, Clauses, NoClauses, Default, Case, NumberOfElements, type_of_place, DeclareRegion, OpenRegion, DeclareAlias, DeclareKey, FreeKey, AddressOf}
+use Rattle.cyc_types.specs.TypedTrees.{Load, New, OnHeap, AsUnique, ByHandle, Initial, Plain, Fields, Array, Dereference, Target, Member, Element, Lvalue, Local, Global, Expression, Number, NullPointer, HeapRegion, Counter, Copy, Call, Unary, Binary, Assign, Converted, Convert, Arguments, NoArguments, MoreArguments, Operations, NoOperations, ThenCompute, ThenTest, ThenPointer, ThenPointerPeek, Statement, Block, Empty, Evaluate, If, While, Return, Break, Continue, Items, NoItems, MoreItems, Execute, Declare, StructType, Function, Move, Peek, AddressOfCell, Store, FreeUnique, Side, VariableSide, CellSide, Swap, Throw, Try, Clauses, NoClauses, Default, Case, NumberOfElements, type_of_place, DeclareRegion, OpenRegion, DeclareAlias, DeclareKey, FreeKey, AddressOf}
 use Rattle.cyc_types.specs.Types.{Ty, words_of}
 use Rattle.cyc_types.proofs.WeightLemmas.{some_token}
 use Rattle.cyc_types.specs.Weight.{expression_weight, dereference_weight, initial_weight, converted_weight, arguments_weight, more_arguments_weight, operations_weight, else_weight, statement_weight, items_weight, function_weight, side_weight, clauses_weight}
@@ -38,9 +39,10 @@ use Rattle.cyc_lower.proofs.slots.Widths.{kind_few, type_words}
 use Rattle.cyc_lower.proofs.slots.CellBytes.{passed_slots}
 use Rattle.cyc_lower.specs.ValueCode.{converts_there, passed_words, all_passed, kinds_passed, converted_by, moved_by, move_of, binary_operator, operand_or, code_unless, slot_or, code_unless_slot, next_slot, conversion_code, divisor_code, checked_code, operator_code, truth_code, low_byte, test_code, is_in, copy_code, failing_comparison, left_with, first_temporary, jump_if_zero, jump_if_nonzero, behind_left, pointer_code, pointer_operator, index_of, first_two, pointer_instructions, address_code, blocks, element_by, count_code, span_of, tested_code, widened_code, conversion_by, tested_by, check_code, loaded_code, bounds_code, stepped_code, scaled_code, summed_code, bounded_code, past_bounded, thinned_code, reached_code, followed_code, followed_operand, followed_by, span_in, reached_operand, word_by_word, load_word, store_word, global_code, keeps_words, load_of, store_of, unary_instruction, last_byte_code, blank_code, kind_behind, kind_passed, scale_of, masks, masked_by, inside_code}
 use Rattle.cyc_lower.specs.ObjectCode.{begun_code, filled_code, ended_code, elements_code, stores_code, cells_code, slots_of_kinds, object_code, free_code, right_slot, saved_code, load_at, measured_code, sized_code}
-use Rattle.cyc_lower.specs.ControlCode.{compared_or, failing_jump, holding_jump, break_target, continue_target, body_target, outside_loops, inside_loop, leave_code, tag_operand, other_jump, clause_code, opened_code, closed_code, named_code, dynamic_code, closing_code, handlers_code, marks_code, kept_code, kept_code_in, restored_code, restored_code_in, behind_record, inside_try, inside_region}
-use Rattle.cyc_lower.specs.ExpressionCode.{source_of, source_slot, operand_of, left_of, value_slot, left_slot, value_operand, converted_operand, printed_operand, load_code, expression_code, arguments_code, converted_code, converted_operand_code, printed_code, initial_code, operations_code, slot_with, made_code, place_operand, place_offset, place_code, pointer_of, pointer_slot, brought_code, is_simple}
-use Rattle.cyc_lower.specs.Lowering.{assignment_code, discarded_code, first_code, second_code, pair_code, condition_code, condition_of, return_code, declaration_code, statement_code, items_code, lower_function, store_address_code, side_code, read_side, write_side, exchange_code, swap_code, caught_code, clauses_code, starts_with, raises_of}
+use Rattle.cyc_lower.specs.declared.operands.Condition.{Condition}
+use Rattle.cyc_lower.specs.ControlCode.{compared_or, failing_jump, holding_jump, deciding_jump, are_tests, break_target, continue_target, body_target, outside_loops, inside_loop, leave_code, tag_operand, other_jump, clause_code, opened_code, closed_code, named_code, dynamic_code, closing_code, handlers_code, marks_code, kept_code, kept_code_in, restored_code, restored_code_in, behind_record, inside_try, inside_region, entry_code, entry_length}
+use Rattle.cyc_lower.specs.ExpressionCode.{source_of, source_slot, operand_of, left_of, value_slot, left_slot, value_operand, converted_operand, printed_operand, load_code, expression_code, arguments_code, converted_code, converted_operand_code, printed_code, initial_code, operations_code, slot_with, made_code, place_operand, place_offset, place_code, pointer_of, pointer_slot, brought_code, is_simple, are_simple}
+use Rattle.cyc_lower.specs.Lowering.{assignment_code, discarded_code, first_code, second_code, pair_code, condition_code, condition_of, others_code, tests_code, behind_tests, choice_code, choice_of, return_code, declaration_code, statement_code, items_code, lower_function, store_address_code, side_code, read_side, write_side, exchange_code, swap_code, caught_code, clauses_code, starts_with, raises_of}
 use Rattle.cyc_meaning.specs.Operators.{null_exception}
 use Rattle.cyc_lower.specs.Lowered.{size_per_weight}
 use Rattle.cyc_lower.specs.declared.statements.Opened.{Opened}
@@ -679,6 +681,61 @@ mutual
       let q = p + length (pointer_code o l (value_operand starts a (behind_left o t)) (code_unless (operand_of starts a) (expression_code starts a p slot (behind_left o t))) next) in
       omega (arith, right_size starts o a p l next t (operations_code starts os q (operands.Slot next) d t) (expression_size starts a p slot (behind_left o t)), operations_size starts os q (operands.Slot next) d t)
 
+-- ---- what is simple has code of half that size, so that it may be made twice
+
+known_size : (known : Option Operand) (x : List Instruction) → is_some known ≡ true → code_size (code_unless known x) ≡ 0
+known_size (Some o) x some = refl
+known_size None x some = absurd (let f : false ≡ true = some in cc)
+
+module _ (starts : Starts) where
+  known_operand_size : (a : Expression) (p d t : ℕ) → is_some (operand_of starts a) ≡ true → code_size (expression_code starts a p d t) ≤ 50 * expression_weight a
+  known_operand_size (Number n) p d t some = omega arith
+  known_operand_size NullPointer p d t some = omega arith
+  known_operand_size HeapRegion p d t some = omega arith
+  known_operand_size (Counter l) p d t some = omega arith
+  known_operand_size (Copy l ty) p d t some = omega (arith, load_size starts l ty d)
+  known_operand_size (Move w n ty) p d t some = omega (arith, load_size starts (Local w n) ty d)
+  known_operand_size (Peek w n ty) p d t some = omega (arith, load_size starts (Local w n) ty d)
+  known_operand_size (Unary unary.Widen a) p d t some = omega (arith, known_operand_size a p d t some)
+  known_operand_size a p d t some = absurd (let f : false ≡ true = some in cc)
+
+  simple_operations_size : (os : Operations) (p : ℕ) (l : Operand) (d t : ℕ) → are_simple starts os ≡ true → code_size (operations_code starts os p l d t) ≤ 50 * operations_weight os
+  simple_operations_size NoOperations p l d t simple = omega arith
+  simple_operations_size (ThenCompute o a os) p l d t simple =
+      let inner = expression_code starts a p (value_slot starts a (suc t)) (suc t) in
+      let operand = code_unless (operand_of starts a) inner in
+      let next = next_slot os d t in
+      let operator = operator_code starts o l (value_operand starts a (suc t)) next in
+      let q = p + length (operand ++ operator) in
+      omega (
+        arith,
+        both (operand ++ operator) (operations_code starts os q (operands.Slot next) d t),
+        both operand operator,
+        known_size (operand_of starts a) inner (and_left (is_some (operand_of starts a)) (are_simple starts os) simple),
+        operator_size starts o l (value_operand starts a (suc t)) next,
+        simple_operations_size os q (operands.Slot next) d t (and_right (is_some (operand_of starts a)) (are_simple starts os) simple),
+      )
+  simple_operations_size os p l d t simple = absurd (let f : false ≡ true = simple in cc)
+
+  simple_size : (a : Expression) (p d t : ℕ) → is_simple starts a ≡ true → code_size (expression_code starts a p d t) ≤ 50 * expression_weight a
+  simple_size (Unary unary.Widen a) p d t simple = omega (arith, known_operand_size a p d t simple)
+  simple_size (Unary o a) p d t simple =
+      let inner = expression_code starts a p (value_slot starts a t) t in
+      let r = value_operand starts a t in
+      omega (arith, both (code_unless (operand_of starts a) inner) (unary_instruction o d r ∷ []), cons (unary_instruction o d r) [], unary_size o d r, known_size (operand_of starts a) inner simple, some_token a)
+  simple_size (Binary a (ThenCompute o b os) ty) p d t simple =
+      let inner = expression_code starts a p (left_slot starts a (ThenCompute o b os) d t) t in
+      let front = code_unless (left_of starts a (ThenCompute o b os)) inner in
+      let l = operand_or (left_of starts a (ThenCompute o b os)) (left_slot starts a (ThenCompute o b os) d t) in
+      omega (
+        arith,
+        both front (operations_code starts (ThenCompute o b os) (p + length front) l d t),
+        unless_size (left_of starts a (ThenCompute o b os)) inner,
+        simple_size a p (left_slot starts a (ThenCompute o b os) d t) t (and_left (is_simple starts a) (are_simple starts (ThenCompute o b os)) simple),
+        simple_operations_size (ThenCompute o b os) (p + length front) l d t (and_right (is_simple starts a) (are_simple starts (ThenCompute o b os)) simple),
+      )
+  simple_size a p d t simple = known_operand_size a p d t simple
+
 module _ (starts : Starts) where
   assignment_size : (l : Lvalue) (c : Converted) (p t : ℕ) → code_size (assignment_code starts l c p t) ≤ size_per_weight * converted_weight c + 64
   assignment_size (Local w n) c p t = initial_size starts c p (slot_of starts n) t
@@ -712,7 +769,7 @@ module _ (starts : Starts) where
   alone_size a p t = omega (arith, both (first_code starts a (Number 0) p t) [], first_size a (Number 0) p t)
 
   condition_size : (a : Expression) (p t : ℕ) → code_size (condition_code starts a p t) ≤ size_per_weight * expression_weight a
-  condition_size (Unary unary.Not a) p t = omega (arith, alone_size a p t)
+  condition_size (Unary unary.Not a) p t = omega (arith, condition_size a p t)
   condition_size (Binary a (ThenCompute o b NoOperations) ty) p t = by (failing_comparison o)
     where
       by : (f : Option Comparison) → code_size (pair_code starts (compared_or f a b (Binary a (ThenCompute o b NoOperations) ty)).left (compared_or f a b (Binary a (ThenCompute o b NoOperations) ty)).right p t) ≤ size_per_weight * expression_weight (Binary a (ThenCompute o b NoOperations) ty)
@@ -722,6 +779,78 @@ module _ (starts : Starts) where
           omega (arith, both front (second_code starts b q t), first_size a b p t, second_size b q t)
       by None = alone_size (Binary a (ThenCompute o b NoOperations) ty) p t
   condition_size a p t = alone_size a p t
+
+  -- the operands of tests
+  deciding_size : (u : LogicalOperator) (c : Condition) (x : ℕ) → instruction_size (deciding_jump u c x) ≡ 11
+  deciding_size logical.AndThen c x = refl
+  deciding_size logical.OrElse c x = refl
+
+  others_size : (u : LogicalOperator) (os : Operations) (c : Condition) (x p t : ℕ) → code_size (others_code starts u os c x p t) ≤ size_per_weight * operations_weight os
+  others_size u NoOperations c x p t = omega arith
+  others_size u (ThenTest o b os) c x p t =
+      let jump = deciding_jump u c x in
+      let operand = condition_code starts b (p + 1) t in
+      let q = p + length (jump ∷ operand) in
+      omega (arith, both (jump ∷ operand) (others_code starts u os (condition_of starts b t) x q t), cons jump operand, deciding_size u c x, condition_size b (p + 1) t, others_size u os (condition_of starts b t) x q t)
+  others_size u (ThenCompute o b os) c x p t = omega (arith, others_size u os c x p t)
+  others_size u (ThenPointer o b os) c x p t = omega (arith, others_size u os c x p t)
+  others_size u (ThenPointerPeek n o b os) c x p t = omega (arith, others_size u os c x p t)
+
+  choice_size : (u : LogicalOperator) (a : Expression) (p t : ℕ) → code_size (choice_code starts u a p t) ≤ size_per_weight * expression_weight a
+  choice_size u (Binary a os ty) p t = by (are_tests u os)
+    where
+      by : (tests : Bool) → code_size (if tests then tests_code starts u a os (behind_tests starts u a os p t) p t else condition_code starts (Binary a os ty) p t) ≤ size_per_weight * expression_weight (Binary a os ty)
+      by true =
+          let first = condition_code starts a p t in
+          let rest = others_code starts u os (condition_of starts a t) (behind_tests starts u a os p t) (p + length first) t in
+          omega (arith, both first rest, condition_size a p t, others_size u os (condition_of starts a t) (behind_tests starts u a os p t) (p + length first) t)
+      by false = condition_size (Binary a os ty) p t
+  choice_size u a p t = condition_size a p t
+
+  simple_first_size : (a b : Expression) (p t : ℕ) → is_simple starts a ≡ true → code_size (first_code starts a b p t) ≤ 50 * expression_weight a
+  simple_first_size a b p t simple =
+      let slot = slot_with starts (is_simple starts b) a t in
+      omega (arith, unless_size (left_with (is_simple starts b) (operand_of starts a)) (expression_code starts a p slot t), simple_size starts a p slot t simple)
+
+  simple_alone_size : (a : Expression) (p t : ℕ) → is_simple starts a ≡ true → code_size (pair_code starts a (Number 0) p t) ≤ 50 * expression_weight a
+  simple_alone_size a p t simple = omega (arith, both (first_code starts a (Number 0) p t) [], simple_first_size a (Number 0) p t simple)
+
+  known_simple_size : (a : Expression) → is_some (operand_of starts a) ≡ true → (p t : ℕ) → code_size (pair_code starts a (Number 0) p t) ≤ 50 * expression_weight a
+  known_simple_size a some p t =
+      let slot = slot_with starts true a t in
+      omega (arith, both (first_code starts a (Number 0) p t) [], unless_size (operand_of starts a) (expression_code starts a p slot t), known_operand_size starts a p slot t some)
+
+  known_condition_size : (a : Expression) (p t : ℕ) → is_some (operand_of starts a) ≡ true → code_size (condition_code starts a p t) ≤ 50 * expression_weight a
+  known_condition_size (Unary unary.Not a) p t some = absurd (let f : false ≡ true = some in cc)
+  known_condition_size (Binary a os ty) p t some = absurd (let f : false ≡ true = some in cc)
+  known_condition_size a p t some = known_simple_size a some p t
+
+  simple_condition_size : (a : Expression) (p t : ℕ) → is_simple starts a ≡ true → code_size (condition_code starts a p t) ≤ 50 * expression_weight a
+  simple_condition_size (Unary unary.Not a) p t simple = omega (arith, known_condition_size a p t simple)
+  simple_condition_size (Binary a (ThenCompute o b NoOperations) ty) p t simple = by (failing_comparison o)
+    where
+      by : (f : Option Comparison) → code_size (pair_code starts (compared_or f a b (Binary a (ThenCompute o b NoOperations) ty)).left (compared_or f a b (Binary a (ThenCompute o b NoOperations) ty)).right p t) ≤ 50 * expression_weight (Binary a (ThenCompute o b NoOperations) ty)
+      by (Some failing) =
+          let front = first_code starts a b p t in
+          let q = p + length front in
+          let inner = expression_code starts b q (value_slot starts b (suc t)) (suc t) in
+          let some = and_left (is_some (operand_of starts b)) true (and_right (is_simple starts a) (is_some (operand_of starts b) && true) simple) in
+          omega (arith, both front (second_code starts b q t), simple_first_size a b p t (and_left (is_simple starts a) (is_some (operand_of starts b) && true) simple), known_size (operand_of starts b) inner some)
+      by None = simple_alone_size (Binary a (ThenCompute o b NoOperations) ty) p t simple
+  simple_condition_size a p t simple = simple_alone_size a p t simple
+
+  simple_choice_size : (u : LogicalOperator) (a : Expression) (p t : ℕ) → is_simple starts a ≡ true → code_size (choice_code starts u a p t) ≤ 50 * expression_weight a
+  simple_choice_size u (Binary a (ThenCompute o b os) ty) p t simple = simple_condition_size (Binary a (ThenCompute o b os) ty) p t simple
+  simple_choice_size u (Binary a os ty) p t simple = absurd (let f : false ≡ true = simple in cc)
+  simple_choice_size u a p t simple = simple_condition_size a p t simple
+
+  -- what leads into a loop, and the condition behind its body
+  tested_loop_size : (simple : Bool) (a : Expression) (p q t : ℕ) → is_simple starts a ≡ simple
+      → code_size (entry_code simple (choice_code starts logical.AndThen a p t) (holding_jump (choice_of starts logical.AndThen a t)) q p) + code_size (choice_code starts logical.AndThen a q t) ≤ 11 + size_per_weight * expression_weight a
+  tested_loop_size true a p q t simple =
+      let front = choice_code starts logical.AndThen a p t in
+      omega (arith, both front (holding_jump (choice_of starts logical.AndThen a t) (p + length front + 1 + 1) ∷ []), simple_choice_size logical.AndThen a p t simple, simple_choice_size logical.AndThen a q t simple)
+  tested_loop_size false a p q t simple = omega (arith, choice_size logical.AndThen a q t)
 
   return_size : (v : Option Converted) (p : ℕ) (exits : Exits) (t : ℕ) → code_size (return_code starts v p exits t) ≤ size_per_weight * statement_weight (Return v)
   return_size None p exits t = omega (arith, both (leave_code exits.in_function) (instructions.Finish t ∷ []), leave_size exits.in_function)
@@ -822,42 +951,45 @@ module _ (starts : Starts) where
     statement_size (Evaluate a) p exits t = omega (arith, discarded_size a p t)
     statement_size (Swap x y) p exits t = swap_size x y p t
     statement_size (If a s u) p exits t =
-        let condition = condition_code starts a p t in
+        let condition = choice_code starts logical.OrElse a p t in
         let m = p + length condition in
         let first = statement_code starts s (m + 1) exits t in
         let r = m + 1 + length first in
         let second = statement_code starts u (r + 1) exits t in
-        let jump_first = failing_jump (condition_of starts a t) (r + 1) ∷ first in
+        let jump_first = failing_jump (choice_of starts logical.OrElse a t) (r + 1) ∷ first in
         let jump_second = instructions.Jump (r + 1 + length second) ∷ second in
         omega (
           arith,
           both (condition ++ jump_first) jump_second,
           both condition jump_first,
-          cons (failing_jump (condition_of starts a t) (r + 1)) first,
+          cons (failing_jump (choice_of starts logical.OrElse a t) (r + 1)) first,
           cons (instructions.Jump (r + 1 + length second)) second,
-          condition_size a p t,
+          choice_size logical.OrElse a p t,
           statement_size s (m + 1) exits t,
           else_size u (r + 1) exits t (statement_size u (r + 1) exits t),
         )
     statement_size (While w a s) p exits t =
-        let body = statement_code starts s (p + 2) (inside_loop p exits) t in
-        let m = p + 2 + length body in
-        let condition = condition_code starts a m t in
-        let test = holding_jump (condition_of starts a t) (body_target p) ∷ [] in
+        let simple = is_simple starts a in
+        let l = p + entry_length simple (choice_code starts logical.AndThen a p t) in
+        let body = statement_code starts s (body_target l) (inside_loop p l exits) t in
+        let m = body_target l + length body in
+        let condition = choice_code starts logical.AndThen a m t in
+        let entry = entry_code simple (choice_code starts logical.AndThen a p t) (holding_jump (choice_of starts logical.AndThen a t)) m p in
+        let test = holding_jump (choice_of starts logical.AndThen a t) (body_target l) ∷ [] in
         let rest = (body ++ condition) ++ test in
         let exit = instructions.Jump (m + length condition + 1) in
         omega (
           arith,
-          cons (instructions.Jump m) (exit ∷ rest),
+          both entry (exit ∷ rest),
           cons exit rest,
           both (body ++ condition) test,
           both body condition,
-          condition_size a m t,
-          statement_size s (p + 2) (inside_loop p exits) t,
+          tested_loop_size simple a p m t refl,
+          statement_size s (body_target l) (inside_loop p l exits) t,
         )
     statement_size (Return v) p exits d = return_size v p exits d
-    statement_size Break p exits d = omega (arith, both (leave_code exits.in_loop) (instructions.Jump (break_target exits.head) ∷ []), leave_size exits.in_loop)
-    statement_size Continue p exits d = omega (arith, both (leave_code exits.in_loop) (instructions.Jump (continue_target exits.head) ∷ []), leave_size exits.in_loop)
+    statement_size Break p exits d = omega (arith, both (leave_code exits.in_loop) (instructions.Jump (break_target exits) ∷ []), leave_size exits.in_loop)
+    statement_size Continue p exits d = omega (arith, both (leave_code exits.in_loop) (instructions.Jump (continue_target exits) ∷ []), leave_size exits.in_loop)
     statement_size (Throw n v) p exits d = throw_size n v p exits d
     statement_size (Try s cs) p exits t =
         let kept = kept_code starts t in

@@ -1,36 +1,42 @@
 -- The code of statements names what is there.
-use Rattle.std.proofs.Common.{◌≡◌, ℕ, zero, suc, ◌+◌, ◌≤◌, ◌<◌, Bool, true, false, [], ◌∷◌, ◌++◌, length, Option, None, Some, slice_get, All, refl, sym, ap, subst, ◌∙◌, arith, length-append, ◌*◌}
+use Rattle.std.proofs.Common.{◌≡◌, ℕ, zero, suc, ◌+◌, ◌≤◌, ◌<◌, Bool, true, false, List, [], ◌∷◌, ◌++◌, length, Option, None, Some, slice_get, All, refl, sym, ap, subst, ◌∙◌, arith, length-append, ◌*◌}
 use Rattle.cyc_types.specs.declared.typed.Kind.{Kind}
 use Rattle.cyc_types.specs.declared.typed.Kind.TheVariants as kinds
 use Rattle.cyc_types.specs.declared.typed.Callee.TheVariants as callees
 use Rattle.cyc_types.specs.declared.typed.UnaryOperator.TheVariants as unary
 use Rattle.cyc_types.specs.Types.{Ty, words_of}
-use Rattle.cyc_types.specs.TypedTrees.{Lvalue, Local, Global, Expression, Number, Call, Unary, Binary, Assign, Converted, Convert, NoOperations, ThenCompute, type_of, Statement, Block, Empty, Evaluate, If, While, Return, Break, Continue, Items, NoItems, MoreItems, Execute, Declare, Signature, Store, Side, VariableSide, CellSide, Swap, Throw, Try, Clauses, NoClauses, Default, Case, DeclareRegion, OpenRegion, DeclareAlias, DeclareKey}
+use Rattle.cyc_types.specs.declared.typed.LogicalOperator.{LogicalOperator}
+use Rattle.cyc_types.specs.declared.typed.LogicalOperator.TheVariants as logical
+use Rattle.cyc_types.specs.TypedTrees.{Lvalue, Local, Global, Expression, Number, Call, Unary, Binary, Assign, Converted, Convert, Operations, NoOperations, ThenCompute, ThenTest, ThenPointer, ThenPointerPeek, type_of, Statement, Block, Empty, Evaluate, If, While, Return, Break, Continue, Items, NoItems, MoreItems, Execute, Declare, Signature, Store, Side, VariableSide, CellSide, Swap, Throw, Try, Clauses, NoClauses, Default, Case, DeclareRegion, OpenRegion, DeclareAlias, DeclareKey}
 use Rattle.cyc_types.specs.Numbered.{Numbering}
 use Rattle.cyc_plain.specs.declared.instruction.Comparison.{Comparison}
 use Rattle.cyc_plain.specs.declared.instruction.Operand.{Operand}
 use Rattle.cyc_plain.specs.declared.instruction.Operand.TheVariants as operands
+use Rattle.cyc_plain.specs.declared.instruction.Instruction.{Instruction}
 use Rattle.cyc_plain.specs.declared.instruction.Instruction.TheVariants as instructions
 use Rattle.cyc_plain.specs.Program.{Routine, Program as PlainProgram}
 use Rattle.cyc_plain.specs.declared.limits.TheConstants.{RECORD_WORDS}
 use Rattle.cyc_plain.specs.WellFormed.{IsOperand, is_return}
 use Rattle.std.specs.Prelude.{if◌then◌else◌}
 use Rattle.cyc_meaning.specs.Values.{kind_of, words_of_kind}
-use Rattle.cyc_meaning.specs.FrameCount.{converted_words, expression_need, converted_need, initial_need, statement_need, items_need, place_words, side_need, kept_by, kept_by_items, clauses_need, kept_by_clauses, thrown_need}
+use Rattle.cyc_meaning.specs.FrameCount.{converted_words, expression_need, operations_need, operand_words, converted_need, initial_need, statement_need, items_need, place_words, side_need, kept_by, kept_by_items, clauses_need, kept_by_clauses, thrown_need}
 use Rattle.cyc_lower.specs.declared.statements.Exits.{Exits}
 use Rattle.cyc_lower.specs.Slots.{starts_of, slot_of, Types, global_of}
 use Rattle.cyc_lower.specs.ValueCode.{passed_words, operand_or, slot_or, code_unless_slot, left_with, conversion_code, failing_comparison, span_of, word_by_word, global_code, keeps_words, kind_passed}
 use Rattle.cyc_lower.specs.ObjectCode.{right_slot, load_at}
-use Rattle.cyc_lower.specs.ControlCode.{compared_or, failing_jump, holding_jump, body_target, inside_loop, leave_code, tag_operand, clause_code, opened_code, closed_code, named_code, dynamic_code, handlers_code, marks_code, kept_code, kept_code_in, restored_code, restored_code_in, behind_record, behind_record_in, inside_try, inside_region, outermost}
+use Rattle.cyc_lower.specs.declared.operands.Condition.{Condition}
+use Rattle.cyc_lower.specs.ControlCode.{compared_or, failing_jump, holding_jump, deciding_jump, are_tests, body_target, inside_loop, leave_code, tag_operand, clause_code, opened_code, closed_code, named_code, dynamic_code, handlers_code, marks_code, kept_code, kept_code_in, restored_code, restored_code_in, behind_record, behind_record_in, inside_try, inside_region, outermost, entry_code, entry_length}
 use Rattle.cyc_lower.specs.ExpressionCode.{source_of, operand_of, value_slot, slot_with, value_operand, converted_operand, printed_operand, expression_code, converted_operand_code, printed_code, brought_code, is_simple}
-use Rattle.cyc_lower.specs.Lowering.{spare_slots, assignment_code, discarded_code, first_operand, first_code, second_code, pair_code, condition_code, condition_of, return_code, declaration_code, statement_code, items_code, results_of, side_code, read_side, write_side, exchange_code, swap_code, thrown_code, thrown_operand, caught_code, clauses_code}
+use Rattle.cyc_lower.specs.Lowering.{spare_slots, assignment_code, discarded_code, first_operand, first_code, second_code, pair_code, condition_code, condition_of, others_code, last_condition, tests_code, behind_tests, choice_code, choice_of, return_code, declaration_code, statement_code, items_code, results_of, side_code, read_side, write_side, exchange_code, swap_code, thrown_code, thrown_operand, caught_code, clauses_code}
 use Rattle.cyc_lower.proofs.slots.Widths.{kind_positive, kind_few, type_words, words_in, HasRoom, keeps_wide}
-use Rattle.cyc_lower.proofs.relation.Fitting.{FitsPlace, Fits, FitsConverted, FitsReturn, FitsInitial, FitsStatement, FitItems, FitsSide, FitsThrown, FitsCaught, FitClauses}
+use Rattle.cyc_lower.proofs.relation.Fitting.{FitsPlace, Fits, FitOperations, FitsConverted, FitsReturn, FitsInitial, FitsStatement, FitItems, FitsSide, FitsThrown, FitsCaught, FitClauses}
 use Rattle.cyc_types.specs.typing.Expressions.{type_of_side}
 use Rattle.cyc_lower.proofs.slots.Slots.{words_positive, global-room, global-inside}
 use Rattle.cyc_lower.specs.declared.statements.Opened.{Opened}
+use Rattle.cyc_lower.proofs.emission.Loops.{entry_long}
 use Rattle.cyc_lower.proofs.sizes.RangeLemmas.{operand_positive, converted_few, results_few, IsKnown, AreGlobals}
 use Rattle.cyc_lower.proofs.sizes.ValueRanges.{AreIn, append, unless_in, unless_slot_in, kind_at, HasOperand, slot_fits, value_room, value_in, converted_room, printed_value_in, move_in, slot_with_in, left_with_in, conversion_in, loads_in, global_in, assigned_in, stores_in, addressed_in, stored_in, load_of_in, blank_in}
+use Rattle.cyc_lower.proofs.emission.Conditions.{tests_same}
 use Rattle.cyc_lower.proofs.sizes.ExpressionRanges.{expression_in, place_in, initial_in, converted_operand_in, printed_in, brought_in}
 
 module _ (program : PlainProgram) (r : Routine) (b : Numbering) (types : Types) (locals : (n : ℕ) → n < b.locals → slot_of (starts_of types) n + words_in types.locals n ≤ r.slots) (levels : (l slot : ℕ) → slice_get types.counters l ≡ Some slot → slot < r.slots) (globals : AreGlobals program types.globals) (called : (n : ℕ) (s : Signature) → slice_get b.functions n ≡ Some s → IsKnown program n s) (results : r.results ≡ results_of b.result) (behind : types.raises + 4 < length r.code) (no_return : All (λ i. is_return i ≡ false) r.code) where
@@ -72,7 +78,7 @@ module _ (program : PlainProgram) (r : Routine) (b : Numbering) (types : Types) 
       (second (omega (arith, short, long)))
 
   condition_in : (a : Expression) (p t : ℕ) → Fits b types a → t + expression_need a + spare_slots ≤ r.slots → p + length (condition_code (starts_of types) a p t) < length r.code → AreIn program r b types locals levels globals called results behind (condition_code (starts_of types) a p t)
-  condition_in (Unary unary.Not a) p t numbered few short = pair_in a (Number 0) p t numbered (omega (arith, few)) short (λ less. tt)
+  condition_in (Unary unary.Not a) p t numbered few short = condition_in a p t numbered (omega (arith, few)) short
   condition_in (Binary a (ThenCompute o c NoOperations) ty) p t (first, (second, none)) few short = by (failing_comparison o) short
     where
       by : (f : Option Comparison) → p + length (pair_code (starts_of types) (compared_or f a c (Binary a (ThenCompute o c NoOperations) ty)).left (compared_or f a c (Binary a (ThenCompute o c NoOperations) ty)).right p t) < length r.code
@@ -88,7 +94,7 @@ module _ (program : PlainProgram) (r : Routine) (b : Numbering) (types : Types) 
   condition_in a p t numbered few short = pair_in a (Number 0) p t numbered few short (λ less. tt)
 
   compared_in : (a : Expression) (t : ℕ) → Fits b types a → t + expression_need a + spare_slots ≤ r.slots → IsOperand r (condition_of (starts_of types) a t).left × IsOperand r (condition_of (starts_of types) a t).right
-  compared_in (Unary unary.Not a) t numbered few = (value_in program r b types locals levels globals called results behind a t numbered (omega (arith, few, kind_few (kind_at program r b types locals levels globals called results behind a))), tt)
+  compared_in (Unary unary.Not a) t numbered few = compared_in a t numbered (omega (arith, few))
   compared_in (Binary a (ThenCompute o c NoOperations) ty) t (first, (second, none)) few = by (failing_comparison o)
     where
       by : (f : Option Comparison) → IsOperand r (first_operand (starts_of types) (compared_or f a c (Binary a (ThenCompute o c NoOperations) ty)).left (compared_or f a c (Binary a (ThenCompute o c NoOperations) ty)).right t) × IsOperand r (value_operand (starts_of types) (compared_or f a c (Binary a (ThenCompute o c NoOperations) ty)).right (suc t))
@@ -297,52 +303,122 @@ module _ (program : PlainProgram) (r : Routine) (b : Numbering) (types : Types) 
   exits_inside exits slot ((loop_record, loop_mark), (first_record, first_mark)) room =
       ((record_behind exits.in_loop.handler slot loop_record room, loop_mark), (record_behind exits.in_function.handler slot first_record room, first_mark))
 
+  -- the operands of tests, whose jumps lead to a place in the code
+  deciding_in : (u : LogicalOperator) (c : Condition) (x : ℕ) (code : List Instruction) → IsOperand r c.left × IsOperand r c.right → x < length r.code → AreIn program r b types locals levels globals called results behind code → AreIn program r b types locals levels globals called results behind (deciding_jump u c x ∷ code)
+  deciding_in logical.AndThen c x code (left, right) inside all = ((left, right, inside), all)
+  deciding_in logical.OrElse c x code (left, right) inside all = ((left, right, inside), all)
+
+  others_in : (u : LogicalOperator) (os : Operations) (ty : Ty) (words : ℕ) (c : Condition) (x p t : ℕ) → FitOperations b types words ty os → IsOperand r c.left × IsOperand r c.right → x < length r.code
+      → t + operations_need os ty words + spare_slots ≤ r.slots → p + length (others_code (starts_of types) u os c x p t) < length r.code → AreIn program r b types locals levels globals called results behind (others_code (starts_of types) u os c x p t)
+  others_in u NoOperations ty words c x p t fits room inside few short = tt
+  others_in u (ThenTest o a os) ty words c x p t (first, fits) room inside few short =
+      let operand = condition_code (starts_of types) a (p + 1) t in
+      let front = deciding_jump u c x ∷ operand in
+      let rest = others_code (starts_of types) u os (condition_of (starts_of types) a t) x (p + length front) t in
+      let long = length-append front rest in
+      append program r b types locals levels globals called results behind front rest
+      (deciding_in u c x operand room inside (condition_in a (p + 1) t first (omega (arith, few)) (omega (arith, short, long))))
+      (others_in u os ty (words_of ty) (condition_of (starts_of types) a t) x (p + length front) t fits (compared_in a t first (omega (arith, few))) inside (omega (arith, few)) (omega (arith, short, long)))
+  others_in u (ThenCompute o a os) ty words c x p t (first, fits) room inside few short = others_in u os ty (words_of ty) c x p t fits room inside (omega (arith, few)) short
+  others_in u (ThenPointer o a os) ty words c x p t (wide, first, fits) room inside few short = others_in u os ty (words_of ty) c x p t fits room inside (omega (arith, few)) short
+  others_in u (ThenPointerPeek n o a os) ty words c x p t (wide, first, fits) room inside few short = others_in u os ty (words_of ty) c x p t fits room inside (omega (arith, few)) short
+
+  last_in : (os : Operations) (ty : Ty) (words : ℕ) (c : Condition) (t : ℕ) → FitOperations b types words ty os → IsOperand r c.left × IsOperand r c.right → t + operations_need os ty words + spare_slots ≤ r.slots
+      → IsOperand r (last_condition (starts_of types) os c t).left × IsOperand r (last_condition (starts_of types) os c t).right
+  last_in NoOperations ty words c t fits room few = room
+  last_in (ThenTest o a os) ty words c t (first, fits) room few = last_in os ty (words_of ty) (condition_of (starts_of types) a t) t fits (compared_in a t first (omega (arith, few))) (omega (arith, few))
+  last_in (ThenCompute o a os) ty words c t (first, fits) room few = last_in os ty (words_of ty) c t fits room (omega (arith, few))
+  last_in (ThenPointer o a os) ty words c t (wide, first, fits) room few = last_in os ty (words_of ty) c t fits room (omega (arith, few))
+  last_in (ThenPointerPeek n o a os) ty words c t (wide, first, fits) room few = last_in os ty (words_of ty) c t fits room (omega (arith, few))
+
+  -- a condition with a jump behind it, and something behind that
+  choice_in : (u : LogicalOperator) (a : Expression) (p t : ℕ) → Fits b types a → t + expression_need a + spare_slots ≤ r.slots → p + length (choice_code (starts_of types) u a p t) + 1 < length r.code → AreIn program r b types locals levels globals called results behind (choice_code (starts_of types) u a p t)
+  choice_in u (Binary a os ty) p t (first, fits) few short = by (are_tests u os) short
+    where
+      by : (tests : Bool) → p + length (if tests then tests_code (starts_of types) u a os (behind_tests (starts_of types) u a os p t) p t else condition_code (starts_of types) (Binary a os ty) p t) + 1 < length r.code
+          → AreIn program r b types locals levels globals called results behind (if tests then tests_code (starts_of types) u a os (behind_tests (starts_of types) u a os p t) p t else condition_code (starts_of types) (Binary a os ty) p t)
+      by true short =
+          let x = behind_tests (starts_of types) u a os p t in
+          let front = condition_code (starts_of types) a p t in
+          let rest = others_code (starts_of types) u os (condition_of (starts_of types) a t) x (p + length front) t in
+          let long = length-append front rest in
+          append program r b types locals levels globals called results behind front rest (condition_in a p t first (omega (arith, few)) (omega (arith, short, long)))
+          (others_in u os ty (operand_words (type_of a)) (condition_of (starts_of types) a t) x (p + length front) t fits (compared_in a t first (omega (arith, few)))
+          (omega (arith, short, tests_same (starts_of types) u a os 0 x p t)) (omega (arith, few)) (omega (arith, short, long)))
+      by false short = condition_in (Binary a os ty) p t (first, fits) few (omega (arith, short))
+  choice_in u a p t numbered few short = condition_in a p t numbered few (omega (arith, short))
+
+  chosen_in : (u : LogicalOperator) (a : Expression) (t : ℕ) → Fits b types a → t + expression_need a + spare_slots ≤ r.slots → IsOperand r (choice_of (starts_of types) u a t).left × IsOperand r (choice_of (starts_of types) u a t).right
+  chosen_in u (Binary a os ty) t (first, fits) few = by (are_tests u os)
+    where
+      by : (tests : Bool) → IsOperand r (if tests then last_condition (starts_of types) os (condition_of (starts_of types) a t) t else condition_of (starts_of types) (Binary a os ty) t).left
+          × IsOperand r (if tests then last_condition (starts_of types) os (condition_of (starts_of types) a t) t else condition_of (starts_of types) (Binary a os ty) t).right
+      by true = last_in os ty (operand_words (type_of a)) (condition_of (starts_of types) a t) t fits (compared_in a t first (omega (arith, few))) (omega (arith, few))
+      by false = compared_in (Binary a os ty) t (first, fits) few
+  chosen_in u a t numbered few = compared_in a t numbered few
+
   exits_behind : (exits : Exits) (slot : ℕ) → HasExits exits → slot < r.slots → HasExits (inside_region exits slot)
   exits_behind exits slot ((loop_record, loop_mark), (first_record, first_mark)) room =
       ((loop_record, mark_behind exits.in_loop.mark slot loop_mark room), (first_record, mark_behind exits.in_function.mark slot first_mark room))
 
+  -- what leads into a loop, whose body and condition stand before the end
+  entry_in : (simple : Bool) (a : Expression) (p t test : ℕ) → Fits b types a → t + expression_need a + spare_slots ≤ r.slots
+      → (p + entry_length simple (choice_code (starts_of types) logical.AndThen a p t) + 1 < length r.code) × (test < length r.code)
+      → AreIn program r b types locals levels globals called results behind (entry_code simple (choice_code (starts_of types) logical.AndThen a p t) (holding_jump (choice_of (starts_of types) logical.AndThen a t)) test p)
+  entry_in true a p t test numbered few (short, there) =
+      let (left, right) = chosen_in logical.AndThen a t numbered (omega (arith, few)) in
+      append program r b types locals levels globals called results behind (choice_code (starts_of types) logical.AndThen a p t) _ (choice_in logical.AndThen a p t numbered (omega (arith, few)) (omega (arith, short))) ((left, right, omega (arith, short)), tt)
+  entry_in false a p t test numbered few (short, there) = (there, tt)
+
   mutual
-    statement_in : (s : Statement) (in_loop : Bool) (p : ℕ) (exits : Exits) (t : ℕ) → FitsStatement b types in_loop s → (in_loop ≡ true → exits.head + 2 < length r.code) → HasExits exits → t + kept_by s + statement_need s + spare_slots ≤ r.slots → p + length (statement_code (starts_of types) s p exits t) < length r.code → AreIn program r b types locals levels globals called results behind (statement_code (starts_of types) s p exits t)
+    statement_in : (s : Statement) (in_loop : Bool) (p : ℕ) (exits : Exits) (t : ℕ) → FitsStatement b types in_loop s → (in_loop ≡ true → (exits.head < length r.code) × (exits.leaving < length r.code)) → HasExits exits → t + kept_by s + statement_need s + spare_slots ≤ r.slots → p + length (statement_code (starts_of types) s p exits t) < length r.code → AreIn program r b types locals levels globals called results behind (statement_code (starts_of types) s p exits t)
     statement_in (Block n js) in_loop p exits t numbered around outside few short = items_in js in_loop p exits t numbered around outside few short
     statement_in Empty in_loop p exits t numbered around outside few short = tt
     statement_in (Evaluate a) in_loop p exits t numbered around outside few short = discarded_in a p t numbered (omega (arith, few)) short
     statement_in (Swap x y) in_loop p exits t (fits_x, fits_y) around outside few short = swap_in x y p t fits_x fits_y (omega (arith, few)) short
     statement_in (If a s u) in_loop p exits t (numbered_a, numbered_s, numbered_u) around outside few short =
-        let condition = condition_code (starts_of types) a p t in
+        let condition = choice_code (starts_of types) logical.OrElse a p t in
         let m = p + length condition in
         let first = statement_code (starts_of types) s (m + 1) exits t in
         let q = m + 1 + length first in
         let second = statement_code (starts_of types) u (q + 1) exits t in
-        let jump_first = failing_jump (condition_of (starts_of types) a t) (q + 1) ∷ first in
+        let jump_first = failing_jump (choice_of (starts_of types) logical.OrElse a t) (q + 1) ∷ first in
         let jump_second = instructions.Jump (q + 1 + length second) ∷ second in
         let long = length-append (condition ++ jump_first) jump_second in
         let long_front = length-append condition jump_first in
-        let (left, right) = compared_in a t numbered_a (omega (arith, few)) in
+        let (left, right) = chosen_in logical.OrElse a t numbered_a (omega (arith, few)) in
         append program r b types locals levels globals called results behind (condition ++ jump_first) jump_second
-        (append program r b types locals levels globals called results behind condition jump_first (condition_in a p t numbered_a (omega (arith, few)) (omega (arith, short, long, long_front)))
+        (append program r b types locals levels globals called results behind condition jump_first (choice_in logical.OrElse a p t numbered_a (omega (arith, few)) (omega (arith, short, long, long_front)))
         ((left, right, omega (arith, short, long, long_front)), statement_in s in_loop (m + 1) exits t numbered_s around outside (omega (arith, few)) (omega (arith, short, long, long_front))))
         (omega (arith, short, long, long_front), statement_in u in_loop (q + 1) exits t numbered_u around outside (omega (arith, few)) (omega (arith, short, long, long_front)))
     statement_in (While w a s) in_loop p exits t (numbered_a, numbered_s) around outside few short =
-        let body = statement_code (starts_of types) s (p + 2) (inside_loop p exits) t in
-        let m = p + 2 + length body in
-        let condition = condition_code (starts_of types) a m t in
-        let test = holding_jump (condition_of (starts_of types) a t) (body_target p) ∷ [] in
+        let simple = is_simple (starts_of types) a in
+        let first = choice_code (starts_of types) logical.AndThen a p t in
+        let jump : ℕ → Instruction = λ n. holding_jump (choice_of (starts_of types) logical.AndThen a t) n in
+        let l = p + entry_length simple first in
+        let inside = inside_loop p l exits in
+        let body = statement_code (starts_of types) s (body_target l) inside t in
+        let m = body_target l + length body in
+        let condition = choice_code (starts_of types) logical.AndThen a m t in
+        let entry = entry_code simple first jump m p in
+        let test = jump (body_target l) ∷ [] in
+        let leave = instructions.Jump (m + length condition + 1) in
         let long = length-append (body ++ condition) test in
         let long_front = length-append body condition in
-        let (left, right) = compared_in a t numbered_a (omega (arith, few)) in (
-          omega (arith, short, long, long_front),
-          (
-            omega (arith, short, long, long_front),
-            append program r b types locals levels globals called results behind (body ++ condition) test
-                (append program r b types locals levels globals called results behind body condition
-                (statement_in s true (p + 2) (inside_loop p exits) t numbered_s (λ inside. omega (arith, short, long, long_front)) ((tt, tt), outside.1) (omega (arith, few)) (omega (arith, short, long, long_front)))
-                (condition_in a m t numbered_a (omega (arith, few)) (omega (arith, short, long, long_front))))
-                ((left, right, omega (arith, short, long, long_front)), tt),
-          ),
+        let whole = length-append entry (leave ∷ ((body ++ condition) ++ test)) in
+        let entered = entry_long simple first jump m p in
+        let (left, right) = chosen_in logical.AndThen a t numbered_a (omega (arith, few)) in
+        append program r b types locals levels globals called results behind entry (leave ∷ ((body ++ condition) ++ test)) (entry_in simple a p t m numbered_a (omega (arith, few)) (omega (arith, short, long, long_front, whole, entered), omega (arith, short, long, long_front, whole, entered))) (
+          omega (arith, short, long, long_front, whole, entered),
+          append program r b types locals levels globals called results behind (body ++ condition) test
+              (append program r b types locals levels globals called results behind body condition
+              (statement_in s true (body_target l) inside t numbered_s (λ looping. (omega (arith, short, long, long_front, whole, entered), omega (arith, short, long, long_front, whole, entered))) ((tt, tt), outside.1) (omega (arith, few)) (omega (arith, short, long, long_front, whole, entered)))
+              (choice_in logical.AndThen a m t numbered_a (omega (arith, few)) (omega (arith, short, long, long_front, whole, entered))))
+              ((left, right, omega (arith, short, long, long_front, whole, entered)), tt),
         )
     statement_in (Return v) in_loop p exits t numbered around outside few short = return_in v p exits t numbered outside (omega (arith, few)) short
-    statement_in Break in_loop p exits t numbered around outside few short = append program r b types locals levels globals called results behind (leave_code exits.in_loop) _ (leave_in exits.in_loop outside.0) (omega (arith, around numbered), tt)
-    statement_in Continue in_loop p exits t numbered around outside few short = append program r b types locals levels globals called results behind (leave_code exits.in_loop) _ (leave_in exits.in_loop outside.0) (omega (arith, around numbered), tt)
+    statement_in Break in_loop p exits t numbered around outside few short = append program r b types locals levels globals called results behind (leave_code exits.in_loop) _ (leave_in exits.in_loop outside.0) (omega (arith, (around numbered).0, (around numbered).1), tt)
+    statement_in Continue in_loop p exits t numbered around outside few short = append program r b types locals levels globals called results behind (leave_code exits.in_loop) _ (leave_in exits.in_loop outside.0) (omega (arith, (around numbered).0, (around numbered).1), tt)
     statement_in (Throw tag v) in_loop p exits t (word, numbered) around outside few short =
         let front = thrown_code (starts_of types) v p t in
         let back = instructions.Throw (tag_operand tag) (thrown_operand (starts_of types) v t) ∷ [] in
@@ -377,7 +453,7 @@ module _ (program : PlainProgram) (r : Routine) (b : Numbering) (types : Types) 
               ),
         )
 
-    pub items_in : (js : Items) (in_loop : Bool) (p : ℕ) (exits : Exits) (t : ℕ) → FitItems b types in_loop js → (in_loop ≡ true → exits.head + 2 < length r.code) → HasExits exits → t + kept_by_items js + items_need js + spare_slots ≤ r.slots → p + length (items_code (starts_of types) js p exits t) < length r.code → AreIn program r b types locals levels globals called results behind (items_code (starts_of types) js p exits t)
+    pub items_in : (js : Items) (in_loop : Bool) (p : ℕ) (exits : Exits) (t : ℕ) → FitItems b types in_loop js → (in_loop ≡ true → (exits.head < length r.code) × (exits.leaving < length r.code)) → HasExits exits → t + kept_by_items js + items_need js + spare_slots ≤ r.slots → p + length (items_code (starts_of types) js p exits t) < length r.code → AreIn program r b types locals levels globals called results behind (items_code (starts_of types) js p exits t)
     items_in NoItems in_loop p exits t numbered around outside few short = tt
     items_in (MoreItems (Execute s) js) in_loop p exits t (numbered, rest) around outside few short =
         let front = statement_code (starts_of types) s p exits t in
@@ -414,7 +490,7 @@ module _ (program : PlainProgram) (r : Routine) (b : Numbering) (types : Types) 
         let back = items_code (starts_of types) js (p + length front) exits t in
         append program r b types locals levels globals called results behind front back (dynamic_in n t within room.0 (omega (arith, few))) (items_in js in_loop (p + length front) exits t rest around outside (omega (arith, few)) (omega (arith, short, length-append front back)))
 
-    clauses_in : (cs : Clauses) (in_loop : Bool) (p out : ℕ) (exits : Exits) (t : ℕ) → FitClauses b types in_loop cs → (in_loop ≡ true → exits.head + 2 < length r.code) → HasExits exits
+    clauses_in : (cs : Clauses) (in_loop : Bool) (p out : ℕ) (exits : Exits) (t : ℕ) → FitClauses b types in_loop cs → (in_loop ≡ true → (exits.head < length r.code) × (exits.leaving < length r.code)) → HasExits exits
         → t + kept_by_clauses cs + clauses_need cs + spare_slots ≤ r.slots → out < length r.code → p + length (clauses_code (starts_of types) cs p out exits t) < length r.code → AreIn program r b types locals levels globals called results behind (clauses_code (starts_of types) cs p out exits t)
     clauses_in NoClauses in_loop p out exits t numbered around outside few there short = ((omega (arith, few), omega (arith, few)), tt)
     clauses_in (Default n js) in_loop p out exits t numbered around outside few there short = items_in js in_loop p exits t numbered around outside few short

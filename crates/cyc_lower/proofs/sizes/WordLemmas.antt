@@ -37,9 +37,10 @@ use Rattle.cyc_store.specs.declared.range.TheConstants.{HEAP, UNIQUE}
 use Rattle.cyc_meaning.specs.Values.{words_of_kind, bytes_of_kind, begins, behind, bytes_from, words_for, is_thin, kind_of}
 use Rattle.cyc_lower.specs.ValueCode.{converts_there, passed_words, kinds_passed, converted_by, moved_by, move_of, operand_or, code_unless, slot_or, code_unless_slot, left_with, next_slot, check_code, conversion_code, divisor_code, checked_code, operator_code, truth_code, test_code, is_in, copy_code, failing_comparison, first_temporary, behind_left, pointer_code, index_of, first_two, pointer_instructions, address_code, addressed_by, guard_code, blocks, element_by, count_code, span_of, tested_code, widened_code, conversion_by, tested_by, bounds_code, stepped_code, scaled_code, summed_code, bounded_code, thinned_code, reached_code, followed_code, followed_operand, followed_by, span_in, reached_operand, word_by_word, load_word, store_word, global_code, keeps_words, scale_of, load_of, store_of, unary_instruction, last_byte_code, blank_code, kind_behind, kind_passed, variable_bytes, masks, masked_by, low_byte, inside_code}
 use Rattle.cyc_lower.specs.ObjectCode.{begun_code, filled_code, ended_code, elements_code, stores_code, cells_code, slots_of_kinds, object_code, right_slot, saved_code, asked_code, load_at, measured_code, sized_code, most_elements}
-use Rattle.cyc_lower.specs.ControlCode.{counter_operand, compared_or, compared_of, outside_loops, inside_loop, leave_code, clause_code, opened_code, closed_code, named_code, dynamic_code, handlers_code, marks_code, kept_code, kept_code_in, restored_code, restored_code_in, behind_record, inside_try, inside_region}
+use Rattle.cyc_lower.specs.declared.operands.Condition.{Condition}
+use Rattle.cyc_lower.specs.ControlCode.{counter_operand, compared_or, compared_of, deciding_jump, are_tests, outside_loops, inside_loop, leave_code, clause_code, opened_code, closed_code, named_code, dynamic_code, handlers_code, marks_code, kept_code, kept_code_in, restored_code, restored_code_in, behind_record, inside_try, inside_region, body_target, entry_code, entry_length, holding_jump}
 use Rattle.cyc_lower.specs.ExpressionCode.{source_of, source_slot, operand_of, left_of, value_slot, left_slot, value_operand, converted_operand, printed_operand, load_code, expression_code, arguments_code, converted_code, converted_operand_code, printed_code, initial_code, operations_code, slot_with, made_code, place_operand, place_offset, place_code, pointer_of, pointer_slot, brought_code, is_simple}
-use Rattle.cyc_lower.specs.Lowering.{assignment_code, discarded_code, first_code, second_code, pair_code, condition_code, condition_of, return_code, declaration_code, statement_code, items_code, initial_word, lower_function, lower_program, store_address_code, store_code, caught_code, clauses_code, function_code, side_code, read_side, write_side, exchange_code, swap_code, globals_of, lower_globals, starts_with, raises_of, scopes_of}
+use Rattle.cyc_lower.specs.Lowering.{assignment_code, discarded_code, first_code, second_code, pair_code, condition_code, condition_of, others_code, last_condition, tests_code, behind_tests, choice_code, choice_of, return_code, declaration_code, statement_code, items_code, initial_word, lower_function, lower_program, store_address_code, store_code, caught_code, clauses_code, function_code, side_code, read_side, write_side, exchange_code, swap_code, globals_of, lower_globals, starts_with, raises_of, scopes_of}
 use Rattle.cyc_lower.proofs.slots.Widths.{kind_few}
 use Rattle.cyc_lower.proofs.slots.CellBytes.{begins_within, behind_within, bytes_within, passed_slots}
 use Rattle.cyc_lower.specs.declared.statements.Opened.{Opened}
@@ -630,7 +631,7 @@ module _ (starts : Starts) where
   -- ---- statements
 
   compared_words : (a : Expression) → IsOfWords a → IsOfWords (compared_of a).left × IsOfWords (compared_of a).right
-  compared_words (Unary unary.Not a) words = (words, omega arith)
+  compared_words (Unary unary.Not a) words = compared_words a words
   compared_words (Binary a (ThenCompute o b NoOperations) ty) (first, (second, none)) = by (failing_comparison o)
     where
       by : (f : Option Comparison) → IsOfWords (compared_or f a b (Binary a (ThenCompute o b NoOperations) ty)).left × IsOfWords (compared_or f a b (Binary a (ThenCompute o b NoOperations) ty)).right
@@ -658,6 +659,43 @@ module _ (starts : Starts) where
       let left = (compared_of a).left in
       let right = (compared_of a).right in
       (left_with_word starts (is_simple starts right) left (slot_with starts (is_simple starts right) left t) first, known_word starts right (value_slot starts right (suc t)) second)
+
+  -- the operands of tests
+  deciding_words : (u : LogicalOperator) (c : Condition) (x : ℕ) → IsOfWord c.left × IsOfWord c.right → IsMade (deciding_jump u c x)
+  deciding_words logical.AndThen c x words = words
+  deciding_words logical.OrElse c x words = words
+
+  others_words : (u : LogicalOperator) (os : Operations) (c : Condition) (x p t : ℕ) → IsOfWord c.left × IsOfWord c.right → AreOfWordsOperations os → HaveWords (others_code starts u os c x p t)
+  others_words u NoOperations c x p t words all = tt
+  others_words u (ThenTest o b os) c x p t words (first, all) =
+      append (deciding_jump u c x ∷ condition_code starts b (p + 1) t) _ (deciding_words u c x words, condition_words b (p + 1) t first) (others_words u os (condition_of starts b t) x _ t (condition_word b t first) all)
+  others_words u (ThenCompute o b os) c x p t words (first, all) = others_words u os c x p t words all
+  others_words u (ThenPointer o b os) c x p t words (first, all) = others_words u os c x p t words all
+  others_words u (ThenPointerPeek n o b os) c x p t words (first, all) = others_words u os c x p t words all
+
+  last_word : (os : Operations) (c : Condition) (t : ℕ) → IsOfWord c.left × IsOfWord c.right → AreOfWordsOperations os → IsOfWord (last_condition starts os c t).left × IsOfWord (last_condition starts os c t).right
+  last_word NoOperations c t words all = words
+  last_word (ThenTest o b os) c t words (first, all) = last_word os (condition_of starts b t) t (condition_word b t first) all
+  last_word (ThenCompute o b os) c t words (first, all) = last_word os c t words all
+  last_word (ThenPointer o b os) c t words (first, all) = last_word os c t words all
+  last_word (ThenPointerPeek n o b os) c t words (first, all) = last_word os c t words all
+
+  choice_words : (u : LogicalOperator) (a : Expression) (p t : ℕ) → IsOfWords a → HaveWords (choice_code starts u a p t)
+  choice_words u (Binary a os ty) p t (first, all) = by (are_tests u os)
+    where
+      by : (tests : Bool) → HaveWords (if tests then tests_code starts u a os (behind_tests starts u a os p t) p t else condition_code starts (Binary a os ty) p t)
+      by true = append (condition_code starts a p t) _ (condition_words a p t first) (others_words u os (condition_of starts a t) (behind_tests starts u a os p t) _ t (condition_word a t first) all)
+      by false = condition_words (Binary a os ty) p t (first, all)
+  choice_words u a p t words = condition_words a p t words
+
+  choice_word : (u : LogicalOperator) (a : Expression) (t : ℕ) → IsOfWords a → IsOfWord (choice_of starts u a t).left × IsOfWord (choice_of starts u a t).right
+  choice_word u (Binary a os ty) t (first, all) = by (are_tests u os)
+    where
+      by : (tests : Bool) → IsOfWord (if tests then last_condition starts os (condition_of starts a t) t else condition_of starts (Binary a os ty) t).left
+          × IsOfWord (if tests then last_condition starts os (condition_of starts a t) t else condition_of starts (Binary a os ty) t).right
+      by true = last_word os (condition_of starts a t) t (condition_word a t first) all
+      by false = condition_word (Binary a os ty) t (first, all)
+  choice_word u a t words = condition_word a t words
 
   -- ---- regions
 
@@ -760,6 +798,10 @@ module _ (starts : Starts) where
   caught_words None t = tt
   caught_words (Some n) t = (tt, tt)
 
+  entry_words : (simple : Bool) (a : Expression) (p t test : ℕ) → IsOfWords a → HaveWords (entry_code simple (choice_code starts logical.AndThen a p t) (holding_jump (choice_of starts logical.AndThen a t)) test p)
+  entry_words true a p t test words = append (choice_code starts logical.AndThen a p t) _ (choice_words logical.AndThen a p t words) (choice_word logical.AndThen a t words, tt)
+  entry_words false a p t test words = (tt, tt)
+
   mutual
     statement_words : (s : Statement) (p : ℕ) (exits : Exits) (t : ℕ) → IsOfWordsStatement s → HaveWords (statement_code starts s p exits t)
     statement_words (Block r js) p exits t words = items_words js p exits t words
@@ -767,17 +809,22 @@ module _ (starts : Starts) where
     statement_words (Evaluate a) p exits t words = discarded_words a p t words
     statement_words (Swap x y) p exits t (words_x, words_y) = swap_words x y p t words_x words_y
     statement_words (If a s u) p exits t (first, second, third) =
-        let condition = condition_code starts a p t in
+        let condition = choice_code starts logical.OrElse a p t in
         let m = p + length condition in
         let first_part = statement_code starts s (m + 1) exits t in
         let q = m + 1 + length first_part in
         append (condition ++ _ ∷ first_part) (_ ∷ statement_code starts u (q + 1) exits t)
-        (append condition (_ ∷ first_part) (condition_words a p t first) (condition_word a t first, statement_words s (m + 1) exits t second)) (tt, statement_words u (q + 1) exits t third)
+        (append condition (_ ∷ first_part) (choice_words logical.OrElse a p t first) (choice_word logical.OrElse a t first, statement_words s (m + 1) exits t second)) (tt, statement_words u (q + 1) exits t third)
     statement_words (While w a s) p exits t (first, second) =
-        let body = statement_code starts s (p + 2) (inside_loop p exits) t in
-        let m = p + 2 + length body in
-        let condition = condition_code starts a m t in
-        (tt, (tt, append (body ++ condition) _ (append body condition (statement_words s (p + 2) (inside_loop p exits) t second) (condition_words a m t first)) (condition_word a t first, tt)))
+        let simple = is_simple starts a in
+        let l = p + entry_length simple (choice_code starts logical.AndThen a p t) in
+        let body = statement_code starts s (body_target l) (inside_loop p l exits) t in
+        let r = body_target l + length body in
+        let condition = choice_code starts logical.AndThen a r t in
+        append (entry_code simple (choice_code starts logical.AndThen a p t) (holding_jump (choice_of starts logical.AndThen a t)) r p) _ (entry_words simple a p t r first) (
+          tt,
+          append (body ++ condition) _ (append body condition (statement_words s (body_target l) (inside_loop p l exits) t second) (choice_words logical.AndThen a r t first)) (choice_word logical.AndThen a t first, tt),
+        )
     statement_words (Return v) p exits t words = return_words v p exits t words
     statement_words Break p exits t words = append (leave_code exits.in_loop) _ (leave_words exits.in_loop) (tt, tt)
     statement_words Continue p exits t words = append (leave_code exits.in_loop) _ (leave_words exits.in_loop) (tt, tt)

@@ -23,12 +23,13 @@ use Rattle.cyc_plain.specs.declared.instruction.Instruction.TheVariants as instr
 use Rattle.cyc_plain.specs.State as plain
 use Rattle.cyc_plain.specs.State.{Words, put, Frame, Configuration}
 use Rattle.cyc_plain.specs.Straight.{At as CodeAt}
+use Rattle.cyc_lower.proofs.value_steps.ValueWords.{opposite_twice}
 use Rattle.cyc_plain.specs.Step.{Choice, with_slots, advanced, performed, at}
 use Rattle.cyc_plain.proofs.SlotLaws.{put-same}
 use Rattle.cyc_meaning.specs.Values.{Int, Null, Thin, Handle, Operand as Kinded, kind_of, words_of_kind, bytes_of_kind, is_thin}
 use Rattle.cyc_store.specs.declared.range.TheConstants.{HEAP, UNIQUE}
 use Rattle.cyc_meaning.specs.SourceMachine.{status_in}
-use Rattle.cyc_meaning.specs.State.{status_of, InRegion, World, heap_number, Environment, ConvertTo, Operate, Chain, Apply, Store, Pass, PlaceBy, MakePlain, MakeFields, MakeArray, Choose, Test, Follow, LoadFrom, Entry, Needs, NeedsPlace, Discard, Focus, Evaluating, Locating, Given, Running, FollowMember, TakeAddress, StoreTo, Owner, Unique, FreeObject, CloseByKey, CountElements, Index, Advance}
+use Rattle.cyc_meaning.specs.State.{status_of, InRegion, World, heap_number, Environment, ConvertTo, Operate, Chain, Apply, Decide, Store, Pass, PlaceBy, MakePlain, MakeFields, MakeArray, Choose, Test, Follow, LoadFrom, Entry, Needs, NeedsPlace, Discard, Focus, Evaluating, Locating, Given, Running, FollowMember, TakeAddress, StoreTo, Owner, Unique, FreeObject, CloseByKey, CountElements, Index, Advance}
 use Rattle.cyc_lower.proofs.relation.Counters.{CountersHold, counters_hold, counters_low}
 use Rattle.cyc_meaning.specs.Step.{counts, target_of, target_by, object_of, assigned, passes, step, loaded_from, addressed}
 use Rattle.cyc_meaning.specs.Allocation.{makes}
@@ -39,15 +40,15 @@ use Rattle.cyc_lower.proofs.slots.Slots.{slot-room, slot-low, words-there, words
 use Rattle.cyc_lower.proofs.slots.Widths.{keeps_whole, kind_positive, type_words, made_kind, HasRoom, Outside}
 use Rattle.cyc_lower.proofs.relation.Moves.{moved_slots, moves, put_elsewhere, moved_elsewhere, moved_is}
 use Rattle.cyc_lower.specs.ValueCode.{failing_comparison, converts_there, masks, span_of, all_passed, kinds_passed, move_of, left_with, followed_operand, span_in, operand_or, reached_operand, load_word, address_of_global, keeps_words, variable_bytes}
-use Rattle.cyc_lower.specs.ControlCode.{counter_operand, compared_or, compared_of}
+use Rattle.cyc_lower.specs.ControlCode.{counter_operand, compared_or, opposite, compared_of}
 use Rattle.cyc_lower.specs.ExpressionCode.{operand_of, value_slot, source_of, source_slot, slot_with, pointer_of, is_simple, are_simple}
 use Rattle.cyc_lower.specs.Lowering.{lower_program}
 use Rattle.cyc_lower.proofs.relation.Weights.{weight, stack_weight, expression_weight, arguments_weight, object_weight}
-use Rattle.cyc_lower.proofs.relation.Stands.{CopyBy, CopyAt, OperandBy, InitialBy, BroughtAt, ConversionAt, ExpressionAt, ArgumentsAt, ObjectAt, MadeAt, ValueAt, PairAt, ConditionAt, AssignmentAt, PrintedAt, DiscardedAt, StoredAt, ReturnedAt, ReachedAt, EachAt, LastByteAt}
+use Rattle.cyc_lower.proofs.relation.Stands.{CopyBy, CopyAt, OperandBy, InitialBy, BroughtAt, ConversionAt, ExpressionAt, ArgumentsAt, ObjectAt, MadeAt, ValueAt, PairAt, ConditionAt, AssignmentAt, PrintedAt, DiscardedAt, StoredAt, ReturnedAt, ReachedAt, EachAt, LastByteAt, BranchesAt, TestsAt, ForkAt, ComparedAt, Ends}
 use Rattle.cyc_objects.specs.Tables.{Tables}
 use Rattle.cyc_objects.specs.Words.{Is, Points}
 use Rattle.cyc_lower.proofs.relation.HeldValues.{counters_of, IsIn, words_held, height, Holds, held, kept, contents, IsHandleOf, IsLow, callers, AreCounted}
-use Rattle.cyc_lower.proofs.relation.Relation.{types_on, starts_on, types_at, starts_at, given_at, called_at, in_temporary, in_local, drops, leaves, copies, prints_only, gives_byte, DataIn, SharedAt, CallAt, to_slot, to_jump, ValueStack, PlaceStack, ConditionStack, DroppedStack, AheadStack, LandsStack, LandsMade, HandsOnStack, PrintsStack, RightAt, EvaluatingAt, as_operand, into_slot, for_effect, as_right, as_condition, in_operand, ahead, with_left, Related, Matches, code_of, bounds_at, top, floor, base_of, BesideAt}
+use Rattle.cyc_lower.proofs.relation.Relation.{types_on, starts_on, types_at, starts_at, given_at, called_at, in_temporary, in_local, drops, leaves, copies, prints_only, gives_byte, DataIn, SharedAt, CallAt, to_slot, to_jump, ValueStack, PlaceStack, ConditionStack, DecidedStack, DroppedStack, AheadStack, LandsStack, LandsMade, HandsOnStack, PrintsStack, RightAt, EvaluatingAt, as_operand, into_slot, for_effect, as_right, as_condition, in_operand, ahead, with_left, Related, Matches, code_of, bounds_at, top, floor, base_of, BesideAt}
 use Rattle.cyc_lower.proofs.object_steps.Handles.{kept_holds, kept_low}
 use Rattle.cyc_lower.proofs.relation.Data.{height-least, Holds-same, Holds-above, floor-least, data_written}
 use Rattle.cyc_types.specs.Numbered.{Numbering}
@@ -59,6 +60,7 @@ use Rattle.cyc_lower.proofs.relation.Known.{global_points, global_address, first
 use Rattle.cyc_objects.proofs.NumberLemmas.{slice_get-below}
 use Rattle.cyc_plain.specs.declared.instruction.Instruction.{Instruction}
 use Rattle.cyc_lower.proofs.relation.Leads.{AreNamed}
+use Rattle.cyc_lower.proofs.relation.Tested.{compared_whole, tests_go}
 use Rattle.cyc_lower.proofs.relation.Rows.{local-points}
 use Rattle.cyc_plain.proofs.MemoryLaws.{pinned-at, pinned-inside, below-low, below-end}
 use Rattle.cyc_words.specs.Word.{add_of}
@@ -911,11 +913,17 @@ module _ (source : Program) (pages calls : ℕ) where
       (omega (arith, found.some))
 
   -- a value that is tested
-  tested_value : (g : ℕ) (locals : ℕ → Option ℕ) (kind : Kind) (o : Operand) (p : ℕ) (frames : List Frame) (k : List Entry) → ConditionStack source g comparisons.Equal o (operands.Word 0) p frames k → ValueStack source g locals kind o p frames k
-  tested_value g locals kind o p frames (Needs (Chain NoOperations) ∷ k) stack = tested_value g locals kind o p frames k stack
-  tested_value g locals kind o p frames (Needs (Choose s t) ∷ k) stack = stack
-  tested_value g locals kind o p frames (Needs (Test a s) ∷ k) stack = stack
-  tested_value g locals kind o p frames k stack = absurd stack
+  tested_value : (g : ℕ) (locals : ℕ → Option ℕ) (kind : Kind) (o : Operand) (p : ℕ) (frames : List Frame) (k : List Entry) → IsLow o (top source g k) → ConditionStack source g comparisons.Equal o (operands.Word 0) p frames k
+      → ValueStack source g locals kind o p frames k
+  tested_value g locals kind o p frames [] low (f, h, fork, first, second) = absurd first
+  tested_value g locals kind o p frames (Needs (Chain NoOperations) ∷ k) low stack = tested_value g locals kind o p frames k low stack
+  tested_value g locals kind o p frames (Needs (Chain (ThenTest u b os)) ∷ k) low stack = (low, to_jump (inr stack))
+  tested_value g locals kind o p frames (Needs (Chain os) ∷ k) low (f, h, fork, first, second) = absurd first
+  tested_value g locals kind o p frames (Needs Decide ∷ k) low stack = to_jump stack
+  tested_value g locals kind o p frames (Needs (Operate unary.Not) ∷ k) low stack = to_jump (refl, stack)
+  tested_value g locals kind o p frames (Needs (Choose s t) ∷ k) low stack = stack
+  tested_value g locals kind o p frames (Needs (Test a s) ∷ k) low stack = stack
+  tested_value g locals kind o p frames (entry ∷ k) low (f, h, fork, first, second) = absurd first
 
   -- what stands behind two operands, of which the second has no code
   alone : (g : ℕ) (failing : Comparison) (l r : Operand) (p q : ℕ) (frames : List Frame) (k : List Entry) → r ≡ operands.Word 0 → p ≡ q
@@ -927,7 +935,7 @@ module _ (source : Program) (pages calls : ℕ) where
       → PairAt (code_of source c.active.function) (bounds_at source c.active.function) (types_on source c.active.function k) a (Number 0) l r (top source c.active.function k) c.active.next q
       → ConditionStack source c.active.function comparisons.Equal l r q c.frames k → IsBegun a k e w c
   not_zero a k e w c l r q known (m, at_a, (is, end)) stack =
-      operand a k e w c l m known at_a (tested_value c.active.function e.locals (given_at source c.active.function a) l m c.frames k (alone c.active.function comparisons.Equal l r m q c.frames k is end stack))
+      operand a k e w c l m known at_a (tested_value c.active.function e.locals (given_at source c.active.function a) l m c.frames k (low_here a k c l m at_a) (alone c.active.function comparisons.Equal l r m q c.frames k is end stack))
 
   compares : (f : Option Comparison) (o : Operator) (a b : Expression) (t : Ty) (k : List Entry) (e : Environment) (w : World) (c : Configuration) (l r : Operand) (q : ℕ) → failing_comparison o ≡ f
       → At_step (Binary a (ThenCompute o b NoOperations) t) k e w c
@@ -935,18 +943,60 @@ module _ (source : Program) (pages calls : ℕ) where
       (compared_or f a b (Binary a (ThenCompute o b NoOperations) t)).right l r (top source c.active.function k) c.active.next q
       → ConditionStack source c.active.function (compared_or f a b (Binary a (ThenCompute o b NoOperations) t)).failing l r q c.frames k → IsBegun (Binary a (ThenCompute o b NoOperations) t) k e w c
   compares (Some failing) o a b t k e w c l r q is known (m, at_a, at_b) stack =
-      chain_begins (is_simple (starts_on source c.active.function k) b) a (ThenCompute o b NoOperations) t k e w c l m known at_a (λ low. (low, to_jump (failing, r, q, (is, at_b), stack)))
+      chain_begins (is_simple (starts_on source c.active.function k) b) a (ThenCompute o b NoOperations) t k e w c l m known at_a (λ low. (low, to_jump (inl (failing, r, q, (is, at_b), stack))))
   compares None o a b t k e w c l r q is known at stack = not_zero (Binary a (ThenCompute o b NoOperations) t) k e w c l r q known at stack
 
-  condition : (a : Expression) (k : List Entry) (e : Environment) (w : World) (c : Configuration) (l r : Operand) (q : ℕ) → At_step a k e w c
+  -- a condition that is negated leads to the same places the other way round
+  turned : (g : ℕ) (failing : Comparison) (l r : Operand) (p : ℕ) (frames : List Frame) (k : List Entry) → ConditionStack source g (opposite failing) l r p frames k
+      → (f : ℕ) × (h : ℕ) × ForkAt (code_of source g) (bounds_at source g) (types_on source g k) failing l r p f h × DecidedStack source g false f frames k × DecidedStack source g true h frames k
+  turned g failing l r p frames k (f, h, inl (jump, behind), first, second) = (h, f, inr (jump, behind), second, first)
+  turned g failing l r p frames k (f, h, inr (jump, behind), first, second) =
+      (h, f, inl (subst (λ (c : Comparison). CodeAt (code_of source g) p (instructions.Branch c l r h)) (opposite_twice failing) jump, behind), second, first)
+
+  compared_begins : (a : Expression) (k : List Entry) (e : Environment) (w : World) (c : Configuration) (l r : Operand) (q : ℕ) → At_step a k e w c
       → ConditionAt (code_of source c.active.function) (bounds_at source c.active.function) (types_on source c.active.function k) a l r (top source c.active.function k) c.active.next q
       → ConditionStack source c.active.function (compared_of a).failing l r q c.frames k → IsBegun a k e w c
-  condition (Unary unary.Not a) k e w c l r q (well, shared, facts, holds, names) (m, at_a, (is, end)) stack =
+  compared_begins (Unary unary.Not a) k e w c l r q (well, shared, facts, holds, names) at stack =
+      let g = c.active.function in
+      let (f, h, fork, first, second) = turned g (compared_of a).failing l r q c.frames k stack in
       silently source pages calls (Running (Evaluating (Unary unary.Not a)) k e w) (Running (Evaluating a) (Needs (Operate unary.Not) ∷ k) e w) (plain.Running c) refl
-      (shared, facts, as_operand l m at_a holds (to_jump (refl, alone c.active.function comparisons.NotEqual l r m q c.frames k is end stack)))
+      (shared, facts, as_condition f h (compared_whole (code_of source g) (bounds_at source g) (types_on source g k) a f h (top source g k) c.active.next (l, r, q, at, fork)) holds first second)
       (omega arith)
-  condition (Binary a (ThenCompute o b NoOperations) t) k e w c l r q known at stack = compares (failing_comparison o) o a b t k e w c l r q refl known at stack
-  condition a k e w c l r q known at stack = not_zero a k e w c l r q known at stack
+  compared_begins (Binary a (ThenCompute o b NoOperations) t) k e w c l r q known at stack = compares (failing_comparison o) o a b t k e w c l r q refl known at stack
+  compared_begins a k e w c l r q known at stack = not_zero a k e w c l r q known at stack
+
+  -- a condition that leads to two places
+  condition : (a : Expression) (k : List Entry) (e : Environment) (w : World) (c : Configuration) (f h : ℕ) → At_step a k e w c
+      → BranchesAt (code_of source c.active.function) (bounds_at source c.active.function) (types_on source c.active.function k) a f h (top source c.active.function k) c.active.next
+      → DecidedStack source c.active.function true f c.frames k → DecidedStack source c.active.function false h c.frames k → IsBegun a k e w c
+  condition a k e w c f h known at first second = by a known at
+    where
+      g : ℕ
+      g = c.active.function
+
+      whole : (a : Expression) → At_step a k e w c → ComparedAt (code_of source g) (bounds_at source g) (types_on source g k) a f h (top source g k) c.active.next → IsBegun a k e w c
+      whole a known (l, r, m, at, fork) = compared_begins a k e w c l r m known at (f, h, fork, first, second)
+
+      ends : (fails : Bool) (p : ℕ) → Ends (code_of source g) (bounds_at source g) (types_on source g k) f h fails p → DecidedStack source g fails p c.frames k
+      ends true p is = subst (λ q. DecidedStack source g true q c.frames k) (sym is) first
+      ends false p is = subst (λ q. DecidedStack source g false q c.frames k) (sym is) second
+
+      tests : (os : Operations) (fails : Bool) (p : ℕ) → TestsAt (code_of source g) (bounds_at source g) (types_on source g k) os fails (top source g k) p (Ends (code_of source g) (bounds_at source g) (types_on source g k) f h)
+          → TestsAt (code_of source g) (bounds_at source g) (types_on source g k) os fails (top source g k) p (λ after q. DecidedStack source g after q c.frames k)
+      tests os fails p at = tests_go (code_of source g) (bounds_at source g) (types_on source g k) ends os fails (top source g k) p at
+
+      by : (a : Expression) → At_step a k e w c → BranchesAt (code_of source g) (bounds_at source g) (types_on source g k) a f h (top source g k) c.active.next → IsBegun a k e w c
+      by (Unary unary.Not a) known (inl at) = whole (Unary unary.Not a) known at
+      by (Unary unary.Not a) (well, shared, facts, holds, names) (inr at) =
+          silently source pages calls (Running (Evaluating (Unary unary.Not a)) k e w) (Running (Evaluating a) (Needs (Operate unary.Not) ∷ k) e w) (plain.Running c) refl
+          (shared, facts, as_condition h f at holds second first)
+          (omega arith)
+      by (Binary a (ThenTest u b os) t) known (inl at) = whole (Binary a (ThenTest u b os) t) known at
+      by (Binary a (ThenTest u b os) t) (well, shared, facts, holds, names) (inr (x, y, at, fails, passes)) =
+          silently source pages calls (Running (Evaluating (Binary a (ThenTest u b os) t)) k e w) (Running (Evaluating a) (Needs (Chain (ThenTest u b os)) ∷ k) e w) (plain.Running c) refl
+          (shared, facts, as_condition x y at holds (tests (ThenTest u b os) true x fails) (tests (ThenTest u b os) false y passes))
+          (omega arith)
+      by a known at = whole a known at
 
   -- a fat pointer whose index is evaluated behind it: it comes to temporaries, or stays in its local
   pointer_begins : (t : Tables) (peek : Option ℕ) (target : Option Kind) (a i : Expression) (n : ℕ) (x : Operand) (m r q : ℕ) (k : List Entry) (e : Environment) (w : World) (c : Configuration)
@@ -1026,4 +1076,4 @@ module _ (source : Program) (pages calls : ℕ) where
   evaluating a k e w c names well (shared, facts, into_slot d q at holds lands) = comes a k e w c d q (well, shared, facts, holds, names) at lands
   evaluating a k e w c names well (shared, facts, for_effect q at holds stack) = for_its_effect a k e w c q (well, shared, facts, holds, names) at stack
   evaluating a k e w c names well (shared, facts, as_right right) = beside_left a k e w c well shared facts right
-  evaluating a k e w c names well (shared, facts, as_condition l r q at holds stack) = condition a k e w c l r q (well, shared, facts, holds, names) at stack
+  evaluating a k e w c names well (shared, facts, as_condition f h at holds first second) = condition a k e w c f h (well, shared, facts, holds, names) at first second

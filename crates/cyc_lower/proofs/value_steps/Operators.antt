@@ -46,7 +46,7 @@ use Rattle.cyc_lower.proofs.relation.Stands.{OperandBy, CheckAt, CheckedAt, Oper
 use Rattle.cyc_objects.specs.Tables.{Tables}
 use Rattle.cyc_objects.specs.Words.{Is}
 use Rattle.cyc_lower.proofs.relation.HeldValues.{IsIn, Holds, held, IsLow}
-use Rattle.cyc_lower.proofs.relation.Relation.{types_on, starts_on, types_at, in_temporary, DataIn, SharedAt, to_slot, to_jump, ValueStack, ConditionStack, LandsStack, AppliedStack, ReadyAt, as_operand, into_slot, as_right, in_operand, compared, with_left, Related, Matches, code_of, bounds_at, top, floor, BesideAt, EvaluatingAt}
+use Rattle.cyc_lower.proofs.relation.Relation.{types_on, starts_on, types_at, in_temporary, DataIn, SharedAt, to_slot, to_jump, ValueStack, ConditionStack, LandsStack, AppliedStack, ReadyAt, as_operand, into_slot, as_right, in_operand, with_left, Related, Matches, code_of, bounds_at, top, floor, BesideAt, EvaluatingAt}
 use Rattle.cyc_lower.proofs.object_steps.Handles.{kept_holds}
 use Rattle.cyc_lower.proofs.relation.Data.{in_words, height-least, Holds-same, null_is, data_written, Is-same}
 use Rattle.cyc_lower.proofs.relation.Accesses.{IsWell, is_fitting}
@@ -56,7 +56,8 @@ use Rattle.cyc_lower.proofs.pointer_steps.PointerSteps.{right_follows}
 use Rattle.cyc_lower.proofs.pointer_steps.FatSteps.{widens}
 use Rattle.cyc_lower.proofs.pointer_steps.ThinSteps.{narrows}
 use Rattle.cyc_lower.proofs.value_steps.Evaluations.{only_computed, known_simple, landed, landed_word, lands_at, landed_char}
-use Rattle.cyc_lower.proofs.value_steps.ValueWords.{of_kind, int_of, as_wide, untrue, fails_by, other_place, zero_is, int_is, not_zero, not_widened, not_narrowed, kept_at, kept_in, char_low, low_byte_of, int_in}
+use Rattle.cyc_lower.proofs.value_steps.Decided.{given_compared, tested_given}
+use Rattle.cyc_lower.proofs.value_steps.ValueWords.{of_kind, int_of, as_wide, fails_by, other_place, zero_is, int_is, not_zero, not_widened, not_narrowed, kept_at, kept_in, char_low, low_byte_of, int_in}
 use Rattle.cyc_plain.specs.declared.instruction.UnaryOperator.{UnaryOperator as PlainUnary}
 use Rattle.cyc_types.specs.Numbered.{Numbering}
 
@@ -304,23 +305,17 @@ module _ (source : Program) (pages calls : ℕ) where
       (omega arith)
   widened i v o k e w c well stands stack = absurd (well refl)
 
-  -- a condition that is negated is not computed
-  negates : (v : Kinded) (o : Operand) (k : List Entry) (e : Environment) (w : World) (c : Configuration) → IsWell (step source (Running (Given v) (Needs (Operate unary.Not) ∷ k) e w)) → Stands v o k e w c
-      → ConditionStack source c.active.function comparisons.NotEqual o (operands.Word 0) c.active.next c.frames k → GoesBehind v (Needs (Operate unary.Not) ∷ k) e w c
-  negates v o k e w c well (shared, facts, is, holds) stack =
-      let x = operand_word c.active.slots o in
-      silently source pages calls (Running (Given v) (Needs (Operate unary.Not) ∷ k) e w) (Running (Given (int_of (truth (x == 0)))) k e w) (plain.Running c)
-      (ap (λ z. computed kinds.Int (truth_result z) k e w) (zero_is shared.tables v c.active.slots o (λ none. well (ap (λ z. status_in (status_of (computed kinds.Int (truth_result z) k e w))) none)) is))
-      (shared, compared comparisons.NotEqual o (operands.Word 0) facts (ap Some (untrue (x == 0))) stack)
-      (omega arith)
-
   pub operates : (u : UnaryOperator) (v : Kinded) (o : Operand) (k : List Entry) (e : Environment) (w : World) (c : Configuration)
       → IsWell (step source (Running (Given v) (Needs (Operate u) ∷ k) e w)) → Stands v o k e w c
       → ValueStack source c.active.function e.locals v.kind o c.active.next c.frames (Needs (Operate u) ∷ k) → GoesBehind v (Needs (Operate u) ∷ k) e w c
   operates unary.Widen v o k e w c well stands stack = widened v.kind v.value o k e w c well stands stack
   operates u v o k e w c well (shared, facts, is, holds) (to_slot (d, here, lands)) =
       operates_value u v.kind v.value o d k e w c well shared is here (lands_word (unary_kind u) d k e w c (unary_word u) shared facts holds lands)
-  operates u v o k e w c well stands (to_jump (is, stack)) = subst (λ x. GoesBehind v (Needs (Operate x) ∷ k) e w c) (sym is) (negates v o k e w c (subst (λ x. IsWell (step source (Running (Given v) (Needs (Operate x) ∷ k) e w))) is well) stands stack)
+  operates unary.Not v o k e w c well (shared, facts, is, holds) (to_jump (same, stack)) =
+      tested_given source pages calls v o (Needs (Operate unary.Not) ∷ k) e w c (λ none. well (ap (λ z. status_in (status_of (computed kinds.Int (truth_result z) k e w))) none)) shared facts is holds stack
+  operates unary.Negate v o k e w c well stands (to_jump (same, stack)) = absurd (let f : unary.Negate ≡ unary.Not = same in cc)
+  operates unary.Complement v o k e w c well stands (to_jump (same, stack)) = absurd (let f : unary.Complement ≡ unary.Not = same in cc)
+  operates unary.LowByte v o k e w c well stands (to_jump (same, stack)) = absurd (let f : unary.LowByte ≡ unary.Not = same in cc)
 
   -- ---- divisions
 
@@ -441,21 +436,22 @@ module _ (source : Program) (pages calls : ℕ) where
   -- a condition that is a comparison is not computed
   compares_words : (u : Operator) (i j : Kind) (failing : Comparison) (a b : ℕ) (l r : Operand) (k : List Entry) (e : Environment) (w : World) (c : Configuration) → failing_comparison u ≡ Some failing
       → step source (Running (Given (of_kind j (Int b))) (Needs (Apply u (of_kind i (Int a))) ∷ k) e w) ≡ Running (Given (int_of (binary_word u a b))) k e w
-      → (shared : SharedAt source pages calls k e w c) → DataIn source shared.tables c.active.slots k e w c → operand_word c.active.slots l ≡ a → operand_word c.active.slots r ≡ b
+      → (shared : SharedAt source pages calls k e w c) → DataIn source shared.tables c.active.slots k e w c → Holds shared.tables c.active.slots (floor source c.active.function k) (held k) → operand_word c.active.slots l ≡ a → operand_word c.active.slots r ≡ b
       → ConditionStack source c.active.function failing l r c.active.next c.frames k → GoesBehind (of_kind j (Int b)) (Needs (Apply u (of_kind i (Int a))) ∷ k) e w c
-  compares_words u i j failing a b l r k e w c is does shared facts is_left is_right stack =
+  compares_words u i j failing a b l r k e w c is does shared facts holds is_left is_right stack =
       let x = operand_word c.active.slots l in
+      let fails = fails_by u failing a b is ∙ ap (λ y. compares failing y b) (sym is_left) ∙ ap (compares failing x) (sym is_right) in
       silently source pages calls (Running (Given (of_kind j (Int b))) (Needs (Apply u (of_kind i (Int a))) ∷ k) e w) (Running (Given (int_of (binary_word u a b))) k e w) (plain.Running c) does
-      (shared, compared failing l r facts (ap Some (fails_by u failing a b is ∙ ap (λ y. compares failing y b) (sym is_left) ∙ ap (compares failing x) (sym is_right))) stack)
+      (shared, given_compared source pages calls shared.tables (int_of (binary_word u a b)) failing l r k e w c _ (ap Some fails) refl facts holds stack)
       (omega arith)
 
   compares_both : (u : Operator) (i j : Kind) (failing : Comparison) (a b : ℕ) (l r : Operand) (k : List Entry) (e : Environment) (w : World) (c : Configuration) → failing_comparison u ≡ Some failing
-      → (shared : SharedAt source pages calls k e w c) → DataIn source shared.tables c.active.slots k e w c → operand_word c.active.slots l ≡ a → operand_word c.active.slots r ≡ b
+      → (shared : SharedAt source pages calls k e w c) → DataIn source shared.tables c.active.slots k e w c → Holds shared.tables c.active.slots (floor source c.active.function k) (held k) → operand_word c.active.slots l ≡ a → operand_word c.active.slots r ≡ b
       → ConditionStack source c.active.function failing l r c.active.next c.frames k → GoesBehind (of_kind j (Int b)) (Needs (Apply u (of_kind i (Int a))) ∷ k) e w c
-  compares_both operators.Divide i j failing a b l r k e w c is shared facts is_left is_right stack = absurd (none-some failing is)
-  compares_both operators.Remainder i j failing a b l r k e w c is shared facts is_left is_right stack = absurd (none-some failing is)
-  compares_both u i j failing a b l r k e w c is shared facts is_left is_right stack =
-      compares_words u i j failing a b l r k e w c is refl shared facts is_left is_right stack
+  compares_both operators.Divide i j failing a b l r k e w c is shared facts holds is_left is_right stack = absurd (none-some failing is)
+  compares_both operators.Remainder i j failing a b l r k e w c is shared facts holds is_left is_right stack = absurd (none-some failing is)
+  compares_both u i j failing a b l r k e w c is shared facts holds is_left is_right stack =
+      compares_words u i j failing a b l r k e w c is refl shared facts holds is_left is_right stack
 
   -- both operands are there
   applies_values : (u : Operator) (i j : Kind) (left v : Value) (k : List Entry) (e : Environment) (w : World) (c : Configuration)
@@ -466,7 +462,7 @@ module _ (source : Program) (pages calls : ℕ) where
       computes u i j a b l r d k e w c q shared facts (int_is shared.tables i a c.active.slots l is_left) (int_is shared.tables j b c.active.slots r is) here
       (λ m x end x_is. landed_word source pages calls (binary_word u a b) x d k e w (at c m) q x_is shared facts holds end lands)
   applies_values u i j (Int a) (Int b) k e w c well shared facts (r, is, (l, is_left, low, inl (holds, to_jump (failing, fails, stack)))) =
-      compares_both u i j failing a b l r k e w c fails shared facts (int_is shared.tables i a c.active.slots l is_left) (int_is shared.tables j b c.active.slots r is) stack
+      compares_both u i j failing a b l r k e w c fails shared facts holds (int_is shared.tables i a c.active.slots l is_left) (int_is shared.tables j b c.active.slots r is) stack
   applies_values u i j (Int a) (Int b) k e w c well shared facts (r, is, (l, is_left, low, inr (q, here, beside))) =
       let free = top source c.active.function k in
       computes u i j a b l r free k e w c q shared facts (int_is shared.tables i a c.active.slots l is_left) (int_is shared.tables j b c.active.slots r is) here
@@ -505,7 +501,9 @@ module _ (source : Program) (pages calls : ℕ) where
 
   pub decides_truth : (v : Kinded) (o : Operand) (k : List Entry) (e : Environment) (w : World) (c : Configuration) → IsWell (step source (Running (Given v) (Needs Decide ∷ k) e w)) → Stands v o k e w c
       → ValueStack source c.active.function e.locals v.kind o c.active.next c.frames (Needs Decide ∷ k) → GoesBehind v (Needs Decide ∷ k) e w c
-  decides_truth v o k e w c well (shared, facts, is, holds) (d, q, there, (first, second, end), lands) =
+  decides_truth v o k e w c well (shared, facts, is, holds) (to_jump stack) =
+      tested_given source pages calls v o (Needs Decide ∷ k) e w c (λ none. well (ap (λ z. status_in (status_of (computed kinds.Int (truth_of z) k e w))) none)) shared facts is holds stack
+  decides_truth v o k e w c well (shared, facts, is, holds) (to_slot (d, q, there, (first, second, end), lands)) =
       let x = c.active.slots (top source c.active.function k) in
       let is_x : IsIn shared.tables v c.active.slots (operands.Slot (top source c.active.function k)) = subst (IsIn shared.tables v c.active.slots) there is in
       by_two source pages calls (negated c k)
@@ -567,13 +565,13 @@ module _ (source : Program) (pages calls : ℕ) where
       let does = ap (λ (x : Option Bool). tested x logical.AndThen b os k e w) (zero_is shared.tables v c.active.slots (operands.Slot (top source c.active.function k)) (λ none. well (ap (λ x. status_in (status_of (tested x logical.AndThen b os k e w))) none)) is ∙ ap Some told) in
       by_one source pages calls does shared jump
       (λ choice. not_taken (Running (Evaluating b) (Needs Decide ∷ Needs (Chain os) ∷ k) e w) c _ m told
-      (shared, facts, into_slot free m at_b holds (in_temporary (omega arith) (next_slot os d free, r, refl, truths, chain_lands os kinds.Int c.active.function e.locals d r q c.frames k ops lands))))
+      (shared, facts, into_slot free m at_b holds (in_temporary (omega arith) (to_slot (next_slot os d free, r, refl, truths, chain_lands os kinds.Int c.active.function e.locals d r q c.frames k ops lands)))))
   tests logical.OrElse b os v true k e w c d q well told (shared, facts, is, holds) (m, r, there, jump, at_b, truths, ops) lands =
       let free = top source c.active.function k in
       let does = ap (λ (x : Option Bool). tested x logical.OrElse b os k e w) (zero_is shared.tables v c.active.slots (operands.Slot (top source c.active.function k)) (λ none. well (ap (λ x. status_in (status_of (tested x logical.OrElse b os k e w))) none)) is ∙ ap Some told) in
       by_one source pages calls does shared jump
       (λ choice. not_taken (Running (Evaluating b) (Needs Decide ∷ Needs (Chain os) ∷ k) e w) c _ m (ap not told)
-      (shared, facts, into_slot free m at_b holds (in_temporary (omega arith) (next_slot os d free, r, refl, truths, chain_lands os kinds.Int c.active.function e.locals d r q c.frames k ops lands))))
+      (shared, facts, into_slot free m at_b holds (in_temporary (omega arith) (to_slot (next_slot os d free, r, refl, truths, chain_lands os kinds.Int c.active.function e.locals d r q c.frames k ops lands)))))
   tests logical.OrElse b os v false k e w c d q well told (shared, facts, is, holds) (m, r, there, jump, at_b, truths, ops) lands =
       let does = ap (λ (x : Option Bool). tested x logical.OrElse b os k e w) (zero_is shared.tables v c.active.slots (operands.Slot (top source c.active.function k)) (λ none. well (ap (λ x. status_in (status_of (tested x logical.OrElse b os k e w))) none)) is ∙ ap Some told) in
       decided_at_once logical.OrElse b os v false k e w c _ (next_slot os d (top source c.active.function k)) m r does jump (λ choice. ap (λ x. plain_step.branches c (not x) m) told)
@@ -654,7 +652,7 @@ module _ (source : Program) (pages calls : ℕ) where
   chains (ThenCompute u b os) v o k e w c well stands (low, to_slot (d, q, (r, m, s, at_b, at, ops), lands)) =
       chain_goes_on (is_simple (starts_on source c.active.function k) b) u b os v o k e w c r m well refl low stands at_b
       (to_slot (next_slot os d (top source c.active.function k), s, at, chain_lands os kinds.Int c.active.function e.locals d s q c.frames k ops lands))
-  chains (ThenCompute u b NoOperations) v o k e w c well stands (low, to_jump (failing, r, q, (is, at_b), stack)) =
+  chains (ThenCompute u b NoOperations) v o k e w c well stands (low, to_jump (inl (failing, r, q, (is, at_b), stack))) =
       chain_goes_on (is_simple (starts_on source c.active.function k) b) u b NoOperations v o k e w c r q well refl low stands at_b (to_jump (failing, is, stack))
   chains (ThenTest u b os) v o k e w c well (shared, facts, is, holds) (low, to_slot (d, q, (m, r, there, jump, at_b, truths, ops), lands)) =
       tests u b os v (c.active.slots (top source c.active.function k) == 0) k e w c d q well refl
@@ -679,4 +677,7 @@ module _ (source : Program) (pages calls : ℕ) where
             (subst (IsIn shared.tables v c.active.slots) there is) holds at_b here (chain_lands os (operator_kind u) g e.locals d s q c.frames k ops lands),
       )
       (omega arith)
-  chains os v o k e w c well stands (low, to_jump (failing, r, q, at, stack)) = absurd at
+  chains (ThenTest u b os) v o k e w c well (shared, facts, is, holds) (low, to_jump (inr stack)) =
+      tested_given source pages calls v o (Needs (Chain (ThenTest u b os)) ∷ k) e w c (λ none. well (ap (λ z. status_in (status_of (tested z u b os k e w))) none)) shared facts is holds stack
+  chains os v o k e w c well stands (low, to_jump (inl (failing, r, q, at, stack))) = absurd at
+  chains os v o k e w c well stands (low, to_jump (inr (f, h, fork, first, second))) = absurd first

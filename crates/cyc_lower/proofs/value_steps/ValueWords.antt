@@ -249,6 +249,16 @@ opposed comparisons.GreaterOrEqual a b = sym (not_at_most (signed b) (signed a))
 opposed comparisons.LessUnsigned a b = grind arith
 opposed comparisons.GreaterOrEqualUnsigned a b = grind arith
 
+pub opposite_twice : (c : Comparison) → opposite (opposite c) ≡ c
+opposite_twice comparisons.Equal = refl
+opposite_twice comparisons.NotEqual = refl
+opposite_twice comparisons.Less = refl
+opposite_twice comparisons.LessOrEqual = refl
+opposite_twice comparisons.Greater = refl
+opposite_twice comparisons.GreaterOrEqual = refl
+opposite_twice comparisons.LessUnsigned = refl
+opposite_twice comparisons.GreaterOrEqualUnsigned = refl
+
 -- two different instructions stand in two places
 pub other_place : (code : List Instruction) (p q : ℕ) (i j : Instruction) → At code p i → At code q j → i ≢ j → p ≢ q
 other_place code p q i j at_p at_q other same = other (same_Some i j (sym at_p ∙ ap (slice_get code) same ∙ at_q))

@@ -1,5 +1,5 @@
 -- The steps that hand a value on, to whatever waits for it.
-use Rattle.std.proofs.Common.{◌≡◌, ℕ, suc, ◌+◌, Bool, true, false, not, List, [], ◌∷◌, Option, Some, slice_get, refl, sym, ap, subst, ◌∙◌, arith, inl, inr, length}
+use Rattle.std.proofs.Common.{◌≡◌, ℕ, suc, ◌+◌, Bool, true, false, List, [], ◌∷◌, Option, Some, slice_get, refl, sym, ap, subst, ◌∙◌, arith, inl, inr, length}
 use Rattle.std.specs.Prelude.{◌==◌, ◌&&◌, if◌then◌else◌, ◌%◌, ◌^◌, option_map, is_some}
 use Rattle.std.proofs.lemmas.Option.{same_Some}
 use Rattle.cyc_words.proofs.Booleans.{and_left, and_right}
@@ -9,22 +9,20 @@ use Rattle.cyc_types.specs.declared.typed.Callee.{Callee}
 use Rattle.cyc_types.specs.declared.typed.UnaryOperator.TheVariants as unary
 use Rattle.cyc_types.specs.declared.typed.Operator.{Operator}
 use Rattle.cyc_types.specs.declared.typed.Callee.TheVariants as callees
-use Rattle.cyc_types.specs.TypedTrees.{Expression, Initial, Arguments, NoArguments, MoreArguments, Operations, NoOperations, ThenCompute, Statement, Items, Program}
-use Rattle.cyc_plain.specs.declared.instruction.Comparison.{Comparison}
+use Rattle.cyc_types.specs.TypedTrees.{Expression, Initial, Arguments, NoArguments, MoreArguments, Operations, NoOperations, ThenCompute, Items, Program}
 use Rattle.cyc_plain.specs.declared.instruction.Comparison.TheVariants as comparisons
 use Rattle.cyc_plain.specs.declared.instruction.Operand.{Operand}
 use Rattle.cyc_plain.specs.declared.instruction.Operand.TheVariants as operands
-use Rattle.cyc_plain.specs.Operators.{compares}
 use Rattle.cyc_plain.specs.State as plain
 use Rattle.cyc_plain.specs.State.{Words, Configuration}
 use Rattle.cyc_plain.specs.Step.{operand_word, with_slots, at, advanced}
 use Rattle.cyc_plain.specs.WellFormed.{HasWords}
 use Rattle.cyc_meaning.specs.Values.{Value, Int, Null, Thin, Fat, Handle, Key, Operand as Kinded, is_kind, is_thin, words_of_kind, bytes_of_kind}
-use Rattle.cyc_meaning.specs.Operators.{is_zero, null_exception, unary_kind}
+use Rattle.cyc_meaning.specs.Operators.{null_exception, unary_kind}
 use Rattle.cyc_meaning.specs.Pointers.{followed}
 use Rattle.cyc_meaning.specs.Places.{arrives, member_of}
 use Rattle.cyc_meaning.specs.Allocation.{makes_by}
-use Rattle.cyc_meaning.specs.State.{Region, World, Environment, with_local, made, variable, region_at, ConvertTo, Operate, Chain, Apply, ApplyPointer, Follow, Decide, Store, Pass, MakePlain, MakeFields, MakeArray, FillElement, Initialise, Choose, Test, Return, Entry, Needs, Discard, Rest, Join, Loop, Evaluating, Given, GivenPlace, Executing, Proceeding, Calling, Returning, Throwing, Running, FollowMember, StoreCell, FreeObject, ThrowWith, CountElements, Index, Advance, InRegion, PlaceBy, BesideHandle, CloseByKey, OpenBy, AliasOf, status_of}
+use Rattle.cyc_meaning.specs.State.{Region, World, Environment, with_local, made, variable, region_at, ConvertTo, Operate, Chain, Apply, ApplyPointer, Follow, Decide, Store, Pass, MakePlain, MakeFields, MakeArray, FillElement, Initialise, Choose, Test, Return, Entry, Needs, Discard, Rest, Evaluating, Given, GivenPlace, Proceeding, Calling, Returning, Throwing, Running, FollowMember, StoreCell, FreeObject, ThrowWith, CountElements, Index, Advance, InRegion, PlaceBy, BesideHandle, CloseByKey, OpenBy, AliasOf, status_of}
 use Rattle.cyc_meaning.specs.Step.{leads_to, wrong, stored_at, declared, passes, chosen, looped, step}
 use Rattle.cyc_meaning.specs.SourceMachine.{status_in}
 use Rattle.cyc_lower.specs.declared.statements.Exits.{Exits}
@@ -33,7 +31,7 @@ use Rattle.cyc_lower.proofs.slots.Slots.{slot-room, room-inside}
 use Rattle.cyc_lower.proofs.slots.Widths.{kind_positive, same_kind, HasRoom, Outside, made_kind, kind_in}
 use Rattle.cyc_lower.proofs.relation.Moves.{moved_slots, moves, moved_elsewhere, moved_is}
 use Rattle.cyc_lower.specs.ValueCode.{next_slot, followed_operand}
-use Rattle.cyc_lower.specs.ControlCode.{body_target, tag_operand}
+use Rattle.cyc_lower.specs.ControlCode.{tag_operand}
 use Rattle.cyc_lower.specs.ExpressionCode.{operand_of, value_slot, are_simple}
 use Rattle.cyc_lower.specs.Lowering.{lower_program}
 use Rattle.cyc_lower.proofs.relation.Stands.{OperandBy, CheckAt, OperatorAt, ExpressionAt, OperationsAt, FollowedAt, MadeAt, ValueAt}
@@ -43,7 +41,7 @@ use Rattle.cyc_objects.proofs.Pointers.{pointer-word}
 use Rattle.cyc_objects.proofs.Values.{Grows-row, Is-grows}
 use Rattle.cyc_lower.proofs.relation.Sharing.{shared_declared, row_declared}
 use Rattle.cyc_lower.proofs.relation.HeldValues.{IsIn, with_kind, Holds, kept, callers, row_of, IsLow}
-use Rattle.cyc_lower.proofs.relation.Relation.{types_on, starts_on, types_at, starts_at, in_place, by_jump, DataIn, SharedAt, ValueStack, ConditionStack, DroppedStack, AheadStack, HandsOnStack, ReadyAt, as_right, in_operand, nowhere, ahead, compared, with_left, behind_statement, Matches, code_of, bounds_at, top, floor, PlaceStack, call_slots, BesideAt, PartsAt, in_parts, StatementStack}
+use Rattle.cyc_lower.proofs.relation.Relation.{types_on, starts_on, types_at, starts_at, DataIn, SharedAt, ValueStack, DroppedStack, AheadStack, HandsOnStack, ReadyAt, as_right, in_operand, nowhere, ahead, decided, with_left, behind_statement, Matches, code_of, bounds_at, top, floor, PlaceStack, call_slots, BesideAt, PartsAt, in_parts, StatementStack}
 use Rattle.cyc_lower.proofs.object_steps.Handles.{kept_holds}
 use Rattle.cyc_lower.proofs.relation.Data.{in_words, data_declared, data_grows, null_is, points_in, handlers_beside}
 use Rattle.cyc_lower.proofs.relation.Accesses.{IsWell, is_fitting, is_declared, home_there, is_member}
@@ -61,8 +59,9 @@ use Rattle.cyc_lower.proofs.value_steps.Evaluations.{known_simple, IsStep, passe
 use Rattle.cyc_lower.proofs.region_steps.RegionSteps.{opened_given, aliased_given}
 use Rattle.cyc_lower.proofs.relation.Rows.{row-fits, row-variable, declared_low}
 use Rattle.cyc_lower.proofs.relation.Leads.{AreNamed}
-use Rattle.cyc_lower.proofs.value_steps.ValueWords.{of_kind, int_of, goes_wrong, opposed, zero_is, int_is, not_zero, not_fat, int_at, int_in}
-use Rattle.cyc_lower.proofs.value_steps.Operators.{taken, not_taken, guard_fails, guard_passes, Stands, GoesBehind, converts, converts_ahead, operates_value, operates, stays_beside, applies, decides_truth, awaited, chains}
+use Rattle.cyc_lower.proofs.value_steps.Decided.{decided_given, tested_given}
+use Rattle.cyc_lower.proofs.value_steps.ValueWords.{of_kind, int_of, goes_wrong, int_is, not_zero, not_fat, int_at, int_in}
+use Rattle.cyc_lower.proofs.value_steps.Operators.{guard_fails, guard_passes, Stands, GoesBehind, converts, converts_ahead, operates_value, operates, stays_beside, applies, decides_truth, awaited, chains}
 use Rattle.cyc_lower.proofs.value_steps.Assignments.{stores_at, stores_cell, catches_up}
 
 module _ (source : Program) (pages calls : ℕ) where
@@ -177,31 +176,6 @@ module _ (source : Program) (pages calls : ℕ) where
             stack,
       )
       (omega arith)
-
-  -- a condition that has failed or not, by the comparison of two operands
-  chooses : (s t : Statement) (v : Kinded) (f : Bool) (failing : Comparison) (l r : Operand) (k : List Entry) (e : Environment) (w : World) (c : Configuration)
-      → is_zero v.value ≡ Some f → compares failing (operand_word c.active.slots l) (operand_word c.active.slots r) ≡ f
-      → (shared : SharedAt source pages calls k e w c) → DataIn source shared.tables c.active.slots (Needs (Choose s t) ∷ k) e w c
-      → ConditionStack source c.active.function failing l r c.active.next c.frames (Needs (Choose s t) ∷ k) → GoesBehind source pages calls v (Needs (Choose s t) ∷ k) e w c
-  chooses s t v true failing l r k e w c fails told shared facts (exits, m, q, jump, at_s, over, at_t, stack) =
-      by_one source pages calls (ap (λ (x : Option Bool). chosen x s t k e w) fails) shared jump
-      (λ choice. taken source pages calls (Running (Executing t) (Join ∷ k) e w) c _ (m + 1) told (shared, facts, (exits, q, at_t, (q, in_place refl, stack))))
-  chooses s t v false failing l r k e w c fails told shared facts (exits, m, q, jump, at_s, over, at_t, stack) =
-      by_one source pages calls (ap (λ (x : Option Bool). chosen x s t k e w) fails) shared jump
-      (λ choice. not_taken source pages calls (Running (Executing s) (Join ∷ k) e w) c _ (m + 1) told (shared, facts, (exits, m, at_s, (q, by_jump over, stack))))
-
-  loops : (a : Expression) (s : Statement) (v : Kinded) (f : Bool) (failing : Comparison) (l r : Operand) (k : List Entry) (e : Environment) (w : World) (c : Configuration)
-      → is_zero v.value ≡ Some f → compares failing (operand_word c.active.slots l) (operand_word c.active.slots r) ≡ f
-      → (shared : SharedAt source pages calls k e w c) → DataIn source shared.tables c.active.slots (Needs (Test a s) ∷ k) e w c
-      → ConditionStack source c.active.function failing l r c.active.next c.frames (Needs (Test a s) ∷ k) → GoesBehind source pages calls v (Needs (Test a s) ∷ k) e w c
-  loops a s v true failing l r k e w c fails told shared facts (exits, outer, m, q, around, jump, end, stack) =
-      by_one source pages calls (ap (λ (z : Option Bool). looped z a s k e w) fails) shared jump
-      (λ choice. not_taken source pages calls (Running Proceeding k e w) c _ (body_target exits.head) (opposed failing _ _ ∙ ap not told)
-      (shared, behind_statement outer facts (subst (λ p. StatementStack source c.active.function outer p c.frames k) (sym end) stack)))
-  loops a s v false failing l r k e w c fails told shared facts (exits, outer, m, q, (loop_is, function_is, x, y, n, enter, leave, at_s, at_a, again, over, behind, after), jump, end, stack) =
-      by_one source pages calls (ap (λ (z : Option Bool). looped z a s k e w) fails) shared jump
-      (λ choice. taken source pages calls (Running (Executing s) (Loop a s ∷ k) e w) c _ (body_target exits.head) (opposed failing _ _ ∙ ap not told)
-      (shared, facts, (exits, m, at_s, (outer, q, (loop_is, function_is, x, y, n, enter, leave, at_s, at_a, again, over, behind, after), stack))))
 
   -- ---- exceptions
 
@@ -335,9 +309,9 @@ module _ (source : Program) (pages calls : ℕ) where
   stands_given v o (Needs (MakeFields owner before cs) ∷ k) e w c of_words words names well (shared, facts, is, holds) stack = fields_made source pages calls owner before cs v o k e w c well shared facts is holds stack
   stands_given v o (Needs (Initialise n kind js) ∷ k) e w c of_words words names well stands stack = initialises n kind js v o k e w c well stands stack
   stands_given v o (Needs (Choose s t) ∷ k) e w c of_words words names well (shared, facts, is, holds) stack =
-      chooses s t v (operand_word c.active.slots o == 0) comparisons.Equal o (operands.Word 0) k e w c (zero_is shared.tables v c.active.slots o (λ none. well (ap (λ x. status_in (status_of (chosen x s t k e w))) none)) is) refl shared facts stack
+      tested_given source pages calls v o (Needs (Choose s t) ∷ k) e w c (λ none. well (ap (λ x. status_in (status_of (chosen x s t k e w))) none)) shared facts is tt stack
   stands_given v o (Needs (Test a s) ∷ k) e w c of_words words names well (shared, facts, is, holds) stack =
-      loops a s v (operand_word c.active.slots o == 0) comparisons.Equal o (operands.Word 0) k e w c (zero_is shared.tables v c.active.slots o (λ none. well (ap (λ x. status_in (status_of (looped x a s k e w))) none)) is) refl shared facts stack
+      tested_given source pages calls v o (Needs (Test a s) ∷ k) e w c (λ none. well (ap (λ x. status_in (status_of (looped x a s k e w))) none)) shared facts is tt stack
   stands_given v o (Needs Return ∷ k) e w c of_words words names well (shared, facts, is, holds) (exits, q, s, r, there, (u, closing, marks), here, single, stack) =
       leaving source pages calls false (Given v) (Returning (Some v)) (Needs Return ∷ k) k e w c exits.in_function u r refl shared (omega arith) (record_left source c.active.function exits q c.frames k stack).1 closing marks facts.1
       (λ handlers stand marks_there marked. (shared_leaving source pages calls false k e w c shared, (facts.0, stand), r, marks_there, marked, (exits, q, s, here, subst (IsIn shared.tables v c.active.slots) there is, single, stack)))
@@ -402,17 +376,6 @@ module _ (source : Program) (pages calls : ℕ) where
       (subst (λ x. (m : ℕ) → Outside x (words_of_kind v.kind) m → old m ≡ c.active.slots m) (sym there) same) facts
       room of_type (subst (Is shared.tables v.kind v.value c.active.slots) (sym there) is) (q, items, stack)
   ahead_given v n old k e w c well shared same facts is holds stack = absurd stack
-
-  compared_given : (v : Kinded) (failing : Comparison) (l r : Operand) (k : List Entry) (e : Environment) (w : World) (c : Configuration) → (shared : SharedAt source pages calls k e w c) → DataIn source shared.tables c.active.slots k e w c
-      → is_zero v.value ≡ Some (compares failing (operand_word c.active.slots l) (operand_word c.active.slots r))
-      → ConditionStack source c.active.function failing l r c.active.next c.frames k → GoesBehind source pages calls v k e w c
-  compared_given v failing l r (Needs (Chain NoOperations) ∷ k) e w c shared facts fails stack =
-      silently source pages calls (Running (Given v) (Needs (Chain NoOperations) ∷ k) e w) (Running (Given v) k e w) (plain.Running c) refl
-      (shared, compared failing l r facts fails stack)
-      (omega arith)
-  compared_given v failing l r (Needs (Choose s t) ∷ k) e w c shared facts fails stack = chooses s t v _ failing l r k e w c fails refl shared facts stack
-  compared_given v failing l r (Needs (Test a s) ∷ k) e w c shared facts fails stack = loops a s v _ failing l r k e w c fails refl shared facts stack
-  compared_given v failing l r k e w c shared facts fails stack = absurd stack
 
   -- the next operator of a chain that is a right operand, with its own right operand, which has no code
   simple_goes_on : (u : Operator) (b : Expression) (os : Operations) (v : Kinded) (o : Operand) (q : ℕ) (k : List Entry) (e : Environment) (w : World) (c : Configuration) → IsWell (step source (Running (Given v) (Needs (Chain (ThenCompute u b os)) ∷ k) e w))
@@ -500,6 +463,6 @@ module _ (source : Program) (pages calls : ℕ) where
   given v k e w c of_words words names well (shared, in_operand o facts is holds stack) = stands_given v o k e w c of_words words names well (shared, facts, is, holds) stack
   given v k e w c of_words words names well (shared, nowhere facts stack) = dropped_given v k e w c shared facts stack
   given v k e w c of_words words names well (shared, ahead n (old, same, facts) is holds stack) = ahead_given v n old k e w c well shared same facts is holds stack
-  given v k e w c of_words words names well (shared, compared failing l r facts fails stack) = compared_given v failing l r k e w c shared facts fails stack
+  given v k e w c of_words words names well (shared, decided fails p facts zero holds leads stack) = decided_given source pages calls v fails p k e w c shared facts zero holds leads stack
   given v k e w c of_words words names well (shared, with_left facts ready) = left_given v k e w c well shared facts ready
   given v k e w c of_words words names well (shared, in_parts facts parts) = parts_given v k e w c well shared facts parts

@@ -27,8 +27,9 @@ use Rattle.cyc_select.specs.declared.plan.Test.{Test}
 use Rattle.cyc_select.specs.declared.plan.Test.TheVariants as tests
 use Rattle.cyc_select.specs.Plans.{arithmetic_plan, immediate_plan, immediate_or, zero_plan, differs_plan, equal_plan, unary_plan, binary_plan}
 use Rattle.cyc_select.specs.Numbers.{fits_signed, negated_half, is_word, is_zero_word}
-use Rattle.cyc_select.specs.Selection.{value_register, is_kept, fetch_from, fetch_count, keep_code, keep_count, give_to, give_code, give_count_to, give_count, bring_code, bring_all, gives_count, move_to, move_count_to, move_count, moves_count, move_words_count, is_taken, passed_from, spill_from, spill, spills, spill_count_from, spill_count, spills_count, pass_from, pass, copies, pass_count_from, pass_count, copies_count, load_words, load_all, store_all, moves, all_moved, moved_code, result_registers, argument_code, argument_count, service_number, answer_code, small, or_immediate, load_upper, constant, is_tested, word_code, load_code, operand_code, operand_register, made_in, operation_code, outcome_code, operands_code, operation_of, computed_code, plan_code, test_code, divided_code, store_slot, add_immediate, minus, word_count, load_count, operand_count, far_plan, address_code, address_count, operation_count, outcome_count, count_of_operation, plan_count, test_count, divide_count, operator_count, regions_code, regions_count}
+use Rattle.cyc_select.specs.Selection.{value_register, is_kept, fetch_from, fetch_count, keep_code, keep_count, give_to, give_code, give_count_to, give_count, bring_code, bring_all, gives_count, move_to, move_count_to, move_count, moves_count, move_words_count, is_taken, passed_from, spill_from, spill, spills, spill_count_from, spill_count, spills_count, pass_from, pass, copies, pass_count_from, pass_count, copies_count, load_words, load_all, store_all, moves, all_moved, moved_code, result_registers, argument_code, argument_count, service_number, answer_code, small, or_immediate, load_upper, constant, is_tested, word_code, load_code, operand_code, operand_register, made_in, operation_code, outcome_code, operands_code, operation_of, computed_code, plan_code, test_code, divided_code, store_slot, add_immediate, minus, word_count, load_count, operand_count, far_plan, address_code, address_count, operation_count, outcome_count, count_of_operation, plan_count, test_count, divide_count, operator_count, regions_code, regions_count, is_near, upper_of_global, reach_code, reach_count, at_global, global_code}
 use Rattle.cyc_select.proofs.relation.Values.{memory_kept}
+use Rattle.cyc_isa.specs.declared.instr.MemoryOp.{MemoryOp}
 
 -- ---- few
 
@@ -95,6 +96,13 @@ module _ (frame : Frame) where
   either_few : (b : Bool) → (if b then 1 else 0) ≤ 1
   either_few true = omega arith
   either_few false = omega arith
+
+  pub reach_few : (global : ℕ) → reach_count global ≤ 1
+  reach_few global = go (is_near global)
+    where
+      go : (b : Bool) → (if b then 0 else 1) ≤ 1
+      go true = omega arith
+      go false = omega arith
 
   pub keep_few : (slot : ℕ) → keep_count frame slot ≤ 1
   keep_few slot = either_few (is_kept frame slot)
@@ -245,6 +253,13 @@ length_fetch (Some own) frame register slot = refl
 pub length_operand : (frame : Frame) (register : ℕ) (o : Operand) → length (operand_code frame register o) ≡ operand_count frame o
 length_operand frame register (operands.Slot number) = length_fetch (value_register frame number) frame register number
 length_operand frame register (operands.Word word) = length_if (is_zero_word (operands.Word word)) (word_code register word) (word_count word) (length_word register word)
+
+length_reach : (global : ℕ) → length (reach_code global) ≡ reach_count global
+length_reach global = length_if (is_near global) (upper_of_global global ∷ []) 1 refl
+
+pub length_global : (op : MemoryOp) (register global : ℕ) → length (global_code op register global) ≡ reach_count global + 1
+length_global op register global =
+    omega (arith, length-append (reach_code global) (at_global op register global ∷ []), length_reach global)
 
 pub length_keep : (frame : Frame) (slot : ℕ) → length (keep_code frame slot) ≡ keep_count frame slot
 length_keep frame slot = go (is_kept frame slot)

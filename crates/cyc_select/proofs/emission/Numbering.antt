@@ -1,6 +1,6 @@
 -- Numbers of lines: sums over what stands before.
 use Rattle.std.proofs.Common.{◌≡◌, ℕ, zero, suc, ◌+◌, ◌<◌, ◌≤◌, Bool, true, false, List, [], ◌∷◌, ◌++◌, length, drop, take, refl, sym, ap, subst, ◌∙◌, inl, inr, arith}
-use Rattle.std.specs.Prelude.{sum_by, slice_index_or, if◌then◌else◌}
+use Rattle.std.specs.Prelude.{sum_by, slice_index_or, if◌then◌else◌, ◌||◌}
 use Rattle.std.proofs.lemmas.Bool.{cases_lt}
 use Rattle.std.proofs.lemmas.List.{drop_more, get_or_past}
 use Rattle.std.proofs.lemmas.List.Sums.{sum_by-cons, sum_by-drop_more, sum_by-take-drop, sum_by-take-le}
@@ -15,16 +15,16 @@ use Rattle.cyc_plain.specs.declared.instruction.Request.{Request}
 use Rattle.cyc_plain.specs.declared.limits.TheConstants.{GREATEST_VALUE, MOST_SIZE}
 use Rattle.cyc_frame.specs.declared.frame.TheConstants.{MOST_FRAME_WORDS}
 use Rattle.cyc_frame.specs.Homes.{AreHomes}
-use Rattle.cyc_frame.specs.Layout.{IsFrame, AreFrames, frame_at}
+use Rattle.cyc_frame.specs.Layout.{IsFrame, AreFrames, frame_at, loses, loses_any}
 use Rattle.cyc_frame.specs.Frame.{Frame}
 use Rattle.cyc_select.specs.declared.constants.TheConstants.{START_LINES}
-use Rattle.cyc_select.specs.Selection.{reload_count, ending_count, count_of, function_count, functions_count, function_line, instruction_line, code_lines, function_lines}
+use Rattle.cyc_select.specs.Selection.{reload_count, ending_count, count_of, function_count, functions_count, function_line, instruction_line, function_lines, saving_count, routine_lines}
 use Rattle.cyc_select.specs.Plans.{test_of}
 use Rattle.cyc_select.specs.Emission.{AreReached, AreFew, most_lines, instruction_lines, function_starts, AreReady, AreTables}
-use Rattle.cyc_select.proofs.emission.Counts.{move_small, move_words_small, spills_few, copies_few, give_small, keep_few, argument_small, regions_small, gives_small, word_small, load_small, operand_small, address_small, unary_small, test_small, operator_small}
+use Rattle.cyc_select.proofs.emission.Counts.{move_small, move_words_small, spills_few, copies_few, give_small, keep_few, argument_small, regions_small, gives_small, word_small, load_small, operand_small, address_small, unary_small, test_small, operator_small, reach_few}
 
 abbrev no_frame : Frame
-no_frame = record { words = 0; return_address = 0; first_slot = 0; homes = [] }
+no_frame = record { return_address = 0; saves = false; first_slot = 0; homes = [] }
 
 -- ---- an instruction has few lines for each unit of its size
 
@@ -34,6 +34,43 @@ if_small false = omega arith
 
 ending_small : (program : Program) (function : ℕ) → ending_count program function ≤ 4
 ending_small program function = if_small _
+
+saving_small : (frame : Frame) → saving_count frame ≤ 1
+saving_small frame = go frame.saves
+  where
+    go : (b : Bool) → (if b then 1 else 0) ≤ 1
+    go true = omega arith
+    go false = omega arith
+
+-- how many words keep the way back of code
+abbrev pub losing : List Instruction → ℕ
+losing code = if loses_any code then 1 else 0
+
+pub losing_next : (i : Instruction) (code : List Instruction) → losing (i ∷ code) ≤ (if loses i then 1 else 0) + losing code
+losing_next i code = go (loses i)
+  where
+    go : (b : Bool) → (if b || loses_any code then 1 else 0) ≤ (if b then 1 else 0) + (if loses_any code then 1 else 0)
+    go true = omega arith
+    go false = omega arith
+
+-- the frames of these functions, from this index on, say which of them lose it
+abbrev pub AreSaved : List Frame → (first : ℕ) → List Routine → Type 0
+AreSaved frames first routines = (k : ℕ) → k < length routines → (frame_at frames (first + k)).saves ≡ loses_any (slice_index_or routines k no_routine).code
+
+pub saved_first : (frames : List Frame) (first : ℕ) (r : Routine) (routines : List Routine) → AreSaved frames first (r ∷ routines) → (frame_at frames first).saves ≡ loses_any r.code
+saved_first frames first r routines saved =
+    let same : first ≡ first + 0 = omega arith in
+    ap (λ (k : ℕ). (frame_at frames k).saves) same ∙ saved 0 (omega arith)
+
+pub saved_next : (frames : List Frame) (first : ℕ) (r : Routine) (routines : List Routine) → AreSaved frames first (r ∷ routines) → AreSaved frames (suc first) routines
+saved_next frames first r routines saved k below =
+    let same : suc first + k ≡ first + suc k = omega arith in
+    ap (λ (n : ℕ). (frame_at frames n).saves) same ∙ saved (suc k) (omega (arith, below))
+
+pub are_saved : (program : Program) (frames : List Frame) → AreFrames program frames → AreSaved frames 0 program.functions
+are_saved program frames fit k below =
+    let same : 0 + k ≡ k = omega arith in
+    ap (λ (n : ℕ). (frame_at frames n).saves) same ∙ (fit.each k below).saved
 
 -- an operator has words for its lines
 operator_fits : (operator : BinaryOperator) → 11 ≤ operator_size operator
@@ -45,19 +82,19 @@ operator_fits operator = omega arith
 abbrev pub ReadsFew : List Frame → (function : ℕ) → Type 0
 ReadsFew frames function = reload_count (frame_at frames function) ≤ 6
 
-pub count_small : (program : Program) (frames : List Frame) (function : ℕ) → ReadsFew frames function → AreFew program → (i : Instruction) → count_of program frames function i ≤ instruction_size i
+pub count_small : (program : Program) (frames : List Frame) (function : ℕ) → ReadsFew frames function → AreFew program → (i : Instruction) → count_of program frames function i + (if loses i then 1 else 0) ≤ instruction_size i
 count_small program frames function fit few (plain.Move destination source) = omega (arith, move_small (frame_at frames function) destination source)
 count_small program frames function fit few (plain.Unary operator destination operand) = omega (arith, unary_small (frame_at frames function) operator operand destination)
 count_small program frames function fit few (plain.Binary operator destination left right) = omega (arith, operator_small (frame_at frames function) operator destination left right, operator_fits operator)
 count_small program frames function fit few (plain.Jump target) = omega arith
 count_small program frames function fit few (plain.Branch comparison left right target) = omega (arith, test_small (frame_at frames function) (test_of comparison left right))
 count_small program frames function fit few (plain.Call f a n r) = omega (arith, few f, fit, spills_few (frame_at frames function) (frame_at frames f) a 0 n, copies_few (frame_at frames function) (frame_at frames f) a 0 n)
-count_small program frames function fit few (plain.Return v) = omega (arith, few function, ending_small program function)
+count_small program frames function fit few (plain.Return v) = omega (arith, few function, ending_small program function, saving_small (frame_at frames function))
 count_small program frames function fit few (plain.ReadByte destination) = omega (arith, give_small (frame_at frames function) destination)
 count_small program frames function fit few (plain.WriteByte source) = omega (arith, load_small source)
 count_small program frames function fit few (plain.AddressOf destination slot count) = omega (arith, keep_few (frame_at frames function) destination)
-count_small program frames function fit few (plain.LoadGlobal destination global) = omega (arith, keep_few (frame_at frames function) destination)
-count_small program frames function fit few (plain.StoreGlobal global source) = omega (arith, operand_small (frame_at frames function) source)
+count_small program frames function fit few (plain.LoadGlobal destination global) = omega (arith, reach_few (frame_at frames function) global, keep_few (frame_at frames function) destination)
+count_small program frames function fit few (plain.StoreGlobal global source) = omega (arith, operand_small (frame_at frames function) source, reach_few (frame_at frames function) global)
 count_small program frames function fit few (plain.MoveWords destination source count) = omega (arith, move_words_small (frame_at frames function) destination source count)
 count_small program frames function fit few (plain.Load destination address offset) = omega (arith, address_small (frame_at frames function) address offset, keep_few (frame_at frames function) destination)
 count_small program frames function fit few (plain.LoadByte destination address offset) = omega (arith, address_small (frame_at frames function) address offset, keep_few (frame_at frames function) destination)
@@ -68,7 +105,7 @@ count_small program frames function fit few (plain.CountLexical destination) = o
 count_small program frames function fit few (plain.Try first handler) = omega (arith, fit)
 count_small program frames function fit few (plain.Leave first) = omega arith
 count_small program frames function fit few (plain.Throw tag value) = omega (arith, load_small tag, load_small value)
-count_small program frames function fit few (plain.Finish v) = omega (arith, few function, ending_small program function)
+count_small program frames function fit few (plain.Finish v) = omega (arith, few function, ending_small program function, saving_small (frame_at frames function))
 count_small program frames function fit few (plain.Uncaught tag value) = omega (arith, word_small tag, load_small value)
 
 -- where there is no function no register is read again
@@ -80,29 +117,44 @@ reads_few program frames fit k = elim (cases_lt k (length program.functions)) [
 ]
 
 pub count_fits : (program : Program) (frames : List Frame) (function : ℕ) → AreFrames program frames → AreFew program → (i : Instruction) → count_of program frames function i ≤ instruction_size i
-count_fits program frames function fit few i = count_small program frames function (reads_few program frames fit function) few i
+count_fits program frames function fit few i = omega (arith, count_small program frames function (reads_few program frames fit function) few i)
 
-code_small : (program : Program) (frames : List Frame) (function : ℕ) → ReadsFew frames function → AreFew program → (code : List Instruction) → sum_by (count_of program frames function) code ≤ sum_by instruction_size code
+code_small : (program : Program) (frames : List Frame) (function : ℕ) → ReadsFew frames function → AreFew program → (code : List Instruction) → sum_by (count_of program frames function) code + losing code ≤ sum_by instruction_size code
 code_small program frames function fit few [] = omega arith
 code_small program frames function fit few (i ∷ code) =
-    omega (arith, sum_by-cons (count_of program frames function) i code, sum_by-cons instruction_size i code, count_small program frames function fit few i, code_small program frames function fit few code)
+    omega (arith, sum_by-cons (count_of program frames function) i code, sum_by-cons instruction_size i code, count_small program frames function fit few i, code_small program frames function fit few code, losing_next i code)
 
-functions_small : (program : Program) (frames : List Frame) (first : ℕ) → ((k : ℕ) → ReadsFew frames k) → AreFew program → (routines : List Routine) → functions_count program frames first routines ≤ sum_by size routines
-functions_small program frames first fit few [] = omega arith
-functions_small program frames first fit few (r ∷ routines) =
-    omega (arith, sum_by-cons size r routines, code_small program frames first (fit first) few r.code, functions_small program frames (suc first) fit few routines)
+-- with the line that keeps the way back
+pub routine_small : (program : Program) (frames : List Frame) (function : ℕ) → ReadsFew frames function → AreFew program → (code : List Instruction) → (frame_at frames function).saves ≡ loses_any code
+    → saving_count (frame_at frames function) + sum_by (count_of program frames function) code ≤ sum_by instruction_size code
+routine_small program frames function fit few code saved =
+    let same : saving_count (frame_at frames function) ≡ losing code = ap (λ (b : Bool). if b then 1 else 0) saved in
+    omega (arith, same, code_small program frames function fit few code)
+
+functions_small : (program : Program) (frames : List Frame) (first : ℕ) → ((k : ℕ) → ReadsFew frames k) → AreFew program → (routines : List Routine) → AreSaved frames first routines
+    → (k : ℕ) → functions_count program frames first (take k routines) ≤ sum_by size (take k routines)
+functions_small program frames first fit few [] saved zero = omega arith
+functions_small program frames first fit few [] saved (suc k) = omega arith
+functions_small program frames first fit few (r ∷ routines) saved zero = omega arith
+functions_small program frames first fit few (r ∷ routines) saved (suc k) =
+    omega (
+      arith,
+      sum_by-cons size r (take k routines),
+      routine_small program frames first (fit first) few r.code (saved_first frames first r routines saved),
+      functions_small program frames (suc first) fit few routines (saved_next frames first r routines saved) k,
+    )
 
 -- a function begins where it still fits
-pub start_fits : (program : Program) (frames : List Frame) → ((k : ℕ) → ReadsFew frames k) → AreFew program → (k : ℕ) → k < length program.functions
+pub start_fits : (program : Program) (frames : List Frame) → AreFrames program frames → ((k : ℕ) → ReadsFew frames k) → AreFew program → (k : ℕ) → k < length program.functions
     → function_line program frames k + size (routine_at program k) ≤ START_LINES + sum_by size program.functions
-start_fits program frames fit few k below =
-    omega (arith, functions_small program frames 0 fit few (take k program.functions), sum_by-drop_more size program.functions k no_routine below, sum_by-take-drop size program.functions k)
+start_fits program frames are fit few k below =
+    omega (arith, functions_small program frames 0 fit few program.functions (are_saved program frames are) k, sum_by-drop_more size program.functions k no_routine below, sum_by-take-drop size program.functions k)
 
 -- and so do its instructions
-pub line_fits : (program : Program) (frames : List Frame) → ((k : ℕ) → ReadsFew frames k) → AreFew program → (k : ℕ) → k < length program.functions → (index : ℕ)
+pub line_fits : (program : Program) (frames : List Frame) → AreFrames program frames → ((k : ℕ) → ReadsFew frames k) → AreFew program → (k : ℕ) → k < length program.functions → (index : ℕ)
     → instruction_line program frames k index ≤ START_LINES + sum_by size program.functions
-line_fits program frames fit few k below index =
-    omega (arith, start_fits program frames fit few k below, code_small program frames k (fit k) few (routine_at program k).code, sum_by-take-le (count_of program frames k) (routine_at program k).code index)
+line_fits program frames are fit few k below index =
+    omega (arith, start_fits program frames are fit few k below, routine_small program frames k (fit k) few (routine_at program k).code (are.each k below).saved, sum_by-take-le (count_of program frames k) (routine_at program k).code index)
 
 -- ---- what a well-formed program says of all its functions
 
@@ -124,7 +176,7 @@ are_few program well = routines_few program.functions (λ k below. (routine_stan
 
 slots_below : (r : Routine) (frame : Frame) → IsFrame r frame → (n : ℕ) → n ≡ r.slots → AreReached frame 0 n
 slots_below r frame fit zero is = inl refl
-slots_below r frame fit (suc n) is = inr (omega (arith, fit.inside n (omega arith), fit.within, fit.small))
+slots_below r frame fit (suc n) is = inr (omega (arith, fit.inside n (omega arith), fit.small))
 
 pub slots_reached : (r : Routine) (frame : Frame) → IsFrame r frame → AreReached frame 0 r.slots
 slots_reached r frame fit = slots_below r frame fit r.slots refl
@@ -132,13 +184,10 @@ slots_reached r frame fit = slots_below r frame fit r.slots refl
 pub homes_reached : (program : Program) (r : Routine) (frame : Frame) → IsFrame r frame → AreHomes program r frame.homes → AreReached frame 0 (length frame.homes)
 homes_reached program r frame fit right = slots_below r frame fit (length frame.homes) right.as_many
 
-pub words_small : (r : Routine) (frame : Frame) → IsFrame r frame → frame.words ≤ MOST_FRAME_WORDS
-words_small r frame fit = omega (arith, fit.within, fit.small)
-
 -- the slots of a function are so few
 slots_end : (r : Routine) (frame : Frame) → IsFrame r frame → (past : ℕ) → past ≤ r.slots → past ≤ MOST_FRAME_WORDS
 slots_end r frame fit zero below = omega arith
-slots_end r frame fit (suc slot) below = omega (arith, fit.inside slot (omega (arith, below)), fit.within, fit.small)
+slots_end r frame fit (suc slot) below = omega (arith, fit.inside slot (omega (arith, below)), fit.small)
 
 module _ (program : Program) (frames : List Frame) (function : ℕ) (fit : AreFrames program frames) (known : function < length program.functions)
     (destination source count : ℕ) (in_range : IsMoveInRange (routine_at program function) destination source count) where
@@ -197,18 +246,18 @@ module _ {program : Program} {frames : List Frame} {starts : List ℕ} (ready : 
       omega (arith, ready.few, sum_by-drop_more size program.functions k no_routine below, sum_by-take-drop size program.functions k)
 
   pub ready_fits : (k : ℕ) → k < length program.functions → function_line program frames k + size (routine_at program k) ≤ most_lines
-  ready_fits k below = omega (arith, ready.few, start_fits program frames (reads_few program frames ready.fit) (are_few program ready.well_formed) k below)
+  ready_fits k below = omega (arith, ready.few, start_fits program frames ready.fit (reads_few program frames ready.fit) (are_few program ready.well_formed) k below)
 
 module _ {program : Program} {frames : List Frame} {starts lines : List ℕ} {function : ℕ} (known : AreTables program frames starts lines function) where
   pub known_lines : length lines ≡ length (routine_at program function).code
-  known_lines = ap length known.lines_are ∙ lines_length program frames function (function_line program frames function) (routine_at program function).code
+  known_lines = ap length known.lines_are ∙ lines_length program frames function (function_line program frames function + saving_count (frame_at frames function)) (routine_at program function).code
 
   pub known_line : (k : ℕ) → k < length (routine_at program function).code → slice_index_or lines k 0 ≡ instruction_line program frames function k
-  known_line k below = ap (λ (s : List ℕ). slice_index_or s k 0) known.lines_are ∙ lines_at program frames function (function_line program frames function) (routine_at program function).code k 0 below
+  known_line k below = ap (λ (s : List ℕ). slice_index_or s k 0) known.lines_are ∙ lines_at program frames function (function_line program frames function + saving_count (frame_at frames function)) (routine_at program function).code k 0 below
 
   pub known_fits : (k : ℕ) → instruction_line program frames function k ≤ most_lines
   known_fits k =
-      omega (arith, line_fits program frames (reads_few program frames known.ready.fit) (are_few program known.ready.well_formed) function known.function_in_range k, known.ready.few)
+      omega (arith, line_fits program frames known.ready.fit (reads_few program frames known.ready.fit) (are_few program known.ready.well_formed) function known.function_in_range k, known.ready.few)
 
 -- ---- one function behind the other
 
@@ -226,10 +275,10 @@ start_next program frames k below = omega (arith, count_next program frames 0 pr
 
 pub functions_next : (program : Program) (frames : List Frame) (k : ℕ) → k < length program.functions
     → function_lines program frames k (function_line program frames k) (drop k program.functions)
-    ≡ code_lines program frames k (function_line program frames k) (routine_at program k).code ++ function_lines program frames (k + 1) (function_line program frames (k + 1)) (drop (k + 1) program.functions)
+    ≡ routine_lines program frames k (function_line program frames k) (routine_at program k) ++ function_lines program frames (k + 1) (function_line program frames (k + 1)) (drop (k + 1) program.functions)
 functions_next program frames k below =
     let one : suc k ≡ k + 1 = omega arith in
-    let own = code_lines program frames k (function_line program frames k) (routine_at program k).code in
+    let own = routine_lines program frames k (function_line program frames k) (routine_at program k) in
     let rest = drop (k + 1) program.functions in
     ap (λ (rs : List Routine). function_lines program frames k (function_line program frames k) rs) (drop_more program.functions k no_routine below)
     ∙ ap (λ (n : ℕ). own ++ function_lines program frames (suc k) n rest) (start_next program frames k below)

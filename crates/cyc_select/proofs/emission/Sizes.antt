@@ -16,24 +16,24 @@ use Rattle.cyc_isa.specs.declared.instr.MemoryOp.TheVariants.{LoadWord, StoreWor
 use Rattle.cyc_isa.specs.declared.instr.MoveFromOp.{MoveFromOp}
 use Rattle.cyc_machine.specs.declared.constants.TheConstants.{ARGUMENT, END_UNCAUGHT, PUT_BYTE, SECOND_ARGUMENT, SERVICE, RETURN_ADDRESS}
 use Rattle.cyc_plain.specs.Program.{Routine, Program, routine_at, operator_size, instruction_size, size}
-use Rattle.cyc_frame.specs.Layout.{frame_at}
+use Rattle.cyc_frame.specs.Layout.{frame_at, loses, loses_any}
 use Rattle.cyc_frame.specs.Frame.{Frame}
 use Rattle.cyc_select.specs.declared.code.Line.{Line}
 use Rattle.cyc_select.specs.declared.code.Condition.TheVariants as conditions
 use Rattle.cyc_select.specs.declared.code.Line.TheVariants as lines
-use Rattle.cyc_select.specs.declared.constants.TheConstants.{FIRST, SECOND, THIRD, CALLS, FRAME, HANDLERS, REGIONS, ZERO}
+use Rattle.cyc_select.specs.declared.constants.TheConstants.{FIRST, SECOND, THIRD, FRAME, LOWEST, HANDLERS, REGIONS, ZERO}
 use Rattle.cyc_select.specs.declared.plan.Plan.{Plan}
 use Rattle.cyc_select.specs.declared.plan.Test.{Test}
 use Rattle.cyc_select.specs.declared.plan.Test.TheVariants as tests
 use Rattle.cyc_select.specs.Plans.{unary_plan, binary_plan, test_of}
 use Rattle.cyc_select.specs.Labelled.{Labelled, words_of, all_words}
 use Rattle.cyc_select.specs.Selected.{words_at}
-use Rattle.cyc_select.specs.Selection.{product_code, quotient_code, operand_count, operand_register, slot_offset, recorded_code, caught_code, reload_count, value_register, move_to, keep_code, give_code, moved_code, reloads, opened_code, made_in, ordinary, argument_code, service_number, answer_code, unwound_code, address_code, at_address, copies, bring_all, upper_of_global, at_global, word_code, load_code, load_count, operand_code, plan_code, test_code, branch_line, branch_code, divided_code, divide_code, is_tested, part_of, result_registers, ending_code, operator_code, body, behind, count_of, function_count, function_line, instruction_line, code_lines, function_lines, small, syscall, store, add_immediate, minus, push_frame, load, regions_code, load_at, store_at, spills, spills_count, calling_code}
+use Rattle.cyc_select.specs.Selection.{product_code, quotient_code, operand_count, operand_register, slot_offset, recorded_code, caught_code, reload_count, value_register, move_to, keep_code, give_code, moved_code, reloads, opened_code, made_in, ordinary, argument_code, service_number, answer_code, unwound_code, address_code, at_address, copies, bring_all, word_code, load_code, load_count, operand_code, plan_code, test_code, branch_line, branch_code, divided_code, divide_code, is_tested, part_of, result_registers, ending_code, operator_code, body, behind, count_of, function_count, function_line, instruction_line, code_lines, function_lines, small, syscall, store, add_immediate, push_frame, load, regions_code, load_at, store_at, spills, spills_count, calling_code, global_code, saving_code, restoring_code, saving_count, returning_code, routine_lines}
 use Rattle.cyc_isa.specs.Decoding.{register_of}
 use Rattle.cyc_isa.specs.declared.instr.BranchOp.TheVariants as branch
-use Rattle.cyc_select.proofs.emission.Counts.{length_keep, length_give, length_move, length_moved, length_spills, spills_few, length_copies, copies_few, move_words_small, keep_few, give_small, move_small, argument_small, regions_small, gives_small, length_argument, length_answer, length_regions, length_results, length_registers, word_small, load_small, operand_small, address_small, plan_small, unary_small, test_small, length_word, length_load, length_operand, length_address, length_plan, length_test, length_divided}
+use Rattle.cyc_select.proofs.emission.Counts.{length_keep, length_give, length_move, length_moved, length_spills, spills_few, length_copies, copies_few, move_words_small, keep_few, give_small, move_small, argument_small, regions_small, gives_small, length_argument, length_answer, length_regions, length_results, length_registers, word_small, load_small, operand_small, address_small, plan_small, unary_small, test_small, length_word, length_load, length_operand, length_address, length_plan, length_test, length_divided, reach_few, length_global}
 use Rattle.cyc_select.proofs.steps.Returns.{loaded, length_loaded}
-use Rattle.cyc_select.proofs.emission.Numbering.{ReadsFew}
+use Rattle.cyc_select.proofs.emission.Numbering.{ReadsFew, losing, losing_next, AreSaved, saved_first, saved_next}
 use Rattle.cyc_select.proofs.relation.Values.{length_reloads}
 use Rattle.cyc_select.proofs.effects.Walks.{Stands}
 
@@ -101,7 +101,25 @@ module _ (program : Program) (frames : List Frame) (reads_few : (function : ℕ)
       let last : List Instr = at_address (frame_at frames function) op (operand_register (frame_at frames function) SECOND source) address offset ∷ [] in
       omega (arith, words_ordinary (is ++ (js ++ last)), length-append is (js ++ last), length-append js last, length_address (frame_at frames function) address offset, address_small (frame_at frames function) address offset, length_operand (frame_at frames function) SECOND source, operand_small (frame_at frames function) source)
 
-  body_words : (function here : ℕ) (i : Instruction) → all_words (body program frames function here i) + all_words (behind program frames function i) ≤ instruction_size i
+  restoring_words : (function : ℕ) → all_words (ordinary (restoring_code (frame_at frames function))) ≤ 1
+  restoring_words function = go (frame_at frames function).saves
+    where
+      go : (b : Bool) → all_words (ordinary (if b then load RETURN_ADDRESS (4 * (frame_at frames function).return_address) ∷ [] else [])) ≤ 1
+      go true = omega arith
+      go false = omega arith
+
+  returning_words : (function here value : ℕ) → all_words (returning_code (function == program.main) (frame_at frames function) here value (routine_at program function).results) + 0 + 0 ≤ 15
+  returning_words function here value =
+      let frame : Frame = frame_at frames function in
+      let there : ℕ = here + saving_count frame in
+      let ends : List Line = ending_code (function == program.main) frame there value in
+      let loads : List Line = ordinary (loaded frame value (routine_at program function).results) in
+      let whole = sum_by-append words_of (ordinary (restoring_code frame)) (ends ++ loads ++ lines.Return ∷ []) in
+      let all = sum_by-append words_of (ends ++ loads) (lines.Return ∷ []) in
+      let front = sum_by-append words_of ends loads in
+      omega (arith, whole, all, front, restoring_words function, words_ordinary (loaded frame value (routine_at program function).results), length_loaded frame value (routine_at program function).results (few_results function), ending_words (function == program.main) frame there value, few_results function)
+
+  body_words : (function here : ℕ) (i : Instruction) → all_words (body program frames function here i) + all_words (behind program frames function i) + (if loses i then 1 else 0) ≤ instruction_size i
   body_words function here (plain.Move destination source) =
       omega (arith, words_ordinary (move_to (value_register (frame_at frames function) destination) (frame_at frames function) destination source), length_move (frame_at frames function) destination source, move_small (frame_at frames function) destination source)
   body_words function here (plain.Unary operator destination operand) =
@@ -114,30 +132,18 @@ module _ (program : Program) (frames : List Frame) (reads_few : (function : ℕ)
       let calling : List Line = calling_code (frame_at frames function) (frame_at frames callee) spilled (function_line program frames callee) arguments count in
       let front = sum_by-append words_of (ordinary (spills (frame_at frames function) (frame_at frames callee) arguments 0 count)) calling in
       let spill_words = words_ordinary (spills (frame_at frames function) (frame_at frames callee) arguments 0 count) in
-      let first : List Line = lines.Branch (conditions.Registers branch.NotEqual (register_of CALLS) (register_of 0)) (spilled + 3) ∷ ordinary (small 2 11 ∷ syscall ∷ store RETURN_ADDRESS (4 * (frame_at frames function).return_address) ∷ add_immediate CALLS CALLS (minus 1) ∷ push_frame (frame_at frames callee) ∷ []) in
+      let first : List Line = lines.Branch (conditions.Registers branch.NotEqual (register_of FRAME) (register_of LOWEST)) (spilled + 3) ∷ ordinary (small 2 11 ∷ syscall ∷ push_frame ∷ []) in
       let passed = words_ordinary (copies (frame_at frames function) (frame_at frames callee) arguments 0 count) in
       let long = length_copies (frame_at frames function) (frame_at frames callee) arguments 0 count in
-      let a = sum_by-append words_of (lines.Branch (conditions.Registers branch.NotEqual (register_of CALLS) (register_of 0)) (spilled + 3) ∷ ordinary (small 2 11 ∷ syscall ∷ store RETURN_ADDRESS (4 * (frame_at frames function).return_address) ∷ add_immediate CALLS CALLS (minus 1) ∷ push_frame (frame_at frames callee) ∷ [])) (ordinary (copies (frame_at frames function) (frame_at frames callee) arguments 0 count) ++ lines.Call (function_line program frames callee) ∷ []) in
+      let a = sum_by-append words_of (lines.Branch (conditions.Registers branch.NotEqual (register_of FRAME) (register_of LOWEST)) (spilled + 3) ∷ ordinary (small 2 11 ∷ syscall ∷ push_frame ∷ [])) (ordinary (copies (frame_at frames function) (frame_at frames callee) arguments 0 count) ++ lines.Call (function_line program frames callee) ∷ []) in
       let b = sum_by-append words_of (ordinary (copies (frame_at frames function) (frame_at frames callee) arguments 0 count)) (lines.Call (function_line program frames callee) ∷ []) in
-      let kept = words_ordinary (load RETURN_ADDRESS (4 * (frame_at frames function).return_address) ∷ add_immediate CALLS CALLS 1 ∷ (bring_all true (frame_at frames function) result (result_registers (routine_at program callee).results) ++ reloads (frame_at frames function))) in
+      let kept = words_ordinary (bring_all true (frame_at frames function) result (result_registers (routine_at program callee).results) ++ reloads (frame_at frames function)) in
       let both = length-append (bring_all true (frame_at frames function) result (result_registers (routine_at program callee).results)) (reloads (frame_at frames function)) in
       let stores = length_results (frame_at frames function) result (result_registers (routine_at program callee).results) in
       let registers = length_registers (routine_at program callee).results (few_results callee) in
       omega (arith, front, spill_words, length_spills (frame_at frames function) (frame_at frames callee) arguments 0 count, spills_few (frame_at frames function) (frame_at frames callee) arguments 0 count, copies_few (frame_at frames function) (frame_at frames callee) arguments 0 count, passed, long, a, b, kept, both, stores, registers, few_results callee, length_reloads (frame_at frames function), reads_few function)
-  body_words function here (plain.Return value) =
-      let e = ending_code (function == program.main) (frame_at frames function) here value in
-      let a = sum_by-append words_of (ending_code (function == program.main) (frame_at frames function) here value ++ ordinary (loaded (frame_at frames function) value (routine_at program function).results)) (lines.Return ∷ []) in
-      let b = sum_by-append words_of (ending_code (function == program.main) (frame_at frames function) here value) (ordinary (loaded (frame_at frames function) value (routine_at program function).results)) in
-      let c = words_ordinary (loaded (frame_at frames function) value (routine_at program function).results) in
-      let d = length_loaded (frame_at frames function) value (routine_at program function).results (few_results function) in
-      omega (arith, a, b, c, d, ending_words (function == program.main) (frame_at frames function) here value, few_results function)
-  body_words function here (plain.Finish value) =
-      let e = ending_code (function == program.main) (frame_at frames function) here value in
-      let a = sum_by-append words_of (ending_code (function == program.main) (frame_at frames function) here value ++ ordinary (loaded (frame_at frames function) value (routine_at program function).results)) (lines.Return ∷ []) in
-      let b = sum_by-append words_of (ending_code (function == program.main) (frame_at frames function) here value) (ordinary (loaded (frame_at frames function) value (routine_at program function).results)) in
-      let c = words_ordinary (loaded (frame_at frames function) value (routine_at program function).results) in
-      let d = length_loaded (frame_at frames function) value (routine_at program function).results (few_results function) in
-      omega (arith, a, b, c, d, ending_words (function == program.main) (frame_at frames function) here value, few_results function)
+  body_words function here (plain.Return value) = returning_words function here value
+  body_words function here (plain.Finish value) = returning_words function here value
   body_words function here (plain.ReadByte destination) =
       omega (arith, words_ordinary (small 2 1 ∷ syscall ∷ give_code (frame_at frames function) 2 destination), length_give (frame_at frames function) 2 destination, give_small (frame_at frames function) destination)
   body_words function here (plain.WriteByte source) =
@@ -145,15 +151,17 @@ module _ (program : Program) (frames : List Frame) (reads_few : (function : ℕ)
   body_words function here (plain.AddressOf destination slot count) =
       omega (arith, words_ordinary (add_immediate (made_in (frame_at frames function) destination) FRAME (slot_offset (frame_at frames function) slot) ∷ keep_code (frame_at frames function) destination), length_keep (frame_at frames function) destination, keep_few (frame_at frames function) destination)
   body_words function here (plain.LoadGlobal destination global) =
-      omega (arith, words_ordinary (upper_of_global global ∷ at_global LoadWord (made_in (frame_at frames function) destination) global ∷ keep_code (frame_at frames function) destination), length_keep (frame_at frames function) destination, keep_few (frame_at frames function) destination)
+      let is : List Instr = global_code LoadWord (made_in (frame_at frames function) destination) global in
+      omega (arith, words_ordinary (is ++ keep_code (frame_at frames function) destination), length-append is (keep_code (frame_at frames function) destination), length_global LoadWord (made_in (frame_at frames function) destination) global, reach_few (frame_at frames function) global, length_keep (frame_at frames function) destination, keep_few (frame_at frames function) destination)
   body_words function here (plain.StoreGlobal global source) =
-      omega (arith, words_ordinary (operand_code (frame_at frames function) FIRST source ++ upper_of_global global ∷ at_global StoreWord (operand_register (frame_at frames function) FIRST source) global ∷ []), length-append (operand_code (frame_at frames function) FIRST source) (upper_of_global global ∷ at_global StoreWord (operand_register (frame_at frames function) FIRST source) global ∷ []), length_operand (frame_at frames function) FIRST source, operand_small (frame_at frames function) source)
+      let last : List Instr = global_code StoreWord (operand_register (frame_at frames function) FIRST source) global in
+      omega (arith, words_ordinary (operand_code (frame_at frames function) FIRST source ++ last), length-append (operand_code (frame_at frames function) FIRST source) last, length_operand (frame_at frames function) FIRST source, operand_small (frame_at frames function) source, length_global StoreWord (operand_register (frame_at frames function) FIRST source) global, reach_few (frame_at frames function) global)
   body_words function here (plain.MoveWords destination source count) =
       omega (arith, words_ordinary (moved_code (frame_at frames function) destination source count), length_moved (frame_at frames function) destination source count, move_words_small (frame_at frames function) destination source count)
-  body_words function here (plain.Load destination address offset) = load_words_few function LoadWord destination address offset
-  body_words function here (plain.Store address offset source) = store_words_few function StoreWord address offset source
-  body_words function here (plain.LoadByte destination address offset) = load_words_few function LoadByte destination address offset
-  body_words function here (plain.StoreByte address offset source) = store_words_few function StoreByte address offset source
+  body_words function here (plain.Load destination address offset) = omega (arith, load_words_few function LoadWord destination address offset)
+  body_words function here (plain.Store address offset source) = omega (arith, store_words_few function StoreWord address offset source)
+  body_words function here (plain.LoadByte destination address offset) = omega (arith, load_words_few function LoadByte destination address offset)
+  body_words function here (plain.StoreByte address offset source) = omega (arith, store_words_few function StoreByte address offset source)
   body_words function here (plain.Ask request) =
       let is : List Instr = argument_code (frame_at frames function) ARGUMENT (first_operand request) in
       let js : List Instr = argument_code (frame_at frames function) SECOND_ARGUMENT (second_operand request) in
@@ -164,9 +172,9 @@ module _ (program : Program) (frames : List Frame) (reads_few : (function : ℕ)
   body_words function here (plain.Try first handler) =
       let last : List Line = lines.Jump (instruction_line program frames function handler) ∷ ordinary (opened_code (frame_at frames function) first) in
       let rest : List Line = ordinary (caught_code (frame_at frames function) first) ++ last in
-      let call : Line = lines.Call (here + 9 + reload_count (frame_at frames function)) in
-      let length_caught : length (caught_code (frame_at frames function) first) ≡ 3 + reload_count (frame_at frames function) =
-      (let e : suc (suc (suc (length (reloads (frame_at frames function))))) ≡ 3 + reload_count (frame_at frames function) = omega (arith, length_reloads (frame_at frames function)) in e) in
+      let call : Line = lines.Call (here + 6 + reload_count (frame_at frames function)) in
+      let length_caught : length (caught_code (frame_at frames function) first) ≡ 2 + reload_count (frame_at frames function) =
+      (let e : suc (suc (length (reloads (frame_at frames function)))) ≡ 2 + reload_count (frame_at frames function) = omega (arith, length_reloads (frame_at frames function)) in e) in
       omega (
         arith,
         sum_by-append words_of (ordinary (recorded_code (frame_at frames function) first)) (call ∷ rest),
@@ -186,7 +194,8 @@ module _ (program : Program) (frames : List Frame) (reads_few : (function : ℕ)
       let loads : List Instr = load_code (frame_at frames function) SECOND_ARGUMENT value ++ last in
       omega (arith, words_ordinary (word_code ARGUMENT tag ++ loads), length-append (word_code ARGUMENT tag) loads, length_word ARGUMENT tag, length-append (load_code (frame_at frames function) SECOND_ARGUMENT value) last, length_load (frame_at frames function) SECOND_ARGUMENT value, load_small value, word_small tag)
 
-  pub code_words : (function here : ℕ) (code : List Instruction) → all_words (code_lines program frames function here code) ≤ sum_by instruction_size code
+  -- with the word that keeps the way back, where the code loses it
+  pub code_words : (function here : ℕ) (code : List Instruction) → all_words (code_lines program frames function here code) + losing code ≤ sum_by instruction_size code
   code_words function here [] = omega arith
   code_words function here (i ∷ code) =
       omega (
@@ -196,15 +205,25 @@ module _ (program : Program) (frames : List Frame) (reads_few : (function : ℕ)
         sum_by-append words_of (body program frames function here i ++ behind program frames function i) (code_lines program frames function (here + count_of program frames function i) code),
         sum_by-append words_of (body program frames function here i) (behind program frames function i),
         sum_by-cons instruction_size i code,
+        losing_next i code,
       )
 
-  pub functions_words : (function here : ℕ) (routines : List Routine) → all_words (function_lines program frames function here routines) ≤ sum_by size routines
-  functions_words function here [] = omega arith
-  functions_words function here (r ∷ routines) =
+  pub routine_words : (function here : ℕ) (r : Routine) → (frame_at frames function).saves ≡ loses_any r.code → all_words (routine_lines program frames function here r) ≤ size r
+  routine_words function here r saved =
+      let saving : all_words (ordinary (saving_code (frame_at frames function))) ≡ losing r.code = go (frame_at frames function).saves saved in
+      omega (arith, saving, code_words function (here + saving_count (frame_at frames function)) r.code, sum_by-append words_of (ordinary (saving_code (frame_at frames function))) (code_lines program frames function (here + saving_count (frame_at frames function)) r.code))
+    where
+      go : (b : Bool) → b ≡ loses_any r.code → all_words (ordinary (if b then store RETURN_ADDRESS (4 * (frame_at frames function).return_address) ∷ [] else [])) ≡ (if loses_any r.code then 1 else 0)
+      go true is = ap (λ (x : Bool). if x then 1 else 0) is
+      go false is = ap (λ (x : Bool). if x then 1 else 0) is
+
+  pub functions_words : (function here : ℕ) (routines : List Routine) → AreSaved frames function routines → all_words (function_lines program frames function here routines) ≤ sum_by size routines
+  functions_words function here [] saved = omega arith
+  functions_words function here (r ∷ routines) saved =
       omega (
         arith,
-        code_words function here r.code,
-        functions_words (suc function) (here + function_count program frames function r) routines,
-        sum_by-append words_of (code_lines program frames function here r.code) (function_lines program frames (suc function) (here + function_count program frames function r) routines),
+        routine_words function here r (saved_first frames function r routines saved),
+        functions_words (suc function) (here + function_count program frames function r) routines (saved_next frames function r routines saved),
+        sum_by-append words_of (routine_lines program frames function here r) (function_lines program frames (suc function) (here + function_count program frames function r) routines),
         sum_by-cons size r routines,
       )

@@ -17,11 +17,12 @@ use Rattle.cyc_plain.specs.declared.instruction.Operand.{Operand}
 use Rattle.cyc_plain.specs.declared.instruction.Operand.TheVariants as operands
 use Rattle.cyc_isa.specs.Decoding.{register_of}
 use Rattle.cyc_isa.specs.declared.instr.BranchOp.TheVariants as branch
+use Rattle.cyc_isa.specs.declared.instr.Instr.TheVariants as machine
 use Rattle.cyc_isa.specs.declared.instr.MemoryOp.{MemoryOp}
 use Rattle.cyc_isa.specs.declared.instr.MemoryOp.TheVariants.{LoadWord, StoreWord, LoadByte, StoreByte}
 use Rattle.cyc_isa.specs.declared.instr.MoveFromOp.{MoveFromOp}
 use Rattle.cyc_isa.specs.declared.instr.MoveFromOp.TheVariants.{High, Low}
-use Rattle.cyc_machine.specs.declared.constants.TheConstants.{ARGUMENT, END_UNCAUGHT, PUT_BYTE, SECOND_ARGUMENT, SERVICE}
+use Rattle.cyc_machine.specs.declared.constants.TheConstants.{ARGUMENT, END_UNCAUGHT, PUT_BYTE, RETURN_ADDRESS, SECOND_ARGUMENT, SERVICE}
 use Rattle.cyc_plain.specs.Program.{Routine, Program, CodePlace, no_routine, routine_at}
 use Rattle.cyc_plain.specs.Step.{instruction_at}
 use Rattle.cyc_plain.specs.declared.instruction.Request.{Request}
@@ -33,9 +34,10 @@ use Rattle.cyc_plain.proofs.Steps.{function_known}
 use Rattle.cyc_frame.specs.Layout.{AreFrames, frame_at, slot_word}
 use Rattle.cyc_frame.specs.Uses.{is_crossing}
 use Rattle.cyc_frame.specs.Frame.{Frame}
+use Rattle.cyc_frame.specs.declared.frame.TheConstants.{MOST_FRAME_WORDS}
 use Rattle.cyc_frame.specs.declared.home.Home.{Home}
 use Rattle.cyc_frame.specs.declared.home.Home.TheVariants as homes
-use Rattle.cyc_select.specs.declared.constants.TheConstants.{FIRST, SECOND, THIRD, ZERO, START_LINES, HANDLERS, REGIONS}
+use Rattle.cyc_select.specs.declared.constants.TheConstants.{FIRST, SECOND, THIRD, ZERO, START_LINES, HANDLERS, REGIONS, GLOBALS}
 use Rattle.cyc_select.specs.declared.code.Line.{Line}
 use Rattle.cyc_select.specs.declared.code.Condition.TheVariants as conditions
 use Rattle.cyc_select.specs.declared.code.Line.TheVariants as lines
@@ -49,7 +51,7 @@ use Rattle.cyc_select.specs.declared.plan.Test.TheVariants as tests
 use Rattle.cyc_select.specs.Plans.{unary_plan, binary_plan, test_of}
 use Rattle.cyc_select.specs.Labelled.{Labelled, IsFormed, IsFormedLine}
 use Rattle.cyc_select.specs.Numbers.{fits_signed, is_zero_word}
-use Rattle.cyc_select.specs.Selection.{value_register, product_code, quotient_code, passed_from, spill_from, pass_from, pass, is_kept, load_from, fetch_from, move_to, keep_code, give_to, give_code, bring_code, bring_all, load_words, reloads_from, reloads, opened_code, made_in, slot_offset, ordinary, result_registers, argument_code, service_number, answer_code, unwound_code, far_plan, address_code, near_half, at_address, copies, load_all, store_all, moves, all_moved, store_slot, pop_frame, load_upper, constant, or_immediate, is_tested, part_of, plan_count, small, syscall, add_immediate, minus, upper_of_global, at_global, word_code, load_code, load_count, operand_code, operand_register, operands_code, operation_code, outcome_code, operation_of, computed_code, plan_code, test_code, branch_line, divided_code, divide_code, divide_count, ending_code, ending_count, operator_code, operator_count, body, behind, body_count, count_of, function_count, functions_count, function_line, instruction_line, code_lines, function_lines, start_lines, select_of, regions_code, load_at, store_at, spill, spills, spills_count, calling_code, operand_count}
+use Rattle.cyc_select.specs.Selection.{value_register, product_code, quotient_code, passed_from, spill_from, pass_from, pass, is_kept, load_from, fetch_from, move_to, keep_code, give_to, give_code, bring_code, bring_all, load_words, reloads_from, reloads, opened_code, made_in, slot_offset, ordinary, result_registers, argument_code, service_number, answer_code, unwound_code, far_plan, address_code, near_half, at_address, copies, load_all, store_all, moves, all_moved, store_slot, pop_frame, load_upper, constant, or_immediate, is_tested, part_of, plan_count, small, syscall, add_immediate, minus, upper_of_global, word_code, load_code, load_count, operand_code, operand_register, operands_code, operation_code, outcome_code, operation_of, computed_code, plan_code, test_code, branch_line, divided_code, divide_code, divide_count, ending_code, ending_count, operator_code, operator_count, body, behind, body_count, count_of, function_count, functions_count, function_line, instruction_line, code_lines, function_lines, start_lines, select_of, regions_code, load_at, store_at, spill, spills, spills_count, calling_code, operand_count, global_code, is_near, global_address, load, store, saving_code, restoring_code, saving_count, returning_code, routine_lines}
 use Rattle.cyc_select.proofs.layout.Lines.{line_first}
 use Rattle.cyc_select.proofs.values.Plans.{AllOfTest, all_unary, all_binary, all_test}
 use Rattle.cyc_select.proofs.emission.Counts.{operation_some, move_some, move_words_some, give_some, length_registers, answer_few, service_small}
@@ -65,7 +67,7 @@ all_from P (x ∷ xs) (one, rest) zero d below = one
 all_from P (x ∷ xs) (one, rest) (suc k) d below = all_from P xs rest k d (omega arith)
 
 -- what stands lies within the code
-within_code : (code : Labelled) (n : ℕ) (ls : List Line) → 0 < length ls → Stands code n ls → n + length ls ≤ length code.lines
+pub within_code : (code : Labelled) (n : ℕ) (ls : List Line) → 0 < length ls → Stands code n ls → n + length ls ≤ length code.lines
 within_code code n [] some stands = absurd (omega (arith, some))
 within_code code n (l ∷ []) some (first, rest) = omega (arith, below_of_get code.lines n l first)
 within_code code n (l ∷ m ∷ ls) some (first, rest) = omega (arith, within_code code (n + 1) (m ∷ ls) (omega arith) rest)
@@ -84,17 +86,17 @@ module _ (program : Program) (frames : List Frame) (P : Line → Type 0) where
       (λ index n j at is. each (suc index) n j at (omega (arith, is, sum_by-cons (count_of program frames function) i (take index code)))))
 
   functions_all : (first here : ℕ) (routines : List Routine)
-      → ((k n : ℕ) → k < length routines → n ≡ here + functions_count program frames first (take k routines) → AllByRecursion P (code_lines program frames (first + k) n (slice_index_or routines k no_routine).code))
+      → ((k n : ℕ) → k < length routines → n ≡ here + functions_count program frames first (take k routines) → AllByRecursion P (routine_lines program frames (first + k) n (slice_index_or routines k no_routine)))
       → AllByRecursion P (function_lines program frames first here routines)
   functions_all first here [] each = tt
   functions_all first here (r ∷ routines) each =
       let same : first + 0 ≡ first = omega arith in
-      all_append P (code_lines program frames first here r.code) (function_lines program frames (suc first) (here + function_count program frames first r) routines)
-      (subst (λ (f : ℕ). AllByRecursion P (code_lines program frames f here r.code)) same (each 0 here (omega arith) (omega arith)))
+      all_append P (routine_lines program frames first here r) (function_lines program frames (suc first) (here + function_count program frames first r) routines)
+      (subst (λ (f : ℕ). AllByRecursion P (routine_lines program frames f here r)) same (each 0 here (omega arith) (omega arith)))
       (functions_all (suc first) (here + function_count program frames first r) routines
       (λ k n below is.
       let next : first + suc k ≡ suc first + k = omega arith in
-      subst (λ (f : ℕ). AllByRecursion P (code_lines program frames f n (slice_index_or routines k no_routine).code)) next (each (suc k) n (omega (arith, below)) (omega (arith, is)))))
+      subst (λ (f : ℕ). AllByRecursion P (routine_lines program frames f n (slice_index_or routines k no_routine))) next (each (suc k) n (omega (arith, below)) (omega (arith, is)))))
 
 pub few_results : (program : Program) → IsWellFormed program → (function : ℕ) → (routine_at program function).results ≤ 3
 few_results program well function = elim (cases_lt function (length program.functions)) [
@@ -166,8 +168,7 @@ module _ (program : Program) (well : IsWellFormed program) (words : HasWords pro
 
   function_known_line : (function : ℕ) → function < length program.functions → function_line program frames function < length (select_of program frames).lines
   function_known_line function below =
-      subst (λ (n : ℕ). n < length (select_of program frames).lines) (line_first program frames function)
-      (target_known function 0 (has_code program (routine_at program function) (routine_in program function well below)))
+      omega (arith, line_first program frames function, target_known function 0 (has_code program (routine_at program function) (routine_in program function well below)))
 
   module _ (function : ℕ) (known : function < length program.functions) where
     abbrev frame : Frame
@@ -177,13 +178,10 @@ module _ (program : Program) (well : IsWellFormed program) (words : HasWords pro
     slots = (routine_at program function).slots
 
     slot_fits : (slot : ℕ) → slot < slots → slot_offset frame slot < 2 ^ 16
-    slot_fits slot below = let f = fit.each function known in omega (arith, f.inside slot below, f.within, f.small)
-
-    frame_fits : 4 * frame.words < 2 ^ 16
-    frame_fits = let f = fit.each function known in omega (arith, f.within, f.small)
+    slot_fits slot below = let f = fit.each function known in omega (arith, f.inside slot below, f.small)
 
     return_fits : 4 * frame.return_address < 2 ^ 16
-    return_fits = let f = fit.each function known in omega (arith, f.return_inside, f.within, f.small)
+    return_fits = let f = fit.each function known in omega (arith, f.return_inside, f.small)
 
     loaded_formed : (o : Option ℕ) (target slot : ℕ) → slot < slots → Formed (ordinary (load_from o frame target slot ∷ []))
     loaded_formed None target slot below = ((refl, slot_fits slot below), tt)
@@ -250,15 +248,15 @@ module _ (program : Program) (well : IsWellFormed program) (words : HasWords pro
         one None = unkept (is_kept frame source)
         one (Some register) = tt
 
-    copies_formed : (callee : Frame) (callee_slots : ℕ) → callee.words ≤ 256 → ((slot : ℕ) → slot < callee_slots → slot_word callee slot < callee.words)
+    copies_formed : (callee : Frame) (callee_slots : ℕ) → ((slot : ℕ) → slot < callee_slots → slot_word callee slot < MOST_FRAME_WORDS)
         → (source slot count : ℕ) → source + count ≤ slots → slot + count ≤ callee_slots → Formed (ordinary (copies frame callee source slot count))
-    copies_formed callee callee_slots small inside source slot zero source_fits slot_fits = tt
-    copies_formed callee callee_slots small inside source slot (suc count) source_fits slot_fits =
+    copies_formed callee callee_slots inside source slot zero source_fits slot_fits = tt
+    copies_formed callee callee_slots inside source slot (suc count) source_fits slot_fits =
         formed_append (pass frame callee source slot) (copies frame callee (suc source) (suc slot) count) (one (passed_from frame callee source slot))
-        (copies_formed callee callee_slots small inside (suc source) (suc slot) count (omega (arith, source_fits)) (omega (arith, slot_fits)))
+        (copies_formed callee callee_slots inside (suc source) (suc slot) count (omega (arith, source_fits)) (omega (arith, slot_fits)))
       where
         its_fit : slot_offset callee slot < 2 ^ 16
-        its_fit = omega (arith, inside slot (omega (arith, slot_fits)), small)
+        its_fit = omega (arith, inside slot (omega (arith, slot_fits)))
 
         kept : (b : Bool) → Formed (ordinary (if b then store_slot callee (made_in callee slot) slot ∷ [] else []))
         kept true = ((refl, its_fit), tt)
@@ -269,7 +267,7 @@ module _ (program : Program) (well : IsWellFormed program) (words : HasWords pro
         given (Some own) register = ((refl, tt), kept (is_kept callee slot))
 
         one : (o : Option ℕ) → Formed (ordinary (pass_from o frame callee source slot))
-        one None = let f = fit.each function known in ((refl, omega (arith, f.inside source (omega (arith, source_fits)), f.within, f.small, small)), kept (is_kept callee slot))
+        one None = let f = fit.each function known in ((refl, omega (arith, f.inside source (omega (arith, source_fits)), f.small)), kept (is_kept callee slot))
         one (Some register) = given (value_register callee slot) register
 
     regions_formed : (request : Request) → Formed (ordinary (regions_code request))
@@ -421,8 +419,46 @@ module _ (program : Program) (well : IsWellFormed program) (words : HasWords pro
         let four : ending_count program function ≡ 4 = ap (λ (b : Bool). if b then 4 else 0) is in
         ((omega (arith, long, four)), ((loaded_formed (value_register frame value) ARGUMENT value (omega (arith, fits, one))).0, ((refl, (omega arith)), ((refl, tt), tt))))
 
+    -- the way back, into the frame and from there
+    saving_formed : Formed (ordinary (saving_code frame))
+    saving_formed = go frame.saves
+      where
+        go : (b : Bool) → Formed (ordinary (if b then store RETURN_ADDRESS (4 * frame.return_address) ∷ [] else []))
+        go true = ((refl, return_fits), tt)
+        go false = tt
+
+    restoring_formed : Formed (ordinary (restoring_code frame))
+    restoring_formed = go frame.saves
+      where
+        go : (b : Bool) → Formed (ordinary (if b then load RETURN_ADDRESS (4 * frame.return_address) ∷ [] else []))
+        go true = ((refl, return_fits), tt)
+        go false = tt
+
+    returning_formed : (n value : ℕ) → value + (routine_at program function).results ≤ slots → n + (saving_count frame + ending_count program function + (routine_at program function).results + 2) ≤ length (select_of program frames).lines
+        → Formed (returning_code (function == program.main) frame n value (routine_at program function).results)
+    returning_formed n value in_range long =
+        let few = few_results program well function in
+        let registers = length_registers (routine_at program function).results few in
+        let there : ℕ = n + saving_count frame in
+        let ends : List Line = ending_code (function == program.main) frame there value in
+        let loads : List Line = ordinary (loaded frame value (routine_at program function).results) in
+        all_append (IsFormedLine (length (select_of program frames).lines)) (ordinary (restoring_code frame)) (ends ++ loads ++ lines.Return ∷ []) restoring_formed
+        (all_append (IsFormedLine (length (select_of program frames).lines)) (ends ++ loads) (lines.Return ∷ [])
+        (all_append (IsFormedLine (length (select_of program frames).lines)) ends loads
+        (ending_formed (function == program.main) there value refl in_range (omega (arith, long)))
+        (formed_append (load_all frame value (result_registers (routine_at program function).results)) (pop_frame ∷ []) (loads_formed value (result_registers (routine_at program function).results) (omega (arith, registers, in_range))) ((refl, (omega arith)), tt)))
+        (tt, tt))
+
     upper_fits : (global : ℕ) → global < length program.globals → (data_base + 4 * global + 2 ^ 15) / 2 ^ 16 < 2 ^ 16
     upper_fits global below = omega (arith, below, well.globals)
+
+    global_formed : (op : MemoryOp) (register global : ℕ) → global < length program.globals → Formed (ordinary (global_code op register global))
+    global_formed op register global below = go (is_near global)
+      where
+        go : (b : Bool)
+            → Formed (ordinary ((if b then [] else upper_of_global global ∷ []) ++ machine.Memory op (register_of register) (register_of (if b then GLOBALS else SECOND)) ((if b then global_address global + 2 ^ 15 else global_address global) % 2 ^ 16) ∷ []))
+        go true = ((refl, low_fits (global_address global + 2 ^ 15)), tt)
+        go false = ((refl, upper_fits global below), ((refl, low_fits (global_address global)), tt))
 
     move_formed : (destination : ℕ) (source : Operand) → destination < slots → IsOperand (routine_at program function) source × IsOfWord source
         → Formed (ordinary (move_to (value_register frame destination) frame destination source))
@@ -474,47 +510,27 @@ module _ (program : Program) (well : IsWellFormed program) (words : HasWords pro
             (
               (refl, tt),
               (
-                (refl, return_fits),
-                (
-                  (refl, (omega arith)),
-                  (
-                    (refl, (omega (arith, its.return_inside))),
-                    all_append (IsFormedLine (length (select_of program frames).lines)) (ordinary (copies frame (frame_at frames callee) arguments 0 count)) (lines.Call (function_line program frames callee) ∷ [])
-                        (copies_formed (frame_at frames callee) (routine_at program callee).slots (omega (arith, its.within, its.small)) its.inside arguments 0 count in_range.arguments_in_range
-                        (let takes = in_range.takes in let parameters = (routine_in program callee well in_range.function_in_range).parameters in omega (arith, takes, parameters)))
-                        (function_known_line callee in_range.function_in_range, tt),
-                  ),
-                ),
+                (refl, (omega arith)),
+                all_append (IsFormedLine (length (select_of program frames).lines)) (ordinary (copies frame (frame_at frames callee) arguments 0 count)) (lines.Call (function_line program frames callee) ∷ [])
+                    (copies_formed (frame_at frames callee) (routine_at program callee).slots (λ slot below. omega (arith, its.inside slot below, its.small)) arguments 0 count in_range.arguments_in_range
+                    (let takes = in_range.takes in let parameters = (routine_in program callee well in_range.function_in_range).parameters in omega (arith, takes, parameters)))
+                    (function_known_line callee in_range.function_in_range, tt),
               ),
             ),
           ),
         )
-    body_formed (plain.Return value) n in_range fits long =
-        let few = few_results program well function in
-        let registers = length_registers (routine_at program function).results few in
-        all_append (IsFormedLine (length (select_of program frames).lines)) (ending_code (function == program.main) frame n value ++ ordinary (loaded frame value (routine_at program function).results)) (lines.Return ∷ [])
-        (all_append (IsFormedLine (length (select_of program frames).lines)) (ending_code (function == program.main) frame n value) (ordinary (loaded frame value (routine_at program function).results))
-        (ending_formed (function == program.main) n value refl in_range long)
-        (formed_append (load_all frame value (result_registers (routine_at program function).results)) (pop_frame frame ∷ []) (loads_formed value (result_registers (routine_at program function).results) (omega (arith, registers, in_range))) ((refl, frame_fits), tt)))
-        (tt, tt)
-    body_formed (plain.Finish value) n in_range fits long =
-        let few = few_results program well function in
-        let registers = length_registers (routine_at program function).results few in
-        all_append (IsFormedLine (length (select_of program frames).lines)) (ending_code (function == program.main) frame n value ++ ordinary (loaded frame value (routine_at program function).results)) (lines.Return ∷ [])
-        (all_append (IsFormedLine (length (select_of program frames).lines)) (ending_code (function == program.main) frame n value) (ordinary (loaded frame value (routine_at program function).results))
-        (ending_formed (function == program.main) n value refl in_range long)
-        (formed_append (load_all frame value (result_registers (routine_at program function).results)) (pop_frame frame ∷ []) (loads_formed value (result_registers (routine_at program function).results) (omega (arith, registers, in_range))) ((refl, frame_fits), tt)))
-        (tt, tt)
+    body_formed (plain.Return value) n in_range fits long = returning_formed n value in_range long
+    body_formed (plain.Finish value) n in_range fits long = returning_formed n value in_range long
     body_formed (plain.ReadByte destination) n below fits long = ((refl, (omega arith)), ((refl, tt), give_formed SERVICE destination below))
     body_formed (plain.WriteByte source) n below fits long =
         formed_append (load_code frame ARGUMENT source) (small SERVICE PUT_BYTE ∷ syscall ∷ []) (load_formed ARGUMENT source (below, fits)) ((refl, (omega arith)), ((refl, tt), tt))
     body_formed (plain.AddressOf destination slot count) n (a, some, named) fits long =
         ((refl, slot_fits slot (omega (arith, some, named))), keep_formed destination a)
     body_formed (plain.LoadGlobal destination global) n (a, b) fits long =
-        ((refl, upper_fits global b), ((refl, low_fits (data_base + 4 * global)), keep_formed destination a))
+        formed_append (global_code LoadWord (made_in frame destination) global) (keep_code frame destination) (global_formed LoadWord (made_in frame destination) global b) (keep_formed destination a)
     body_formed (plain.StoreGlobal global source) n (a, b) fits long =
-        formed_append (operand_code frame FIRST source) (upper_of_global global ∷ at_global StoreWord (operand_register frame FIRST source) global ∷ []) (operand_formed FIRST source (b, fits))
-        ((refl, upper_fits global a), ((refl, low_fits (data_base + 4 * global)), tt))
+        formed_append (operand_code frame FIRST source) (global_code StoreWord (operand_register frame FIRST source) global) (operand_formed FIRST source (b, fits))
+        (global_formed StoreWord (operand_register frame FIRST source) global a)
     body_formed (plain.MoveWords destination source count) n in_range fits long =
         go (is_crossing destination source count)
       where
@@ -549,25 +565,16 @@ module _ (program : Program) (well : IsWellFormed program) (words : HasWords pro
           (
             (refl, slot_fits (first + 1) (omega (arith, inside))),
             (
-              (refl, slot_fits (first + 3) (omega (arith, inside))),
+              (omega (arith, long)),
               (
-                (refl, return_fits),
+                (refl, slot_fits first (omega (arith, inside))),
                 (
-                  (omega (arith, long)),
-                  (
-                    (refl, return_fits),
-                    (
-                      (refl, slot_fits first (omega (arith, inside))),
-                      (
-                        (refl, slot_fits (suc first) (omega (arith, inside))),
-                        all_append (IsFormedLine (length (select_of program frames).lines)) (ordinary (reloads frame))
-                            (lines.Jump (instruction_line program frames function handler) ∷ ordinary (opened_code frame first)) reloads_formed (
-                              target_known function handler in_range.handler_in_range,
-                              ((refl, slot_fits (first + 2) (omega (arith, inside))), ((refl, return_fits), ((refl, slot_fits first (omega (arith, inside))), tt))),
-                            ),
+                  (refl, slot_fits (suc first) (omega (arith, inside))),
+                  all_append (IsFormedLine (length (select_of program frames).lines)) (ordinary (reloads frame))
+                      (lines.Jump (instruction_line program frames function handler) ∷ ordinary (opened_code frame first)) reloads_formed (
+                        target_known function handler in_range.handler_in_range,
+                        ((refl, slot_fits (first + 2) (omega (arith, inside))), ((refl, slot_fits first (omega (arith, inside))), tt)),
                       ),
-                    ),
-                  ),
                 ),
               ),
             ),
@@ -578,21 +585,16 @@ module _ (program : Program) (well : IsWellFormed program) (words : HasWords pro
         all_append (IsFormedLine (length (select_of program frames).lines)) (ordinary (load_code frame ARGUMENT tag ++ load_code frame SECOND_ARGUMENT value))
         (lines.Branch (conditions.Registers branch.NotEqual (register_of HANDLERS) (register_of ZERO)) (n + (load_count tag + load_count value) + 3) ∷ ordinary (small SERVICE END_UNCAUGHT ∷ syscall ∷ []) ++ (ordinary unwound_code ++ lines.Return ∷ []))
         (formed_append (load_code frame ARGUMENT tag) (load_code frame SECOND_ARGUMENT value) (load_formed ARGUMENT tag (a, fits)) (load_formed SECOND_ARGUMENT value (b, also)))
-        ((omega (arith, long)), ((refl, (omega arith)), ((refl, tt), ((refl, (omega arith)), ((refl, (omega arith)), ((refl, (omega arith)), ((refl, (omega arith)), (tt, tt))))))))
+        ((omega (arith, long)), ((refl, (omega arith)), ((refl, tt), ((refl, (omega arith)), ((refl, (omega arith)), ((refl, (omega arith)), (tt, tt)))))))
     body_formed (plain.Uncaught tag value) n below (tag_fits, value_fits) long =
         formed_append (word_code ARGUMENT tag) (load_code frame SECOND_ARGUMENT value ++ small SERVICE END_UNCAUGHT ∷ syscall ∷ []) (word_formed ARGUMENT tag tag_fits)
         (formed_append (load_code frame SECOND_ARGUMENT value) (small SERVICE END_UNCAUGHT ∷ syscall ∷ []) (load_formed SECOND_ARGUMENT value (below, value_fits)) ((refl, (omega arith)), ((refl, tt), tt)))
 
     behind_formed : (i : Instruction) → IsInRange program (routine_at program function) i → Formed (behind program frames function i)
     behind_formed (plain.Call callee arguments count result) in_range =
-        let registers = length_registers (routine_at program callee).results (few_results program well callee) in (
-          (refl, return_fits),
-          (
-            (refl, (omega arith)),
-            formed_append (bring_all true frame result (result_registers (routine_at program callee).results)) (reloads frame)
-                (brought_formed true result (result_registers (routine_at program callee).results) (omega (arith, registers, in_range.result_in_range))) reloads_formed,
-          ),
-        )
+        let registers = length_registers (routine_at program callee).results (few_results program well callee) in
+        formed_append (bring_all true frame result (result_registers (routine_at program callee).results)) (reloads frame)
+        (brought_formed true result (result_registers (routine_at program callee).results) (omega (arith, registers, in_range.result_in_range))) reloads_formed
     behind_formed (plain.Move destination source) in_range = tt
     behind_formed (plain.Unary operator destination operand) in_range = tt
     behind_formed (plain.Binary operator destination left right) in_range = tt
@@ -617,9 +619,11 @@ module _ (program : Program) (well : IsWellFormed program) (words : HasWords pro
     behind_formed (plain.Finish value) in_range = tt
     behind_formed (plain.Uncaught tag value) in_range = tt
 
-  function_formed : (function n : ℕ) → function < length program.functions → n ≡ function_line program frames function → Formed (code_lines program frames function n (routine_at program function).code)
+  function_formed : (function n : ℕ) → function < length program.functions → n ≡ function_line program frames function → Formed (routine_lines program frames function n (routine_at program function))
   function_formed function n known is =
-      code_all program frames (IsFormedLine (length (select_of program frames).lines)) function n (routine_at program function).code
+      all_append (IsFormedLine (length (select_of program frames).lines)) (ordinary (saving_code (frame_at frames function))) (code_lines program frames function (n + saving_count (frame_at frames function)) (routine_at program function).code)
+      (saving_formed function known)
+      (code_all program frames (IsFormedLine (length (select_of program frames).lines)) function (n + saving_count (frame_at frames function)) (routine_at program function).code
       (λ index m i at m_is.
       let routine = routine_in program function well known in
       let in_range = holds_at (IsInRange program (routine_at program function)) (routine_at program function).code index i routine.instructions at in
@@ -627,17 +631,14 @@ module _ (program : Program) (well : IsWellFormed program) (words : HasWords pro
       let here : m ≡ instruction_line program frames function index = omega (arith, m_is, is) in
       all_append (IsFormedLine (length (select_of program frames).lines)) (body program frames function m i) (behind program frames function i)
       (body_formed function known i m in_range has_word (omega (arith, here, line_known function index i at)))
-      (behind_formed function known i in_range))
-
-  main_some : 0 < (frame_at frames program.main).words
-  main_some = let f = fit.each program.main well.main in omega (arith, f.return_inside)
+      (behind_formed function known i in_range)))
 
   pub formed : IsFormed (select_of program frames)
   formed =
       all_from (IsFormedLine (length (select_of program frames).lines)) (start_lines program frames ++ function_lines program frames 0 START_LINES program.functions)
       (all_append (IsFormedLine (length (select_of program frames).lines)) (start_lines program frames) (function_lines program frames 0 START_LINES program.functions)
-      ((refl, (omega arith)), ((refl, (omega (arith, main_some))), (function_known_line program.main well.main, tt)))
+      ((refl, (omega arith)), ((refl, (omega arith)), ((refl, tt), ((refl, tt), ((refl, (omega arith)), (function_known_line program.main well.main, tt))))))
       (functions_all program frames (IsFormedLine (length (select_of program frames).lines)) 0 START_LINES program.functions
       (λ k n below is.
       let same : k ≡ 0 + k = omega arith in
-      subst (λ (f : ℕ). Formed (code_lines program frames f n (routine_at program k).code)) same (function_formed k n below is))))
+      subst (λ (f : ℕ). Formed (routine_lines program frames f n (routine_at program k))) same (function_formed k n below is))))

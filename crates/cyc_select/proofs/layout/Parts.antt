@@ -10,7 +10,7 @@ use Rattle.cyc_plain.specs.declared.instruction.Instruction.{Instruction}
 use Rattle.cyc_plain.specs.declared.instruction.Instruction.TheVariants as plain
 use Rattle.cyc_plain.specs.Program.{Routine, Program, CodePlace, no_routine, routine_at, places_from, places_of}
 use Rattle.cyc_plain.specs.WellFormed.{IsWellFormed, leaves}
-use Rattle.cyc_plain.proofs.Placed.{routine_in}
+use Rattle.cyc_plain.proofs.Placed.{routine_in, has_code}
 use Rattle.cyc_frame.specs.Frame.{Frame}
 use Rattle.cyc_select.specs.declared.constants.TheConstants.{START_LINES}
 use Rattle.cyc_select.specs.Selection.{body_count, behind_count, count_of, function_count, functions_count, function_line, instruction_line, start_lines, function_lines, select_of}
@@ -86,10 +86,10 @@ module _ (program : Program) (well : IsWellFormed program) (frames : List Frame)
   first_of function index = instruction_line program frames function index - previous_count program frames function (routine_at program function).code index
 
   last_line : (function : ℕ) → instruction_line program frames function (length (routine_at program function).code) ≡ end_of function
-  last_line function = ap (λ (code : List Instruction). function_line program frames function + sum_by (count_of program frames function) code) (take_all (routine_at program function).code)
+  last_line function = omega (arith, ap (sum_by (count_of program frames function)) (take_all (routine_at program function).code))
 
   last_previous : (function : ℕ) → function < length program.functions → (k : ℕ) → k ≡ length (routine_at program function).code → previous_count program frames function (routine_at program function).code k ≡ 0
-  last_previous function known zero is = refl
+  last_previous function known zero is = absurd (omega (arith, is, has_code program (routine_at program function) (routine_in program function well known)))
   last_previous function known (suc k) is =
       let routine = routine_in program function well known in
       let (i, at) = slice_get_below (routine_at program function).code k (omega (arith, is)) in
@@ -159,17 +159,17 @@ module _ (program : Program) (well : IsWellFormed program) (frames : List Frame)
       ∙ (ap (λ (x : ℕ). range_with_len (function_line program frames first) (function_count program frames first r) ++ range_with_len x (functions_count program frames (suc first) routines)) next
       ∙ range_append (function_line program frames first) (function_count program frames first r) (functions_count program frames (suc first) routines))))))
 
-  pub parts : range_with_len 0 3 ++ flat_map (own_of program frames) (places_of program) ≡ range_with_len 0 (length (select_of program frames).lines)
+  pub parts : range_with_len 0 START_LINES ++ flat_map (own_of program frames) (places_of program) ≡ range_with_len 0 (length (select_of program frames).lines)
   parts =
-      let none : function_line program frames 0 ≡ 3 = omega arith in
+      let none : function_line program frames 0 ≡ START_LINES = omega arith in
       let total = length-append (start_lines program frames) (function_lines program frames 0 START_LINES program.functions) in
       let long = length_functions program frames (few_results program well) 0 START_LINES program.functions in
-      let all : 3 + functions_count program frames 0 program.functions ≡ length (select_of program frames).lines = omega (arith, total, long) in
+      let all : START_LINES + functions_count program frames 0 program.functions ≡ length (select_of program frames).lines = omega (arith, total, long) in
       let same : (k : ℕ) → k < length program.functions → slice_index_or program.functions k no_routine ≡ routine_at program (0 + k) =
       λ k below. let e : k ≡ 0 + k = omega arith in ap (routine_at program) e in
-      ap (λ (l : List ℕ). range_with_len 0 3 ++ l) (own_functions 0 program.functions (omega arith) same)
-      ∙ (ap (λ (x : ℕ). range_with_len 0 3 ++ range_with_len x (functions_count program frames 0 program.functions)) none
-      ∙ (range_append 0 3 (functions_count program frames 0 program.functions) ∙ ap (range_with_len 0) all))
+      ap (λ (l : List ℕ). range_with_len 0 START_LINES ++ l) (own_functions 0 program.functions (omega arith) same)
+      ∙ (ap (λ (x : ℕ). range_with_len 0 START_LINES ++ range_with_len x (functions_count program frames 0 program.functions)) none
+      ∙ (range_append 0 START_LINES (functions_count program frames 0 program.functions) ∙ ap (range_with_len 0) all))
 
 -- ---- each place has a line
 

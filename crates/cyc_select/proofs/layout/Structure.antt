@@ -1,5 +1,5 @@
 -- The code of a program, put together: how long its parts are, and where each stands.
-use Rattle.std.proofs.Common.{◌≡◌, ℕ, zero, suc, ◌+◌, ◌<◌, ◌≤◌, Bool, true, false, List, [], ◌∷◌, ◌++◌, length, take, Some, None, slice_get, refl, subst, ◌∙◌, arith, length-append, append_assoc}
+use Rattle.std.proofs.Common.{◌≡◌, ℕ, zero, suc, ◌+◌, ◌<◌, ◌≤◌, Bool, true, false, List, [], ◌∷◌, ◌++◌, length, take, Some, None, slice_get, refl, subst, ◌∙◌, arith, length-append, append_assoc, ◌*◌}
 use Rattle.std.specs.Prelude.{sum_by, ◌==◌, if◌then◌else◌, slice_index_or}
 use Rattle.std.proofs.lemmas.List.Sums.{sum_by-cons}
 use Rattle.cyc_plain.specs.declared.instruction.Instruction.{Instruction}
@@ -13,7 +13,7 @@ use Rattle.cyc_isa.specs.declared.instr.BranchOp.TheVariants as branch
 use Rattle.cyc_isa.specs.declared.instr.MemoryOp.{MemoryOp}
 use Rattle.cyc_isa.specs.declared.instr.MemoryOp.TheVariants.{LoadWord, StoreWord, LoadByte, StoreByte}
 use Rattle.cyc_isa.specs.declared.instr.MoveFromOp.{MoveFromOp}
-use Rattle.cyc_machine.specs.declared.constants.TheConstants.{ARGUMENT, END_UNCAUGHT, PUT_BYTE, SECOND_ARGUMENT, SERVICE}
+use Rattle.cyc_machine.specs.declared.constants.TheConstants.{ARGUMENT, END_UNCAUGHT, PUT_BYTE, RETURN_ADDRESS, SECOND_ARGUMENT, SERVICE}
 use Rattle.cyc_plain.specs.Program.{Routine, Program, no_routine, routine_at}
 use Rattle.cyc_plain.specs.Step.{instruction_at}
 use Rattle.cyc_plain.proofs.Steps.{function_known}
@@ -26,9 +26,9 @@ use Rattle.cyc_select.specs.declared.code.Line.TheVariants as lines
 use Rattle.cyc_select.specs.declared.plan.Plan.{Plan}
 use Rattle.cyc_select.specs.Labelled.{Labelled}
 use Rattle.cyc_select.specs.Plans.{unary_plan, binary_plan, test_of}
-use Rattle.cyc_select.specs.Selection.{value_register, product_code, quotient_code, copies_count, move_to, keep_code, keep_count, give_code, give_count, moved_code, reloads, reload_count, opened_code, made_in, ordinary, argument_code, service_number, answer_code, unwound_code, address_code, at_address, copies, bring_all, small, syscall, upper_of_global, at_global, word_code, load_code, load_count, operand_code, operand_register, plan_code, plan_count, test_code, branch_line, divided_code, divide_code, divide_count, is_tested, part_of, result_registers, ending_code, ending_count, operator_code, operator_count, body, behind, body_count, behind_count, count_of, function_count, functions_count, function_line, instruction_line, code_lines, function_lines, start_lines, select_of, regions_code, load_at, store_at, address_count, operand_count, spills, spills_count, calling_code}
+use Rattle.cyc_select.specs.Selection.{value_register, product_code, quotient_code, copies_count, move_to, keep_code, keep_count, give_code, give_count, moved_code, reloads, reload_count, opened_code, made_in, ordinary, argument_code, service_number, answer_code, unwound_code, address_code, at_address, copies, bring_all, small, syscall, word_code, load_code, load_count, operand_code, operand_register, plan_code, plan_count, test_code, branch_line, divided_code, divide_code, divide_count, is_tested, part_of, result_registers, ending_code, ending_count, operator_code, operator_count, body, behind, body_count, behind_count, count_of, function_count, functions_count, function_line, instruction_line, code_lines, function_lines, start_lines, select_of, regions_code, load_at, store_at, address_count, operand_count, spills, spills_count, calling_code, global_code, load, store, saving_code, restoring_code, saving_count, returning_code, routine_lines}
 use Rattle.cyc_select.proofs.steps.Calls.{length_ordinary}
-use Rattle.cyc_select.proofs.emission.Counts.{length_keep, length_give, length_move, length_moved, length_spills, length_copies, length_argument, length_answer, length_regions, length_results, length_registers, length_word, length_load, length_operand, length_address, length_plan, length_test, length_divided}
+use Rattle.cyc_select.proofs.emission.Counts.{length_keep, length_give, length_move, length_moved, length_spills, length_copies, length_argument, length_answer, length_regions, length_results, length_registers, length_word, length_load, length_operand, length_address, length_plan, length_test, length_divided, length_global}
 use Rattle.cyc_select.proofs.steps.Returns.{loaded, length_loaded}
 use Rattle.cyc_select.proofs.relation.Values.{length_reloads}
 use Rattle.cyc_select.proofs.effects.Walks.{Stands, stands_front, stands_back}
@@ -72,6 +72,25 @@ module _ (program : Program) (frames : List Frame) (few_results : (function : �
       let last : List Instr = at_address (frame_at frames function) op (operand_register (frame_at frames function) SECOND source) address offset ∷ [] in
       omega (arith, length_ordinary (is ++ (js ++ last)), length-append is (js ++ last), length-append js last, length_address (frame_at frames function) address offset, length_operand (frame_at frames function) SECOND source)
 
+  length_restoring : (function : ℕ) → length (ordinary (restoring_code (frame_at frames function))) ≡ saving_count (frame_at frames function)
+  length_restoring function = go (frame_at frames function).saves
+    where
+      go : (b : Bool) → length (ordinary (if b then load RETURN_ADDRESS (4 * (frame_at frames function).return_address) ∷ [] else [])) ≡ (if b then 1 else 0)
+      go true = refl
+      go false = refl
+
+  length_returning : (function here value : ℕ) → length (returning_code (function == program.main) (frame_at frames function) here value (routine_at program function).results)
+      ≡ saving_count (frame_at frames function) + ending_count program function + (routine_at program function).results + 2
+  length_returning function here value =
+      let frame : Frame = frame_at frames function in
+      let there : ℕ = here + saving_count frame in
+      let ends : List Line = ending_code (function == program.main) frame there value in
+      let loads : List Line = ordinary (loaded frame value (routine_at program function).results) in
+      let front = length-append ends loads in
+      let all = length-append (ends ++ loads) (lines.Return ∷ []) in
+      let whole = length-append (ordinary (restoring_code frame)) (ends ++ loads ++ lines.Return ∷ []) in
+      omega (arith, whole, front, all, length_restoring function, length_ending (function == program.main) frame there value, length_ordinary (loaded frame value (routine_at program function).results), length_loaded frame value (routine_at program function).results (few_results function))
+
   pub length_body : (function here : ℕ) (i : Instruction) → length (body program frames function here i) ≡ body_count program frames function i
   length_body function here (plain.Move destination source) =
       length_ordinary (move_to (value_register (frame_at frames function) destination) (frame_at frames function) destination source) ∙ length_move (frame_at frames function) destination source
@@ -87,25 +106,11 @@ module _ (program : Program) (frames : List Frame) (few_results : (function : �
       let whole = length-append (ordinary (copies (frame_at frames function) (frame_at frames callee) arguments 0 count)) (lines.Call (function_line program frames callee) ∷ []) in
       let parts = length_ordinary (copies (frame_at frames function) (frame_at frames callee) arguments 0 count) in
       let copied = length_copies (frame_at frames function) (frame_at frames callee) arguments 0 count in
-      let e : suc (suc (suc (suc (suc (suc (length (ordinary (copies (frame_at frames function) (frame_at frames callee) arguments 0 count) ++ lines.Call (function_line program frames callee) ∷ []))))))) ≡ 7 + copies_count (frame_at frames function) (frame_at frames callee) arguments 0 count = omega (arith, whole, parts, copied) in
-      let called : length calling ≡ 7 + copies_count (frame_at frames function) (frame_at frames callee) arguments 0 count = e in
+      let e : suc (suc (suc (suc (length (ordinary (copies (frame_at frames function) (frame_at frames callee) arguments 0 count) ++ lines.Call (function_line program frames callee) ∷ []))))) ≡ 5 + copies_count (frame_at frames function) (frame_at frames callee) arguments 0 count = omega (arith, whole, parts, copied) in
+      let called : length calling ≡ 5 + copies_count (frame_at frames function) (frame_at frames callee) arguments 0 count = e in
       omega (arith, length-append (ordinary (spills (frame_at frames function) (frame_at frames callee) arguments 0 count)) calling, length_ordinary (spills (frame_at frames function) (frame_at frames callee) arguments 0 count), length_spills (frame_at frames function) (frame_at frames callee) arguments 0 count, called)
-  length_body function here (plain.Return value) =
-      let front = length-append (ending_code (function == program.main) (frame_at frames function) here value) (ordinary (loaded (frame_at frames function) value (routine_at program function).results)) in
-      let all = length-append (ending_code (function == program.main) (frame_at frames function) here value ++ ordinary (loaded (frame_at frames function) value (routine_at program function).results)) (lines.Return ∷ []) in
-      let ended = length_ending (function == program.main) (frame_at frames function) here value in
-      let ordered = length_ordinary (loaded (frame_at frames function) value (routine_at program function).results) in
-      let loads = length_loaded (frame_at frames function) value (routine_at program function).results (few_results function) in
-      let e : length (ending_code (function == program.main) (frame_at frames function) here value ++ ordinary (loaded (frame_at frames function) value (routine_at program function).results) ++ lines.Return ∷ []) ≡ ending_count program function + (routine_at program function).results + 2 = omega (arith, front, all, ended, ordered, loads) in
-      e
-  length_body function here (plain.Finish value) =
-      let front = length-append (ending_code (function == program.main) (frame_at frames function) here value) (ordinary (loaded (frame_at frames function) value (routine_at program function).results)) in
-      let all = length-append (ending_code (function == program.main) (frame_at frames function) here value ++ ordinary (loaded (frame_at frames function) value (routine_at program function).results)) (lines.Return ∷ []) in
-      let ended = length_ending (function == program.main) (frame_at frames function) here value in
-      let ordered = length_ordinary (loaded (frame_at frames function) value (routine_at program function).results) in
-      let loads = length_loaded (frame_at frames function) value (routine_at program function).results (few_results function) in
-      let e : length (ending_code (function == program.main) (frame_at frames function) here value ++ ordinary (loaded (frame_at frames function) value (routine_at program function).results) ++ lines.Return ∷ []) ≡ ending_count program function + (routine_at program function).results + 2 = omega (arith, front, all, ended, ordered, loads) in
-      e
+  length_body function here (plain.Return value) = length_returning function here value
+  length_body function here (plain.Finish value) = length_returning function here value
   length_body function here (plain.ReadByte destination) =
       let e : suc (suc (length (ordinary (give_code (frame_at frames function) 2 destination)))) ≡ 2 + give_count (frame_at frames function) destination = omega (arith, length_ordinary (give_code (frame_at frames function) 2 destination), length_give (frame_at frames function) 2 destination) in
       e
@@ -116,11 +121,11 @@ module _ (program : Program) (frames : List Frame) (few_results : (function : �
       let e : suc (length (ordinary (keep_code (frame_at frames function) destination))) ≡ 1 + keep_count (frame_at frames function) destination = omega (arith, length_ordinary (keep_code (frame_at frames function) destination), length_keep (frame_at frames function) destination) in
       e
   length_body function here (plain.LoadGlobal destination global) =
-      let e : suc (suc (length (ordinary (keep_code (frame_at frames function) destination)))) ≡ 2 + keep_count (frame_at frames function) destination = omega (arith, length_ordinary (keep_code (frame_at frames function) destination), length_keep (frame_at frames function) destination) in
-      e
+      let is : List Instr = global_code LoadWord (made_in (frame_at frames function) destination) global in
+      omega (arith, length_ordinary (is ++ keep_code (frame_at frames function) destination), length-append is (keep_code (frame_at frames function) destination), length_global LoadWord (made_in (frame_at frames function) destination) global, length_keep (frame_at frames function) destination)
   length_body function here (plain.StoreGlobal global source) =
-      let last : List Instr = upper_of_global global ∷ at_global StoreWord (operand_register (frame_at frames function) FIRST source) global ∷ [] in
-      omega (arith, length_ordinary (operand_code (frame_at frames function) FIRST source ++ last), length-append (operand_code (frame_at frames function) FIRST source) last, length_operand (frame_at frames function) FIRST source)
+      let last : List Instr = global_code StoreWord (operand_register (frame_at frames function) FIRST source) global in
+      omega (arith, length_ordinary (operand_code (frame_at frames function) FIRST source ++ last), length-append (operand_code (frame_at frames function) FIRST source) last, length_operand (frame_at frames function) FIRST source, length_global StoreWord (operand_register (frame_at frames function) FIRST source) global)
   length_body function here (plain.MoveWords destination source count) =
       length_ordinary (moved_code (frame_at frames function) destination source count) ∙ length_moved (frame_at frames function) destination source count
   length_body function here (plain.Load destination address offset) = length_load_at function LoadWord destination address offset
@@ -137,7 +142,7 @@ module _ (program : Program) (frames : List Frame) (few_results : (function : �
   length_body function here (plain.Try first handler) =
       let last : List Line = lines.Jump (instruction_line program frames function handler) ∷ ordinary (opened_code (frame_at frames function) first) in
       let long = length-append (ordinary (reloads (frame_at frames function))) last in
-      let e : suc (suc (suc (suc (suc (suc (suc (suc (length (ordinary (reloads (frame_at frames function)) ++ last))))))))) ≡ 12 + reload_count (frame_at frames function)
+      let e : suc (suc (suc (suc (suc (length (ordinary (reloads (frame_at frames function)) ++ last)))))) ≡ 8 + reload_count (frame_at frames function)
       = omega (arith, long, length_ordinary (reloads (frame_at frames function)), length_reloads (frame_at frames function)) in
       e
   length_body function here (plain.Leave first) = refl
@@ -156,9 +161,7 @@ module _ (program : Program) (frames : List Frame) (few_results : (function : �
       let a = length_ordinary (stores ++ reloads (frame_at frames function)) in
       let b = length_results (frame_at frames function) result (result_registers (routine_at program callee).results) in
       let d = length_registers (routine_at program callee).results (few_results callee) in
-      let e : suc (suc (length (ordinary (bring_all true (frame_at frames function) result (result_registers (routine_at program callee).results) ++ reloads (frame_at frames function))))) ≡ 2 + (routine_at program callee).results + reload_count (frame_at frames function)
-      = omega (arith, a, b, d, length-append stores (reloads (frame_at frames function)), length_reloads (frame_at frames function)) in
-      e
+      omega (arith, a, b, d, length-append stores (reloads (frame_at frames function)), length_reloads (frame_at frames function))
   length_behind function (plain.Move destination source) = refl
   length_behind function (plain.Unary operator destination operand) = refl
   length_behind function (plain.Binary operator destination left right) = refl
@@ -192,10 +195,21 @@ module _ (program : Program) (frames : List Frame) (few_results : (function : �
   length_code function here (i ∷ code) =
       omega (arith, length-append (body program frames function here i ++ behind program frames function i) (code_lines program frames function (here + count_of program frames function i) code), length_both function here i, length_code function (here + count_of program frames function i) code, sum_by-cons (count_of program frames function) i code)
 
+  pub length_saving : (function : ℕ) → length (ordinary (saving_code (frame_at frames function))) ≡ saving_count (frame_at frames function)
+  length_saving function = go (frame_at frames function).saves
+    where
+      go : (b : Bool) → length (ordinary (if b then store RETURN_ADDRESS (4 * (frame_at frames function).return_address) ∷ [] else [])) ≡ (if b then 1 else 0)
+      go true = refl
+      go false = refl
+
+  pub length_routine : (function here : ℕ) (r : Routine) → length (routine_lines program frames function here r) ≡ function_count program frames function r
+  length_routine function here r =
+      omega (arith, length-append (ordinary (saving_code (frame_at frames function))) (code_lines program frames function (here + saving_count (frame_at frames function)) r.code), length_saving function, length_code function (here + saving_count (frame_at frames function)) r.code)
+
   pub length_functions : (function here : ℕ) (routines : List Routine) → length (function_lines program frames function here routines) ≡ functions_count program frames function routines
   length_functions function here [] = refl
   length_functions function here (r ∷ routines) =
-      omega (arith, length-append (code_lines program frames function here r.code) (function_lines program frames (suc function) (here + function_count program frames function r) routines), length_code function here r.code, length_functions (suc function) (here + function_count program frames function r) routines)
+      omega (arith, length-append (routine_lines program frames function here r) (function_lines program frames (suc function) (here + function_count program frames function r) routines), length_routine function here r, length_functions (suc function) (here + function_count program frames function r) routines)
 
   module _ (all : Labelled) where
     code_stands : (function here : ℕ) (code : List Instruction) (index n : ℕ) (i : Instruction) → slice_get code index ≡ Some i → n ≡ here + sum_by (count_of program frames function) (take index code)
@@ -214,21 +228,21 @@ module _ (program : Program) (frames : List Frame) (few_results : (function : �
         (stands_back all here (body program frames function here x ++ behind program frames function x) (code_lines program frames function (here + count_of program frames function x) code) stands))
 
     functions_stand : (first here : ℕ) (routines : List Routine) (k n : ℕ) → k < length routines → n ≡ here + functions_count program frames first (take k routines)
-        → Stands all here (function_lines program frames first here routines) → Stands all n (code_lines program frames (first + k) n (slice_index_or routines k no_routine).code)
+        → Stands all here (function_lines program frames first here routines) → Stands all n (routine_lines program frames (first + k) n (slice_index_or routines k no_routine))
     functions_stand first here [] k n below is stands = absurd (omega arith)
     functions_stand first here (r ∷ routines) zero n below is stands =
         let there : here ≡ n = omega (arith, is) in
         let same : first ≡ first + 0 = omega arith in
-        subst (λ (f : ℕ). Stands all n (code_lines program frames f n r.code)) same
-        (subst (λ (m : ℕ). Stands all m (code_lines program frames first m r.code)) there
-        (stands_front all here (code_lines program frames first here r.code) (function_lines program frames (suc first) (here + function_count program frames first r) routines) stands))
+        subst (λ (f : ℕ). Stands all n (routine_lines program frames f n r)) same
+        (subst (λ (m : ℕ). Stands all m (routine_lines program frames first m r)) there
+        (stands_front all here (routine_lines program frames first here r) (function_lines program frames (suc first) (here + function_count program frames first r) routines) stands))
     functions_stand first here (r ∷ routines) (suc k) n below is stands =
-        let long = length_code first here r.code in
+        let long = length_routine first here r in
         let same : suc first + k ≡ first + suc k = omega arith in
-        subst (λ (f : ℕ). Stands all n (code_lines program frames f n (slice_index_or routines k no_routine).code)) same
+        subst (λ (f : ℕ). Stands all n (routine_lines program frames f n (slice_index_or routines k no_routine))) same
         (functions_stand (suc first) (here + function_count program frames first r) routines k n (omega (arith, below)) (omega (arith, is))
         (subst (λ (m : ℕ). Stands all (here + m) (function_lines program frames (suc first) (here + function_count program frames first r) routines)) long
-        (stands_back all here (code_lines program frames first here r.code) (function_lines program frames (suc first) (here + function_count program frames first r) routines) stands)))
+        (stands_back all here (routine_lines program frames first here r) (function_lines program frames (suc first) (here + function_count program frames first r) routines) stands)))
 
   -- all lines stand
   stands_from : (front rest : List Line) (globals : List ℕ) → Stands (record { lines = front ++ rest; globals = globals }) (length front) rest
@@ -245,14 +259,27 @@ module _ (program : Program) (frames : List Frame) (few_results : (function : �
   pub stand_functions : Stands (select_of program frames) START_LINES (function_lines program frames 0 START_LINES program.functions)
   stand_functions = stands_back (select_of program frames) 0 (start_lines program frames) (function_lines program frames 0 START_LINES program.functions) (stands_from [] (start_lines program frames ++ function_lines program frames 0 START_LINES program.functions) program.globals)
 
-  pub stand_function : (function : ℕ) → function < length program.functions → Stands (select_of program frames) (function_line program frames function) (code_lines program frames function (function_line program frames function) (routine_at program function).code)
+  pub stand_function : (function : ℕ) → function < length program.functions → Stands (select_of program frames) (function_line program frames function) (routine_lines program frames function (function_line program frames function) (routine_at program function))
   stand_function function known =
       let same : 0 + function ≡ function = omega arith in
-      subst (λ (f : ℕ). Stands (select_of program frames) (function_line program frames function) (code_lines program frames f (function_line program frames function) (routine_at program function).code)) same
+      subst (λ (f : ℕ). Stands (select_of program frames) (function_line program frames function) (routine_lines program frames f (function_line program frames function) (routine_at program function))) same
       (functions_stand (select_of program frames) 0 START_LINES program.functions function (function_line program frames function) known refl stand_functions)
+
+  -- what a function begins with, and its code behind it
+  pub stand_saving : (function : ℕ) → function < length program.functions → Stands (select_of program frames) (function_line program frames function) (ordinary (saving_code (frame_at frames function)))
+  stand_saving function known =
+      stands_front (select_of program frames) (function_line program frames function) (ordinary (saving_code (frame_at frames function)))
+      (code_lines program frames function (function_line program frames function + saving_count (frame_at frames function)) (routine_at program function).code) (stand_function function known)
+
+  stand_code : (function : ℕ) → function < length program.functions
+      → Stands (select_of program frames) (function_line program frames function + saving_count (frame_at frames function)) (code_lines program frames function (function_line program frames function + saving_count (frame_at frames function)) (routine_at program function).code)
+  stand_code function known =
+      let here : ℕ = function_line program frames function + saving_count (frame_at frames function) in
+      subst (λ (n : ℕ). Stands (select_of program frames) (function_line program frames function + n) (code_lines program frames function here (routine_at program function).code)) (length_saving function)
+      (stands_back (select_of program frames) (function_line program frames function) (ordinary (saving_code (frame_at frames function))) (code_lines program frames function here (routine_at program function).code) (stand_function function known))
 
   pub stand : (function index : ℕ) (i : Instruction) → instruction_at program (record { function = function; index = index }) ≡ Some i
       → Stands (select_of program frames) (instruction_line program frames function index) (body program frames function (instruction_line program frames function index) i ++ behind program frames function i)
   stand function index i at =
-      code_stands (select_of program frames) function (function_line program frames function) (routine_at program function).code index (instruction_line program frames function index) i at refl
-      (stand_function function (function_known program (record { function = function; index = index }) i at))
+      code_stands (select_of program frames) function (function_line program frames function + saving_count (frame_at frames function)) (routine_at program function).code index (instruction_line program frames function index) i at refl
+      (stand_code function (function_known program (record { function = function; index = index }) i at))

@@ -11,14 +11,14 @@ use Rattle.cyc_frame.specs.Layout.{AreFrames}
 use Rattle.cyc_select.specs.declared.constants.TheConstants.{MAX_START_WORDS, START_LINES}
 use Rattle.cyc_select.specs.Labelled.{words_of, all_words, IsCode}
 use Rattle.cyc_select.specs.Selected.{IsCodeOf, words_at}
-use Rattle.cyc_select.specs.Selection.{function_count, function_line, code_lines, function_lines, start_lines, select_of}
+use Rattle.cyc_select.specs.Selection.{function_count, function_line, routine_lines, function_lines, start_lines, select_of}
 use Rattle.cyc_select.proofs.layout.Formed.{few_results, formed}
-use Rattle.cyc_select.proofs.emission.Numbering.{reads_few}
+use Rattle.cyc_select.proofs.emission.Numbering.{reads_few, are_saved}
 use Rattle.cyc_select.proofs.layout.Parts.{place_in, own_function, own_some, parts}
 use Rattle.cyc_select.proofs.runs.Runs.{own_of}
-use Rattle.cyc_select.proofs.emission.Sizes.{words_range, code_words, functions_words}
+use Rattle.cyc_select.proofs.emission.Sizes.{words_range, routine_words, functions_words}
 use Rattle.cyc_select.proofs.runs.Start.{follows, main_place, main_below}
-use Rattle.cyc_select.proofs.layout.Structure.{length_body, length_code, stand, stand_function, starts}
+use Rattle.cyc_select.proofs.layout.Structure.{length_body, length_routine, stand, stand_saving, stand_function, starts}
 
 -- a sum over mapped places
 sum_by-map : {X Y : Type 0} (price : Y → ℕ) (f : X → Y) (xs : List X) → sum_by price (map f xs) ≡ sum_by (λ x. price (f x)) xs
@@ -35,22 +35,22 @@ module _ (program : Program) (well : IsWellFormed program) (words : HasWords pro
       let one = sum_by-map (λ (p : CodePlace). sum_by (words_at (select_of program frames)) (own_of program frames p)) (place_in function) (range_with_len 0 (length (routine_at program function).code)) in
       let two = sum_by-flat_map (words_at (select_of program frames)) (own_of program frames) (map (place_in function) (range_with_len 0 (length (routine_at program function).code))) in
       let three : sum_by (words_at (select_of program frames)) (flat_map (own_of program frames) (map (place_in function) (range_with_len 0 (length (routine_at program function).code)))) ≡ sum_by (words_at (select_of program frames)) (range_with_len (function_line program frames function) (function_count program frames function (routine_at program function))) = ap (sum_by (words_at (select_of program frames))) (own_function program well frames function known) in
-      let long = length_code program frames (few_results program well) function (function_line program frames function) (routine_at program function).code in
-      let four : sum_by (words_at (select_of program frames)) (range_with_len (function_line program frames function) (function_count program frames function (routine_at program function))) ≡ sum_by (words_at (select_of program frames)) (range_with_len (function_line program frames function) (length (code_lines program frames function (function_line program frames function) (routine_at program function).code))) = ap (λ (n : ℕ). sum_by (words_at (select_of program frames)) (range_with_len (function_line program frames function) n)) (sym long) in
-      let five = words_range (select_of program frames) (function_line program frames function) (code_lines program frames function (function_line program frames function) (routine_at program function).code) (stand_function program frames (few_results program well) function known) in
-      omega (arith, one, two, three, four, five, code_words program frames (reads_few program frames fit) (few_results program well) function (function_line program frames function) (routine_at program function).code)
+      let long = length_routine program frames (few_results program well) function (function_line program frames function) (routine_at program function) in
+      let four : sum_by (words_at (select_of program frames)) (range_with_len (function_line program frames function) (function_count program frames function (routine_at program function))) ≡ sum_by (words_at (select_of program frames)) (range_with_len (function_line program frames function) (length (routine_lines program frames function (function_line program frames function) (routine_at program function)))) = ap (λ (n : ℕ). sum_by (words_at (select_of program frames)) (range_with_len (function_line program frames function) n)) (sym long) in
+      let five = words_range (select_of program frames) (function_line program frames function) (routine_lines program frames function (function_line program frames function) (routine_at program function)) (stand_function program frames (few_results program well) function known) in
+      omega (arith, one, two, three, four, five, routine_words program frames (reads_few program frames fit) (few_results program well) function (function_line program frames function) (routine_at program function) (fit.each function known).saved)
 
-  few_before : sum_by (words_at (select_of program frames)) (range_with_len 0 3) ≤ MAX_START_WORDS
+  few_before : sum_by (words_at (select_of program frames)) (range_with_len 0 START_LINES) ≤ MAX_START_WORDS
   few_before = omega (arith, words_range (select_of program frames) 0 (start_lines program frames) (starts program frames (few_results program well)))
 
   few_words : all_words (select_of program frames).lines ≤ MAX_START_WORDS + sum_by size program.functions
   few_words =
-      omega (arith, sum_by-append words_of (start_lines program frames) (function_lines program frames 0 START_LINES program.functions), functions_words program frames (reads_few program frames fit) (few_results program well) 0 START_LINES program.functions)
+      omega (arith, sum_by-append words_of (start_lines program frames) (function_lines program frames 0 START_LINES program.functions), functions_words program frames (reads_few program frames fit) (few_results program well) 0 START_LINES program.functions (are_saved program frames fit))
 
   pub is_code_of : IsCodeOf program (select_of program frames)
   is_code_of = record {
     formed = formed program well words frames fit;
-    before = range_with_len 0 3;
+    before = range_with_len 0 START_LINES;
     own = own_of program frames;
     parts = parts program well frames;
     some = own_some program well frames;
@@ -61,7 +61,7 @@ module _ (program : Program) (well : IsWellFormed program) (words : HasWords pro
     placed = main_below program well frames fit;
     follows = λ pages calls allowed store new input bytes addresses lie never.
         follows program well words frames fit (select_of program frames) (formed program well words frames fit) addresses lie pages calls allowed
-        (stand program frames (few_results program well)) (λ function line i. length_body program frames (few_results program well) function line i) (starts program frames (few_results program well)) refl store new input bytes never;
+        (stand program frames (few_results program well)) (stand_saving program frames (few_results program well)) (λ function line i. length_body program frames (few_results program well) function line i) (starts program frames (few_results program well)) refl store new input bytes never;
   }
 
 pub is_code : (program : Program) (frames : List Frame) → IsPlain program → AreFrames program frames → IsCode (select_of program frames)

@@ -1,6 +1,5 @@
 -- The words of an instruction's operands: each is a word, lies in memory, or is in the register of its slot.
-use Rattle.std.proofs.Common.{◌≡◌, ℕ, suc, ◌*◌, ◌<◌, ◌≤◌, true, List, length, Option, Some, None, refl, subst}
-use Rattle.cyc_machine.specs.declared.constants.TheConstants.{RETURN_ADDRESS}
+use Rattle.std.proofs.Common.{◌≡◌, ℕ, ◌*◌, ◌<◌, ◌≤◌, true, List, Option, Some, None, refl, subst}
 use Rattle.cyc_machine.specs.State.{globals_length, words_per_call}
 use Rattle.cyc_isa.specs.Effect.{memory_address}
 use Rattle.cyc_words.specs.Word.{IsWord}
@@ -22,15 +21,15 @@ use Rattle.cyc_select.specs.Machine as labelled
 use Rattle.cyc_select.specs.Selection.{slot_offset, value_register, instruction_line}
 use Rattle.cyc_select.proofs.values.Computing.{HeldIn, IsHeld}
 use Rattle.cyc_select.proofs.relation.Matches.{At}
-use Rattle.cyc_select.proofs.relation.Standing.{Standing, slot_cell, slot_word_is}
+use Rattle.cyc_select.proofs.relation.Standing.{Standing, slot_cell, slot_word_is, keeps_back}
 use Rattle.cyc_select.proofs.relation.Values.{Caches, memory_kept, itself}
 use Rattle.cyc_select.proofs.effects.Views.{Contents}
 
 module _ (program : Program) (well : IsWellFormed program) (frames : List Frame) (fit : AreFrames program frames) (code : Labelled) (formed : IsFormed code) (addresses : ℕ → ℕ) (pages calls : ℕ) (few : calls ≤ 4096)
     (c : Configuration)
-    (run : labelled.Configuration) (r : Words) (w : Contents) (base : ℕ)
+    (run : labelled.Configuration) (r : Words) (w : Contents) (base back : ℕ)
     (now : At program well frames fit code formed addresses pages calls few (instruction_line program frames c.active.function c.active.next) c.output c.input r w run)
-    (s : Standing program frames addresses pages calls c r w base (r RETURN_ADDRESS) (suc (length c.frames)) c.active.slots)
+    (s : Standing program frames addresses pages calls c r w base back (keeps_back frames c) c.active.slots)
     (caches : Caches program frames c.active.function c.active.next r c.active.slots) where
   abbrev frame : Frame
   frame = frame_at frames c.active.function
@@ -52,8 +51,8 @@ module _ (program : Program) (well : IsWellFormed program) (frames : List Frame)
       → Wanted program (routine_at program c.active.function) slot c.active.next
       → HeldIn globals_length (words_per_call * calls) o (frame_at frames c.active.function) (r FRAME) w r c.active.slots slot
   slot_held None slot none below wanted = (
-    slot_cell program well frames fit addresses pages calls few c r w base (r RETURN_ADDRESS) (suc (length c.frames)) c.active.slots s slot below,
-    slot_word_is program well frames fit addresses pages calls few c r w base (r RETURN_ADDRESS) (suc (length c.frames)) c.active.slots s slot below (memory_kept frame slot none),
+    slot_cell program well frames fit addresses pages calls few c r w base back (keeps_back frames c) c.active.slots s slot below,
+    slot_word_is program well frames fit addresses pages calls few c r w base back (keeps_back frames c) c.active.slots s slot below (memory_kept frame slot none),
   )
   slot_held (Some k) slot has below wanted =
       (right.low slot k has, right.high slot k has, caches slot k has wanted, subst IsWord (caches slot k has wanted) (now.r_words k))

@@ -3,7 +3,7 @@ use Rattle.std.proofs.Common.{◌≡◌, ◌≢◌, ℕ, suc, ◌+◌, ◌*◌, 
 use Rattle.std.specs.Prelude.{◌⊎◌, slice_index, if◌then◌else◌}
 use Rattle.std.specs.List.{AllByRecursion}
 use Rattle.std.proofs.lemmas.Bool.{and_from, le-leb}
-use Rattle.cyc_select.specs.declared.constants.TheConstants.{CALLS, FRAME}
+use Rattle.cyc_select.specs.declared.constants.TheConstants.{LOWEST, FRAME}
 use Rattle.cyc_machine.specs.declared.constants.TheConstants.{RETURN_ADDRESS}
 use Rattle.cyc_words.specs.Word.{IsWord}
 use Rattle.cyc_isa.specs.Effect.{memory_address}
@@ -23,12 +23,12 @@ use Rattle.cyc_select.specs.Labelled.{Labelled, IsFormed}
 use Rattle.cyc_select.specs.Machine as labelled
 use Rattle.cyc_select.specs.Machine.{State, Running, Ended}
 use Rattle.cyc_frame.specs.Uses.{writes, leads}
-use Rattle.cyc_select.specs.Selection.{slot_offset, value_register, is_kept, instruction_line, count_of}
+use Rattle.cyc_select.specs.Selection.{slot_offset, value_register, is_kept, function_line, instruction_line, count_of}
 use Rattle.cyc_select.proofs.values.Blocks.{ValuesSame, lasting}
 use Rattle.cyc_select.proofs.layout.Lines.{line_next}
 use Rattle.cyc_select.proofs.effects.Views.{Contents, written}
 use Rattle.cyc_select.proofs.effects.Walks.{Now, now_at}
-use Rattle.cyc_select.proofs.relation.Standing.{behind_line, Standing, slot_address, standing_registers, standing_at, standing_slot, standing_unkept}
+use Rattle.cyc_select.proofs.relation.Standing.{behind_line, keeps_back, Standing, slot_address, standing_registers, standing_at, standing_slot, standing_unkept}
 use Rattle.cyc_select.proofs.relation.Values.{Caches, caches_past, made_caches}
 
 -- the registers of what a function returns
@@ -45,9 +45,22 @@ module _ (program : Program) (well : IsWellFormed program) (frames : List Frame)
     pub r : Words
     pub w : Contents
     pub base : ℕ
+    pub back : ℕ
     pub is : t ≡ Running run
     pub now : At (instruction_line program frames c.active.function c.active.next) c.output c.input r w run
-    pub standing : Standing program frames addresses pages calls c r w base (r RETURN_ADDRESS) (suc (length c.frames)) c.active.slots
+    pub standing : Standing program frames addresses pages calls c r w base back (keeps_back frames c) c.active.slots
+    pub caches : Caches program frames c.active.function c.active.next r c.active.slots
+
+  -- The function begins: the line that keeps its way back is next, if it has one, before the instruction's own.
+  pub record Entered (c : Configuration) (t : State) : Type 0 where
+    pub run : labelled.Configuration
+    pub r : Words
+    pub w : Contents
+    pub base : ℕ
+    pub is : t ≡ Running run
+    pub first : c.active.next ≡ 0
+    pub now : At (function_line program frames c.active.function) c.output c.input r w run
+    pub standing : Standing program frames addresses pages calls c r w base (r RETURN_ADDRESS) false c.active.slots
     pub caches : Caches program frames c.active.function c.active.next r c.active.slots
 
   -- The lines behind a call are next, before the instruction's own, and what the call returned is in registers.
@@ -68,7 +81,7 @@ module _ (program : Program) (well : IsWellFormed program) (frames : List Frame)
     pub next : c.active.next ≡ index + 1
     pub call : instruction_at program (record { function = c.active.function; index = index }) ≡ Some (plain.Call callee arguments count result)
     pub now : At (behind_line program frames c.active.function index callee arguments count result) c.output c.input r w run
-    pub standing : Standing program frames addresses pages calls c r w base (w.words (base + 4 * (frame_at frames c.active.function).return_address)) (suc (suc (length c.frames))) waiting
+    pub standing : Standing program frames addresses pages calls c r w base (w.words (base + 4 * (frame_at frames c.active.function).return_address)) true waiting
     pub returned : (k : ℕ) → k < (routine_at program callee).results → r (result_register k) ≡ values (first + k)
     pub slots : c.active.slots ≡ copied values first (routine_at program callee).results waiting result
 
@@ -86,12 +99,12 @@ module _ (program : Program) (well : IsWellFormed program) (frames : List Frame)
     pub is : t ≡ Running run
     pub opened : instruction_at program (states.place_of (states.Running c)) ≡ Some (plain.Try first handler)
     pub caught : c.active.handlers ≡ states.Caught ∷ handlers
-    pub now : At (instruction_line program frames c.active.function c.active.next + 5) c.output c.input r w run
-    pub standing : Standing program frames addresses pages calls (record c { active = record c.active { handlers = handlers } }) r w base (w.words (base + 4 * (frame_at frames c.active.function).return_address)) (suc (length c.frames)) waiting
+    pub now : At (instruction_line program frames c.active.function c.active.next + 3) c.output c.input r w run
+    pub standing : Standing program frames addresses pages calls (record c { active = record c.active { handlers = handlers } }) r w base (w.words (base + 4 * (frame_at frames c.active.function).return_address)) true waiting
     pub slots : c.active.slots ≡ put (put waiting first (r 4)) (suc first) (r 5)
 
   abbrev pub Matches : states.State → State → Type 0
-  Matches (states.Running c) t = Ready c t ⊎ (Back c t ⊎ Landed c t)
+  Matches (states.Running c) t = Ready c t ⊎ (Back c t ⊎ (Landed c t ⊎ Entered c t))
   Matches (states.Ended ending out input) t = t ≡ Ended ending out input
   Matches (states.Stuck out input) t = ⊥
 
@@ -110,13 +123,13 @@ module _ (program : Program) (well : IsWellFormed program) (frames : List Frame)
       let keeps_step : is_within pages calls (step program choice (states.Running c)) ≡ true = ap (is_within pages calls) is ∙ keeps in
       (next, (choice, allowed, sym (limited-within pages calls (states.Running c) (step program choice (states.Running c)) keeps_step ∙ is)), matches)
 
-  module _ (c : Configuration) (i : Instruction) (at : instruction_at program (states.place_of (states.Running c)) ≡ Some i) (free : calls_nothing i ≡ true) (r : Words) (w : Contents) (base : ℕ)
-      (s : Standing program frames addresses pages calls c r w base (r RETURN_ADDRESS) (suc (length c.frames)) c.active.slots) (caches : Caches program frames c.active.function c.active.next r c.active.slots) where
+  module _ (c : Configuration) (i : Instruction) (at : instruction_at program (states.place_of (states.Running c)) ≡ Some i) (free : calls_nothing i ≡ true) (r : Words) (w : Contents) (base back : ℕ)
+      (s : Standing program frames addresses pages calls c r w base back (keeps_back frames c) c.active.slots) (caches : Caches program frames c.active.function c.active.next r c.active.slots) where
     -- memory, where the slot lives there
     put_slot : (b : Bool) (slot word : ℕ) → slot < (routine_at program c.active.function).slots → is_kept (frame_at frames c.active.function) slot ≡ b
-        → Standing program frames addresses pages calls c r (if b then written w (base + slot_offset (frame_at frames c.active.function) slot) word else w) base (r RETURN_ADDRESS) (suc (length c.frames)) (put c.active.slots slot word)
-    put_slot true slot word below kept = standing_slot program well frames fit addresses pages calls few c r w base (r RETURN_ADDRESS) (suc (length c.frames)) c.active.slots s slot word below
-    put_slot false slot word below unkept = standing_unkept program well frames fit addresses pages calls few c r w base (r RETURN_ADDRESS) (suc (length c.frames)) c.active.slots s slot word unkept
+        → Standing program frames addresses pages calls c r (if b then written w (base + slot_offset (frame_at frames c.active.function) slot) word else w) base back (keeps_back frames c) (put c.active.slots slot word)
+    put_slot true slot word below kept = standing_slot program well frames fit addresses pages calls few c r w base back (keeps_back frames c) c.active.slots s slot word below
+    put_slot false slot word below unkept = standing_unkept program well frames fit addresses pages calls few c r w base back (keeps_back frames c) c.active.slots s slot word unkept
 
     -- An instruction that gives a word to a slot, and perhaps reads.
     pub reached_gives : (destination word : ℕ) (input : List ℕ) (line : ℕ) (run : labelled.Configuration) (r' : Words) (w' : Contents)
@@ -125,21 +138,20 @@ module _ (program : Program) (well : IsWellFormed program) (frames : List Frame)
         → performed program zeros c i ≡ gives (record c { input = input }) destination word
         → AllByRecursion IsWord input
         → line ≡ instruction_line program frames c.active.function c.active.next + count_of program frames c.active.function i
-        → r' 0 ≡ r 0 → r' FRAME ≡ r FRAME → r' CALLS ≡ r CALLS → r' RETURN_ADDRESS ≡ r RETURN_ADDRESS → lasting r' ≡ lasting r
+        → r' 0 ≡ r 0 → r' FRAME ≡ r FRAME → r' LOWEST ≡ r LOWEST → r' RETURN_ADDRESS ≡ r RETURN_ADDRESS → lasting r' ≡ lasting r
         → ((k : ℕ) → value_register (frame_at frames c.active.function) destination ≡ Some k → r' k ≡ word)
-        → ((n : ℕ) → 8 ≤ n → n < 24 → (value_register (frame_at frames c.active.function) destination ≡ Some n → ⊥) → r' n ≡ r n)
+        → ((n : ℕ) → 6 ≤ n → n < 24 → (value_register (frame_at frames c.active.function) destination ≡ Some n → ⊥) → r' n ≡ r n)
         → w' ≡ (if is_kept (frame_at frames c.active.function) destination then written w (memory_address (r FRAME) (slot_offset (frame_at frames c.active.function) destination)) word else w)
         → At line c.output input r' w' run → Reached c (Running run)
-    reached_gives destination word input line run r' w' below unwritten gets led does fine line_is zero_same base_same left_same back_same lasts_same result others puts now =
+    reached_gives destination word input line run r' w' below unwritten gets led does fine line_is zero_same base_same lowest_same back_same lasts_same result others puts now =
         let d : Configuration = record c { active = record c.active { next = c.active.next + 1; slots = put c.active.slots destination word }; input = input } in
-        let address = slot_address program well frames fit addresses pages calls few c r w base (r RETURN_ADDRESS) (suc (length c.frames)) c.active.slots s destination below in
+        let address = slot_address program well frames fit addresses pages calls few c r w base back (keeps_back frames c) c.active.slots s destination below in
         let in_place = put_slot (is_kept (frame_at frames c.active.function) destination) destination word below refl in
-        let in_w' : Standing program frames addresses pages calls c r w' base (r RETURN_ADDRESS) (suc (length c.frames)) (put c.active.slots destination word) =
-        subst (λ (x : Contents). Standing program frames addresses pages calls c r x base (r RETURN_ADDRESS) (suc (length c.frames)) (put c.active.slots destination word))
+        let in_w' : Standing program frames addresses pages calls c r w' base back (keeps_back frames c) (put c.active.slots destination word) =
+        subst (λ (x : Contents). Standing program frames addresses pages calls c r x base back (keeps_back frames c) (put c.active.slots destination word))
         (sym (puts ∙ ap (λ (a : ℕ). if is_kept (frame_at frames c.active.function) destination then written w a word else w) address)) in_place in
-        let in_r' = standing_registers program well frames fit addresses pages calls few c r w' base (r RETURN_ADDRESS) (suc (length c.frames)) (put c.active.slots destination word) in_w' r' zero_same base_same left_same lasts_same in
-        let there = standing_at program well frames fit addresses pages calls few c r' w' base (r RETURN_ADDRESS) (suc (length c.frames)) (put c.active.slots destination word) in_r' d refl refl refl refl refl refl fine in
-        let with_back = subst (λ (b : ℕ). Standing program frames addresses pages calls d r' w' base b (suc (length c.frames)) (put c.active.slots destination word)) (sym back_same) there in
+        let in_r' = standing_registers program well frames fit addresses pages calls few c r w' base back (keeps_back frames c) (put c.active.slots destination word) in_w' r' zero_same base_same lowest_same (λ outside. back_same) lasts_same in
+        let there = standing_at program well frames fit addresses pages calls few c r' w' base back (keeps_back frames c) (put c.active.slots destination word) in_r' d refl refl refl refl refl refl fine in
         let line_same : line ≡ instruction_line program frames c.active.function (c.active.next + 1) = line_is ∙ sym (line_next program frames c.active.function c.active.next i at) in
         reached c zeros i (states.Running d) (Running run) (zeros_at program c i at free) at does (within d s.laid.paged s.deep)
         (inl (record {
@@ -147,9 +159,10 @@ module _ (program : Program) (well : IsWellFormed program) (frames : List Frame)
           r = r';
           w = w';
           base = base;
+          back = back;
           is = refl;
           now = now_at code formed addresses globals_length (words_per_call * calls) line (instruction_line program frames c.active.function (c.active.next + 1)) c.output input r' w' run line_same now;
-          standing = with_back;
+          standing = there;
           caches = made_caches program frames c.active.function (fit.homes c.active.function s.known) c.active.next destination word r r' c.active.slots i at unwritten gets led result others caches;
         }))
 
@@ -158,17 +171,16 @@ module _ (program : Program) (well : IsWellFormed program) (frames : List Frame)
         → d.active.function ≡ c.active.function → d.active.base ≡ c.active.base → d.active.handlers ≡ c.active.handlers → d.active.slots ≡ c.active.slots → d.frames ≡ c.frames → d.globals ≡ c.globals → d.store ≡ c.store → d.input ≡ c.input
         → performed program zeros c i ≡ states.Running d
         → line ≡ instruction_line program frames d.active.function d.active.next
-        → r' 0 ≡ r 0 → r' FRAME ≡ r FRAME → r' CALLS ≡ r CALLS → r' RETURN_ADDRESS ≡ r RETURN_ADDRESS → lasting r' ≡ lasting r → ValuesSame r' r → w' ≡ w
+        → r' 0 ≡ r 0 → r' FRAME ≡ r FRAME → r' LOWEST ≡ r LOWEST → r' RETURN_ADDRESS ≡ r RETURN_ADDRESS → lasting r' ≡ lasting r → ValuesSame r' r → w' ≡ w
         → ((slot : ℕ) → writes program i slot ≡ false) → leads i c.active.next d.active.next ≡ true
         → At line d.output d.input r' w' run → Reached c (Running run)
-    reached_at d line run r' w' function_same place_same handlers_same slots_same frames_same globals_same store_same input_same does line_is zero_same base_same left_same back_same lasts_same values unchanged unwritten led now =
-        let in_r' = standing_registers program well frames fit addresses pages calls few c r w base (r RETURN_ADDRESS) (suc (length c.frames)) c.active.slots s r' zero_same base_same left_same lasts_same in
+    reached_at d line run r' w' function_same place_same handlers_same slots_same frames_same globals_same store_same input_same does line_is zero_same base_same lowest_same back_same lasts_same values unchanged unwritten led now =
+        let in_r' = standing_registers program well frames fit addresses pages calls few c r w base back (keeps_back frames c) c.active.slots s r' zero_same base_same lowest_same (λ outside. back_same) lasts_same in
         let fine : AllByRecursion IsWord d.input = subst (λ (l : List ℕ). AllByRecursion IsWord l) (sym input_same) s.input in
-        let there = standing_at program well frames fit addresses pages calls few c r' w base (r RETURN_ADDRESS) (suc (length c.frames)) c.active.slots in_r' d function_same place_same handlers_same frames_same globals_same store_same fine in
-        let with_slots = subst (λ (x : Words). Standing program frames addresses pages calls d r' w base (r RETURN_ADDRESS) (suc (length c.frames)) x) (sym slots_same) there in
-        let with_back = subst (λ (b : ℕ). Standing program frames addresses pages calls d r' w base b (suc (length c.frames)) d.active.slots) (sym back_same) with_slots in
-        let with_depth = subst (λ (fs : List states.Frame). Standing program frames addresses pages calls d r' w base (r' RETURN_ADDRESS) (suc (length fs)) d.active.slots) (sym frames_same) with_back in
-        let with_memory = subst (λ (x : Contents). Standing program frames addresses pages calls d r' x base (r' RETURN_ADDRESS) (suc (length d.frames)) d.active.slots) (sym unchanged) with_depth in
+        let there = standing_at program well frames fit addresses pages calls few c r' w base back (keeps_back frames c) c.active.slots in_r' d function_same place_same handlers_same frames_same globals_same store_same fine in
+        let with_slots = subst (λ (x : Words). Standing program frames addresses pages calls d r' w base back (keeps_back frames c) x) (sym slots_same) there in
+        let with_function = subst (λ (f : ℕ). Standing program frames addresses pages calls d r' w base back (frame_at frames f).saves d.active.slots) (sym function_same) with_slots in
+        let with_memory = subst (λ (x : Contents). Standing program frames addresses pages calls d r' x base back (keeps_back frames d) d.active.slots) (sym unchanged) with_function in
         reached c zeros i (states.Running d) (Running run) (zeros_at program c i at free) at does
         (within d with_memory.laid.paged with_memory.deep)
         (inl (record {
@@ -176,6 +188,7 @@ module _ (program : Program) (well : IsWellFormed program) (frames : List Frame)
           r = r';
           w = w';
           base = base;
+          back = back;
           is = refl;
           now = now_at code formed addresses globals_length (words_per_call * calls) line (instruction_line program frames d.active.function d.active.next) d.output d.input r' w' run line_is now;
           standing = with_memory;

@@ -1,6 +1,6 @@
 -- The words that loads and stores find by an address, as they stand in the machine's memory: those of live blocks in its store,
 -- those of globals in its data range, and those of slots in the frames of the calls under way.
-use Rattle.std.proofs.Common.{◌≡◌, ◌≢◌, ℕ, suc, ◌+◌, ◌*◌, ◌%◌, ◌<◌, ◌≤◌, true, false, List, [], ◌∷◌, length, Option, Some, None, slice_get, refl, sym, ap, subst, ◌∙◌, arith, inl, inr}
+use Rattle.std.proofs.Common.{◌≡◌, ◌≢◌, ℕ, suc, ◌+◌, ◌*◌, ◌%◌, ◌<◌, ◌≤◌, Bool, true, false, List, [], ◌∷◌, length, Option, Some, None, slice_get, refl, sym, ap, subst, ◌∙◌, arith, inl, inr}
 use Rattle.std.specs.Prelude.{nat_lt}
 use Rattle.std.proofs.lemmas.Bool.{cases_eq, ltb-true, or_cases}
 use Rattle.cyc_words.specs.Word.{IsWord}
@@ -24,6 +24,7 @@ use Rattle.cyc_frame.specs.Homes.{AreHomes}
 use Rattle.cyc_frame.specs.Uses.{bars}
 use Rattle.cyc_frame.specs.Layout.{AreFrames, IsFrame, slot_word, frame_at}
 use Rattle.cyc_frame.specs.Frame.{Frame}
+use Rattle.cyc_frame.specs.declared.frame.TheConstants.{MOST_FRAME_WORDS}
 use Rattle.cyc_select.specs.declared.constants.TheConstants.{HANDLERS}
 use Rattle.cyc_select.specs.declared.code.Line.TheVariants as lines
 use Rattle.cyc_select.specs.Labelled.{Labelled, IsFormed}
@@ -31,7 +32,7 @@ use Rattle.cyc_select.specs.Machine as labelled
 use Rattle.cyc_select.specs.Machine.{State, Running}
 use Rattle.cyc_select.specs.Selection.{slot_offset, value_register, is_kept}
 use Rattle.cyc_select.proofs.relation.Cells.{IsCell, IsLive}
-use Rattle.cyc_select.proofs.relation.Standing.{Chain, Lies, chain_kept, chain_lies, AreRecords, IsBeyond, IsNewest, AreBased, based_here, kept_in, Standing, lies, word_cell, global_cell, standing_at, standing_slot, standing_global, standing_saved}
+use Rattle.cyc_select.proofs.relation.Standing.{frame_size, Chain, Lies, chain_kept, chain_lies, AreRecords, IsBeyond, IsNewest, AreBased, based_here, back_in, Standing, lies, word_cell, global_cell, standing_at, standing_slot, standing_global, standing_saved}
 use Rattle.cyc_select.proofs.relation.Stores.{laid_live}
 use Rattle.cyc_select.proofs.relation.Values.{barred_kept, unbarred}
 use Rattle.cyc_select.proofs.effects.Views.{Contents, written, saved_in, IsWritable, Width, OneWord, OneByte, load_op, store_op, word_place, loaded_part, stored_word}
@@ -137,55 +138,48 @@ module _ (program : Program) (a word : ℕ) where
   based_waiting : (frames : List Frame) (base function place : ℕ) (waiting : List states.Frame) → AreBased frames base function place waiting → AreBased frames base function place (with_waiting program waiting a word)
   based_waiting frames base function place [] based = based
   based_waiting frames base function place (f ∷ waiting) (here, based) =
-      go (slot_at program f.caller a) (based_waiting frames (base + 4 * (frame_at frames function).words) f.caller.function f.caller.base waiting based)
+      go (slot_at program f.caller a) (based_waiting frames (base + frame_size) f.caller.function f.caller.base waiting based)
     where
-      go : (slot : Option ℕ) → AreBased frames (base + 4 * (frame_at frames function).words) f.caller.function f.caller.base (with_waiting program waiting a word)
+      go : (slot : Option ℕ) → AreBased frames (base + frame_size) f.caller.function f.caller.base (with_waiting program waiting a word)
           → AreBased frames base function place (put_or slot word f waiting (with_waiting program waiting a word))
       go (Some number) others = (here, based)
       go None others = (here, others)
 
   -- and so do their handlers
-  records_map : (frames : List Frame) (addresses : ℕ → ℕ) (calls base function depth : ℕ) (rest rest' : ℕ → Type 0) → ((n : ℕ) → rest n → rest' n) → (newest : ℕ) (handlers : List states.Handler)
-      → AreRecords program frames addresses calls base function depth rest newest handlers → AreRecords program frames addresses calls base function depth rest' newest handlers
-  records_map frames addresses calls base function depth rest rest' goes newest [] records = goes newest records
-  records_map frames addresses calls base function depth rest rest' goes newest (states.Caught ∷ handlers) records = absurd records
-  records_map frames addresses calls base function depth rest rest' goes newest (states.Open index first contents ∷ handlers) (one, others) =
-      (one, records_map frames addresses calls base function depth rest rest' goes (contents 0) handlers others)
+  records_map : (frames : List Frame) (addresses : ℕ → ℕ) (base function : ℕ) (rest rest' : ℕ → Type 0) → ((n : ℕ) → rest n → rest' n) → (newest : ℕ) (handlers : List states.Handler)
+      → AreRecords program frames addresses base function rest newest handlers → AreRecords program frames addresses base function rest' newest handlers
+  records_map frames addresses base function rest rest' goes newest [] records = goes newest records
+  records_map frames addresses base function rest rest' goes newest (states.Caught ∷ handlers) records = absurd records
+  records_map frames addresses base function rest rest' goes newest (states.Open index first contents ∷ handlers) (one, others) =
+      (one, records_map frames addresses base function rest rest' goes (contents 0) handlers others)
 
-  beyond_waiting : (frames : List Frame) (addresses : ℕ → ℕ) (calls base function : ℕ) (waiting : List states.Frame) (newest : ℕ) → IsBeyond program frames addresses calls base function waiting newest
-      → IsBeyond program frames addresses calls base function (with_waiting program waiting a word) newest
-  beyond_waiting frames addresses calls base function [] newest beyond = beyond
-  beyond_waiting frames addresses calls base function (f ∷ waiting) newest beyond =
-      go (slot_at program f.caller a) (λ n others. beyond_waiting frames addresses calls (base + 4 * (frame_at frames function).words) f.caller.function waiting n others)
+  beyond_waiting : (frames : List Frame) (addresses : ℕ → ℕ) (base function : ℕ) (waiting : List states.Frame) (newest : ℕ) → IsBeyond program frames addresses base function waiting newest
+      → IsBeyond program frames addresses base function (with_waiting program waiting a word) newest
+  beyond_waiting frames addresses base function [] newest beyond = beyond
+  beyond_waiting frames addresses base function (f ∷ waiting) newest beyond =
+      go (slot_at program f.caller a) (λ n others. beyond_waiting frames addresses (base + frame_size) f.caller.function waiting n others)
     where
       above : ℕ
-      above = base + 4 * (frame_at frames function).words
+      above = base + frame_size
 
       Others : List states.Frame → ℕ → Type 0
-      Others fs n = IsBeyond program frames addresses calls above f.caller.function fs n
+      Others fs n = IsBeyond program frames addresses above f.caller.function fs n
 
-      go : (slot : Option ℕ) → ((n : ℕ) → Others waiting n → Others (with_waiting program waiting a word) n) → IsBeyond program frames addresses calls base function (put_or slot word f waiting (with_waiting program waiting a word)) newest
+      go : (slot : Option ℕ) → ((n : ℕ) → Others waiting n → Others (with_waiting program waiting a word) n) → IsBeyond program frames addresses base function (put_or slot word f waiting (with_waiting program waiting a word)) newest
       go (Some number) later = beyond
       go None later =
-          subst (λ (n : ℕ). AreRecords program frames addresses calls above f.caller.function (suc n) (Others (with_waiting program waiting a word)) newest f.caller.handlers)
-          (sym (length-waiting program waiting a word))
-          (records_map frames addresses calls above f.caller.function (suc (length waiting)) (Others waiting) (Others (with_waiting program waiting a word)) later newest f.caller.handlers beyond)
+          records_map frames addresses above f.caller.function (Others waiting) (Others (with_waiting program waiting a word)) later newest f.caller.handlers beyond
 
-  newest_waiting : (frames : List Frame) (addresses : ℕ → ℕ) (calls newest base function : ℕ) (handlers : List states.Handler) (waiting : List states.Frame) → IsNewest program frames addresses calls newest base function handlers waiting
-      → IsNewest program frames addresses calls newest base function handlers (with_waiting program waiting a word)
-  newest_waiting frames addresses calls newest base function handlers waiting records =
-      subst (λ (n : ℕ). AreRecords program frames addresses calls base function (suc n) (IsBeyond program frames addresses calls base function (with_waiting program waiting a word)) newest handlers)
-      (sym (length-waiting program waiting a word))
-      (records_map frames addresses calls base function (suc (length waiting)) (IsBeyond program frames addresses calls base function waiting) (IsBeyond program frames addresses calls base function (with_waiting program waiting a word))
-      (λ n others. beyond_waiting frames addresses calls base function waiting n others) newest handlers records)
+  newest_waiting : (frames : List Frame) (addresses : ℕ → ℕ) (newest base function : ℕ) (handlers : List states.Handler) (waiting : List states.Frame) → IsNewest program frames addresses newest base function handlers waiting
+      → IsNewest program frames addresses newest base function handlers (with_waiting program waiting a word)
+  newest_waiting frames addresses newest base function handlers waiting records =
+      records_map frames addresses base function (IsBeyond program frames addresses base function waiting) (IsBeyond program frames addresses base function (with_waiting program waiting a word))
+      (λ n others. beyond_waiting frames addresses base function waiting n others) newest handlers records
 
 module _ (program : Program) (well : IsWellFormed program) (frames : List Frame) (fit : AreFrames program frames) (addresses : ℕ → ℕ) where
-  abbrev size_of : ℕ → ℕ
-  size_of function = 4 * (frame_at frames function).words
-
   -- the word at an address, where it is that of a slot of a call that waits, and those calls with another one there
   record IsAbove (w : Contents) (base back function : ℕ) (waiting : List states.Frame) (a word : ℕ) : Type 0 where
-    low : base + size_of function ≤ a
+    low : base + frame_size ≤ a
     high : a < stack_end
     aligned : a % 4 ≡ 0
     is : w.words a ≡ word
@@ -198,16 +192,16 @@ module _ (program : Program) (well : IsWellFormed program) (frames : List Frame)
       go (slot_at program f.caller a) refl (λ there. is_above w above its_back f.caller.function waiting f.caller.base a word chain based there) found
     where
       above : ℕ
-      above = base + size_of function
+      above = base + frame_size
 
       its : Frame
       its = frame_at frames f.caller.function
 
       its_back : ℕ
-      its_back = w.words (base + size_of function + 4 * (frame_at frames f.caller.function).return_address)
+      its_back = w.words (base + frame_size + 4 * (frame_at frames f.caller.function).return_address)
 
-      lies_there : Lies program frames fit addresses above f.caller.function (suc (length waiting))
-      lies_there = chain_lies program frames fit addresses w above its_back f.caller.function waiting known chain
+      lies_there : Lies program frames fit addresses above (suc (length waiting))
+      lies_there = chain_lies program frames fit addresses w above its_back f.caller.function waiting chain
 
       frame : IsFrame (routine_at program f.caller.function) its
       frame = fit.each f.caller.function known
@@ -219,7 +213,7 @@ module _ (program : Program) (well : IsWellFormed program) (frames : List Frame)
           let below : slot < (routine_at program f.caller.function).slots = pinned-inside program well f.caller.function slot pinned in
           let place_is : f.caller.base ≡ above + 4 * its.first_slot = based_here frames above f.caller.function f.caller.base waiting based in
           let a_is : a ≡ above + slot_offset its slot = omega (arith, address, place_is) in
-          let inside : slot_word its slot < its.words = frame.inside slot below in
+          let inside : slot_word its slot < MOST_FRAME_WORDS = omega (arith, frame.inside slot below, frame.small) in
           let other_word : (new b : ℕ) → b ≢ a → put w.words a new b ≡ w.words b = λ new b apart. put-other w.words a b new apart in
           record {
             low = omega (arith, a_is);
@@ -269,9 +263,9 @@ module _ (program : Program) (well : IsWellFormed program) (frames : List Frame)
                   at,
                   next,
                   is_back,
-                  (λ slot below slot_kept. put-other w.words a (above + slot_offset its slot) new (λ e. absurd (omega (arith, e, rest.low, frame.inside slot below))) ∙ holds slot below slot_kept),
+                  (λ slot below slot_kept. put-other w.words a (above + slot_offset its slot) new (λ e. absurd (omega (arith, e, rest.low, frame.inside slot below, frame.small))) ∙ holds slot below slot_kept),
                   subst (λ (b : ℕ). Chain program frames addresses (written w a new) above b f.caller.function (with_waiting program waiting a new))
-                      (sym (put-other w.words a (above + 4 * its.return_address) new (λ e. absurd (omega (arith, e, rest.low, frame.return_inside)))))
+                      (sym (put-other w.words a (above + 4 * its.return_address) new (λ e. absurd (omega (arith, e, rest.low, frame.return_inside, frame.small)))))
                       (rest.chain new),
                 );
           }
@@ -279,24 +273,24 @@ module _ (program : Program) (well : IsWellFormed program) (frames : List Frame)
 -- ---- loads and stores
 
 module _ (program : Program) (well : IsWellFormed program) (frames : List Frame) (fit : AreFrames program frames) (addresses : ℕ → ℕ) (pages calls : ℕ) (few : calls ≤ 4096)
-    (c : Configuration) (r : Words) (w : Contents) (base back depth : ℕ) (s : Standing program frames addresses pages calls c r w base back depth c.active.slots) (a word : ℕ) where
+    (c : Configuration) (r : Words) (w : Contents) (base back : ℕ) (in_frame : Bool) (s : Standing program frames addresses pages calls c r w base back in_frame c.active.slots) (a word : ℕ) where
   -- the word at an address is found in the machine's memory, and can be written there
   pub record IsFound : Type 0 where
     pub sort : Sort
     pub at : IsWordAt sort globals_length (words_per_call * calls) w a word
     pub standing : (new : ℕ) → IsWord new
-        → Standing program frames addresses pages calls (with_memory program c a new) r (placed sort w a new) base back depth (with_memory program c a new).active.slots
+        → Standing program frames addresses pages calls (with_memory program c a new) r (placed sort w a new) base back in_frame (with_memory program c a new).active.slots
     -- it is that of no slot which has a register
     pub values : (new slot k : ℕ) → value_register (frame_at frames c.active.function) slot ≡ Some k → (with_memory program c a new).active.slots slot ≡ c.active.slots slot
 
   abbrev Stands : Configuration → Contents → Type 0
-  Stands d v = Standing program frames addresses pages calls d r v base back depth d.active.slots
+  Stands d v = Standing program frames addresses pages calls d r v base back in_frame d.active.slots
 
   own : IsFrame (routine_at program c.active.function) (frame_at frames c.active.function)
   own = fit.each c.active.function s.known
 
-  lie : Lies program frames fit addresses base c.active.function (suc (length c.frames))
-  lie = lies program well frames fit addresses pages calls few c r w base back depth c.active.slots s
+  lie : Lies program frames fit addresses base (suc (length c.frames))
+  lie = lies program well frames fit addresses pages calls few c r w base back in_frame c.active.slots s
 
   place_is : c.active.base ≡ base + 4 * (frame_at frames c.active.function).first_slot
   place_is = based_here frames base c.active.function c.active.base c.frames s.based
@@ -311,13 +305,13 @@ module _ (program : Program) (well : IsWellFormed program) (frames : List Frame)
       record {
         sort = OfCell;
         at = (
-          subst (IsCell globals_length (words_per_call * calls)) (sym address) (global_cell program well frames fit addresses pages calls few c r w base back depth c.active.slots s number below),
+          subst (IsCell globals_length (words_per_call * calls)) (sym address) (global_cell program well frames fit addresses pages calls few c r w base back in_frame c.active.slots s number below),
           ap w.words address ∙ (s.globals number below ∙ value),
         );
         standing = λ new is_word.
             subst (λ (d : Configuration). Stands d (written w a new)) (sym (writes new))
             (subst (λ (x : ℕ). Stands (record c { globals = put c.globals number new }) (written w x new)) (sym address)
-            (standing_global program well frames fit addresses pages calls few c r w base back depth c.active.slots s number new below));
+            (standing_global program well frames fit addresses pages calls few c r w base back in_frame c.active.slots s number new below));
         values = λ new slot k has. ap (λ (d : Configuration). d.active.slots slot) (writes new);
       }
 
@@ -335,14 +329,14 @@ module _ (program : Program) (well : IsWellFormed program) (frames : List Frame)
         sort = OfCell;
         at = (
           subst (IsCell globals_length (words_per_call * calls)) (sym a_is)
-              (word_cell program well frames fit addresses pages calls few c r w base back depth c.active.slots s (slot_word its slot) (own.inside slot below)),
+              (word_cell program well frames fit addresses pages calls few c r w base back in_frame c.active.slots s (slot_word its slot) (omega (arith, own.inside slot below, own.small))),
           ap w.words a_is ∙ (s.holds slot below (pinned_kept program frames c.active.function (fit.homes c.active.function s.known) slot pinned) ∙ value),
         );
         standing = λ new is_word.
             subst (λ (e : Configuration). Stands e (written w a new)) (sym (writes new))
             (subst (λ (x : ℕ). Stands (d new) (written w x new)) (sym a_is)
-            (standing_at program well frames fit addresses pages calls few c r (written w (base + slot_offset its slot) new) base back depth (put c.active.slots slot new)
-            (standing_slot program well frames fit addresses pages calls few c r w base back depth c.active.slots s slot new below) (d new) refl refl refl refl refl refl s.input));
+            (standing_at program well frames fit addresses pages calls few c r (written w (base + slot_offset its slot) new) base back in_frame (put c.active.slots slot new)
+            (standing_slot program well frames fit addresses pages calls few c r w base back in_frame c.active.slots s slot new below) (d new) refl refl refl refl refl refl s.input));
         values = λ new other k has.
             ap (λ (e : Configuration). e.active.slots other) (writes new)
             ∙ put-other c.active.slots slot other new
@@ -365,23 +359,24 @@ module _ (program : Program) (well : IsWellFormed program) (frames : List Frame)
               known = s.known;
               base_is = s.base_is;
               zero_is = s.zero_is;
-              left = s.left;
+              lowest = s.lowest;
               deep = subst (λ (n : ℕ). suc n ≤ calls) (sym (length-waiting program c.frames a new)) s.deep;
               holds = λ slot below slot_kept.
-                  put-other w.words a (base + slot_offset its slot) new (λ e. absurd (omega (arith, e, above.low, own.inside slot below)))
+                  put-other w.words a (base + slot_offset its slot) new (λ e. absurd (omega (arith, e, above.low, own.inside slot below, own.small)))
                   ∙ s.holds slot below slot_kept;
               chain = above.chain new;
               globals = λ global below.
                   put-other w.words a (data_base + 4 * global) new (λ e. absurd (omega (arith, e, above.low, below, well.globals, lie.above_low, s.deep)))
                   ∙ s.globals global below;
               input = s.input;
-              newest = newest_waiting program a new frames addresses calls (r HANDLERS) base c.active.function c.active.handlers c.frames s.newest;
-              kept = kept_in its w (written w a new) base back c.active.handlers
-                  (put-other w.words a (base + 4 * its.return_address) new (λ e. absurd (omega (arith, e, above.low, own.return_inside)))) s.kept;
+              newest = newest_waiting program a new frames addresses (r HANDLERS) base c.active.function c.active.handlers c.frames s.newest;
+              way = back_in in_frame its r w (written w a new) base back
+                  (put-other w.words a (base + 4 * its.return_address) new (λ e. absurd (omega (arith, e, above.low, own.return_inside, own.small)))) s.way;
               based = based_waiting program a new frames base c.active.function c.active.base c.frames s.based;
               store = s.store;
               laid = s.laid;
               counted = s.counted;
+              middle = s.middle;
             });
         values = λ new slot k has. ap (λ (e : Configuration). e.active.slots slot) (writes new);
       }
@@ -409,7 +404,7 @@ module _ (program : Program) (well : IsWellFormed program) (frames : List Frame)
             at = (subst (λ (x : StoreState). IsLive x a word) (sym s.store) lives.0, lives.1);
             standing = λ new is_word.
                 subst (λ (d : Configuration). Stands d (saved_in w a new)) (sym (ap (with_word program c a new) is))
-                (standing_saved program well frames fit addresses pages calls few c r w base back depth c.active.slots s a new is_word);
+                (standing_saved program well frames fit addresses pages calls few c r w base back in_frame c.active.slots s a new is_word);
             values = λ new slot k has. ap (λ (d : Configuration). d.active.slots slot) (ap (with_word program c a new) is);
           }
       by_range OfSlots is there = of_slot (slot_at program c.active a) refl is there

@@ -1,12 +1,14 @@
 -- How a plain program's calls stand in the memory of the labelled machine: their frames lie one below another from the
 -- end of the stack on, each with its slots and, where it waits, its return address.
-use Rattle.std.proofs.Common.{◌≡◌, ◌≢◌, ℕ, zero, suc, ◌+◌, ◌*◌, ◌%◌, ◌^◌, ◌<◌, ◌≤◌, true, false, List, [], ◌∷◌, length, Some, refl, sym, ap, subst, ◌∙◌, arith, inl, inr}
+use Rattle.std.proofs.Common.{◌≡◌, ◌≢◌, ℕ, zero, suc, ◌+◌, ◌*◌, ◌%◌, ◌^◌, ◌<◌, ◌≤◌, Bool, true, false, List, [], ◌∷◌, length, Some, None, slice_get, refl, sym, ap, subst, ◌∙◌, arith, inl, inr}
 use Rattle.std.specs.List.{AllByRecursion}
-use Rattle.cyc_select.specs.declared.constants.TheConstants.{CALLS, FRAME, HANDLERS, REGIONS}
+use Rattle.cyc_select.specs.declared.constants.TheConstants.{LOWEST, FRAME, HANDLERS, REGIONS, GLOBALS, GLOBALS_MIDDLE}
 use Rattle.cyc_words.specs.Word.{IsWord}
 use Rattle.cyc_isa.specs.Effect.{memory_address}
+use Rattle.cyc_machine.specs.declared.constants.TheConstants.{RETURN_ADDRESS}
 use Rattle.cyc_machine.specs.State.{data_base, stack_end, globals_length, words_per_call}
 use Rattle.cyc_store.specs.State.{Home, StoreState, lexical_count, saved}
+use Rattle.cyc_plain.specs.declared.instruction.Instruction.{Instruction}
 use Rattle.cyc_plain.specs.declared.instruction.Instruction.TheVariants as plain
 use Rattle.cyc_plain.specs.Program.{Routine, Program, routine_at}
 use Rattle.cyc_plain.specs.State as states
@@ -14,15 +16,20 @@ use Rattle.cyc_plain.specs.State.{Words, put, Configuration}
 use Rattle.cyc_plain.specs.Step.{instruction_at}
 use Rattle.cyc_plain.specs.WellFormed.{IsWellFormed}
 use Rattle.cyc_plain.proofs.SlotLaws.{put-same, put-other}
-use Rattle.std.proofs.lemmas.Bool.{cases_eq}
-use Rattle.cyc_frame.specs.Layout.{IsFrame, AreFrames, slot_word, frame_at}
+use Rattle.std.proofs.lemmas.Bool.{cases_eq, or_left, or_right}
+use Rattle.cyc_frame.specs.Layout.{IsFrame, AreFrames, slot_word, frame_at, loses, loses_any}
 use Rattle.cyc_frame.specs.Frame.{Frame}
+use Rattle.cyc_frame.specs.declared.frame.TheConstants.{MOST_FRAME_WORDS}
 use Rattle.cyc_select.specs.Selection.{slot_offset, is_kept, instruction_line, body_count}
-use Rattle.cyc_select.proofs.values.Blocks.{lasting, newest_lasts, count_lasts}
+use Rattle.cyc_select.proofs.values.Blocks.{lasting, newest_lasts, count_lasts, middle_lasts}
 use Rattle.cyc_select.proofs.relation.Cells.{IsCell}
 use Rattle.cyc_select.proofs.values.Operations.{address_at}
 use Rattle.cyc_select.proofs.relation.Stores.{IsLaid, saved_laid, saved_regions}
 use Rattle.cyc_select.proofs.effects.Views.{Contents, written, saved_in}
+
+-- how many bytes each frame has
+abbrev pub frame_size : ℕ
+frame_size = 4 * MOST_FRAME_WORDS
 
 -- the slots of a function's call whose frame lies at this address, as far as they live in memory
 abbrev pub Holds : Program → List Frame → (function base : ℕ) → (w : Contents) (slots : Words) → Type 0
@@ -38,34 +45,31 @@ behind_line program frames function index callee arguments count result =
 -- the calls that wait, above the call of a function whose frame lies at this address, and which returns to this address
 abbrev pub Chain : Program → List Frame → (addresses : ℕ → ℕ) → (w : Contents) → (base back function : ℕ) → List states.Frame → Type 0
 Chain program frames addresses w base back function [] =
-    (base + 4 * (frame_at frames function).words ≡ stack_end) × (back ≡ 0) × (function ≡ program.main)
+    (base + frame_size ≡ stack_end) × (back ≡ 0) × (function ≡ program.main)
 Chain program frames addresses w base back function (f ∷ waiting) =
     (arguments count index : ℕ) × (f.caller.function < length program.functions)
     × (instruction_at program (record { function = f.caller.function; index = index }) ≡ Some (plain.Call function arguments count f.result))
     × (f.caller.next ≡ index + 1)
     × (back ≡ addresses (behind_line program frames f.caller.function index function arguments count f.result))
-    × Holds program frames f.caller.function (base + 4 * (frame_at frames function).words) w f.caller.slots
-    × Chain program frames addresses w (base + 4 * (frame_at frames function).words)
-    (w.words (base + 4 * (frame_at frames function).words + 4 * (frame_at frames f.caller.function).return_address)) f.caller.function waiting
+    × Holds program frames f.caller.function (base + frame_size) w f.caller.slots
+    × Chain program frames addresses w (base + frame_size)
+    (w.words (base + frame_size + 4 * (frame_at frames f.caller.function).return_address)) f.caller.function waiting
 
 -- the slots of a function end where its frame does, or before
-pub slots_fit : (r : Routine) (frame : Frame) → IsFrame r frame → frame.first_slot + r.slots ≤ frame.words
+pub slots_fit : (r : Routine) (frame : Frame) → IsFrame r frame → frame.first_slot + r.slots ≤ MOST_FRAME_WORDS
 slots_fit r frame is = go r.slots is.inside
   where
-    go : (slots : ℕ) → ((slot : ℕ) → slot < slots → slot_word frame slot < frame.words) → frame.first_slot + slots ≤ frame.words
-    go zero inside = omega (arith, is.first_inside)
-    go (suc n) inside = omega (arith, inside n (omega arith))
+    go : (slots : ℕ) → ((slot : ℕ) → slot < slots → slot_word frame slot < r.frame_count) → frame.first_slot + slots ≤ MOST_FRAME_WORDS
+    go zero inside = omega (arith, is.first_inside, is.small)
+    go (suc n) inside = omega (arith, inside n (omega arith), is.small)
 
 module _ (program : Program) (frames : List Frame) (fit : AreFrames program frames) (addresses : ℕ → ℕ) where
-  abbrev pub size_of : ℕ → ℕ
-  size_of function = 4 * (frame_at frames function).words
-
   -- memory below does not matter
-  pub chain_kept : (w w' : Contents) (base back function : ℕ) (waiting : List states.Frame) → ((a : ℕ) → base + size_of function ≤ a → w'.words a ≡ w.words a)
+  pub chain_kept : (w w' : Contents) (base back function : ℕ) (waiting : List states.Frame) → ((a : ℕ) → base + frame_size ≤ a → w'.words a ≡ w.words a)
       → Chain program frames addresses w base back function waiting → Chain program frames addresses w' base back function waiting
   chain_kept w w' base back function [] same chain = chain
   chain_kept w w' base back function (f ∷ waiting) same (arguments, count, index, known, at, next, is_back, holds, chain) =
-      let above : ℕ = base + size_of function in (
+      let above : ℕ = base + frame_size in (
         arguments,
         count,
         index,
@@ -79,52 +83,47 @@ module _ (program : Program) (frames : List Frame) (fit : AreFrames program fram
       )
 
   -- where frames lie
-  pub record Lies (base function depth : ℕ) : Type 0 where
-    pub below_end : base + size_of function ≤ stack_end
-    pub above_low : stack_end ≤ base + 1024 * depth
+  pub record Lies (base depth : ℕ) : Type 0 where
+    pub below_end : base + frame_size ≤ stack_end
+    pub above_low : base + frame_size * depth ≡ stack_end
     pub aligned : base % 4 ≡ 0
 
-  pub chain_lies : (w : Contents) (base back function : ℕ) (waiting : List states.Frame) → function < length program.functions → Chain program frames addresses w base back function waiting
-      → Lies base function (suc (length waiting))
-  chain_lies w base back function [] known (last, is_back, is_main) =
-      let frame = fit.each function known in
-      record { below_end = omega arith; above_low = omega (arith, frame.within, frame.small); aligned = omega arith }
-  chain_lies w base back function (f ∷ waiting) known (arguments, count, index, caller_known, at, next, is_back, holds, chain) =
-      let above : ℕ = base + size_of function in
-      let frame = fit.each function known in
-      let lies = chain_lies w above (w.words (above + 4 * (frame_at frames f.caller.function).return_address)) f.caller.function waiting caller_known chain in
-      record { below_end = omega (arith, lies.below_end); above_low = omega (arith, lies.above_low, frame.within, frame.small); aligned = omega (arith, lies.aligned) }
+  pub chain_lies : (w : Contents) (base back function : ℕ) (waiting : List states.Frame) → Chain program frames addresses w base back function waiting
+      → Lies base (suc (length waiting))
+  chain_lies w base back function [] (last, is_back, is_main) = record { below_end = omega arith; above_low = omega (arith, last); aligned = omega (arith, last) }
+  chain_lies w base back function (f ∷ waiting) (arguments, count, index, caller_known, at, next, is_back, holds, chain) =
+      let above : ℕ = base + frame_size in
+      let lies = chain_lies w above (w.words (above + 4 * (frame_at frames f.caller.function).return_address)) f.caller.function waiting chain in
+      record { below_end = omega (arith, lies.below_end); above_low = omega (arith, lies.above_low); aligned = omega (arith, lies.aligned) }
 
 -- ---- handlers
 
--- The record of a handler, by its words: the handler before it, its frame, the line that an exception comes to, and how many
--- more calls may be under way there.
-pub record IsRecord (program : Program) (frames : List Frame) (addresses : ℕ → ℕ) (calls newest base function depth index first : ℕ) (contents : Words) : Type 0 where
+-- The record of a handler, by its words: the handler before it, its frame, and the line that an exception comes to.
+pub record IsRecord (program : Program) (frames : List Frame) (addresses : ℕ → ℕ) (newest base function index first : ℕ) (contents : Words) : Type 0 where
   pub at : newest ≡ base + slot_offset (frame_at frames function) first
   pub handler : ℕ
   pub opened : instruction_at program (record { function = function; index = index }) ≡ Some (plain.Try first handler)
   pub frame : contents 1 ≡ base
-  pub line : contents 2 ≡ addresses (instruction_line program frames function index + 5)
-  pub left : contents 3 + depth ≡ calls
+  pub line : contents 2 ≡ addresses (instruction_line program frames function index + 3)
 
 -- The newest handler of a call has this address, and each leads to the one before it, the last one to that of the caller.
-abbrev pub AreRecords : Program → List Frame → (addresses : ℕ → ℕ) → (calls base function depth : ℕ) → (rest : ℕ → Type 0) → (newest : ℕ) → List states.Handler → Type 0
-AreRecords program frames addresses calls base function depth rest newest [] = rest newest
-AreRecords program frames addresses calls base function depth rest newest (states.Caught ∷ handlers) = ⊥
-AreRecords program frames addresses calls base function depth rest newest (states.Open index first contents ∷ handlers) =
-    IsRecord program frames addresses calls newest base function depth index first contents
-    × AreRecords program frames addresses calls base function depth rest (contents 0) handlers
+abbrev pub AreRecords : Program → List Frame → (addresses : ℕ → ℕ) → (base function : ℕ) → (rest : ℕ → Type 0) → (newest : ℕ) → List states.Handler → Type 0
+AreRecords program frames addresses base function rest newest [] = rest newest
+AreRecords program frames addresses base function rest newest (states.Caught ∷ handlers) = ⊥
+AreRecords program frames addresses base function rest newest (states.Open index first contents ∷ handlers) =
+    IsRecord program frames addresses newest base function index first contents
+    × AreRecords program frames addresses base function rest (contents 0) handlers
 
-abbrev pub IsBeyond : Program → List Frame → (addresses : ℕ → ℕ) → (calls base function : ℕ) → List states.Frame → (newest : ℕ) → Type 0
-IsBeyond program frames addresses calls base function [] newest = newest ≡ 0
-IsBeyond program frames addresses calls base function (f ∷ waiting) newest =
-    AreRecords program frames addresses calls (base + 4 * (frame_at frames function).words) f.caller.function (suc (length waiting))
-    (IsBeyond program frames addresses calls (base + 4 * (frame_at frames function).words) f.caller.function waiting) newest f.caller.handlers
+abbrev pub IsBeyond : Program → List Frame → (addresses : ℕ → ℕ) → (base function : ℕ) → List states.Frame → (newest : ℕ) → Type 0
+IsBeyond program frames addresses base function [] newest = newest ≡ 0
+IsBeyond program frames addresses base function (f ∷ waiting) newest =
+    AreRecords program frames addresses (base + frame_size) f.caller.function
+    (IsBeyond program frames addresses (base + frame_size) f.caller.function waiting) newest f.caller.handlers
 
-abbrev pub IsNewest : Program → List Frame → (addresses : ℕ → ℕ) → (calls newest base function : ℕ) → List states.Handler → List states.Frame → Type 0
-IsNewest program frames addresses calls newest base function handlers waiting =
-    AreRecords program frames addresses calls base function (suc (length waiting))
-    (IsBeyond program frames addresses calls base function waiting) newest handlers
+abbrev pub IsNewest : Program → List Frame → (addresses : ℕ → ℕ) → (newest base function : ℕ) → List states.Handler → List states.Frame → Type 0
+IsNewest program frames addresses newest base function handlers waiting =
+    AreRecords program frames addresses base function
+    (IsBeyond program frames addresses base function waiting) newest handlers
 
 -- ---- addresses of slots
 
@@ -133,44 +132,61 @@ abbrev pub AreBased : List Frame → (base function place : ℕ) → List states
 AreBased frames base function place [] = place ≡ base + 4 * (frame_at frames function).first_slot
 AreBased frames base function place (f ∷ waiting) =
     (place ≡ base + 4 * (frame_at frames function).first_slot)
-    × AreBased frames (base + 4 * (frame_at frames function).words) f.caller.function f.caller.base waiting
+    × AreBased frames (base + frame_size) f.caller.function f.caller.base waiting
 
 pub based_here : (frames : List Frame) (base function place : ℕ) (waiting : List states.Frame) → AreBased frames base function place waiting → place ≡ base + 4 * (frame_at frames function).first_slot
 based_here frames base function place [] based = based
 based_here frames base function place (f ∷ waiting) (here, based) = here
 
--- while a handler is open in a call its return address is in its frame
-abbrev pub IsKept : (frame : Frame) → (w : Contents) → (base back : ℕ) → List states.Handler → Type 0
-IsKept frame w base back [] = Unit {0}
-IsKept frame w base back (h ∷ handlers) = w.words (base + 4 * frame.return_address) ≡ back
+-- the way back of a call is in its frame, or in the register of return addresses
+abbrev pub IsBack : (in_frame : Bool) (frame : Frame) (r : Words) (w : Contents) (base back : ℕ) → Type 0
+IsBack true frame r w base back = w.words (base + 4 * frame.return_address) ≡ back
+IsBack false frame r w base back = r RETURN_ADDRESS ≡ back
 
--- the same in other memory
-pub kept_in : (frame : Frame) (w w' : Contents) (base back : ℕ) (handlers : List states.Handler) → w'.words (base + 4 * frame.return_address) ≡ w.words (base + 4 * frame.return_address)
-    → IsKept frame w base back handlers → IsKept frame w' base back handlers
-kept_in frame w w' base back [] same kept = tt
-kept_in frame w w' base back (h ∷ handlers) same kept = same ∙ kept
+-- the same in other memory, and by other registers
+pub back_in : (in_frame : Bool) (frame : Frame) (r : Words) (w w' : Contents) (base back : ℕ) → w'.words (base + 4 * frame.return_address) ≡ w.words (base + 4 * frame.return_address)
+    → IsBack in_frame frame r w base back → IsBack in_frame frame r w' base back
+back_in true frame r w w' base back same is = same ∙ is
+back_in false frame r w w' base back same is = is
 
-pub kept_here : (frame : Frame) (w : Contents) (base back : ℕ) (handlers : List states.Handler) → w.words (base + 4 * frame.return_address) ≡ back → IsKept frame w base back handlers
-kept_here frame w base back [] same = tt
-kept_here frame w base back (h ∷ handlers) same = same
+back_by : (in_frame : Bool) (frame : Frame) (r r' : Words) (w : Contents) (base back : ℕ) → (in_frame ≡ false → r' RETURN_ADDRESS ≡ r RETURN_ADDRESS)
+    → IsBack in_frame frame r w base back → IsBack in_frame frame r' w base back
+back_by true frame r r' w base back same is = is
+back_by false frame r r' w base back same is = same refl ∙ is
+
+-- code that has such an instruction loses the register
+loses_at : (code : List Instruction) (index : ℕ) (i : Instruction) → slice_get code index ≡ Some i → loses i ≡ true → loses_any code ≡ true
+loses_at [] index i at is = absurd (let e : None ≡ Some i = at in cc)
+loses_at (x ∷ code) zero i at is = let same : x ≡ i = (let e : Some x ≡ Some i = at in cc) in or_left (loses x) (loses_any code) (ap loses same ∙ is)
+loses_at (x ∷ code) (suc index) i at is = or_right (loses x) (loses_any code) (loses_at code index i at is)
+
+-- and so its function keeps the way back in its frame
+pub saves_at : (program : Program) (frames : List Frame) → AreFrames program frames → (function index : ℕ) (i : Instruction) → function < length program.functions
+    → instruction_at program (record { function = function; index = index }) ≡ Some i → loses i ≡ true → (frame_at frames function).saves ≡ true
+saves_at program frames fit function index i known at is = (fit.each function known).saved ∙ loses_at (routine_at program function).code index i at is
+
+-- whether a function keeps its way back in its frame
+abbrev pub keeps_back : List Frame → Configuration → Bool
+keeps_back frames c = (frame_at frames c.active.function).saves
 
 -- a call under way, with these slots
-pub record Standing (program : Program) (frames : List Frame) (addresses : ℕ → ℕ) (pages calls : ℕ) (c : Configuration) (r : Words) (w : Contents) (base back depth : ℕ) (slots : Words) : Type 0 where
+pub record Standing (program : Program) (frames : List Frame) (addresses : ℕ → ℕ) (pages calls : ℕ) (c : Configuration) (r : Words) (w : Contents) (base back : ℕ) (in_frame : Bool) (slots : Words) : Type 0 where
   pub known : c.active.function < length program.functions
   pub base_is : r FRAME ≡ base
   pub zero_is : r 0 ≡ 0
-  pub left : r CALLS + depth ≡ calls
+  pub lowest : r LOWEST + frame_size * calls ≡ stack_end
   pub deep : suc (length c.frames) ≤ calls
   pub holds : Holds program frames c.active.function base w slots
   pub chain : Chain program frames addresses w base back c.active.function c.frames
   pub globals : (global : ℕ) → global < length program.globals → w.words (data_base + 4 * global) ≡ c.globals global
   pub input : AllByRecursion IsWord c.input
-  pub newest : IsNewest program frames addresses calls (r HANDLERS) base c.active.function c.active.handlers c.frames
-  pub kept : IsKept (frame_at frames c.active.function) w base back c.active.handlers
+  pub newest : IsNewest program frames addresses (r HANDLERS) base c.active.function c.active.handlers c.frames
+  pub way : IsBack in_frame (frame_at frames c.active.function) r w base back
   pub based : AreBased frames base c.active.function c.active.base c.frames
   pub store : w.store ≡ c.store
   pub laid : IsLaid pages c.store
   pub counted : r REGIONS ≡ lexical_count c.store.regions % 2 ^ 32
+  pub middle : r GLOBALS ≡ GLOBALS_MIDDLE
 
 module _ (program : Program) (well : IsWellFormed program) (frames : List Frame) (fit : AreFrames program frames) (addresses : ℕ → ℕ) (pages calls : ℕ) (few : calls ≤ 4096) where
   abbrev data_words : ℕ
@@ -179,36 +195,45 @@ module _ (program : Program) (well : IsWellFormed program) (frames : List Frame)
   abbrev stack_words : ℕ
   stack_words = words_per_call * calls
 
-  module _ (c : Configuration) (r : Words) (w : Contents) (base back depth : ℕ) (slots : Words) (s : Standing program frames addresses pages calls c r w base back depth slots) where
-    pub lies : Lies program frames fit addresses base c.active.function (suc (length c.frames))
-    lies = chain_lies program frames fit addresses w base back c.active.function c.frames s.known s.chain
+  module _ (c : Configuration) (r : Words) (w : Contents) (base back : ℕ) (in_frame : Bool) (slots : Words) (s : Standing program frames addresses pages calls c r w base back in_frame slots) where
+    pub lies : Lies program frames fit addresses base (suc (length c.frames))
+    lies = chain_lies program frames fit addresses w base back c.active.function c.frames s.chain
+
+    abbrev own_frame : IsFrame (routine_at program c.active.function) (frame_at frames c.active.function)
+    own_frame = fit.each c.active.function s.known
+
+    -- the words that the function uses are among those of its frame
+    pub slot_inside : (slot : ℕ) → slot < (routine_at program c.active.function).slots → slot_word (frame_at frames c.active.function) slot < MOST_FRAME_WORDS
+    slot_inside slot below = omega (arith, own_frame.inside slot below, own_frame.small)
+
+    pub return_inside : (frame_at frames c.active.function).return_address < MOST_FRAME_WORDS
+    return_inside = omega (arith, own_frame.return_inside, own_frame.small)
 
     -- a word of the frame
-    pub word_address : (word : ℕ) → word < (frame_at frames c.active.function).words → memory_address (r FRAME) (4 * word) ≡ base + 4 * word
+    pub word_address : (word : ℕ) → word < MOST_FRAME_WORDS → memory_address (r FRAME) (4 * word) ≡ base + 4 * word
     word_address word inside =
-        let frame = fit.each c.active.function s.known in
         ap (λ (x : ℕ). memory_address x (4 * word)) s.base_is
-        ∙ address_at base (4 * word) (omega (arith, inside, frame.within, frame.small)) (omega (arith, inside, lies.below_end))
+        ∙ address_at base (4 * word) (omega (arith, inside)) (omega (arith, inside, lies.below_end))
 
-    pub word_cell : (word : ℕ) → word < (frame_at frames c.active.function).words → IsCell data_words stack_words (base + 4 * word)
+    pub word_cell : (word : ℕ) → word < MOST_FRAME_WORDS → IsCell data_words stack_words (base + 4 * word)
     word_cell word inside =
         inr ((omega (arith, lies.aligned)), (omega (arith, lies.above_low, s.deep)), (omega (arith, inside, lies.below_end)))
 
     pub slot_address : (slot : ℕ) → slot < (routine_at program c.active.function).slots → memory_address (r FRAME) (slot_offset (frame_at frames c.active.function) slot) ≡ base + slot_offset (frame_at frames c.active.function) slot
-    slot_address slot below = word_address (slot_word (frame_at frames c.active.function) slot) ((fit.each c.active.function s.known).inside slot below)
+    slot_address slot below = word_address (slot_word (frame_at frames c.active.function) slot) (slot_inside slot below)
 
     pub slot_cell : (slot : ℕ) → slot < (routine_at program c.active.function).slots → IsCell data_words stack_words (memory_address (r FRAME) (slot_offset (frame_at frames c.active.function) slot))
     slot_cell slot below =
-        subst (IsCell data_words stack_words) (sym (slot_address slot below)) (word_cell (slot_word (frame_at frames c.active.function) slot) ((fit.each c.active.function s.known).inside slot below))
+        subst (IsCell data_words stack_words) (sym (slot_address slot below)) (word_cell (slot_word (frame_at frames c.active.function) slot) (slot_inside slot below))
 
     pub slot_word_is : (slot : ℕ) → slot < (routine_at program c.active.function).slots → is_kept (frame_at frames c.active.function) slot ≡ true → w.words (memory_address (r FRAME) (slot_offset (frame_at frames c.active.function) slot)) ≡ slots slot
     slot_word_is slot below slot_kept = ap w.words (slot_address slot below) ∙ s.holds slot below slot_kept
 
     pub return_address : memory_address (r FRAME) (4 * (frame_at frames c.active.function).return_address) ≡ base + 4 * (frame_at frames c.active.function).return_address
-    return_address = word_address (frame_at frames c.active.function).return_address (fit.each c.active.function s.known).return_inside
+    return_address = word_address (frame_at frames c.active.function).return_address return_inside
 
     pub return_cell : IsCell data_words stack_words (memory_address (r FRAME) (4 * (frame_at frames c.active.function).return_address))
-    return_cell = subst (IsCell data_words stack_words) (sym return_address) (word_cell (frame_at frames c.active.function).return_address (fit.each c.active.function s.known).return_inside)
+    return_cell = subst (IsCell data_words stack_words) (sym return_address) (word_cell (frame_at frames c.active.function).return_address return_inside)
 
     -- the word of a global
     pub global_cell : (global : ℕ) → global < length program.globals → IsCell data_words stack_words (data_base + 4 * global)
@@ -217,33 +242,34 @@ module _ (program : Program) (well : IsWellFormed program) (frames : List Frame)
     -- ---- changes
 
     -- other registers
-    pub standing_registers : (r' : Words) → r' 0 ≡ r 0 → r' FRAME ≡ r FRAME → r' CALLS ≡ r CALLS → lasting r' ≡ lasting r → Standing program frames addresses pages calls c r' w base back depth slots
-    standing_registers r' zero_same base_same left_same lasts_same = record {
+    pub standing_registers : (r' : Words) → r' 0 ≡ r 0 → r' FRAME ≡ r FRAME → r' LOWEST ≡ r LOWEST → (in_frame ≡ false → r' RETURN_ADDRESS ≡ r RETURN_ADDRESS) → lasting r' ≡ lasting r → Standing program frames addresses pages calls c r' w base back in_frame slots
+    standing_registers r' zero_same base_same lowest_same back_same lasts_same = record {
       known = s.known;
       base_is = base_same ∙ s.base_is;
       zero_is = zero_same ∙ s.zero_is;
-      left = ap (λ (n : ℕ). n + depth) left_same ∙ s.left;
+      lowest = ap (λ (n : ℕ). n + frame_size * calls) lowest_same ∙ s.lowest;
       deep = s.deep;
       holds = s.holds;
       chain = s.chain;
       globals = s.globals;
       input = s.input;
-      newest = subst (λ (n : ℕ). IsNewest program frames addresses calls n base c.active.function c.active.handlers c.frames) (sym (newest_lasts r' r lasts_same)) s.newest;
-      kept = s.kept;
+      newest = subst (λ (n : ℕ). IsNewest program frames addresses n base c.active.function c.active.handlers c.frames) (sym (newest_lasts r' r lasts_same)) s.newest;
+      way = back_by in_frame (frame_at frames c.active.function) r r' w base back back_same s.way;
       based = s.based;
       store = s.store;
       laid = s.laid;
       counted = count_lasts r' r lasts_same ∙ s.counted;
+      middle = middle_lasts r' r lasts_same ∙ s.middle;
     }
 
     -- the same call, at another place
     pub standing_at : (d : Configuration) → d.active.function ≡ c.active.function → d.active.base ≡ c.active.base → d.active.handlers ≡ c.active.handlers → d.frames ≡ c.frames → d.globals ≡ c.globals → d.store ≡ c.store → AllByRecursion IsWord d.input
-        → Standing program frames addresses pages calls d r w base back depth slots
+        → Standing program frames addresses pages calls d r w base back in_frame slots
     standing_at d function_same place_same handlers_same frames_same globals_same store_same input = record {
       known = subst (λ (f : ℕ). f < length program.functions) (sym function_same) s.known;
       base_is = s.base_is;
       zero_is = s.zero_is;
-      left = s.left;
+      lowest = s.lowest;
       deep = subst (λ (fs : List states.Frame). suc (length fs) ≤ calls) (sym frames_same) s.deep;
       holds = subst (λ (f : ℕ). Holds program frames f base w slots) (sym function_same) s.holds;
       chain = subst (λ (f : ℕ). Chain program frames addresses w base back f d.frames) (sym function_same)
@@ -251,12 +277,10 @@ module _ (program : Program) (well : IsWellFormed program) (frames : List Frame)
       globals = λ global below. s.globals global below ∙ ap (λ (g : Words). g global) (sym globals_same);
       input = input;
       newest =
-          subst (λ (f : ℕ). IsNewest program frames addresses calls (r HANDLERS) base f d.active.handlers d.frames) (sym function_same)
-          (subst (λ (hs : List states.Handler). IsNewest program frames addresses calls (r HANDLERS) base c.active.function hs d.frames) (sym handlers_same)
-          (subst (λ (fs : List states.Frame). IsNewest program frames addresses calls (r HANDLERS) base c.active.function c.active.handlers fs) (sym frames_same) s.newest));
-      kept =
-          subst (λ (f : ℕ). IsKept (frame_at frames f) w base back d.active.handlers) (sym function_same)
-          (subst (λ (hs : List states.Handler). IsKept (frame_at frames c.active.function) w base back hs) (sym handlers_same) s.kept);
+          subst (λ (f : ℕ). IsNewest program frames addresses (r HANDLERS) base f d.active.handlers d.frames) (sym function_same)
+          (subst (λ (hs : List states.Handler). IsNewest program frames addresses (r HANDLERS) base c.active.function hs d.frames) (sym handlers_same)
+          (subst (λ (fs : List states.Frame). IsNewest program frames addresses (r HANDLERS) base c.active.function c.active.handlers fs) (sym frames_same) s.newest));
+      way = subst (λ (f : ℕ). IsBack in_frame (frame_at frames f) r w base back) (sym function_same) s.way;
       based =
           subst (λ (f : ℕ). AreBased frames base f d.active.base d.frames) (sym function_same)
           (subst (λ (b : ℕ). AreBased frames base c.active.function b d.frames) (sym place_same)
@@ -264,32 +288,34 @@ module _ (program : Program) (well : IsWellFormed program) (frames : List Frame)
       store = s.store ∙ sym store_same;
       laid = subst (IsLaid pages) (sym store_same) s.laid;
       counted = s.counted ∙ ap (λ (x : StoreState). lexical_count x.regions % 2 ^ 32) (sym store_same);
+      middle = s.middle;
     }
 
     -- other handlers, and other registers
-    pub standing_handlers : (handlers : List states.Handler) (r' : Words) → r' 0 ≡ r 0 → r' FRAME ≡ r FRAME → r' CALLS ≡ r CALLS → r' REGIONS ≡ r REGIONS
-        → IsNewest program frames addresses calls (r' HANDLERS) base c.active.function handlers c.frames → IsKept (frame_at frames c.active.function) w base back handlers
-        → Standing program frames addresses pages calls (record c { active = record c.active { handlers = handlers } }) r' w base back depth slots
-    standing_handlers handlers r' zero_same base_same left_same count_same newest kept = record {
+    pub standing_handlers : (handlers : List states.Handler) (r' : Words) → r' 0 ≡ r 0 → r' FRAME ≡ r FRAME → r' LOWEST ≡ r LOWEST → r' RETURN_ADDRESS ≡ r RETURN_ADDRESS → r' REGIONS ≡ r REGIONS → r' GLOBALS ≡ r GLOBALS
+        → IsNewest program frames addresses (r' HANDLERS) base c.active.function handlers c.frames
+        → Standing program frames addresses pages calls (record c { active = record c.active { handlers = handlers } }) r' w base back in_frame slots
+    standing_handlers handlers r' zero_same base_same lowest_same back_same count_same middle_same newest = record {
       known = s.known;
       base_is = base_same ∙ s.base_is;
       zero_is = zero_same ∙ s.zero_is;
-      left = ap (λ (n : ℕ). n + depth) left_same ∙ s.left;
+      lowest = ap (λ (n : ℕ). n + frame_size * calls) lowest_same ∙ s.lowest;
       deep = s.deep;
       holds = s.holds;
       chain = s.chain;
       globals = s.globals;
       input = s.input;
       newest = newest;
-      kept = kept;
+      way = back_by in_frame (frame_at frames c.active.function) r r' w base back (λ outside. back_same) s.way;
       based = s.based;
       store = s.store;
       laid = s.laid;
       counted = count_same ∙ s.counted;
+      middle = middle_same ∙ s.middle;
     }
 
     -- a word of the frame and the data are apart
-    above_data : (word global : ℕ) → word < (frame_at frames c.active.function).words → global < length program.globals → data_base + 4 * global ≢ base + 4 * word
+    above_data : (word global : ℕ) → word < MOST_FRAME_WORDS → global < length program.globals → data_base + 4 * global ≢ base + 4 * word
     above_data word global inside below same =
         absurd (omega (arith, same, below, well.globals, lies.above_low, s.deep))
 
@@ -309,12 +335,12 @@ module _ (program : Program) (well : IsWellFormed program) (frames : List Frame)
 
     -- a slot written
     pub standing_slot : (slot word : ℕ) → slot < (routine_at program c.active.function).slots
-        → Standing program frames addresses pages calls c r (written w (base + slot_offset (frame_at frames c.active.function) slot) word) base back depth (put slots slot word)
+        → Standing program frames addresses pages calls c r (written w (base + slot_offset (frame_at frames c.active.function) slot) word) base back in_frame (put slots slot word)
     standing_slot slot word below = record {
       known = s.known;
       base_is = s.base_is;
       zero_is = s.zero_is;
-      left = s.left;
+      lowest = s.lowest;
       deep = s.deep;
       holds = λ other other_below other_kept. elim (cases_eq other slot) [
         | inl same ↦
@@ -325,28 +351,29 @@ module _ (program : Program) (well : IsWellFormed program) (frames : List Frame)
             ∙ (s.holds other other_below other_kept ∙ sym (put-other slots slot other word apart))
       ];
       chain = chain_kept program frames fit addresses w (written w (slot_at slot) word) base back c.active.function c.frames
-          (λ a from. put-other w.words (slot_at slot) a word (λ e. absurd (omega (arith, e, from, (fit.each c.active.function s.known).inside slot below)))) s.chain;
+          (λ a from. put-other w.words (slot_at slot) a word (λ e. absurd (omega (arith, e, from, slot_inside slot below)))) s.chain;
       globals = λ global global_below.
-          put-other w.words (slot_at slot) (data_base + 4 * global) word (above_data (slot_word (frame_at frames c.active.function) slot) global ((fit.each c.active.function s.known).inside slot below) global_below)
+          put-other w.words (slot_at slot) (data_base + 4 * global) word (above_data (slot_word (frame_at frames c.active.function) slot) global (slot_inside slot below) global_below)
           ∙ s.globals global global_below;
       input = s.input;
       newest = s.newest;
-      kept = kept_in (frame_at frames c.active.function) w (written w (slot_at slot) word) base back c.active.handlers
-          (put-other w.words (slot_at slot) return_at word (λ e. (fit.each c.active.function s.known).beside slot below (omega (arith, e)))) s.kept;
+      way = back_in in_frame (frame_at frames c.active.function) r w (written w (slot_at slot) word) base back
+          (put-other w.words (slot_at slot) return_at word (λ e. (fit.each c.active.function s.known).beside slot below (omega (arith, e)))) s.way;
       based = s.based;
       store = s.store;
       laid = s.laid;
       counted = s.counted;
+      middle = s.middle;
     }
 
     -- a slot that lives in a register alone gets another word
     pub standing_unkept : (slot word : ℕ) → is_kept (frame_at frames c.active.function) slot ≡ false
-        → Standing program frames addresses pages calls c r w base back depth (put slots slot word)
+        → Standing program frames addresses pages calls c r w base back in_frame (put slots slot word)
     standing_unkept slot word unkept = record {
       known = s.known;
       base_is = s.base_is;
       zero_is = s.zero_is;
-      left = s.left;
+      lowest = s.lowest;
       deep = s.deep;
       holds = λ other other_below other_kept. elim (cases_eq other slot) [
         | inl same ↦ absurd (let e : true ≡ false = sym other_kept ∙ (ap (is_kept (frame_at frames c.active.function)) same ∙ unkept) in cc)
@@ -356,94 +383,98 @@ module _ (program : Program) (well : IsWellFormed program) (frames : List Frame)
       globals = s.globals;
       input = s.input;
       newest = s.newest;
-      kept = s.kept;
+      way = s.way;
       based = s.based;
       store = s.store;
       laid = s.laid;
       counted = s.counted;
+      middle = s.middle;
     }
 
     -- the word for the return address written
-    pub standing_return : (word : ℕ) → word ≡ back → Standing program frames addresses pages calls c r (written w (base + 4 * (frame_at frames c.active.function).return_address) word) base back depth slots
+    pub standing_return : (word : ℕ) → word ≡ back → Standing program frames addresses pages calls c r (written w (base + 4 * (frame_at frames c.active.function).return_address) word) base back true slots
     standing_return word same = record {
       known = s.known;
       base_is = s.base_is;
       zero_is = s.zero_is;
-      left = s.left;
+      lowest = s.lowest;
       deep = s.deep;
       holds = λ slot below slot_kept.
           put-other w.words return_at (base + slot_offset (frame_at frames c.active.function) slot) word
           (λ e. (fit.each c.active.function s.known).beside slot below (omega (arith, e)))
           ∙ s.holds slot below slot_kept;
       chain = chain_kept program frames fit addresses w (written w return_at word) base back c.active.function c.frames
-          (λ a from. put-other w.words return_at a word (λ e. absurd (omega (arith, e, from, (fit.each c.active.function s.known).return_inside)))) s.chain;
+          (λ a from. put-other w.words return_at a word (λ e. absurd (omega (arith, e, from, return_inside)))) s.chain;
       globals = λ global below.
-          put-other w.words return_at (data_base + 4 * global) word (above_data (frame_at frames c.active.function).return_address global (fit.each c.active.function s.known).return_inside below)
+          put-other w.words return_at (data_base + 4 * global) word (above_data (frame_at frames c.active.function).return_address global return_inside below)
           ∙ s.globals global below;
       input = s.input;
       newest = s.newest;
-      kept = kept_here (frame_at frames c.active.function) (written w return_at word) base back c.active.handlers (put-same w.words return_at word ∙ same);
+      way = put-same w.words return_at word ∙ same;
       based = s.based;
       store = s.store;
       laid = s.laid;
       counted = s.counted;
+      middle = s.middle;
     }
 
     -- another store, and other registers, of which one tells how many lexical regions that has
-    pub standing_store : (store : StoreState) (r' : Words) → r' 0 ≡ r 0 → r' FRAME ≡ r FRAME → r' CALLS ≡ r CALLS → r' HANDLERS ≡ r HANDLERS
-        → r' REGIONS ≡ lexical_count store.regions % 2 ^ 32 → IsLaid pages store
-        → Standing program frames addresses pages calls (record c { store = store }) r' (record w { store = store }) base back depth slots
-    standing_store store r' zero_same base_same left_same newest_same counted laid = record {
+    pub standing_store : (store : StoreState) (r' : Words) → r' 0 ≡ r 0 → r' FRAME ≡ r FRAME → r' LOWEST ≡ r LOWEST → r' RETURN_ADDRESS ≡ r RETURN_ADDRESS → r' HANDLERS ≡ r HANDLERS
+        → r' REGIONS ≡ lexical_count store.regions % 2 ^ 32 → r' GLOBALS ≡ r GLOBALS → IsLaid pages store
+        → Standing program frames addresses pages calls (record c { store = store }) r' (record w { store = store }) base back in_frame slots
+    standing_store store r' zero_same base_same lowest_same back_same newest_same counted middle_same laid = record {
       known = s.known;
       base_is = base_same ∙ s.base_is;
       zero_is = zero_same ∙ s.zero_is;
-      left = ap (λ (n : ℕ). n + depth) left_same ∙ s.left;
+      lowest = ap (λ (n : ℕ). n + frame_size * calls) lowest_same ∙ s.lowest;
       deep = s.deep;
       holds = s.holds;
       chain = chain_kept program frames fit addresses w (record w { store = store }) base back c.active.function c.frames (λ a from. refl) s.chain;
       globals = s.globals;
       input = s.input;
-      newest = subst (λ (n : ℕ). IsNewest program frames addresses calls n base c.active.function c.active.handlers c.frames) (sym newest_same) s.newest;
-      kept = kept_in (frame_at frames c.active.function) w (record w { store = store }) base back c.active.handlers refl s.kept;
+      newest = subst (λ (n : ℕ). IsNewest program frames addresses n base c.active.function c.active.handlers c.frames) (sym newest_same) s.newest;
+      way = back_in in_frame (frame_at frames c.active.function) r' w (record w { store = store }) base back refl (back_by in_frame (frame_at frames c.active.function) r r' w base back (λ outside. back_same) s.way);
       based = s.based;
       store = refl;
       laid = laid;
       counted = counted;
+      middle = middle_same ∙ s.middle;
     }
 
     -- a word of a live block written
     pub standing_saved : (address word : ℕ) → IsWord word
-        → Standing program frames addresses pages calls (record c { store = saved c.store address word }) r (saved_in w address word) base back depth slots
+        → Standing program frames addresses pages calls (record c { store = saved c.store address word }) r (saved_in w address word) base back in_frame slots
     standing_saved address word is_word = record {
       known = s.known;
       base_is = s.base_is;
       zero_is = s.zero_is;
-      left = s.left;
+      lowest = s.lowest;
       deep = s.deep;
       holds = s.holds;
       chain = chain_kept program frames fit addresses w (saved_in w address word) base back c.active.function c.frames (λ a from. refl) s.chain;
       globals = s.globals;
       input = s.input;
       newest = s.newest;
-      kept = kept_in (frame_at frames c.active.function) w (saved_in w address word) base back c.active.handlers refl s.kept;
+      way = back_in in_frame (frame_at frames c.active.function) r w (saved_in w address word) base back refl s.way;
       based = s.based;
       store = ap (λ (x : StoreState). saved x address word) s.store;
       laid = saved_laid pages c.store address word is_word s.laid;
       counted = s.counted ∙ ap (λ (rs : List Home). lexical_count rs % 2 ^ 32) (sym (saved_regions c.store address word));
+      middle = s.middle;
     }
 
     -- a global written
     pub standing_global : (global word : ℕ) → global < length program.globals
-        → Standing program frames addresses pages calls (record c { globals = put c.globals global word }) r (written w (data_base + 4 * global) word) base back depth slots
+        → Standing program frames addresses pages calls (record c { globals = put c.globals global word }) r (written w (data_base + 4 * global) word) base back in_frame slots
     standing_global global word below = record {
       known = s.known;
       base_is = s.base_is;
       zero_is = s.zero_is;
-      left = s.left;
+      lowest = s.lowest;
       deep = s.deep;
       holds = λ slot slot_below slot_kept.
           put-other w.words (global_at global) (base + slot_offset (frame_at frames c.active.function) slot) word
-          (λ e. above_data (slot_word (frame_at frames c.active.function) slot) global ((fit.each c.active.function s.known).inside slot slot_below) below (sym e))
+          (λ e. above_data (slot_word (frame_at frames c.active.function) slot) global (slot_inside slot slot_below) below (sym e))
           ∙ s.holds slot slot_below slot_kept;
       chain = chain_kept program frames fit addresses w (written w (global_at global) word) base back c.active.function c.frames
           (λ a from. put-other w.words (global_at global) a word (λ e. absurd (omega (arith, e, from, below, well.globals, lies.above_low, s.deep)))) s.chain;
@@ -457,10 +488,11 @@ module _ (program : Program) (well : IsWellFormed program) (frames : List Frame)
       ];
       input = s.input;
       newest = s.newest;
-      kept = kept_in (frame_at frames c.active.function) w (written w (global_at global) word) base back c.active.handlers
-          (put-other w.words (global_at global) return_at word (λ e. above_data (frame_at frames c.active.function).return_address global (fit.each c.active.function s.known).return_inside below (sym e))) s.kept;
+      way = back_in in_frame (frame_at frames c.active.function) r w (written w (global_at global) word) base back
+          (put-other w.words (global_at global) return_at word (λ e. above_data (frame_at frames c.active.function).return_address global return_inside below (sym e))) s.way;
       based = s.based;
       store = s.store;
       laid = s.laid;
       counted = s.counted;
+      middle = s.middle;
     }

@@ -107,7 +107,7 @@ module _ (program : Program) (frames : List Frame) (function : ℕ) (right : Are
   pub made_caches : (index destination word : ℕ) (r r' slots : Words) (i : Instruction) → IsAt index i
       → ((slot : ℕ) → slot ≢ destination → writes program i slot ≡ false) → writes program i destination ≡ true → leads i index (index + 1) ≡ true
       → ((k : ℕ) → value_register (frame_at frames function) destination ≡ Some k → r' k ≡ word)
-      → ((n : ℕ) → 8 ≤ n → n < 24 → (value_register (frame_at frames function) destination ≡ Some n → ⊥) → r' n ≡ r n)
+      → ((n : ℕ) → 6 ≤ n → n < 24 → (value_register (frame_at frames function) destination ≡ Some n → ⊥) → r' n ≡ r n)
       → Caches program frames function index r slots → Caches program frames function (index + 1) r' (put slots destination word)
   made_caches index destination word r r' slots i at unwritten gets led result others caches slot k has wanted = elim (cases_eq slot destination) [
     | inl same ↦
@@ -121,7 +121,7 @@ module _ (program : Program) (frames : List Frame) (function : ℕ) (right : Are
   pub moved_caches : (index destination source count : ℕ) (r r' slots : Words) → IsAt index (plain.MoveWords destination source count)
       → ((i k : ℕ) → i < count → value_register (frame_at frames function) (destination + i) ≡ Some k
       → ((j : ℕ) → j < count → value_register (frame_at frames function) (destination + j) ≡ Some k → i ≡ j) → r' k ≡ slots (source + i))
-      → ((n : ℕ) → 8 ≤ n → n < 24 → ((i : ℕ) → i < count → value_register (frame_at frames function) (destination + i) ≡ Some n → ⊥) → r' n ≡ r n)
+      → ((n : ℕ) → 6 ≤ n → n < 24 → ((i : ℕ) → i < count → value_register (frame_at frames function) (destination + i) ≡ Some n → ⊥) → r' n ≡ r n)
       → Caches program frames function index r slots → Caches program frames function (index + 1) r' (copied slots source count slots destination)
   moved_caches index destination source count r r' slots at given others caches slot k has wanted = go (is_among destination count slot) refl
     where
@@ -178,7 +178,7 @@ abbrev AreAlone : List Home → Type 0
 AreAlone hs = (a c k : ℕ) → homing.home_of hs a ≡ homes.Both k → homing.home_of hs c ≡ homes.Both k → a ≡ c
 
 abbrev AreValues : List Home → Type 0
-AreValues hs = (a k : ℕ) → homing.home_of hs a ≡ homes.Both k → (8 ≤ k) × (k < 24)
+AreValues hs = (a k : ℕ) → homing.home_of hs a ≡ homes.Both k → (6 ≤ k) × (k < 24)
 
 module _ (globals stack : ℕ) (frame : Frame) (base : ℕ) (w : Contents) where
   abbrev word_there : ℕ → ℕ
@@ -271,7 +271,7 @@ module _ (globals stack : ℕ) (frame : Frame) (base : ℕ) (w : Contents) where
 pub record Reloaded (globals stack : ℕ) (program : Program) (frames : List Frame) (function index : ℕ) (q : Words) (w : Contents) (slots : Words) : Type 0 where
   pub safe : AreSafe globals stack (reloads (frame_at frames function)) q w
   pub memory : after_w (reloads (frame_at frames function)) q w ≡ w
-  pub others : (n : ℕ) → n < 8 ⊎ 24 ≤ n → after_r (reloads (frame_at frames function)) q w n ≡ q n
+  pub others : (n : ℕ) → n < 6 ⊎ 24 ≤ n → after_r (reloads (frame_at frames function)) q w n ≡ q n
   pub caches : Caches program frames function index (after_r (reloads (frame_at frames function)) q w) slots
 
 pub reloaded : (globals stack : ℕ) (program : Program) (frames : List Frame) (function : ℕ) (right : AreHomes program (routine_at program function) (frame_at frames function).homes) (index : ℕ) (q : Words) (w : Contents) (slots : Words)
@@ -306,7 +306,7 @@ reloaded globals stack program frames function right index q w slots cells holds
         let same : j ≡ slot = right.alone j slot k both has in
         false≢true (sym unkept ∙ ap homing.is_kept (ap (homing.home_of (frame_at frames function).homes) (sym same) ∙ both))
 
-    out_of : (n : ℕ) → n < 8 ⊎ 24 ≤ n → (8 ≤ n) × (n < 24) → ⊥
+    out_of : (n : ℕ) → n < 6 ⊎ 24 ≤ n → (6 ≤ n) × (n < 24) → ⊥
     out_of n (inl below) (low, high) = omega (arith, below, low)
     out_of n (inr above) (low, high) = omega (arith, above, high)
 

@@ -3,7 +3,6 @@ use Rattle.std.proofs.Common.{◌≡◌, ◌≢◌, ℕ, zero, suc, ◌+◌, ◌
 use Rattle.std.specs.Prelude.{if◌then◌else◌}
 use Rattle.std.specs.List.{range_with_len}
 use Rattle.std.proofs.lemmas.Bool.{cases_lt, eq-eqb, ne_eqb}
-use Rattle.cyc_machine.specs.declared.constants.TheConstants.{RETURN_ADDRESS}
 use Rattle.cyc_words.specs.Ending.{Ending}
 use Rattle.std.proofs.lemmas.List.{get_or_past}
 use Rattle.cyc_words.specs.Word.{IsWord}
@@ -27,7 +26,7 @@ use Rattle.cyc_plain.specs.Step as steps
 use Rattle.cyc_plain.specs.Step.{IsAllowed, call_of, instruction_at, operand_word, performed, executed, gives, finishes, step, is_within, Step, callee_of}
 use Rattle.cyc_plain.specs.WellFormed.{IsOperand, IsWellFormed, IsInRange, IsTryInRange, is_return, HasWords, IsOfWord, HasWord}
 use Rattle.cyc_words.proofs.Matching.{way_before}
-use Rattle.cyc_plain.proofs.Placed.{holds_at, routine_in, below_of_get}
+use Rattle.cyc_plain.proofs.Placed.{holds_at, routine_in, below_of_get, goes_behind}
 use Rattle.cyc_plain.proofs.RunLaws.{limited-within, zeros, zeros_allowed, zeros_at, stuck_within}
 use Rattle.cyc_plain.proofs.Steps.{function_known}
 use Rattle.cyc_frame.specs.Layout.{AreFrames, frame_at}
@@ -38,9 +37,9 @@ use Rattle.cyc_select.specs.Machine.{State, Running, Ended, IsReturnPoint, machi
 use Rattle.cyc_select.specs.declared.constants.TheConstants.{HANDLERS}
 use Rattle.cyc_select.specs.declared.code.Line.{Line}
 use Rattle.cyc_select.specs.declared.code.Line.TheVariants as lines
-use Rattle.cyc_select.specs.Selection.{reload_count, recorded_code, caught_code, opened_code, body, behind, body_count, behind_count, ordinary, spills, spills_count, copies_count, calling_code, function_line, divide_code, divide_count, plan_code, plan_count, is_tested, part_of, count_of, operator_count, instruction_line}
+use Rattle.cyc_select.specs.Selection.{reload_count, recorded_code, caught_code, opened_code, body, behind, body_count, behind_count, ordinary, spills, spills_count, copies_count, calling_code, function_line, divide_code, divide_count, plan_code, plan_count, is_tested, part_of, count_of, operator_count, instruction_line, saving_code, saving_count}
 use Rattle.cyc_select.proofs.emission.Counts.{length_spills}
-use Rattle.cyc_select.proofs.layout.Lines.{line_next}
+use Rattle.cyc_select.proofs.layout.Lines.{line_next, line_first}
 use Rattle.cyc_select.specs.Numbers.{is_plain_divisor}
 use Rattle.cyc_select.specs.Plans.{binary_plan}
 use Rattle.cyc_select.proofs.values.Halves.{divisor_is}
@@ -49,16 +48,20 @@ use Rattle.cyc_select.proofs.values.Plans.{multiply_divide_result, if_low}
 use Rattle.cyc_select.proofs.relation.Values.{Caches}
 use Rattle.cyc_select.proofs.effects.Views.{Contents}
 use Rattle.cyc_select.proofs.effects.Walks.{Stands, stands_front, stands_back, stands_until, Rises, rising_distinct, rising_inside, comes_map, Quiet, Walk}
-use Rattle.cyc_select.proofs.relation.Standing.{IsNewest, Standing, behind_line}
+use Rattle.cyc_select.proofs.relation.Standing.{IsNewest, keeps_back, Standing, behind_line}
 use Rattle.cyc_select.proofs.relation.Matches.{At, Ready, Matches, Reached}
 use Rattle.cyc_select.proofs.steps.Simple.{address_goes, move_goes, unary_goes, binary_goes, divide_goes, jump_goes, branch_goes, read_goes, write_goes, load_global_goes, count_lexical_goes, store_global_goes, uncaught_goes}
 use Rattle.cyc_select.proofs.steps.Accesses.{move_words_goes, load_goes, store_goes, load_byte_goes, store_byte_goes}
 use Rattle.cyc_select.proofs.steps.Requests.{ask_goes}
 use Rattle.cyc_select.proofs.steps.Handlers.{catch_goes, leave_goes, try_goes}
 use Rattle.cyc_select.proofs.steps.Throws.{throw_goes}
+use Rattle.cyc_select.proofs.steps.Entries.{entered_goes}
 use Rattle.cyc_select.proofs.steps.Calls.{length_ordinary, call_last}
 use Rattle.cyc_select.proofs.steps.Passing.{call_goes}
-use Rattle.cyc_select.proofs.steps.Returns.{return_goes, behind_goes}
+use Rattle.cyc_select.proofs.steps.Returns.{behind_goes}
+use Rattle.cyc_select.proofs.steps.Leaving.{return_goes}
+use Rattle.cyc_words.proofs.Lists.{slice_get_below}
+use Rattle.cyc_select.proofs.layout.Formed.{within_code, count_some, range_at}
 
 -- ---- the lines of each place
 
@@ -68,7 +71,7 @@ behind_of program frames function (Some i) = behind_count program frames functio
 behind_of program frames function None = 0
 
 abbrev pub previous_count : Program → List Frame → (function : ℕ) → List Instruction → (index : ℕ) → ℕ
-previous_count program frames function code zero = 0
+previous_count program frames function code zero = saving_count (frame_at frames function)
 previous_count program frames function code (suc index) = behind_of program frames function (slice_get code index)
 
 abbrev pub body_of : Program → List Frame → (function : ℕ) → Option Instruction → ℕ
@@ -84,7 +87,7 @@ own_of program frames place =
 
 -- the lines before a place are there
 pub previous_fits : (program : Program) (frames : List Frame) (function index : ℕ) → previous_count program frames function (routine_at program function).code index ≤ instruction_line program frames function index
-previous_fits program frames function zero = omega arith
+previous_fits program frames function zero = omega (arith, line_first program frames function)
 previous_fits program frames function (suc index) = go (slice_get (routine_at program function).code index) refl
   where
     go : (o : Option Instruction) → slice_get (routine_at program function).code index ≡ o → behind_of program frames function o ≤ instruction_line program frames function (suc index)
@@ -98,6 +101,7 @@ module _ (program : Program) (well : IsWellFormed program) (words : HasWords pro
     (pages calls : ℕ) (few : calls ≤ 4096)
     (stand : (function index : ℕ) (i : Instruction) → instruction_at program (record { function = function; index = index }) ≡ Some i
     → Stands code (instruction_line program frames function index) (body program frames function (instruction_line program frames function index) i ++ behind program frames function i))
+    (stand_saving : (function : ℕ) → function < length program.functions → Stands code (function_line program frames function) (ordinary (saving_code (frame_at frames function))))
     (long : (function line : ℕ) (i : Instruction) → length (body program frames function line i) ≡ body_count program frames function i) where
   -- the lines behind a call stand where it returns to
   behind_stands : (function index callee arguments count result : ℕ) → instruction_at program (record { function = function; index = index }) ≡ Some (plain.Call callee arguments count result)
@@ -108,6 +112,20 @@ module _ (program : Program) (well : IsWellFormed program) (words : HasWords pro
       subst (λ (n : ℕ). Stands code (instruction_line program frames function index + n) (behind program frames function (plain.Call callee arguments count result))) (long function line i)
       (stands_back code line (body program frames function line i) (behind program frames function i) (stand function index i at))
 
+  -- behind a call stand its lines, or those of the next instruction
+  behind_inside : (function index callee arguments count result : ℕ) → instruction_at program (record { function = function; index = index }) ≡ Some (plain.Call callee arguments count result)
+      → behind_line program frames function index callee arguments count result < length code.lines
+  behind_inside function index callee arguments count result at =
+      let i : Instruction = plain.Call callee arguments count result in
+      let known = function_known program (record { function = function; index = index }) i at in
+      let further = goes_behind program (routine_at program function) index i (routine_in program function well known) at refl in
+      let (j, at_next) = slice_get_below (routine_at program function).code (index + 1) further in
+      let line : ℕ = instruction_line program frames function (index + 1) in
+      let some = count_some program frames function j (range_at program well (record { function = function; index = index + 1 }) j at_next) in
+      let fits = within_code code line (body program frames function line j) (omega (arith, long function line j, some))
+      (stands_front code line (body program frames function line j) (behind program frames function j) (stand function (index + 1) j at_next)) in
+      omega (arith, line_next program frames function index i at, fits, long function line j, some)
+
   returns_to : (function index callee arguments count result : ℕ) → instruction_at program (record { function = function; index = index }) ≡ Some (plain.Call callee arguments count result)
       → IsReturnPoint code (behind_line program frames function index callee arguments count result)
   returns_to function index callee arguments count result at =
@@ -117,8 +135,8 @@ module _ (program : Program) (well : IsWellFormed program) (words : HasWords pro
       let before : List Instr = spills (frame_at frames function) (frame_at frames callee) arguments 0 count in
       let long_spills : length (ordinary before) ≡ spills_count (frame_at frames function) (frame_at frames callee) arguments 0 count = length_ordinary before ∙ length_spills (frame_at frames function) (frame_at frames callee) arguments 0 count in
       record {
-        inside = below_of_get code.lines _ _ (behind_stands function index callee arguments count result at).0;
-        call = spilled + 6 + copies_count (frame_at frames function) (frame_at frames callee) arguments 0 count;
+        inside = behind_inside function index callee arguments count result at;
+        call = spilled + 4 + copies_count (frame_at frames function) (frame_at frames callee) arguments 0 count;
         label = function_line program frames callee;
         behind = omega arith;
         calls = call_last code (frame_at frames function) (frame_at frames callee) spilled (function_line program frames callee) arguments count
@@ -142,30 +160,30 @@ module _ (program : Program) (well : IsWellFormed program) (words : HasWords pro
 
   -- where an exception comes to a handler
   caught_stands : (function index first handler : ℕ) → instruction_at program (record { function = function; index = index }) ≡ Some (plain.Try first handler)
-      → Stands code (instruction_line program frames function index + 5) (ordinary (caught_code (frame_at frames function) first) ++ lines.Jump (instruction_line program frames function handler) ∷ [])
+      → Stands code (instruction_line program frames function index + 3) (ordinary (caught_code (frame_at frames function) first) ++ lines.Jump (instruction_line program frames function handler) ∷ [])
   caught_stands function index first handler at =
       let line : ℕ = instruction_line program frames function index in
       let jump : Line = lines.Jump (instruction_line program frames function handler) in
       let caught : List Line = ordinary (caught_code (frame_at frames function) first) in
       let opened : List Line = ordinary (opened_code (frame_at frames function) first) in
-      let rest : List Line = lines.Call (line + 9 + reload_count (frame_at frames function)) ∷ (caught ++ jump ∷ opened) in
+      let rest : List Line = lines.Call (line + 6 + reload_count (frame_at frames function)) ∷ (caught ++ jump ∷ opened) in
       let whole = stands_front code line (body program frames function line (plain.Try first handler)) [] (stand function index (plain.Try first handler) at) in
       subst (λ (n : ℕ). Stands code n (ordinary (caught_code (frame_at frames function) first) ++ lines.Jump (instruction_line program frames function handler) ∷ []))
-      (let e : line + 4 + 1 ≡ line + 5 = omega arith in e)
-      (stands_until code (line + 4 + 1) caught jump opened (stands_back code line (ordinary (recorded_code (frame_at frames function) first)) rest whole).1)
+      (let e : line + 2 + 1 ≡ line + 3 = omega arith in e)
+      (stands_until code (line + 2 + 1) caught jump opened (stands_back code line (ordinary (recorded_code (frame_at frames function) first)) rest whole).1)
 
   lands_at : (function index first handler : ℕ) → instruction_at program (record { function = function; index = index }) ≡ Some (plain.Try first handler)
-      → IsReturnPoint code (instruction_line program frames function index + 5)
+      → IsReturnPoint code (instruction_line program frames function index + 3)
   lands_at function index first handler at =
       let line : ℕ = instruction_line program frames function index in
       let caught : List Line = ordinary (caught_code (frame_at frames function) first) in
       let opened : List Line = ordinary (opened_code (frame_at frames function) first) in
-      let rest : List Line = lines.Call (line + 9 + reload_count (frame_at frames function)) ∷ (caught ++ lines.Jump (instruction_line program frames function handler) ∷ opened) in
+      let rest : List Line = lines.Call (line + 6 + reload_count (frame_at frames function)) ∷ (caught ++ lines.Jump (instruction_line program frames function handler) ∷ opened) in
       let whole = stands_front code line (body program frames function line (plain.Try first handler)) [] (stand function index (plain.Try first handler) at) in
       record {
         inside = below_of_get code.lines _ _ (caught_stands function index first handler at).0;
-        call = line + 4;
-        label = line + 9 + reload_count (frame_at frames function);
+        call = line + 2;
+        label = line + 6 + reload_count (frame_at frames function);
         behind = omega arith;
         calls = (stands_back code line (ordinary (recorded_code (frame_at frames function) first)) rest whole).0;
       }
@@ -194,9 +212,9 @@ module _ (program : Program) (well : IsWellFormed program) (words : HasWords pro
       (ap (executed program zeros c) at
       ∙ ap (λ (b : Bool). if b then states.Stuck c.output c.input else gives c destination (binary_result operator (operand_word c.active.slots left) (operand_word c.active.slots right))) (none (operand_word c.active.slots right) is_zero))
 
-  module _ (c : Configuration) (never : Never c) (run : labelled.Configuration) (r : Words) (w : Contents) (base : ℕ)
+  module _ (c : Configuration) (never : Never c) (run : labelled.Configuration) (r : Words) (w : Contents) (base back : ℕ)
       (now : At program well frames fit code formed addresses pages calls few (instruction_line program frames c.active.function c.active.next) c.output c.input r w run)
-      (s : Standing program frames addresses pages calls c r w base (r RETURN_ADDRESS) (suc (length c.frames)) c.active.slots)
+      (s : Standing program frames addresses pages calls c r w base back (keeps_back frames c) c.active.slots)
       (caches : Caches program frames c.active.function c.active.next r c.active.slots) where
     abbrev here : ℕ
     here = instruction_line program frames c.active.function c.active.next
@@ -224,7 +242,7 @@ module _ (program : Program) (well : IsWellFormed program) (words : HasWords pro
         → Stands code here (divide_code (frame_at frames c.active.function) here which destination left right) → Goes (divide_count (frame_at frames c.active.function) destination left right)
     quotient_goes operator which destination left right at below l t none some result negated counted stands =
         let nonzero = divides c never operator destination left right at none in
-        divide_goes program well frames fit code formed addresses pages calls few c run r w base now s caches operator which destination left right at below l t
+        divide_goes program well frames fit code formed addresses pages calls few c run r w base back now s caches operator which destination left right at below l t
         (ap (λ (x : Bool). if x then states.Stuck c.output c.input else gives c destination (binary_result operator (operand_word c.active.slots left) (operand_word c.active.slots right))) (some (operand_word c.active.slots right) nonzero)
         ∙ ap (λ (x : ℕ). gives c destination x) (result (operand_word c.active.slots left) (operand_word c.active.slots right)))
         nonzero counted negated stands
@@ -259,7 +277,7 @@ module _ (program : Program) (well : IsWellFormed program) (words : HasWords pro
         go true tested stands counted =
             tested_goes operator d l t at a b e tested (counted ∙ ap (λ (x : Bool). if x then divide_count (frame_at frames c.active.function) d l t else plan_count (frame_at frames c.active.function) (binary_plan operator l t) d) tested) stands
         go false tested stands counted =
-            binary_goes program well frames fit code formed addresses pages calls few c run r w base now s caches operator d l t at a b e tested
+            binary_goes program well frames fit code formed addresses pages calls few c run r w base back now s caches operator d l t at a b e tested
             (ap (λ (x : Bool). if x then states.Stuck c.output c.input else gives c d (binary_result operator (operand_word c.active.slots l) (operand_word c.active.slots t))) (has_result operator t tested))
             (counted ∙ ap (λ (x : Bool). if x then divide_count (frame_at frames c.active.function) d l t else plan_count (frame_at frames c.active.function) (binary_plan operator l t) d) tested) stands
 
@@ -270,7 +288,7 @@ module _ (program : Program) (well : IsWellFormed program) (words : HasWords pro
     none_open : {value : ℕ} → IsAt (plain.Return value) → c.active.handlers ≡ []
     none_open {value} at = go c.active.handlers refl s.newest
       where
-        go : (handlers : List states.Handler) → c.active.handlers ≡ handlers → IsNewest program frames addresses calls (r HANDLERS) base c.active.function handlers c.frames → c.active.handlers ≡ []
+        go : (handlers : List states.Handler) → c.active.handlers ≡ handlers → IsNewest program frames addresses (r HANDLERS) base c.active.function handlers c.frames → c.active.handlers ≡ []
         go [] is records = is
         go (states.Caught ∷ handlers) is records = absurd records
         go (states.Open index first contents ∷ handlers) is (one, others) =
@@ -280,47 +298,47 @@ module _ (program : Program) (well : IsWellFormed program) (words : HasWords pro
     finish_goes : (value : ℕ) → IsAt (plain.Finish value) → IsInRange program (routine_at program c.active.function) (plain.Finish value) → StandsHere (plain.Finish value) → (handlers : List states.Handler) → c.active.handlers ≡ handlers
         → Goes (body_count program frames c.active.function (plain.Finish value))
     finish_goes value at in_range stands [] none =
-        return_goes program well frames fit code formed addresses pages calls few lie c run r w base now s caches (plain.Finish value) value at refl (λ slot is. is)
+        return_goes program well frames fit code formed addresses pages calls few lie c run r w base back now s caches (plain.Finish value) value at refl (λ slot is. is)
         (ap (finishes c value (routine_at program c.active.function).results) none) none in_range returns_to stands
     finish_goes value at in_range stands (h ∷ handlers) some =
         absurd (stops_not (plain.Finish value) at (zeros_at program c (plain.Finish value) at refl) (ap (finishes c value (routine_at program c.active.function).results) some))
 
     instruction_goes : (i : Instruction) → IsAt i → IsInRange program (routine_at program c.active.function) i → HasWord i → StandsHere i → Goes (body_count program frames c.active.function i)
-    instruction_goes (plain.Move destination source) at (a, b) fits stands = move_goes program well frames fit code formed addresses pages calls few c run r w base now s caches destination source at a (b, fits) stands
-    instruction_goes (plain.Unary operator destination operand) at (a, b) fits stands = unary_goes program well frames fit code formed addresses pages calls few c run r w base now s caches operator destination operand at a (b, fits) stands
+    instruction_goes (plain.Move destination source) at (a, b) fits stands = move_goes program well frames fit code formed addresses pages calls few c run r w base back now s caches destination source at a (b, fits) stands
+    instruction_goes (plain.Unary operator destination operand) at (a, b) fits stands = unary_goes program well frames fit code formed addresses pages calls few c run r w base back now s caches operator destination operand at a (b, fits) stands
     instruction_goes (plain.Binary operator destination left right) at (a, b, e) (fits, also) stands = operator_goes operator destination left right at a (b, fits) (e, also) stands
-    instruction_goes (plain.Jump target) at below fits stands = jump_goes program well frames fit code formed addresses pages calls few c run r w base now s caches target at stands
-    instruction_goes (plain.Branch comparison left right target) at (a, b, below) (fits, also) stands = branch_goes program well frames fit code formed addresses pages calls few c run r w base now s caches comparison left right target at (a, fits) (b, also) stands
+    instruction_goes (plain.Jump target) at below fits stands = jump_goes program well frames fit code formed addresses pages calls few c run r w base back now s caches target at stands
+    instruction_goes (plain.Branch comparison left right target) at (a, b, below) (fits, also) stands = branch_goes program well frames fit code formed addresses pages calls few c run r w base back now s caches comparison left right target at (a, fits) (b, also) stands
     instruction_goes (plain.Call callee arguments count result) at in_range fits stands =
-        call_goes program well frames fit code formed addresses pages calls few lie c run r w base now s caches callee arguments count result at in_range (returns_to c.active.function c.active.next callee arguments count result at).inside stands
+        call_goes program well frames fit code formed addresses pages calls few lie c run r w base back now s caches callee arguments count result at in_range (returns_to c.active.function c.active.next callee arguments count result at).inside stands
     instruction_goes (plain.Return value) at in_range fits stands =
-        return_goes program well frames fit code formed addresses pages calls few lie c run r w base now s caches (plain.Return value) value at refl (λ slot is. is) refl (none_open at) in_range returns_to stands
-    instruction_goes (plain.ReadByte destination) at below fits stands = read_goes program well frames fit code formed addresses pages calls few c run r w base now s caches destination at below stands
-    instruction_goes (plain.WriteByte source) at below fits stands = write_goes program well frames fit code formed addresses pages calls few c run r w base now s caches source at (below, fits) stands
+        return_goes program well frames fit code formed addresses pages calls few lie c run r w base back now s caches (plain.Return value) value at refl (λ slot is. is) refl (none_open at) in_range returns_to stands
+    instruction_goes (plain.ReadByte destination) at below fits stands = read_goes program well frames fit code formed addresses pages calls few c run r w base back now s caches destination at below stands
+    instruction_goes (plain.WriteByte source) at below fits stands = write_goes program well frames fit code formed addresses pages calls few c run r w base back now s caches source at (below, fits) stands
     instruction_goes (plain.AddressOf destination slot count) at (a, some, named) fits stands =
-        address_goes program well frames fit code formed addresses pages calls few c run r w base now s caches destination slot count at a (omega (arith, some, named)) stands
-    instruction_goes (plain.LoadGlobal destination global) at (a, b) fits stands = load_global_goes program well frames fit code formed addresses pages calls few c run r w base now s caches destination global at a b stands
-    instruction_goes (plain.StoreGlobal global source) at (a, b) fits stands = store_global_goes program well frames fit code formed addresses pages calls few c run r w base now s caches global source at a (b, fits) stands
-    instruction_goes (plain.MoveWords destination source count) at in_range fits stands = move_words_goes program well frames fit code formed addresses pages calls few c run r w base now s caches destination source count at in_range stands
+        address_goes program well frames fit code formed addresses pages calls few c run r w base back now s caches destination slot count at a (omega (arith, some, named)) stands
+    instruction_goes (plain.LoadGlobal destination global) at (a, b) fits stands = load_global_goes program well frames fit code formed addresses pages calls few c run r w base back now s caches destination global at a b stands
+    instruction_goes (plain.StoreGlobal global source) at (a, b) fits stands = store_global_goes program well frames fit code formed addresses pages calls few c run r w base back now s caches global source at a (b, fits) stands
+    instruction_goes (plain.MoveWords destination source count) at in_range fits stands = move_words_goes program well frames fit code formed addresses pages calls few c run r w base back now s caches destination source count at in_range stands
     instruction_goes (plain.Load destination address offset) at (a, b) (fits, near) stands =
-        load_goes program well frames fit code formed addresses pages calls few c run r w base now s caches destination address offset at a (b, fits) near (stops_not (plain.Load destination address offset) at (zeros_at program c (plain.Load destination address offset) at refl)) stands
+        load_goes program well frames fit code formed addresses pages calls few c run r w base back now s caches destination address offset at a (b, fits) near (stops_not (plain.Load destination address offset) at (zeros_at program c (plain.Load destination address offset) at refl)) stands
     instruction_goes (plain.LoadByte destination address offset) at (a, b) (fits, near) stands =
-        load_byte_goes program well frames fit code formed addresses pages calls few c run r w base now s caches destination address offset at a (b, fits) near (stops_not (plain.LoadByte destination address offset) at (zeros_at program c (plain.LoadByte destination address offset) at refl)) stands
+        load_byte_goes program well frames fit code formed addresses pages calls few c run r w base back now s caches destination address offset at a (b, fits) near (stops_not (plain.LoadByte destination address offset) at (zeros_at program c (plain.LoadByte destination address offset) at refl)) stands
     instruction_goes (plain.Store address offset source) at (a, b) (fits, near, also) stands =
-        store_goes program well frames fit code formed addresses pages calls few c run r w base now s caches address offset source at (a, fits) near (b, also) (stops_not (plain.Store address offset source) at (zeros_at program c (plain.Store address offset source) at refl)) stands
+        store_goes program well frames fit code formed addresses pages calls few c run r w base back now s caches address offset source at (a, fits) near (b, also) (stops_not (plain.Store address offset source) at (zeros_at program c (plain.Store address offset source) at refl)) stands
     instruction_goes (plain.StoreByte address offset source) at (a, b) (fits, near, also) stands =
-        store_byte_goes program well frames fit code formed addresses pages calls few c run r w base now s caches address offset source at (a, fits) near (b, also) (stops_not (plain.StoreByte address offset source) at (zeros_at program c (plain.StoreByte address offset source) at refl)) stands
+        store_byte_goes program well frames fit code formed addresses pages calls few c run r w base back now s caches address offset source at (a, fits) near (b, also) (stops_not (plain.StoreByte address offset source) at (zeros_at program c (plain.StoreByte address offset source) at refl)) stands
     instruction_goes (plain.Ask request) at in_range fits stands =
-        ask_goes program well frames fit code formed addresses pages calls few c run r w base now s caches request at in_range fits stands
+        ask_goes program well frames fit code formed addresses pages calls few c run r w base back now s caches request at in_range fits stands
         (λ stops allowed. stops_not (plain.Ask request) at allowed stops)
-    instruction_goes (plain.CountLexical destination) at below fits stands = count_lexical_goes program well frames fit code formed addresses pages calls few c run r w base now s caches destination at below stands
-    instruction_goes (plain.Try first handler) at in_range fits stands = try_goes program well frames fit code formed addresses pages calls few lie c range_of lands_at run r w base now s caches first handler at in_range stands
+    instruction_goes (plain.CountLexical destination) at below fits stands = count_lexical_goes program well frames fit code formed addresses pages calls few c run r w base back now s caches destination at below stands
+    instruction_goes (plain.Try first handler) at in_range fits stands = try_goes program well frames fit code formed addresses pages calls few lie c range_of lands_at run r w base back now s caches first handler at in_range stands
     instruction_goes (plain.Leave first) at in_range fits stands =
-        leave_goes program well frames fit code formed addresses pages calls few lie c range_of lands_at run r w base now s caches first at in_range (stops_not (plain.Leave first) at (zeros_at program c (plain.Leave first) at refl)) stands
+        leave_goes program well frames fit code formed addresses pages calls few lie c range_of lands_at run r w base back now s caches first at in_range (stops_not (plain.Leave first) at (zeros_at program c (plain.Leave first) at refl)) stands
     instruction_goes (plain.Throw tag value) at (a, b) (fits, also) stands =
-        throw_goes program well frames fit code formed addresses pages calls few lie c range_of lands_at run r w base now s caches tag value at (a, fits) (b, also) (stops_not (plain.Throw tag value) at (zeros_at program c (plain.Throw tag value) at refl)) stands
+        throw_goes program well frames fit code formed addresses pages calls few lie c range_of lands_at run r w base back now s caches tag value at (a, fits) (b, also) (stops_not (plain.Throw tag value) at (zeros_at program c (plain.Throw tag value) at refl)) stands
     instruction_goes (plain.Finish value) at in_range fits stands = finish_goes value at in_range stands c.active.handlers refl
-    instruction_goes (plain.Uncaught tag value) at below (tag_fits, value_fits) stands = uncaught_goes program well frames fit code formed addresses pages calls few c run r w base now s caches tag value at (below, value_fits) tag_fits stands
+    instruction_goes (plain.Uncaught tag value) at below (tag_fits, value_fits) stands = uncaught_goes program well frames fit code formed addresses pages calls few c run r w base back now s caches tag value at (below, value_fits) tag_fits stands
 
   -- ---- a step from a state that matches
 
@@ -333,7 +351,8 @@ module _ (program : Program) (well : IsWellFormed program) (words : HasWords pro
   pub outputs_same : (s : states.State) (t : State) → Matches program well frames fit code formed addresses pages calls few s t → labelled.output_of t ≡ states.output_of s
   outputs_same (states.Running c) t (inl ready) = ap labelled.output_of ready.is ∙ ready.now.output
   outputs_same (states.Running c) t (inr (inl back)) = ap labelled.output_of back.is ∙ back.now.output
-  outputs_same (states.Running c) t (inr (inr landed)) = ap labelled.output_of landed.is ∙ landed.now.output
+  outputs_same (states.Running c) t (inr (inr (inl landed))) = ap labelled.output_of landed.is ∙ landed.now.output
+  outputs_same (states.Running c) t (inr (inr (inr entered))) = ap labelled.output_of entered.is ∙ entered.now.output
   outputs_same (states.Ended ending out input) t is = ap labelled.output_of is
   outputs_same (states.Stuck out input) t is = absurd is
 
@@ -380,7 +399,7 @@ module _ (program : Program) (well : IsWellFormed program) (words : HasWords pro
   ready_goes : (c : Configuration) (t : State) → Never c → (ready : Ready program well frames fit code formed addresses pages calls few c t) (i : Instruction) → instruction_at program (states.place_of (states.Running c)) ≡ Some i
       → Walk code formed addresses globals_length (words_per_call * calls) 1 (instruction_line program frames c.active.function c.active.next) (instruction_line program frames c.active.function c.active.next + body_count program frames c.active.function i) c.output (Reached program well frames fit code formed addresses pages calls few c) (Running ready.run)
   ready_goes c t never ready i at =
-      instruction_goes c never ready.run ready.r ready.w ready.base ready.now ready.standing ready.caches i at
+      instruction_goes c never ready.run ready.r ready.w ready.base ready.back ready.now ready.standing ready.caches i at
       (in_range_of c.active.function c.active.next i at) (word_of_it c.active.function c.active.next i at)
       (stands_front code (instruction_line program frames c.active.function c.active.next) (body program frames c.active.function (instruction_line program frames c.active.function c.active.next) i) (behind program frames c.active.function i) (stand c.active.function c.active.next i at))
 
@@ -390,16 +409,33 @@ module _ (program : Program) (well : IsWellFormed program) (words : HasWords pro
   before_it function index callee arguments count result next is at =
       let one : next ≡ suc index = omega (arith, is) in
       let e = line_next program frames function index (plain.Call callee arguments count result) at in
-      let previous : previous_count program frames function (routine_at program function).code next ≡ 2 + (routine_at program callee).results + reload_count (frame_at frames function) = ap (previous_count program frames function (routine_at program function).code) one ∙ ap (behind_of program frames function) at in
+      let previous : previous_count program frames function (routine_at program function).code next ≡ (routine_at program callee).results + reload_count (frame_at frames function) = ap (previous_count program frames function (routine_at program function).code) one ∙ ap (behind_of program frames function) at in
       omega (arith, previous, e, ap (instruction_line program frames function) is)
+
+  -- where the line stands that keeps the way back
+  entry_before : (function next : ℕ) → next ≡ 0
+      → instruction_line program frames function next - previous_count program frames function (routine_at program function).code next ≤ function_line program frames function
+  entry_before function next is =
+      omega (
+        arith,
+        ap (λ (n : ℕ). instruction_line program frames function n - previous_count program frames function (routine_at program function).code n) is,
+        line_first program frames function,
+      )
 
   known_goes : (c : Configuration) (t : State) → Matches program well frames fit code formed addresses pages calls few (states.Running c) t → Never c → (i : Instruction) → instruction_at program (states.place_of (states.Running c)) ≡ Some i
       → IsStepped above below_machine matching (states.Running c) t
   known_goes c t (inl ready) never i at =
       stepped c t ready.run (instruction_line program frames c.active.function c.active.next) (body_count program frames c.active.function i) i at refl (omega arith) ready.is (ready_goes c t never ready i at)
-  known_goes c t (inr (inr landed)) never i at =
+  known_goes c t (inr (inr (inr entered))) never i at =
+      stepped c t entered.run (function_line program frames c.active.function) (body_count program frames c.active.function i) i at refl
+      (entry_before c.active.function c.active.next entered.first) entered.is
+      (entered_goes program well frames fit code formed addresses pages calls few c t entered (stand_saving c.active.function entered.standing.known)
+      1 (instruction_line program frames c.active.function c.active.next + body_count program frames c.active.function i) (Reached program well frames fit code formed addresses pages calls few c)
+      (λ u ready. subst (Walk code formed addresses globals_length (words_per_call * calls) 1 (instruction_line program frames c.active.function c.active.next) (instruction_line program frames c.active.function c.active.next + body_count program frames c.active.function i) c.output (Reached program well frames fit code formed addresses pages calls few c)) (sym ready.is)
+      (ready_goes c u never ready i at)))
+  known_goes c t (inr (inr (inl landed))) never i at =
       let place : instruction_at program (states.place_of (states.Running c)) ≡ Some (plain.Try landed.first landed.handler) = landed.opened in
-      stepped c t landed.run (instruction_line program frames c.active.function c.active.next + 5) (12 + reload_count (frame_at frames c.active.function)) (plain.Try landed.first landed.handler) place refl (omega arith) landed.is
+      stepped c t landed.run (instruction_line program frames c.active.function c.active.next + 3) (8 + reload_count (frame_at frames c.active.function)) (plain.Try landed.first landed.handler) place refl (omega arith) landed.is
       (catch_goes program well frames fit code formed addresses pages calls few lie c range_of lands_at t landed (caught_stands c.active.function c.active.next landed.first landed.handler landed.opened))
   known_goes c t (inr (inl back)) never i at =
       let in_range = in_range_of c.active.function back.index (plain.Call back.callee back.arguments back.count back.result) back.call in

@@ -4,10 +4,12 @@ use Rattle.std.specs.Prelude.{All, slice_index, slice_set, slice_index_or, unwra
 use Rattle.std.specs.List.{AllByRecursion, range_with_len}
 use Rattle.std.proofs.lemmas.Bool.{cases_lt, cases_eq}
 use Rattle.std.proofs.lemmas.List.{get_or-set_same, get_or-set_other, get_or_append_left, get_or-append_right, get_or-replicate, get_or_past, length-replicate}
-use Rattle.cyc_select.specs.declared.constants.TheConstants.{CALLS, FRAME}
+use Rattle.cyc_select.specs.declared.constants.TheConstants.{FRAME, FRAME_SHIFT, LOWEST, START_LINES, GLOBALS, GLOBALS_MIDDLE}
 use Rattle.cyc_machine.specs.declared.constants.TheConstants.{RETURN_ADDRESS}
-use Rattle.cyc_words.specs.Word.{IsWord}
+use Rattle.cyc_words.specs.Word.{IsWord, shl_of, sub_of}
+use Rattle.cyc_isa.specs.declared.instr.ArithmeticOp.TheVariants as arithmetic
 use Rattle.cyc_isa.specs.declared.instr.Instr.{Instr}
+use Rattle.cyc_isa.specs.declared.instr.ShiftOp.TheVariants as shift
 use Rattle.cyc_store.specs.State as stores
 use Rattle.cyc_store.specs.State.{StoreState, Holder, homes, holder, word_at}
 use Rattle.cyc_store.specs.New.{IsNew}
@@ -31,14 +33,13 @@ use Rattle.cyc_select.specs.declared.code.Line.TheVariants as lines
 use Rattle.cyc_select.specs.Labelled.{Labelled, IsFormed, AreAddresses}
 use Rattle.cyc_select.specs.Machine as labelled
 use Rattle.cyc_select.specs.Machine.{State, Running, machine, memory_of, word_in, globals_of, start}
-use Rattle.cyc_select.specs.Selection.{slot_offset, body, behind, body_count, add_immediate, minus, push_frame, ordinary, start_lines, function_line, instruction_line}
+use Rattle.cyc_select.specs.Selection.{slot_offset, body, behind, body_count, arithmetic_of, shift_by_of, push_frame, ordinary, start_lines, function_line, instruction_line, load_upper, or_lower, saving_code}
 use Rattle.cyc_select.proofs.relation.Cells.{cell, place_of-data, place_of-stack}
 use Rattle.cyc_select.proofs.Laws.{lawful}
-use Rattle.cyc_select.proofs.layout.Lines.{line_first}
 use Rattle.cyc_select.proofs.values.Operations.{take_small}
 use Rattle.cyc_select.proofs.effects.Views.{Contents, View}
-use Rattle.cyc_select.proofs.effects.Walks.{Stands, stands_front, stands_back, Rises, comes_map, Quiet, Walk, Now, now_at, walk_end, walk_few, walk_block, walk_jump, after_r}
-use Rattle.cyc_select.proofs.relation.Standing.{Standing, slots_fit}
+use Rattle.cyc_select.proofs.effects.Walks.{Stands, stands_front, stands_back, Rises, comes_map, Quiet, Walk, Now, walk_end, walk_few, walk_block, walk_jump, after_r}
+use Rattle.cyc_select.proofs.relation.Standing.{frame_size, Standing, slots_fit}
 use Rattle.cyc_select.proofs.relation.Stores.{new_laid, new_counted}
 use Rattle.cyc_select.proofs.relation.Matches.{Matches}
 use Rattle.cyc_select.proofs.runs.Runs.{own_of, matching, all_steps}
@@ -110,22 +111,22 @@ globals_long globals few =
 
 -- where the slots of `main` lie
 abbrev pub main_place : Program → List Frame → ℕ
-main_place program frames = stack_end - 4 * (frame_at frames program.main).words + 4 * (frame_at frames program.main).first_slot
+main_place program frames = stack_end - frame_size + 4 * (frame_at frames program.main).first_slot
 
 pub main_below : (program : Program) → IsWellFormed program → (frames : List Frame) → AreFrames program frames → IsBelow program program.main (main_place program frames) slots_end
 main_below program well frames fit =
-    let own = fit.each program.main well.main in
-    let fits = slots_fit (routine_at program program.main) (frame_at frames program.main) own in
+    let fits = slots_fit (routine_at program program.main) (frame_at frames program.main) (fit.each program.main well.main) in
     record {
-      aligned = omega (arith, own.within, own.small);
-      low = omega (arith, own.within, own.small);
-      high = omega (arith, own.within, own.small, fits);
+      aligned = omega arith;
+      low = omega arith;
+      high = omega (arith, fits);
     }
 
 module _ (program : Program) (well : IsWellFormed program) (words : HasWords program) (frames : List Frame) (fit : AreFrames program frames) (code : Labelled) (formed : IsFormed code) (addresses : ℕ → ℕ) (lie : AreAddresses code addresses)
     (pages calls : ℕ) (allowed : AreAllowed pages calls)
     (stand : (function index : ℕ) (i : Instruction) → instruction_at program (record { function = function; index = index }) ≡ Some i
     → Stands code (instruction_line program frames function index) (body program frames function (instruction_line program frames function index) i ++ behind program frames function i))
+    (stand_saving : (function : ℕ) → function < length program.functions → Stands code (function_line program frames function) (ordinary (saving_code (frame_at frames function))))
     (long : (function line : ℕ) (i : Instruction) → length (body program frames function line i) ≡ body_count program frames function i)
     (starts : Stands code 0 (start_lines program frames)) (same_globals : code.globals ≡ program.globals)
     (store : StoreState) (new : IsNew pages store) (input : List ℕ) (bytes : AllByRecursion (λ b. b < 256) input) where
@@ -229,21 +230,25 @@ module _ (program : Program) (well : IsWellFormed program) (words : HasWords pro
   frame = frame_at frames program.main
 
   abbrev first : List Instr
-  first = add_immediate CALLS 4 (minus 1) ∷ push_frame frame ∷ []
+  first =
+      load_upper GLOBALS GLOBALS_MIDDLE
+      ∷ or_lower GLOBALS GLOBALS_MIDDLE
+      ∷ shift_by_of shift.Left LOWEST 4 FRAME_SHIFT
+      ∷ arithmetic_of arithmetic.SubtractUnsigned LOWEST FRAME LOWEST
+      ∷ push_frame
+      ∷ []
 
   abbrev q : Words
   q = after_r first r w
 
   abbrev base : ℕ
-  base = stack_end - 4 * frame.words
+  base = stack_end - frame_size
 
-  left_is : q CALLS ≡ calls - 1
-  left_is = take_small calls 1 (omega (arith, few)) (omega arith) (omega arith) allowed.enough_calls
+  lowest_is : q LOWEST + frame_size * calls ≡ stack_end
+  lowest_is = let e : sub_of stack_end (shl_of calls 10) + frame_size * calls ≡ stack_end = omega (arith, few) in e
 
   base_is : q FRAME ≡ base
-  base_is =
-      let own = fit.each program.main well.main in
-      take_small stack_end (4 * frame.words) (omega arith) (omega (arith, own.return_inside)) (omega (arith, own.within, own.small)) (omega (arith, own.within, own.small))
+  base_is = take_small stack_end frame_size (omega arith) (omega arith) (omega arith) (omega arith)
 
   abbrev c : Configuration
   c = record {
@@ -255,60 +260,59 @@ module _ (program : Program) (well : IsWellFormed program) (words : HasWords pro
     input = input;
   }
 
-  standing : Standing program frames addresses pages calls c q w base (q RETURN_ADDRESS) 1 c.active.slots
+  standing : Standing program frames addresses pages calls c q w base (q RETURN_ADDRESS) false c.active.slots
   standing = record {
     known = well.main;
     base_is = base_is;
     zero_is = refl;
-    left = left_one (q CALLS) left_is;
+    lowest = lowest_is;
     deep = allowed.enough_calls;
     holds = λ slot below slot_kept.
         let own = fit.each program.main well.main in
-        stack_zero (base + slot_offset frame slot) (omega (arith, own.within, own.small)) (omega (arith, own.within, own.small, allowed.enough_calls)) (omega (arith, own.inside slot below, own.within, own.small));
-    chain = ((let own = fit.each program.main well.main in omega (arith, own.within, own.small)), refl, refl);
+        stack_zero (base + slot_offset frame slot) (omega arith) (omega (arith, allowed.enough_calls)) (omega (arith, own.inside slot below, own.small));
+    chain = ((omega arith), refl, refl);
     newest = refl;
-    kept = tt;
+    way = refl;
     based = refl;
     globals = global_word;
     input = bytes_are_words input bytes;
     store = refl;
     laid = new_laid pages store new (omega (arith, allowed.enough_pages)) allowed.few_pages;
     counted = sym (new_counted pages store new);
+    middle = refl;
   }
-    where
-      left_one : (n : ℕ) → n ≡ calls - 1 → n + 1 ≡ calls
-      left_one n is = omega (arith, is, allowed.enough_calls)
 
-  first_walk : Walk code formed addresses globals_length (words_per_call * calls) 3 0 3 [] (Matches program well frames fit code formed addresses pages calls few (steps.start program (main_place program frames) store input)) (Running run)
+  first_walk : Walk code formed addresses globals_length (words_per_call * calls) START_LINES 0 START_LINES [] (Matches program well frames fit code formed addresses pages calls few (steps.start program (main_place program frames) store input)) (Running run)
   first_walk =
-      walk_few code formed addresses globals_length (words_per_call * calls) 3 (2 + 1) 0 3 [] _ (Running run) (omega arith)
-      (walk_block code formed addresses globals_length (words_per_call * calls) first 1 0 0 3 [] input _ r w run now
-      (stands_front code 0 (ordinary first) (lines.Jump (function_line program frames program.main) ∷ []) starts) (refl, (refl, tt)) (omega arith)
+      walk_few code formed addresses globals_length (words_per_call * calls) START_LINES (5 + 1) 0 START_LINES [] _ (Running run) (omega arith)
+      (walk_block code formed addresses globals_length (words_per_call * calls) first 1 0 0 START_LINES [] input _ r w run now
+      (stands_front code 0 (ordinary first) (lines.Jump (function_line program frames program.main) ∷ []) starts) (refl, (refl, (refl, (refl, (refl, tt))))) (omega arith)
       (λ d later.
-      walk_jump code formed addresses globals_length (words_per_call * calls) 0 (0 + 2) (0 + 2) 3 [] input _ q w d (function_line program frames program.main) later
+      walk_jump code formed addresses globals_length (words_per_call * calls) 0 (0 + 5) (0 + 5) START_LINES [] input _ q w d (function_line program frames program.main) later
       (stands_back code 0 (ordinary first) (lines.Jump (function_line program frames program.main) ∷ []) starts).0 (omega arith)
       (λ e jumped.
-      walk_end code formed addresses globals_length (words_per_call * calls) (suc (0 + 2)) 3 [] _ (Running e) (omega arith)
-      (inl (record {
+      walk_end code formed addresses globals_length (words_per_call * calls) (suc (0 + 5)) START_LINES [] _ (Running e) (omega arith)
+      (inr (inr (inr (record {
         run = e;
         r = q;
         w = w;
         base = base;
         is = refl;
-        now = now_at code formed addresses globals_length (words_per_call * calls) (function_line program frames program.main) (instruction_line program frames program.main 0) [] input q w e (sym (line_first program frames program.main)) jumped;
+        first = refl;
+        now = jumped;
         standing = standing;
         caches = λ slot k has wanted. absurd (let parameters = well.main_parameters in omega (arith, parameters, (fit.homes program.main well.main).entry slot k has wanted));
-      })))))
+      })))))))
 
   pub follows : NeverFails (steps.machine program pages calls) (steps.start program (main_place program frames) store input)
-      → Follows (steps.machine program pages calls) (machine code addresses) (range_with_len 0 3) (own_of program frames) (steps.start program (main_place program frames) store input) (start code store calls input)
+      → Follows (steps.machine program pages calls) (machine code addresses) (range_with_len 0 START_LINES) (own_of program frames) (steps.start program (main_place program frames) store input) (start code store calls input)
   follows never =
       let above = steps.machine program pages calls in
       let below_machine = machine code addresses in
-      let m = matching program well words frames fit code formed addresses lie pages calls few stand long in
-      let places_are : first_walk.places ≡ range_with_len 0 3 = rising_all 0 3 first_walk.places first_walk.rises first_walk.enough in
+      let m = matching program well words frames fit code formed addresses lie pages calls few stand stand_saving long in
+      let places_are : first_walk.places ≡ range_with_len 0 START_LINES = rising_all 0 START_LINES first_walk.places first_walk.rises first_walk.enough in
       let comes = comes_map below_machine (Quiet code formed addresses globals_length (words_per_call * calls) []) (Matches program well frames fit code formed addresses pages calls few (steps.start program (main_place program frames) store input))
       (IsOnTheWay above below_machine (steps.start program (main_place program frames) store input)) (Matches program well frames fit code formed addresses pages calls few (steps.start program (main_place program frames) store input)) first_walk.places (Running run)
       (λ u quiet. way_before above below_machine m (steps.start program (main_place program frames) store input) u quiet.0 quiet.1) (λ u matches. matches) first_walk.comes in
-      simulates above below_machine m (all_steps program well words frames fit code formed addresses lie pages calls few stand long) (lawful code addresses) (range_with_len 0 3) (steps.start program (main_place program frames) store input) never (Running run) refl
+      simulates above below_machine m (all_steps program well words frames fit code formed addresses lie pages calls few stand stand_saving long) (lawful code addresses) (range_with_len 0 START_LINES) (steps.start program (main_place program frames) store input) never (Running run) refl
       (subst (λ (ps : List ℕ). Comes below_machine (IsOnTheWay above below_machine (steps.start program (main_place program frames) store input)) (Matches program well frames fit code formed addresses pages calls few (steps.start program (main_place program frames) store input)) ps (Running run)) places_are comes)

@@ -26,7 +26,7 @@ use Rattle.cyc_frame.specs.Homes.{AreHomes}
 use Rattle.cyc_frame.specs.Layout.{AreFrames, frame_at}
 use Rattle.cyc_frame.specs.Uses.{is_among, is_crossing, is_slot, leads, reads, writes}
 use Rattle.cyc_frame.specs.Frame.{Frame}
-use Rattle.cyc_select.specs.declared.constants.TheConstants.{FIRST, SECOND, ZERO, CALLS, FRAME, HANDLERS, REGIONS}
+use Rattle.cyc_select.specs.declared.constants.TheConstants.{FIRST, SECOND, ZERO, LOWEST, FRAME, HANDLERS, REGIONS, GLOBALS}
 use Rattle.cyc_select.specs.Labelled.{Labelled, IsFormed}
 use Rattle.cyc_select.specs.Machine as labelled
 use Rattle.cyc_select.specs.Machine.{State, Running}
@@ -43,7 +43,7 @@ use Rattle.cyc_select.proofs.relation.Matches.{At, Reached, reached, result_regi
 use Rattle.cyc_select.proofs.steps.Moves.{is_ahead, moved, moved_copied, are_moved}
 use Rattle.cyc_select.proofs.steps.Returns.{same_slots, stored}
 use Rattle.cyc_select.proofs.steps.Simple.{Agrees, gets, gives_made}
-use Rattle.cyc_select.proofs.relation.Standing.{Standing, slot_cell, slot_word_is, standing_registers, standing_at}
+use Rattle.cyc_select.proofs.relation.Standing.{Standing, slot_cell, slot_word_is, standing_registers, standing_at, keeps_back}
 use Rattle.cyc_select.proofs.relation.Places.{Sort, OfBlock, OfCell, IsWordAt, placed, walk_read, walk_write, is_found}
 use Rattle.cyc_select.proofs.relation.Values.{Caches, caches_past, moved_caches, unbarred, barred_kept, among, not_among, next_led}
 use Rattle.cyc_select.proofs.effects.Views.{Contents, Width, OneWord, OneByte, load_op, store_op, word_place, loaded_part, stored_word}
@@ -77,16 +77,16 @@ module _ (globals stack : ℕ) (frame : Frame) (r : Words) (w : Contents) (slots
   three_taken (suc (suc zero)) q below a b d = d
   three_taken (suc (suc (suc k))) q below a b d = absurd (omega (arith, below))
 
-  other_kept : (q : Words) (n at word : ℕ) → 8 ≤ n → at < 8 → put q at word n ≡ q n
+  other_kept : (q : Words) (n at word : ℕ) → 6 ≤ n → at < 6 → put q at word n ≡ q n
   other_kept q n at word low small = put-other q at n word (λ e. absurd (omega (arith, e, low, small)))
 
   are_taken : (count : ℕ) → count ≤ 3 → source + count ≤ number → ((slot : ℕ) → source ≤ slot → slot < source + count → kept slot) → AreTaken count
   are_taken zero few fits there = record {
-    keeps = record { safe = tt; memory = refl; zero = refl; base = refl; left = refl; back = refl; lasts = refl; values = λ n low high other. refl };
+    keeps = record { safe = tt; memory = refl; zero = refl; base = refl; lowest = refl; back = refl; lasts = refl; values = λ n low high other. refl };
     taken = λ k below. absurd (omega (arith, below));
   }
   are_taken (suc zero) few fits there = record {
-    keeps = record { safe = ((refl, cell source (omega (arith, fits))), tt); memory = refl; zero = refl; base = refl; left = refl; back = refl; lasts = refl; values = λ n low high other. other_kept r n 2 _ low (omega arith) };
+    keeps = record { safe = ((refl, cell source (omega (arith, fits))), tt); memory = refl; zero = refl; base = refl; lowest = refl; back = refl; lasts = refl; values = λ n low high other. other_kept r n 2 _ low (omega arith) };
     taken = λ k below. one_taken k (after_r (load_words frame source (result_registers 1)) r w) below (word_of source 0 (omega arith) (omega (arith, fits)) (there source (omega arith) (omega arith)));
   }
   are_taken (suc (suc zero)) few fits there = record {
@@ -95,7 +95,7 @@ module _ (globals stack : ℕ) (frame : Frame) (r : Words) (w : Contents) (slots
       memory = refl;
       zero = refl;
       base = refl;
-      left = refl;
+      lowest = refl;
       back = refl;
       lasts = refl;
       values = λ n low high other. other_kept (put r 2 _) n 3 _ low (omega arith) ∙ other_kept r n 2 _ low (omega arith);
@@ -110,7 +110,7 @@ module _ (globals stack : ℕ) (frame : Frame) (r : Words) (w : Contents) (slots
       memory = refl;
       zero = refl;
       base = refl;
-      left = refl;
+      lowest = refl;
       back = refl;
       lasts = refl;
       values = λ n low high other. other_kept (put (put r 2 _) 3 _) n 5 _ low (omega arith) ∙ (other_kept (put r 2 _) n 3 _ low (omega arith) ∙ other_kept r n 2 _ low (omega arith));
@@ -167,9 +167,9 @@ module _ (globals stack : ℕ) (frame : Frame) (base : ℕ) (w : Contents) (r sl
 
 module _ (program : Program) (well : IsWellFormed program) (frames : List Frame) (fit : AreFrames program frames) (code : Labelled) (formed : IsFormed code) (addresses : ℕ → ℕ) (pages calls : ℕ) (few : calls ≤ 4096)
     (c : Configuration)
-    (run : labelled.Configuration) (r : Words) (w : Contents) (base : ℕ)
+    (run : labelled.Configuration) (r : Words) (w : Contents) (base back : ℕ)
     (now : At program well frames fit code formed addresses pages calls few (instruction_line program frames c.active.function c.active.next) c.output c.input r w run)
-    (s : Standing program frames addresses pages calls c r w base (r RETURN_ADDRESS) (suc (length c.frames)) c.active.slots)
+    (s : Standing program frames addresses pages calls c r w base back (keeps_back frames c) c.active.slots)
     (caches : Caches program frames c.active.function c.active.next r c.active.slots) where
   abbrev here : ℕ
   here = instruction_line program frames c.active.function c.active.next
@@ -196,10 +196,10 @@ module _ (program : Program) (well : IsWellFormed program) (frames : List Frame)
   word_in o = operand_word c.active.slots o
 
   cell_at : (slot : ℕ) → slot < slots → IsCell globals_length (words_per_call * calls) (memory_address (r FRAME) (slot_offset frame slot))
-  cell_at slot below = slot_cell program well frames fit addresses pages calls few c r w base (r RETURN_ADDRESS) (suc (length c.frames)) c.active.slots s slot below
+  cell_at slot below = slot_cell program well frames fit addresses pages calls few c r w base back (keeps_back frames c) c.active.slots s slot below
 
   slot_is : (slot : ℕ) → slot < slots → is_kept frame slot ≡ true → w.words (memory_address (r FRAME) (slot_offset frame slot)) ≡ c.active.slots slot
-  slot_is slot below kept = slot_word_is program well frames fit addresses pages calls few c r w base (r RETURN_ADDRESS) (suc (length c.frames)) c.active.slots s slot below kept
+  slot_is slot below kept = slot_word_is program well frames fit addresses pages calls few c r w base back (keeps_back frames c) c.active.slots s slot below kept
 
   homes_right : AreHomes program (routine_at program c.active.function) (frame_at frames c.active.function).homes
   homes_right = fit.homes c.active.function s.known
@@ -208,7 +208,7 @@ module _ (program : Program) (well : IsWellFormed program) (frames : List Frame)
   Held o = IsHeld globals_length (words_per_call * calls) frame (r FRAME) w r c.active.slots o
 
   held : (i : Instruction) → IsAt i → (o : Operand) → ((slot : ℕ) → is_slot o slot ≡ true → reads (routine_at program c.active.function).results i slot ≡ true) → IsThere o → Held o
-  held i at_i o used there = operand_held program well frames fit code formed addresses pages calls few c run r w base now s caches i at_i o used there
+  held i at_i o used there = operand_held program well frames fit code formed addresses pages calls few c run r w base back now s caches i at_i o used there
 
   -- ---- several words
 
@@ -247,14 +247,13 @@ module _ (program : Program) (well : IsWellFormed program) (frames : List Frame)
       let take = are_taken globals_length (words_per_call * calls) frame r w c.active.slots source slots cell_at (λ slot. is_kept frame slot ≡ true) slot_is count in_range.few in_range.source_in_range
       (λ slot from below. barred_kept program frames c.active.function homes_right c.active.next slot (plain.MoveWords destination source count) at_i
       (and_from (is_crossing destination source count) (is_among destination count slot || is_among source count slot) crossing (or_right (is_among destination count slot) (is_among source count slot) (among source count slot from below)))) in
-      let in_q = standing_registers program well frames fit addresses pages calls few c r w base (r RETURN_ADDRESS) (suc (length c.frames)) c.active.slots s q take.keeps.zero take.keeps.base take.keeps.left take.keeps.lasts in
-      let in_v = subst (λ (x : Contents). Standing program frames addresses pages calls c q x base (r RETURN_ADDRESS) (suc (length c.frames)) c.active.slots) (sym take.keeps.memory) in_q in
-      let puts = stored program well frames fit addresses pages calls few c q base (r RETURN_ADDRESS) (suc (length c.frames)) destination source c.active.slots c.active.slots count v in_range.few in_range.destination_in_range take.taken in_v in
+      let in_q = standing_registers program well frames fit addresses pages calls few c r w base back (keeps_back frames c) c.active.slots s q take.keeps.zero take.keeps.base take.keeps.lowest (λ outside. take.keeps.back) take.keeps.lasts in
+      let in_v = subst (λ (x : Contents). Standing program frames addresses pages calls c q x base back (keeps_back frames c) c.active.slots) (sym take.keeps.memory) in_q in
+      let puts = stored program well frames fit addresses pages calls few c q base back (keeps_back frames c) destination source c.active.slots c.active.slots count v in_range.few in_range.destination_in_range take.taken in_v in
       let m : Contents = after_w js q v in
       let there : Words = copied c.active.slots source count c.active.slots destination in
       let d : Configuration = record c { active = record c.active { next = c.active.next + 1; slots = copied c.active.slots source count c.active.slots destination } } in
-      let at_d = standing_at program well frames fit addresses pages calls few c q m base (r RETURN_ADDRESS) (suc (length c.frames)) there puts.2 d refl refl refl refl refl refl s.input in
-      let with_back = subst (λ (b : ℕ). Standing program frames addresses pages calls d q m base b (suc (length c.frames)) there) (sym take.keeps.back) at_d in
+      let at_d = standing_at program well frames fit addresses pages calls few c q m base back (keeps_back frames c) there puts.2 d refl refl refl refl refl refl s.input in
       let line : here + length is + length js ≡ instruction_line program frames c.active.function (c.active.next + 1) = omega (arith, line_next program frames c.active.function c.active.next (plain.MoveWords destination source count) at_i, counted_by destination source count true crossing, long, also) in
       walk_few code formed addresses globals_length (words_per_call * calls) 1 (length is + (length js + 0)) here hi c.output _ (Running run) (omega (arith, long, also, some, in_range.some))
       (walk_block code formed addresses globals_length (words_per_call * calls) is (length js + 0) here here hi c.output c.input _ r w run now (stands_first code here is js stands) take.keeps.safe (omega arith)
@@ -269,10 +268,11 @@ module _ (program : Program) (well : IsWellFormed program) (frames : List Frame)
         r = q;
         w = m;
         base = base;
+        back = back;
         is = refl;
         now = now_at code formed addresses globals_length (words_per_call * calls) (here + length is + length js) (instruction_line program frames c.active.function (c.active.next + 1)) c.output c.input q m f line
             (now_is code formed addresses globals_length (words_per_call * calls) (here + length is + length js) c.output c.input (after_r js q v) m q m f puts.1 refl later);
-        standing = with_back;
+        standing = at_d;
         caches =
             caches_past program frames c.active.function homes_right c.active.next (c.active.next + 1) r q c.active.slots there (plain.MoveWords destination source count) at_i (next_led c.active.next)
             (λ slot k has. (moved_apart destination source count at_i crossing slot k has).0) (λ slot k has. (moved_apart destination source count at_i crossing slot k has).1) (all_same q r take.keeps.values) caches;
@@ -289,7 +289,7 @@ module _ (program : Program) (well : IsWellFormed program) (frames : List Frame)
       let long : length is ≡ moves_count frame destination source count = length_moves frame destination source count in
       let hi : ℕ = here + moves_count frame destination source count in
       let ahead = is_ahead destination source count apart in
-      let moves_them = are_moved program well frames fit addresses pages calls few c base (r RETURN_ADDRESS) (suc (length c.frames)) homes_right destination source count r w c.active.slots s
+      let moves_them = are_moved program well frames fit addresses pages calls few c base back (keeps_back frames c) homes_right destination source count r w c.active.slots s
       in_range.destination_in_range in_range.source_in_range ahead
       (λ i j k before below has there.
       ahead i j before below
@@ -297,16 +297,15 @@ module _ (program : Program) (well : IsWellFormed program) (frames : List Frame)
       (among source count (source + j) (omega arith) (omega (arith, below))) (among destination count (destination + i) (omega arith) (omega (arith, before, below))) there has))
       (λ j k below has. caches (source + j) k has (0, (plain.MoveWords destination source count, at_i, among source count (source + j) (omega arith) (omega (arith, below)))))
       (λ j below.
-      operand_is_word program well frames fit code formed addresses pages calls few c run r w base now s caches (operands.Slot (source + j))
+      operand_is_word program well frames fit code formed addresses pages calls few c run r w base back now s caches (operands.Slot (source + j))
       (held (plain.MoveWords destination source count) at_i (operands.Slot (source + j))
       (λ slot is. subst (λ (n : ℕ). is_among source count n ≡ true) (eqb-true (source + j) slot is) (among source count (source + j) (omega arith) (omega (arith, below))))
       ((omega (arith, below, in_range.source_in_range)), tt))) in
       let there : Words = copied c.active.slots source count c.active.slots destination in
       let d : Configuration = record c { active = record c.active { next = c.active.next + 1; slots = copied c.active.slots source count c.active.slots destination } } in
-      let in_place = same_slots program well frames fit addresses pages calls few c q base (r RETURN_ADDRESS) (suc (length c.frames)) destination source c.active.slots c.active.slots m
+      let in_place = same_slots program well frames fit addresses pages calls few c q base back (keeps_back frames c) destination source c.active.slots c.active.slots m
       (moved c.active.slots destination source count) there (moved_copied c.active.slots destination source count ahead) moves_them.standing in
-      let at_d = standing_at program well frames fit addresses pages calls few c q m base (r RETURN_ADDRESS) (suc (length c.frames)) there in_place d refl refl refl refl refl refl s.input in
-      let with_back = subst (λ (b : ℕ). Standing program frames addresses pages calls d q m base b (suc (length c.frames)) there) (sym moves_them.back_same) at_d in
+      let at_d = standing_at program well frames fit addresses pages calls few c q m base back (keeps_back frames c) there in_place d refl refl refl refl refl refl s.input in
       let line : here + length is ≡ instruction_line program frames c.active.function (c.active.next + 1) =
       omega (arith, line_next program frames c.active.function c.active.next (plain.MoveWords destination source count) at_i, counted_by destination source count false apart, long) in
       walk_few code formed addresses globals_length (words_per_call * calls) 1 (length is + 0) here hi c.output _ (Running run) (omega (arith, long, moves_some frame destination source count in_range.some))
@@ -320,9 +319,10 @@ module _ (program : Program) (well : IsWellFormed program) (frames : List Frame)
         r = q;
         w = m;
         base = base;
+        back = back;
         is = refl;
         now = now_at code formed addresses globals_length (words_per_call * calls) (here + length is) (instruction_line program frames c.active.function (c.active.next + 1)) c.output c.input q m f line later;
-        standing = with_back;
+        standing = at_d;
         caches = moved_caches program frames c.active.function homes_right c.active.next destination source count r q c.active.slots at_i moves_them.given moves_them.others caches;
       })))))
 
@@ -364,19 +364,19 @@ module _ (program : Program) (well : IsWellFormed program) (frames : List Frame)
       let address_held = held i loads_it.at address loads_it.needs there in
       let scratch = made_scratch globals_length (words_per_call * calls) program (routine_at program c.active.function) frame homes_right destination in
       let reaches = is_addressed globals_length (words_per_call * calls) frame (r FRAME) w r c.active.slots r w s.zero_is refl refl (λ n low high. refl) address offset address_held fits in
-      let its = is_found program well frames fit addresses pages calls few c r w base (r RETURN_ADDRESS) (suc (length c.frames)) s (word_place width a) word found in
+      let its = is_found program well frames fit addresses pages calls few c r w base back (keeps_back frames c) s (word_place width a) word found in
       let part : ℕ = loaded_part width a word in
       let there_is : IsWordAt its.sort globals_length (words_per_call * calls) v (word_place width (memory_address (q (register % 32)) (near_half offset))) word =
       subst (λ (x : ℕ). IsWordAt its.sort globals_length (words_per_call * calls) v (word_place width x) word) (sym reaches.comes)
       (subst (λ (x : Contents). IsWordAt its.sort globals_length (words_per_call * calls) x (word_place width a) word) (sym reaches.keeps.memory) its.at) in
       let behind = stands_behind code here is last stands in
       let p : Words = put q (made_in frame destination % 32) part in
-      let agrees : Agrees program well frames fit code formed addresses pages calls few c run r w base now s caches target p = record {
+      let agrees : Agrees program well frames fit code formed addresses pages calls few c run r w base back now s caches target p = record {
         zero_same = put-other q target 0 part scratch.not_zero ∙ reaches.keeps.zero;
         base_same = put-other q target FRAME part scratch.not_base ∙ reaches.keeps.base;
-        left_same = put-other q target CALLS part scratch.not_left ∙ reaches.keeps.left;
+        lowest_same = put-other q target LOWEST part scratch.not_lowest ∙ reaches.keeps.lowest;
         back_same = put-other q target RETURN_ADDRESS part scratch.not_back ∙ reaches.keeps.back;
-        lasts_same = lasting_same p q (put-other q target HANDLERS part scratch.not_newest) (put-other q target REGIONS part scratch.not_counted) ∙ reaches.keeps.lasts;
+        lasts_same = lasting_same p q (put-other q target HANDLERS part scratch.not_newest) (put-other q target REGIONS part scratch.not_counted) (put-other q target GLOBALS part scratch.not_middle) ∙ reaches.keeps.lasts;
         values_same = λ n low high other. put-other q target n part other ∙ all_same q r reaches.keeps.values n low high;
       } in
       walk_few code formed addresses globals_length (words_per_call * calls) 1 (length is + suc (keep_count frame destination)) here hi c.output _ (Running run) (omega arith)
@@ -387,12 +387,12 @@ module _ (program : Program) (well : IsWellFormed program) (frames : List Frame)
       (λ e later.
       walk_from code formed addresses globals_length (words_per_call * calls) (keep_count frame destination) (suc (here + length is)) (here + length is + 1) hi c.output _ (Running e) (omega arith)
       (walk_few code formed addresses globals_length (words_per_call * calls) (keep_count frame destination) (0 + keep_count frame destination) (here + length is + 1) hi c.output _ (Running e) (omega arith)
-      (gives_made program well frames fit code formed addresses pages calls few c run r w base now s caches i loads_it.at loads_it.free destination part c.input
+      (gives_made program well frames fit code formed addresses pages calls few c run r w base back now s caches i loads_it.at loads_it.free destination part c.input
       loads_it.given below (loads_it.does word found) s.input
       (here + length is + 1) (address_count frame address offset + 1 + keep_count frame destination) p e
       (now_is code formed addresses globals_length (words_per_call * calls) (here + length is + 1) c.output c.input (put q target (loaded_part width (memory_address (q (register % 32)) (near_half offset)) word)) v p w e
       (ap (λ (x : ℕ). put q target (loaded_part width x word)) reaches.comes) reaches.keeps.memory later)
-      [] agrees (record { safe = tt; memory = refl; zero = refl; base = refl; left = refl; back = refl; lasts = refl; values = λ n low high other. refl })
+      [] agrees (record { safe = tt; memory = refl; zero = refl; base = refl; lowest = refl; back = refl; lasts = refl; values = λ n low high other. refl })
       (put-same q target part) (omega (arith, long)) loads_it.count behind.1)))))
 
   pub load_goes : (destination : ℕ) (address : Operand) (offset : ℕ) → IsAt (plain.Load destination address offset) → destination < slots → IsThere address → IsWord offset
@@ -405,7 +405,7 @@ module _ (program : Program) (well : IsWellFormed program) (frames : List Frame)
         at = at_i;
         free = refl;
         needs = λ slot is. is;
-        given = gets program well frames fit code formed addresses pages calls few c run r w base now s caches destination;
+        given = gets program well frames fit code formed addresses pages calls few c run r w base back now s caches destination;
         does = λ word found. ap (loads c destination) found;
         count = omega arith;
       }
@@ -424,7 +424,7 @@ module _ (program : Program) (well : IsWellFormed program) (frames : List Frame)
         at = at_i;
         free = refl;
         needs = λ slot is. is;
-        given = gets program well frames fit code formed addresses pages calls few c run r w base now s caches destination;
+        given = gets program well frames fit code formed addresses pages calls few c run r w base back now s caches destination;
         does = λ word found. ap (loads_byte c destination (add_of (word_in address) offset)) found;
         count = omega arith;
       }
@@ -478,7 +478,7 @@ module _ (program : Program) (well : IsWellFormed program) (frames : List Frame)
       let same : u ≡ w = keeps.memory ∙ reaches.keeps.memory in
       let comes : memory_address (p (register % 32)) (near_half offset) ≡ a =
       ap (λ (x : ℕ). memory_address x (near_half offset)) (second.others (register % 32) (below_32 register) (not_in_second globals_length (words_per_call * calls) frame (r FRAME) w r c.active.slots r w s.zero_is refl refl (λ n low high. refl) address offset address_held)) ∙ reaches.comes in
-      let its = is_found program well frames fit addresses pages calls few c r w base (r RETURN_ADDRESS) (suc (length c.frames)) s place old found in
+      let its = is_found program well frames fit addresses pages calls few c r w base back (keeps_back frames c) s place old found in
       let there_is : IsWordAt its.sort globals_length (words_per_call * calls) u (word_place width (memory_address (p (register % 32)) (near_half offset))) old =
       subst (λ (x : ℕ). IsWordAt its.sort globals_length (words_per_call * calls) u (word_place width x) old) (sym comes)
       (subst (λ (x : Contents). IsWordAt its.sort globals_length (words_per_call * calls) x place old) (sym same) its.at) in
@@ -487,16 +487,15 @@ module _ (program : Program) (well : IsWellFormed program) (frames : List Frame)
       ap (λ (y : Contents). placed its.sort y (word_place width (memory_address (p (register % 32)) (near_half offset))) (stored_word width (memory_address (p (register % 32)) (near_half offset)) old (p (from % 32)))) same
       ∙ (ap (λ (n : ℕ). placed its.sort w (word_place width n) (stored_word width n old (p (from % 32)))) comes ∙ ap (λ (n : ℕ). placed its.sort w place (stored_word width a old n)) second.result) in
       let was_word : IsWord old = word_at_is its.sort place old its.at in
-      let is_word : IsWord word = stored_is_word width a old (word_in source) was_word (operand_is_word program well frames fit code formed addresses pages calls few c run r w base now s caches source source_held) in
+      let is_word : IsWord word = stored_is_word width a old (word_in source) was_word (operand_is_word program well frames fit code formed addresses pages calls few c run r w base back now s caches source source_held) in
       let c' : Configuration = with_memory program c place word in
       let d : Configuration = advanced c' in
       let left = memory-left program c place word in
       let one = its.standing word is_word in
-      let two = standing_registers program well frames fit addresses pages calls few c' r (placed its.sort w place word) base (r RETURN_ADDRESS) (suc (length c.frames)) c'.active.slots one p (keeps.zero ∙ reaches.keeps.zero) (keeps.base ∙ reaches.keeps.base) (keeps.left ∙ reaches.keeps.left) (keeps.lasts ∙ reaches.keeps.lasts) in
-      let three = standing_at program well frames fit addresses pages calls few c' p (placed its.sort w place word) base (r RETURN_ADDRESS) (suc (length c.frames)) c'.active.slots two d refl refl refl refl refl refl one.input in
-      let with_back = subst (λ (b : ℕ). Standing program frames addresses pages calls d p (placed its.sort w place word) base b (suc (length c.frames)) d.active.slots) (sym (keeps.back ∙ reaches.keeps.back)) three in
-      let with_depth = subst (λ (n : ℕ). Standing program frames addresses pages calls d p (placed its.sort w place word) base (p RETURN_ADDRESS) (suc n) d.active.slots) (sym left.depth) with_back in
-      let four = subst (λ (y : Contents). Standing program frames addresses pages calls d p y base (p RETURN_ADDRESS) (suc (length d.frames)) d.active.slots) (sym puts) with_depth in
+      let two = standing_registers program well frames fit addresses pages calls few c' r (placed its.sort w place word) base back (keeps_back frames c) c'.active.slots one p (keeps.zero ∙ reaches.keeps.zero) (keeps.base ∙ reaches.keeps.base) (keeps.lowest ∙ reaches.keeps.lowest) (λ outside. keeps.back ∙ reaches.keeps.back) (keeps.lasts ∙ reaches.keeps.lasts) in
+      let three = standing_at program well frames fit addresses pages calls few c' p (placed its.sort w place word) base back (keeps_back frames c) c'.active.slots two d refl refl refl refl refl refl one.input in
+      let with_function = subst (λ (f : ℕ). Standing program frames addresses pages calls d p (placed its.sort w place word) base back (frame_at frames f).saves d.active.slots) (sym left.function) three in
+      let four = subst (λ (y : Contents). Standing program frames addresses pages calls d p y base back (keeps_back frames d) d.active.slots) (sym puts) with_function in
       let next : here + length is + length js + 1 ≡ instruction_line program frames c.active.function (c.active.next + 1) = omega (arith, line_next program frames c.active.function c.active.next i stores_it.at, stores_it.count, long, more) in
       let line : here + length is + length js + 1 ≡ instruction_line program frames d.active.function d.active.next =
       next
@@ -519,6 +518,7 @@ module _ (program : Program) (well : IsWellFormed program) (frames : List Frame)
         r = p;
         w = x;
         base = base;
+        back = back;
         is = refl;
         now =
             subst (λ (out : List ℕ). AtNow (instruction_line program frames d.active.function d.active.next) out d.input p x g) (sym left.output)

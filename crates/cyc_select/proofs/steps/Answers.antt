@@ -13,13 +13,14 @@ use Rattle.cyc_plain.proofs.SlotLaws.{put-same, put-other}
 use Rattle.cyc_frame.specs.Homes.{AreHomes, Wanted}
 use Rattle.cyc_frame.specs.Layout.{AreFrames, frame_at}
 use Rattle.cyc_frame.specs.Frame.{Frame}
-use Rattle.cyc_select.specs.declared.constants.TheConstants.{ZERO, FRAME, CALLS, HANDLERS, REGIONS}
+use Rattle.cyc_select.specs.declared.constants.TheConstants.{ZERO, FRAME, LOWEST, HANDLERS, REGIONS, GLOBALS}
 use Rattle.cyc_select.specs.Selection.{value_register, is_kept, made_in, slot_offset, store_slot, copy, give_to, give_code, bring_code, bring_all, result_registers}
 use Rattle.cyc_select.proofs.values.Blocks.{lasting_same, safe_append}
 use Rattle.cyc_select.proofs.effects.Views.{Contents, written}
 use Rattle.cyc_select.proofs.effects.Walks.{after_r, after_w, after_r-append, after_w-append, AreSafe}
 use Rattle.cyc_select.proofs.relation.Standing.{Standing, slot_address, slot_cell, standing_registers, standing_slot, standing_unkept}
 use Rattle.cyc_select.proofs.relation.Values.{made_is}
+use Rattle.cyc_machine.specs.declared.constants.TheConstants.{RETURN_ADDRESS}
 
 -- the words of registers in slots, from this one on
 abbrev pub put_all : (slot : ℕ) → List ℕ → (q slots : Words) → Words
@@ -29,7 +30,7 @@ put_all slot (source ∷ sources) q slots = put_all (suc slot) sources q (put sl
 -- registers that no value has
 abbrev pub AreLow : List ℕ → Type 0
 AreLow [] = Unit {0}
-AreLow (source ∷ sources) = (source % 32 < 8) × AreLow sources
+AreLow (source ∷ sources) = (source % 32 < 6) × AreLow sources
 
 pub results_low : (count : ℕ) → count ≤ 3 → AreLow (result_registers count)
 results_low zero few = tt
@@ -41,14 +42,14 @@ results_low (suc (suc (suc (suc count)))) few = absurd (omega (arith, few))
 -- The registers have these words. From one slot on, up to where others begin, slots get words; of those that are wanted at the
 -- next place none shares a register with one of them.
 module _ (program : Program) (well : IsWellFormed program) (frames : List Frame) (fit : AreFrames program frames) (addresses : ℕ → ℕ) (pages calls : ℕ) (few : calls ≤ 4096)
-    (again : Bool) (c : Configuration) (base back depth next from past : ℕ) (p : Words) (words : (n : ℕ) → n < 8 → IsWord (p n)) (inside : past ≤ (routine_at program c.active.function).slots)
+    (again : Bool) (c : Configuration) (base back : ℕ) (in_frame : Bool) (next from past : ℕ) (p : Words) (words : (n : ℕ) → n < 6 → IsWord (p n)) (inside : past ≤ (routine_at program c.active.function).slots)
     (shares : (d slot k : ℕ) → from ≤ d → d < past → value_register (frame_at frames c.active.function) d ≡ Some k → value_register (frame_at frames c.active.function) slot ≡ Some k
     → Wanted program (routine_at program c.active.function) slot next → slot ≡ d) where
   abbrev frame : Frame
   frame = frame_at frames c.active.function
 
   abbrev StandsWith : (q : Words) (m : Contents) (slots : Words) → Type 0
-  StandsWith q m slots = Standing program frames addresses pages calls c q m base back depth slots
+  StandsWith q m slots = Standing program frames addresses pages calls c q m base back in_frame slots
 
   -- nothing is read again into the register of the slot
   abbrev IsLast : (slot : ℕ) → Type 0
@@ -62,25 +63,25 @@ module _ (program : Program) (well : IsWellFormed program) (frames : List Frame)
   record IsBrought (is : List Instr) (q : Words) (m : Contents) (slot : ℕ) (slots : Words) (word : ℕ) : Type 0 where
     pub safe : AreSafe globals_length (words_per_call * calls) is q m
     pub standing : StandsWith (after_r is q m) (after_w is q m) (put slots slot word)
-    pub aside : (n : ℕ) → n < 8 ⊎ 24 ≤ n → after_r is q m n ≡ q n
+    pub aside : (n : ℕ) → n < 6 ⊎ 24 ≤ n → after_r is q m n ≡ q n
     pub result : (k : ℕ) → value_register (frame_at frames c.active.function) slot ≡ Some k → IsLast slot → after_r is q m k ≡ word
-    pub others : (n : ℕ) → 8 ≤ n → n < 24 → (value_register (frame_at frames c.active.function) slot ≡ Some n → ⊥) → after_r is q m n ≡ q n
+    pub others : (n : ℕ) → 6 ≤ n → n < 24 → (value_register (frame_at frames c.active.function) slot ≡ Some n → ⊥) → after_r is q m n ≡ q n
 
   -- memory gets a register's word
   stored_there : (q : Words) (m : Contents) (slots : Words) (register slot word : ℕ) → StandsWith q m slots → slot < (routine_at program c.active.function).slots → q (register % 32) ≡ word
       → StandsWith q (written m (memory_address (q FRAME) (slot_offset (frame_at frames c.active.function) slot)) (q (register % 32))) (put slots slot word)
   stored_there q m slots register slot word s below is =
-      let there = slot_address program well frames fit addresses pages calls few c q m base back depth slots s slot below in
+      let there = slot_address program well frames fit addresses pages calls few c q m base back in_frame slots s slot below in
       subst (λ (a : ℕ). StandsWith q (written m a (q (register % 32))) (put slots slot word)) (sym there)
       (subst (λ (x : ℕ). StandsWith q (written m (base + slot_offset (frame_at frames c.active.function) slot) x) (put slots slot word)) (sym is)
-      (standing_slot program well frames fit addresses pages calls few c q m base back depth slots s slot word below))
+      (standing_slot program well frames fit addresses pages calls few c q m base back in_frame slots s slot word below))
 
   -- memory alone gets it
   stored_one : (q : Words) (m : Contents) (slots : Words) (source slot : ℕ) → StandsWith q m slots → slot < (routine_at program c.active.function).slots → q (source % 32) ≡ p (source % 32)
       → ((k : ℕ) → value_register (frame_at frames c.active.function) slot ≡ Some k → IsLast slot → ⊥)
       → IsBrought (store_slot (frame_at frames c.active.function) source slot ∷ []) q m slot slots (p (source % 32))
   stored_one q m slots source slot s below same none = record {
-    safe = (slot_cell program well frames fit addresses pages calls few c q m base back depth slots s slot below, tt);
+    safe = (slot_cell program well frames fit addresses pages calls few c q m base back in_frame slots s slot below, tt);
     standing = stored_there q m slots source slot (p (source % 32)) s below same;
     aside = λ n aside. refl;
     result = λ k has last. absurd (none k has last);
@@ -88,12 +89,12 @@ module _ (program : Program) (well : IsWellFormed program) (frames : List Frame)
   }
 
   -- its register gets it, and memory too where it keeps it
-  copied_one : (q : Words) (m : Contents) (slots : Words) (source slot k : ℕ) → StandsWith q m slots → slot < (routine_at program c.active.function).slots → source % 32 < 8 → q (source % 32) ≡ p (source % 32)
+  copied_one : (q : Words) (m : Contents) (slots : Words) (source slot k : ℕ) → StandsWith q m slots → slot < (routine_at program c.active.function).slots → source % 32 < 6 → q (source % 32) ≡ p (source % 32)
       → value_register (frame_at frames c.active.function) slot ≡ Some k → (kept : Bool) → is_kept (frame_at frames c.active.function) slot ≡ kept
       → IsBrought (copy k source ∷ (if kept then store_slot (frame_at frames c.active.function) (made_in (frame_at frames c.active.function) slot) slot ∷ [] else [])) q m slot slots (p (source % 32))
   copied_one q m slots source slot k s below source_low same has kept is_it = go kept is_it
     where
-      low : 8 ≤ k
+      low : 6 ≤ k
       low = (right q m slots s).low slot k has
 
       high : k < 24
@@ -120,7 +121,7 @@ module _ (program : Program) (well : IsWellFormed program) (frames : List Frame)
       other_is : (n : ℕ) → n ≢ k → after_r (copy k source ∷ []) q m n ≡ q n
       other_is n other = put-other q (k % 32) n (add_of (q (source % 32)) (q ZERO)) (λ e. other (e ∙ whole))
 
-      aside_is : (n : ℕ) → n < 8 ⊎ 24 ≤ n → after_r (copy k source ∷ []) q m n ≡ q n
+      aside_is : (n : ℕ) → n < 6 ⊎ 24 ≤ n → after_r (copy k source ∷ []) q m n ≡ q n
       aside_is n (inl small) = other_is n (λ e. absurd (omega (arith, e, small, low)))
       aside_is n (inr large) = other_is n (λ e. absurd (omega (arith, e, large, high)))
 
@@ -135,9 +136,9 @@ module _ (program : Program) (well : IsWellFormed program) (frames : List Frame)
 
       s1 : StandsWith (after_r (copy k source ∷ []) q m) m slots
       s1 =
-          standing_registers program well frames fit addresses pages calls few c q m base back depth slots s (after_r (copy k source ∷ []) q m)
-          (aside_is 0 (inl (omega arith))) (aside_is FRAME (inr (omega arith))) (aside_is CALLS (inr (omega arith)))
-          (lasting_same (after_r (copy k source ∷ []) q m) q (aside_is HANDLERS (inr (omega arith))) (aside_is REGIONS (inr (omega arith))))
+          standing_registers program well frames fit addresses pages calls few c q m base back in_frame slots s (after_r (copy k source ∷ []) q m)
+          (aside_is 0 (inl (omega arith))) (aside_is FRAME (inr (omega arith))) (aside_is LOWEST (inr (omega arith))) (λ outside. aside_is RETURN_ADDRESS (inr (omega arith)))
+          (lasting_same (after_r (copy k source ∷ []) q m) q (aside_is HANDLERS (inr (omega arith))) (aside_is REGIONS (inr (omega arith))) (aside_is GLOBALS (inr (omega arith))))
 
       made_there : after_r (copy k source ∷ []) q m (made_in (frame_at frames c.active.function) slot % 32) ≡ p (source % 32)
       made_there = ap (λ (n : ℕ). after_r (copy k source ∷ []) q m (n % 32)) (made_is (frame_at frames c.active.function) slot k has) ∙ result_is
@@ -147,7 +148,7 @@ module _ (program : Program) (well : IsWellFormed program) (frames : List Frame)
       go true is_kept_there = record {
         safe = (
           ne_eqb (k % 32) 0 (λ e. absurd (omega (arith, e, low, high))),
-          (slot_cell program well frames fit addresses pages calls few c (after_r (copy k source ∷ []) q m) m base back depth slots s1 slot below, tt),
+          (slot_cell program well frames fit addresses pages calls few c (after_r (copy k source ∷ []) q m) m base back in_frame slots s1 slot below, tt),
         );
         standing = stored_there (after_r (copy k source ∷ []) q m) m slots (made_in (frame_at frames c.active.function) slot) slot (p (source % 32)) s1 below made_there;
         aside = aside_is;
@@ -156,13 +157,13 @@ module _ (program : Program) (well : IsWellFormed program) (frames : List Frame)
       }
       go false unkept = record {
         safe = (ne_eqb (k % 32) 0 (λ e. absurd (omega (arith, e, low, high))), tt);
-        standing = standing_unkept program well frames fit addresses pages calls few c (after_r (copy k source ∷ []) q m) m base back depth slots s1 slot (p (source % 32)) unkept;
+        standing = standing_unkept program well frames fit addresses pages calls few c (after_r (copy k source ∷ []) q m) m base back in_frame slots s1 slot (p (source % 32)) unkept;
         aside = aside_is;
         result = λ j there last. there_is j there;
         others = λ n n_low n_high other. apart_is n other;
       }
 
-  one_brought : (q : Words) (m : Contents) (slots : Words) (source slot : ℕ) → StandsWith q m slots → slot < (routine_at program c.active.function).slots → source % 32 < 8 → q (source % 32) ≡ p (source % 32)
+  one_brought : (q : Words) (m : Contents) (slots : Words) (source slot : ℕ) → StandsWith q m slots → slot < (routine_at program c.active.function).slots → source % 32 < 6 → q (source % 32) ≡ p (source % 32)
       → IsBrought (bring_code again (frame_at frames c.active.function) source slot) q m slot slots (p (source % 32))
   one_brought q m slots source slot s below source_low same = go (again && is_kept (frame_at frames c.active.function) slot) refl
     where
@@ -189,10 +190,10 @@ module _ (program : Program) (well : IsWellFormed program) (frames : List Frame)
   pub record AreBrought (slot : ℕ) (sources : List ℕ) (q : Words) (m : Contents) (slots : Words) : Type 0 where
     pub safe : AreSafe globals_length (words_per_call * calls) (bring_all again (frame_at frames c.active.function) slot sources) q m
     pub standing : StandsWith (after_r (bring_all again (frame_at frames c.active.function) slot sources) q m) (after_w (bring_all again (frame_at frames c.active.function) slot sources) q m) (put_all slot sources p slots)
-    pub aside : (n : ℕ) → n < 8 ⊎ 24 ≤ n → after_r (bring_all again (frame_at frames c.active.function) slot sources) q m n ≡ q n
+    pub aside : (n : ℕ) → n < 6 ⊎ 24 ≤ n → after_r (bring_all again (frame_at frames c.active.function) slot sources) q m n ≡ q n
     pub caches : CachesBut slot (length sources) q slots → CachesLast (after_r (bring_all again (frame_at frames c.active.function) slot sources) q m) (put_all slot sources p slots)
 
-  pub are_brought : (slot : ℕ) (sources : List ℕ) (q : Words) (m : Contents) (slots : Words) → from ≤ slot → slot + length sources ≤ past → AreLow sources → ((n : ℕ) → n < 8 → q n ≡ p n)
+  pub are_brought : (slot : ℕ) (sources : List ℕ) (q : Words) (m : Contents) (slots : Words) → from ≤ slot → slot + length sources ≤ past → AreLow sources → ((n : ℕ) → n < 6 → q n ≡ p n)
       → StandsWith q m slots → AreBrought slot sources q m slots
   are_brought slot [] q m slots begun fits small same s = record {
     safe = tt;

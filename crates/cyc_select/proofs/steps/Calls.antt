@@ -2,7 +2,7 @@
 use Rattle.std.proofs.Common.{◌≡◌, ◌≢◌, ℕ, suc, ◌+◌, ◌-◌, ◌*◌, ◌%◌, ◌<◌, ◌≤◌, Bool, false, not, List, [], ◌∷◌, ◌++◌, length, Some, None, slice_get, refl, sym, ap, subst, ◌∙◌, arith, inl, inr}
 use Rattle.std.specs.Prelude.{◌==◌, if◌then◌else◌, nat_le}
 use Rattle.std.proofs.lemmas.Bool.{cases_eq, cases_lt, eq-eqb, ne_eqb, and_right, lt-leb}
-use Rattle.cyc_select.specs.declared.constants.TheConstants.{CALLS, FRAME, HANDLERS, REGIONS}
+use Rattle.cyc_select.specs.declared.constants.TheConstants.{FRAME, LOWEST, HANDLERS, REGIONS, GLOBALS}
 use Rattle.cyc_machine.specs.declared.constants.TheConstants.{RETURN_ADDRESS}
 use Rattle.cyc_words.specs.Ending.{Full}
 use Rattle.cyc_words.specs.Word.{IsWord, add_of, sign_extended}
@@ -19,26 +19,26 @@ use Rattle.cyc_plain.specs.State.{Words, AreWords, put, copied, Configuration}
 use Rattle.cyc_plain.specs.Step.{Choice, instruction_at, performed, executed, advanced, step, is_within, callee_of}
 use Rattle.cyc_plain.specs.WellFormed.{IsWellFormed, IsCallInRange}
 use Rattle.cyc_plain.proofs.RunLaws.{zeros, limited-full, called_at}
-use Rattle.cyc_plain.proofs.SlotLaws.{put-same, put-other, copied-inside, copied-above}
+use Rattle.cyc_plain.proofs.SlotLaws.{put-other, copied-inside, copied-above}
 use Rattle.cyc_frame.specs.Homes.{AreHomes}
 use Rattle.cyc_frame.specs.Layout.{AreFrames, frame_at, slot_word}
 use Rattle.cyc_frame.specs.Frame.{Frame}
+use Rattle.cyc_frame.specs.declared.frame.TheConstants.{MOST_FRAME_WORDS}
 use Rattle.cyc_select.specs.declared.code.Line.{Line}
 use Rattle.cyc_select.specs.declared.code.Condition.TheVariants as conditions
 use Rattle.cyc_select.specs.declared.code.Line.TheVariants as lines
 use Rattle.cyc_select.specs.Labelled.{Labelled, IsFormed, AreAddresses}
 use Rattle.cyc_select.specs.Machine as labelled
 use Rattle.cyc_select.specs.Machine.{State, Running, Ended}
-use Rattle.cyc_select.specs.Selection.{value_register, is_kept, passed_from, copies_count, slot_offset, small, minus, store, add_immediate, push_frame, copies, ordinary, syscall, calling_code, function_line, instruction_line}
+use Rattle.cyc_select.specs.Selection.{value_register, is_kept, passed_from, copies_count, slot_offset, minus, small, push_frame, copies, ordinary, syscall, calling_code, function_line}
 use Rattle.cyc_select.proofs.relation.Cells.{IsCell}
 use Rattle.cyc_select.proofs.emission.Counts.{length_copies}
-use Rattle.cyc_select.proofs.layout.Lines.{line_first}
 use Rattle.cyc_select.proofs.values.Operations.{add_small, take_small}
 use Rattle.cyc_select.proofs.relation.Values.{Caches}
-use Rattle.cyc_select.proofs.effects.Views.{Contents, written}
-use Rattle.cyc_select.proofs.effects.Walks.{Stands, stands_front, stands_back, after_r, after_w, Walk, now_at, walk_end, walk_few, walk_block, walk_branch, walk_call, walk_full}
+use Rattle.cyc_select.proofs.effects.Views.{Contents}
+use Rattle.cyc_select.proofs.effects.Walks.{Stands, stands_front, stands_back, after_r, after_w, Walk, walk_end, walk_few, walk_block, walk_branch, walk_call, walk_full}
 use Rattle.cyc_select.proofs.steps.Copies.{Copied, copied_all}
-use Rattle.cyc_select.proofs.relation.Standing.{Holds, Chain, IsNewest, Standing, behind_line, lies, chain_kept, word_cell, return_cell, return_address, standing_return, AreBased, based_here, slots_fit}
+use Rattle.cyc_select.proofs.relation.Standing.{frame_size, Holds, Chain, IsNewest, Standing, behind_line, IsBack, keeps_back, saves_at, lies, chain_kept, slot_inside, word_cell, AreBased, based_here, slots_fit}
 use Rattle.cyc_select.proofs.relation.Matches.{At, Reached, reached, within}
 
 pub length_ordinary : (is : List Instr) → length (ordinary is) ≡ length is
@@ -47,28 +47,28 @@ length_ordinary (i ∷ is) = ap suc (length_ordinary is)
 
 -- the last of the lines of a call
 pub call_last : (code : Labelled) (caller callee : Frame) (here label arguments count : ℕ) → Stands code here (calling_code caller callee here label arguments count)
-    → slice_get code.lines (here + 6 + copies_count caller callee arguments 0 count) ≡ Some (lines.Call label)
+    → slice_get code.lines (here + 4 + copies_count caller callee arguments 0 count) ≡ Some (lines.Call label)
 call_last code caller callee here label arguments count stands =
     let passed : List Instr = copies caller callee arguments 0 count in
-    let entry : List Instr = small 2 11 ∷ syscall ∷ store RETURN_ADDRESS (4 * caller.return_address) ∷ add_immediate CALLS CALLS (minus 1) ∷ push_frame callee ∷ [] in
-    let at_passed : Stands code (here + 6) (ordinary passed ++ lines.Call label ∷ []) =
-    stands_back code here (lines.Branch (conditions.Registers branch.NotEqual (register_of CALLS) (register_of 0)) (here + 3) ∷ ordinary entry) (ordinary passed ++ lines.Call label ∷ []) stands in
+    let entry : List Instr = small 2 11 ∷ syscall ∷ push_frame ∷ [] in
+    let at_passed : Stands code (here + 4) (ordinary passed ++ lines.Call label ∷ []) =
+    stands_back code here (lines.Branch (conditions.Registers branch.NotEqual (register_of FRAME) (register_of LOWEST)) (here + 3) ∷ ordinary entry) (ordinary passed ++ lines.Call label ∷ []) stands in
     let long : length (ordinary passed) ≡ copies_count caller callee arguments 0 count = length_ordinary passed ∙ length_copies caller callee arguments 0 count in
-    subst (λ (n : ℕ). slice_get code.lines (here + 6 + n) ≡ Some (lines.Call label)) long (stands_back code (here + 6) (ordinary passed) (lines.Call label ∷ []) at_passed).0
+    subst (λ (n : ℕ). slice_get code.lines (here + 4 + n) ≡ Some (lines.Call label)) long (stands_back code (here + 4) (ordinary passed) (lines.Call label ∷ []) at_passed).0
 
 module _ (program : Program) (well : IsWellFormed program) (frames : List Frame) (fit : AreFrames program frames) (code : Labelled) (formed : IsFormed code) (addresses : ℕ → ℕ) (pages calls : ℕ) (few : calls ≤ 4096)
-    (lie : AreAddresses code addresses) (c : Configuration) (run : labelled.Configuration) (r : Words) (w : Contents) (base : ℕ)
+    (lie : AreAddresses code addresses) (c : Configuration) (run : labelled.Configuration) (r : Words) (w : Contents) (base back : ℕ)
     (here : ℕ) (now : At program well frames fit code formed addresses pages calls few here c.output c.input r w run)
-    (s : Standing program frames addresses pages calls c r w base (r RETURN_ADDRESS) (suc (length c.frames)) c.active.slots)
+    (s : Standing program frames addresses pages calls c r w base back (keeps_back frames c) c.active.slots)
     (callee arguments count result : ℕ) (at_i : instruction_at program (states.place_of (states.Running c)) ≡ Some (plain.Call callee arguments count result))
     (in_range : IsCallInRange program (routine_at program c.active.function) callee arguments count result)
     (inside : behind_line program frames c.active.function c.active.next callee arguments count result < length code.lines)
     (stands : Stands code here (calling_code (frame_at frames c.active.function) (frame_at frames callee) here (function_line program frames callee) arguments count))
-    (here_is : here + (7 + copies_count (frame_at frames c.active.function) (frame_at frames callee) arguments 0 count) ≡ behind_line program frames c.active.function c.active.next callee arguments count result)
+    (here_is : here + (5 + copies_count (frame_at frames c.active.function) (frame_at frames callee) arguments 0 count) ≡ behind_line program frames c.active.function c.active.next callee arguments count result)
     (there : (slot : ℕ) → slot < count → passed_from (frame_at frames c.active.function) (frame_at frames callee) (arguments + slot) slot ≡ None
     → w.words (base + slot_offset (frame_at frames c.active.function) (arguments + slot)) ≡ c.active.slots (arguments + slot))
     (held : (slot k : ℕ) → slot < count → passed_from (frame_at frames c.active.function) (frame_at frames callee) (arguments + slot) slot ≡ Some k
-    → (8 ≤ k) × (k < 24) × (r k ≡ c.active.slots (arguments + slot)) × IsWord (c.active.slots (arguments + slot))) where
+    → (6 ≤ k) × (k < 24) × (r k ≡ c.active.slots (arguments + slot)) × IsWord (c.active.slots (arguments + slot))) where
   abbrev mine : Frame
   mine = frame_at frames c.active.function
 
@@ -82,7 +82,7 @@ module _ (program : Program) (well : IsWellFormed program) (frames : List Frame)
   AtLine line q m d = At program well frames fit code formed addresses pages calls few line c.output c.input q m d
 
   abbrev entry : List Instr
-  entry = store RETURN_ADDRESS (4 * mine.return_address) ∷ add_immediate CALLS CALLS (minus 1) ∷ push_frame its ∷ []
+  entry = push_frame ∷ []
 
   abbrev passed : List Instr
   passed = copies mine its arguments 0 count
@@ -94,18 +94,18 @@ module _ (program : Program) (well : IsWellFormed program) (frames : List Frame)
   at_full : Stands code (here + 1) (ordinary (small 2 11 ∷ syscall ∷ []))
   at_full =
       stands_front code (here + 1) (ordinary (small 2 11 ∷ syscall ∷ [])) (ordinary entry ++ (ordinary passed ++ call_line))
-      (stands_back code here (lines.Branch (conditions.Registers branch.NotEqual (register_of CALLS) (register_of 0)) (here + 3) ∷ []) (ordinary (small 2 11 ∷ syscall ∷ entry) ++ (ordinary passed ++ call_line)) stands)
+      (stands_back code here (lines.Branch (conditions.Registers branch.NotEqual (register_of FRAME) (register_of LOWEST)) (here + 3) ∷ []) (ordinary (small 2 11 ∷ syscall ∷ entry) ++ (ordinary passed ++ call_line)) stands)
 
   at_entry : Stands code (here + 3) (ordinary entry ++ (ordinary passed ++ call_line))
-  at_entry = stands_back code here (lines.Branch (conditions.Registers branch.NotEqual (register_of CALLS) (register_of 0)) (here + 3) ∷ ordinary (small 2 11 ∷ syscall ∷ [])) (ordinary entry ++ (ordinary passed ++ call_line)) stands
+  at_entry = stands_back code here (lines.Branch (conditions.Registers branch.NotEqual (register_of FRAME) (register_of LOWEST)) (here + 3) ∷ ordinary (small 2 11 ∷ syscall ∷ [])) (ordinary entry ++ (ordinary passed ++ call_line)) stands
 
-  at_passed : Stands code (here + 3 + 3) (ordinary passed ++ call_line)
+  at_passed : Stands code (here + 3 + 1) (ordinary passed ++ call_line)
   at_passed = stands_back code (here + 3) (ordinary entry) (ordinary passed ++ call_line) at_entry
 
-  at_call : slice_get code.lines (here + 3 + 3 + length passed) ≡ Some (lines.Call (function_line program frames callee))
+  at_call : slice_get code.lines (here + 3 + 1 + length passed) ≡ Some (lines.Call (function_line program frames callee))
   at_call =
-      subst (λ (n : ℕ). slice_get code.lines (here + 3 + 3 + n) ≡ Some (lines.Call (function_line program frames callee))) (length_ordinary passed)
-      (stands_back code (here + 3 + 3) (ordinary passed) call_line at_passed).0
+      subst (λ (n : ℕ). slice_get code.lines (here + 3 + 1 + n) ≡ Some (lines.Call (function_line program frames callee))) (length_ordinary passed)
+      (stands_back code (here + 3 + 1) (ordinary passed) call_line at_passed).0
 
   -- the homes of the callee's slots
   its_right : AreHomes program (routine_at program callee) (frame_at frames callee).homes
@@ -113,25 +113,28 @@ module _ (program : Program) (well : IsWellFormed program) (frames : List Frame)
 
   -- ---- no room
 
-  -- there is room below for the slots of any function
   place_is : c.active.base ≡ base + 4 * mine.first_slot
   place_is = based_here frames base c.active.function c.active.base c.frames s.based
 
+  here_lies : (base + frame_size ≤ stack_end) × (base + frame_size * suc (length c.frames) ≡ stack_end) × (base % 4 ≡ 0)
+  here_lies =
+      let l = lies program well frames fit addresses pages calls few c r w base back (keeps_back frames c) c.active.slots s in
+      (l.below_end, l.above_low, l.aligned)
+
+  -- there is room below for the slots of any function
   room_below : IsBelow program callee (c.active.base - 4 * (routine_at program callee).slots) c.active.base
   room_below =
-      let frame = fit.each callee in_range.function_in_range in
-      let fits = slots_fit (routine_at program callee) its frame in
-      let l = lies program well frames fit addresses pages calls few c r w base (r RETURN_ADDRESS) (suc (length c.frames)) c.active.slots s in
+      let fits = slots_fit (routine_at program callee) its (fit.each callee in_range.function_in_range) in
       record {
-        aligned = omega (arith, place_is, l.aligned, l.above_low, s.deep, fits, frame.within, frame.small);
-        low = omega (arith, place_is, l.above_low, s.deep, fits, frame.within, frame.small);
-        high = omega (arith, place_is, l.above_low, s.deep, fits, frame.within, frame.small);
+        aligned = omega (arith, place_is, here_lies.2, here_lies.1, s.deep, fits);
+        low = omega (arith, place_is, here_lies.1, s.deep, fits);
+        high = omega (arith, place_is, here_lies.1, s.deep, fits);
       }
 
-  full_step : r CALLS ≡ 0 → Reached program well frames fit code formed addresses pages calls few c (Ended Full c.output c.input)
-  full_step none =
+  full_step : r FRAME ≡ r LOWEST → Reached program well frames fit code formed addresses pages calls few c (Ended Full c.output c.input)
+  full_step lowest =
       let choice : Choice = record zeros { base = c.active.base - 4 * (routine_at program callee).slots } in
-      let deep : nat_le (suc (suc (length c.frames))) calls ≡ false = lt-leb (suc (suc (length c.frames))) calls (omega (arith, s.left, none)) in
+      let deep : nat_le (suc (suc (length c.frames))) calls ≡ false = lt-leb (suc (suc (length c.frames))) calls (omega (arith, lowest, s.base_is, s.lowest, here_lies.1)) in
       let over : is_within pages calls (performed program choice c (plain.Call callee arguments count result)) ≡ false = and_right (nat_le (demand c.store) pages) _ deep in
       let is : step program choice (states.Running c) ≡ performed program choice c (plain.Call callee arguments count result) = ap (executed program choice c) at_i in (
         states.Ended Full c.output c.input,
@@ -139,99 +142,73 @@ module _ (program : Program) (well : IsWellFormed program) (frames : List Frame)
         refl,
       )
 
-  full_goes : (d : labelled.Configuration) → r CALLS ≡ 0 → AtLine (here + 1) r w d → Goes 0 (suc here) (here + (7 + copies_count (frame_at frames c.active.function) (frame_at frames callee) arguments 0 count)) (Running d)
-  full_goes d none later =
-      walk_few code formed addresses globals_length (words_per_call * calls) 0 (1 + 1) (suc here) (here + (7 + copies_count (frame_at frames c.active.function) (frame_at frames callee) arguments 0 count)) c.output _ (Running d) (omega arith)
-      (walk_block code formed addresses globals_length (words_per_call * calls) (small 2 11 ∷ []) 1 (here + 1) (suc here) (here + (7 + copies_count (frame_at frames c.active.function) (frame_at frames callee) arguments 0 count)) c.output c.input _ r w d later (at_full.0, tt) (refl, tt) (omega arith)
+  full_goes : (d : labelled.Configuration) → r FRAME ≡ r LOWEST → AtLine (here + 1) r w d → Goes 0 (suc here) (here + (5 + copies_count (frame_at frames c.active.function) (frame_at frames callee) arguments 0 count)) (Running d)
+  full_goes d lowest later =
+      walk_few code formed addresses globals_length (words_per_call * calls) 0 (1 + 1) (suc here) (here + (5 + copies_count (frame_at frames c.active.function) (frame_at frames callee) arguments 0 count)) c.output _ (Running d) (omega arith)
+      (walk_block code formed addresses globals_length (words_per_call * calls) (small 2 11 ∷ []) 1 (here + 1) (suc here) (here + (5 + copies_count (frame_at frames c.active.function) (frame_at frames callee) arguments 0 count)) c.output c.input _ r w d later (at_full.0, tt) (refl, tt) (omega arith)
       (λ e after.
-      walk_full code formed addresses globals_length (words_per_call * calls) (here + 1 + 1) (here + 1 + 1) (here + (7 + copies_count (frame_at frames c.active.function) (frame_at frames callee) arguments 0 count)) c.output c.input _ (after_r (small 2 11 ∷ []) r w) w e after at_full.1.0 (omega arith) (omega arith)
+      walk_full code formed addresses globals_length (words_per_call * calls) (here + 1 + 1) (here + 1 + 1) (here + (5 + copies_count (frame_at frames c.active.function) (frame_at frames callee) arguments 0 count)) c.output c.input _ (after_r (small 2 11 ∷ []) r w) w e after at_full.1.0 (omega arith) (omega arith)
       (ap (λ (x : ℕ). add_of x (sign_extended 11)) s.zero_is ∙ add_small 0 11 (omega arith) (omega arith))
-      (full_step none)))
+      (full_step lowest)))
 
   -- ---- a new frame
 
-  room : 4 * its.words ≤ 1024
-  room = let frame = fit.each callee in_range.function_in_range in omega (arith, frame.within, frame.small)
-
-  some : 0 < its.words
-  some = let frame = fit.each callee in_range.function_in_range in omega (arith, frame.return_inside)
-
   abbrev low : ℕ
-  low = base - 4 * its.words
+  low = base - frame_size
 
-  here_lies : (base + 4 * mine.words ≤ stack_end) × (stack_end ≤ base + 1024 * suc (length c.frames)) × (base % 4 ≡ 0)
-  here_lies =
-      let l = lies program well frames fit addresses pages calls few c r w base (r RETURN_ADDRESS) (suc (length c.frames)) c.active.slots s in
-      (l.below_end, l.above_low, l.aligned)
+  low_is : low + frame_size ≡ base
+  low_is = omega (arith, here_lies.1, s.deep)
 
-  low_is : low + 4 * its.words ≡ base
-  low_is = omega (arith, room, here_lies.1, s.deep)
+  module _ (above_lowest : r FRAME ≢ r LOWEST) where
+    not_all : suc (length c.frames) ≢ calls
+    not_all all = above_lowest (omega (arith, all, s.base_is, s.lowest, here_lies.1))
 
-  module _ (left_some : 0 < r CALLS) where
     deeper : suc (suc (length c.frames)) ≤ calls
-    deeper = omega (arith, s.left, left_some)
+    deeper = omega (arith, s.deep, not_all)
 
     abbrev r1 : Words
     r1 = after_r entry r w
 
-    abbrev w1 : Contents
-    w1 = after_w entry r w
-
-    entered_left : r1 CALLS ≡ r CALLS - 1
-    entered_left = take_small (r CALLS) 1 (omega (arith, s.left)) (omega arith) (omega arith) (omega (arith, left_some))
-
     entered_base : r1 FRAME ≡ low
     entered_base =
-        ap (λ (x : ℕ). add_of x (sign_extended (minus (4 * its.words)))) s.base_is
-        ∙ take_small base (4 * its.words) (omega (arith, here_lies.0)) (omega (arith, some)) (omega (arith, room)) (omega (arith, low_is, room, here_lies.1, s.deep))
-
-    saved : w1 ≡ written w (base + 4 * mine.return_address) (r RETURN_ADDRESS)
-    saved = ap (λ (a : ℕ). written w a (r RETURN_ADDRESS)) (return_address program well frames fit addresses pages calls few c r w base (r RETURN_ADDRESS) (suc (length c.frames)) c.active.slots s)
-
-    -- the caller stands as before, with its return address in its frame
-    s1 : Standing program frames addresses pages calls c r w1 base (r RETURN_ADDRESS) (suc (length c.frames)) c.active.slots
-    s1 = subst (λ (x : Contents). Standing program frames addresses pages calls c r x base (r RETURN_ADDRESS) (suc (length c.frames)) c.active.slots) (sym saved)
-        (standing_return program well frames fit addresses pages calls few c r w base (r RETURN_ADDRESS) (suc (length c.frames)) c.active.slots s (r RETURN_ADDRESS) refl)
+        ap (λ (x : ℕ). add_of x (sign_extended (minus frame_size))) s.base_is
+        ∙ take_small base frame_size (omega (arith, here_lies.0)) (omega arith) (omega arith) (omega (arith, low_is))
 
     -- the arguments are in memory and in registers as before
-    argument_there : (slot : ℕ) → slot < count → passed_from mine its (arguments + slot) (0 + slot) ≡ None → w1.words (base + slot_offset mine (arguments + slot)) ≡ c.active.slots (arguments + slot)
-    argument_there slot below none =
-        ap (λ (m : Contents). m.words (base + slot_offset mine (arguments + slot))) saved
-        ∙ (put-other w.words (base + 4 * mine.return_address) (base + slot_offset mine (arguments + slot)) (r RETURN_ADDRESS)
-        (λ e. (fit.each c.active.function s.known).beside (arguments + slot) (omega (arith, below, in_range.arguments_in_range)) (omega (arith, e)))
-        ∙ there slot below (ap (passed_from mine its (arguments + slot)) (let e : slot ≡ 0 + slot = omega arith in e) ∙ none))
+    argument_there : (slot : ℕ) → slot < count → passed_from mine its (arguments + slot) (0 + slot) ≡ None → w.words (base + slot_offset mine (arguments + slot)) ≡ c.active.slots (arguments + slot)
+    argument_there slot below none = there slot below (ap (passed_from mine its (arguments + slot)) (let e : slot ≡ 0 + slot = omega arith in e) ∙ none)
 
     argument_held : (slot k : ℕ) → slot < count → passed_from mine its (arguments + slot) (0 + slot) ≡ Some k
-        → (8 ≤ k) × (k < 24) × (r1 k ≡ c.active.slots (arguments + slot)) × IsWord (c.active.slots (arguments + slot))
+        → (6 ≤ k) × (k < 24) × (r1 k ≡ c.active.slots (arguments + slot)) × IsWord (c.active.slots (arguments + slot))
     argument_held slot k below some =
         let (k_low, high, is, fits) = held slot k below (ap (passed_from mine its (arguments + slot)) (let e : slot ≡ 0 + slot = omega arith in e) ∙ some) in
-        (k_low, high, put-other (put r CALLS _) FRAME k _ (λ e. absurd (omega (arith, e, high))) ∙ (put-other r CALLS k _ (λ e. absurd (omega (arith, e, high))) ∙ is), fits)
+        (k_low, high, put-other r FRAME k _ (λ e. absurd (omega (arith, e, high))) ∙ is, fits)
 
-    callee_cell : (word : ℕ) → word < its.words → IsCell globals_length (words_per_call * calls) (low + 4 * word)
-    callee_cell word below = inr ((omega (arith, low_is, here_lies.2)), (omega (arith, low_is, here_lies.1, deeper, room)), (omega (arith, low_is, here_lies.0, below)))
+    callee_cell : (word : ℕ) → word < MOST_FRAME_WORDS → IsCell globals_length (words_per_call * calls) (low + 4 * word)
+    callee_cell word below = inr ((omega (arith, low_is, here_lies.2)), (omega (arith, low_is, here_lies.1, deeper)), (omega (arith, low_is, here_lies.0, below)))
 
     caller_cell : (slot : ℕ) → slot < (routine_at program c.active.function).slots → IsCell globals_length (words_per_call * calls) (base + slot_offset mine slot)
-    caller_cell slot below = word_cell program well frames fit addresses pages calls few c r w base (r RETURN_ADDRESS) (suc (length c.frames)) c.active.slots s (slot_word mine slot) ((fit.each c.active.function s.known).inside slot below)
+    caller_cell slot below = word_cell program well frames fit addresses pages calls few c r w base back (keeps_back frames c) c.active.slots s (slot_word mine slot) (slot_inside program well frames fit addresses pages calls few c r w base back (keeps_back frames c) c.active.slots s slot below)
 
-    copied_now : Copied globals_length (words_per_call * calls) mine its low base c.active.slots arguments 0 count r1 w1
+    copied_now : Copied globals_length (words_per_call * calls) mine its low base c.active.slots arguments 0 count r1 w
     copied_now =
         let frame = fit.each callee in_range.function_in_range in
         let own = fit.each c.active.function s.known in
         copied_all globals_length (words_per_call * calls) mine its (routine_at program c.active.function).slots (routine_at program callee).slots low base low_is
-        (omega (arith, frame.within, frame.small)) (omega (arith, own.within, own.small)) (omega (arith, here_lies.0)) own.inside frame.inside frame.apart
-        caller_cell (λ slot below. callee_cell (slot_word its slot) (frame.inside slot below)) its_right.low its_right.high
-        c.active.slots arguments 0 count r1 w1 s.zero_is entered_base in_range.arguments_in_range
+        (omega (arith, here_lies.0)) (λ slot below. omega (arith, own.inside slot below, own.small)) (λ slot below. omega (arith, frame.inside slot below, frame.small)) frame.apart
+        caller_cell (λ slot below. callee_cell (slot_word its slot) (omega (arith, frame.inside slot below, frame.small))) its_right.low its_right.high
+        c.active.slots arguments 0 count r1 w s.zero_is entered_base in_range.arguments_in_range
         (let takes = in_range.takes in let parameters = (well.functions callee no_routine in_range.function_in_range).parameters in omega (arith, takes, parameters))
         argument_there argument_held
 
     abbrev r2 : Words
-    r2 = after_r passed r1 w1
+    r2 = after_r passed r1 w
 
     abbrev w2 : Contents
-    w2 = after_w passed r1 w1
+    w2 = after_w passed r1 w
 
     abbrev r3 : Words
-    r3 = put r2 RETURN_ADDRESS (addresses (here + 3 + 3 + length passed + 1))
+    r3 = put r2 RETURN_ADDRESS (addresses (here + 3 + 1 + length passed + 1))
 
     -- what is in the new slots before they are written
     abbrev choice : Choice
@@ -243,17 +220,20 @@ module _ (program : Program) (well : IsWellFormed program) (frames : List Frame)
       frames = record { caller = (advanced c).active; result = result } ∷ c.frames;
     }
 
-    line_is : here + 3 + 3 + length passed + 1 ≡ behind_line program frames c.active.function c.active.next callee arguments count result
+    line_is : here + 3 + 1 + length passed + 1 ≡ behind_line program frames c.active.function c.active.next callee arguments count result
     line_is = omega (arith, length_copies mine its arguments 0 count, here_is)
 
-    above_kept : (a : ℕ) → base ≤ a → w2.words a ≡ w1.words a
+    above_kept : (a : ℕ) → base ≤ a → w2.words a ≡ w.words a
     above_kept a over = copied_now.outside a (inr over)
 
-    own_chain : Chain program frames addresses w2 base (r RETURN_ADDRESS) c.active.function c.frames
-    own_chain = chain_kept program frames fit addresses w1 w2 base (r RETURN_ADDRESS) c.active.function c.frames (λ a over. above_kept a (omega (arith, over))) s1.chain
+    own_chain : Chain program frames addresses w2 base back c.active.function c.frames
+    own_chain = chain_kept program frames fit addresses w w2 base back c.active.function c.frames (λ a over. above_kept a (omega (arith, over))) s.chain
 
-    saved_is : w2.words (base + 4 * mine.return_address) ≡ r RETURN_ADDRESS
-    saved_is = above_kept (base + 4 * mine.return_address) (omega arith) ∙ (ap (λ (m : Contents). m.words (base + 4 * mine.return_address)) saved ∙ put-same w.words (base + 4 * mine.return_address) (r RETURN_ADDRESS))
+    -- the caller's way back is in its frame
+    saved_is : w2.words (base + 4 * mine.return_address) ≡ back
+    saved_is =
+        let saved = saves_at program frames fit c.active.function c.active.next (plain.Call callee arguments count result) s.known at_i refl in
+        above_kept (base + 4 * mine.return_address) (omega arith) ∙ subst (λ (b : Bool). IsBack b mine r w base back) saved s.way
 
     new_holds : Holds program frames callee low w2 (copied c.active.slots arguments count choice.contents 0)
     new_holds slot below slot_kept = elim (cases_lt slot count) [
@@ -275,7 +255,7 @@ module _ (program : Program) (well : IsWellFormed program) (frames : List Frame)
       refl,
       ap addresses line_is,
       subst (λ (b : ℕ). Holds program frames c.active.function b w2 c.active.slots) (sym low_is)
-          (λ slot below slot_kept. above_kept (base + slot_offset mine slot) (omega arith) ∙ s1.holds slot below slot_kept),
+          (λ slot below slot_kept. above_kept (base + slot_offset mine slot) (omega arith) ∙ s.holds slot below slot_kept),
       subst (λ (b : ℕ). Chain program frames addresses w2 b (w2.words (b + 4 * mine.return_address)) c.active.function c.frames) (sym low_is)
           (subst (λ (x : ℕ). Chain program frames addresses w2 base x c.active.function c.frames) (sym saved_is) own_chain),
     )
@@ -283,39 +263,37 @@ module _ (program : Program) (well : IsWellFormed program) (frames : List Frame)
     newest_same : r3 HANDLERS ≡ r HANDLERS
     newest_same = copied_now.kept HANDLERS (inr (omega arith))
 
-    entered_newest : IsNewest program frames addresses calls (r3 HANDLERS) low callee [] (record { caller = (advanced c).active; result = result } ∷ c.frames)
+    entered_newest : IsNewest program frames addresses (r3 HANDLERS) low callee [] (record { caller = (advanced c).active; result = result } ∷ c.frames)
     entered_newest =
-        subst (λ (b : ℕ). IsNewest program frames addresses calls (r3 HANDLERS) b c.active.function c.active.handlers c.frames) (sym low_is)
-        (subst (λ (n : ℕ). IsNewest program frames addresses calls n base c.active.function c.active.handlers c.frames) (sym newest_same) s.newest)
+        subst (λ (b : ℕ). IsNewest program frames addresses (r3 HANDLERS) b c.active.function c.active.handlers c.frames) (sym low_is)
+        (subst (λ (n : ℕ). IsNewest program frames addresses n base c.active.function c.active.handlers c.frames) (sym newest_same) s.newest)
 
-    entered_stands : Standing program frames addresses pages calls entered r3 w2 low (r3 RETURN_ADDRESS) (suc (suc (length c.frames))) (copied c.active.slots arguments count choice.contents 0)
+    entered_stands : Standing program frames addresses pages calls entered r3 w2 low (r3 RETURN_ADDRESS) false (copied c.active.slots arguments count choice.contents 0)
     entered_stands = record {
       known = in_range.function_in_range;
       base_is = copied_now.kept FRAME (inr (omega arith)) ∙ entered_base;
       zero_is = copied_now.kept 0 (inl (omega arith)) ∙ s.zero_is;
-      left = left_is (r3 CALLS) (copied_now.kept CALLS (inr (omega arith)) ∙ entered_left);
+      lowest = ap (λ (n : ℕ). n + frame_size * calls) (copied_now.kept LOWEST (inr (omega arith))) ∙ s.lowest;
       deep = deeper;
       holds = new_holds;
       chain = new_chain;
       newest = entered_newest;
-      kept = tt;
+      way = refl;
       based = (refl, subst (λ (b : ℕ). AreBased frames b c.active.function c.active.base c.frames) (sym low_is) s.based);
-      globals = λ global below. copied_now.outside (data_base + 4 * global) (inl (omega (arith, below, well.globals, low_is, room, here_lies.1, deeper))) ∙ s1.globals global below;
+      globals = λ global below. copied_now.outside (data_base + 4 * global) (inl (omega (arith, below, well.globals, low_is, here_lies.1, deeper))) ∙ s.globals global below;
       input = s.input;
-      store = copied_now.store ∙ s1.store;
+      store = copied_now.store ∙ s.store;
       laid = s.laid;
       counted = copied_now.kept REGIONS (inr (omega arith)) ∙ s.counted;
+      middle = copied_now.kept GLOBALS (inr (omega arith)) ∙ s.middle;
     }
-      where
-        left_is : (n : ℕ) → n ≡ r CALLS - 1 → n + suc (suc (length c.frames)) ≡ calls
-        left_is n is = omega (arith, is, s.left, left_some)
 
     -- its parameters are in their registers, where they are wanted
     entered_caches : Caches program frames callee 0 r3 (copied c.active.slots arguments count choice.contents 0)
     entered_caches slot k has wanted =
         let below : slot < count = (let takes = in_range.takes in omega (arith, takes, its_right.entry slot k has wanted)) in
         let zero_slot : slot ≡ 0 + slot = omega arith in
-        put-other r2 RETURN_ADDRESS k (addresses (here + 3 + 3 + length passed + 1)) (λ e. absurd (omega (arith, e, its_right.high slot k has)))
+        put-other r2 RETURN_ADDRESS k (addresses (here + 3 + 1 + length passed + 1)) (λ e. absurd (omega (arith, e, its_right.high slot k has)))
         ∙ (copied_now.values slot k below (ap (value_register its) (sym zero_slot) ∙ has)
         (λ i i_below there.
         its_right.parameters slot i k has (ap (value_register its) (let e : i ≡ 0 + i = omega arith in e) ∙ there) (let takes = in_range.takes in omega (arith, takes, i_below)) wanted)
@@ -327,7 +305,7 @@ module _ (program : Program) (well : IsWellFormed program) (frames : List Frame)
         let fits = slots_fit (routine_at program callee) its (fit.each callee in_range.function_in_range) in
         record {
           aligned = omega (arith, low_is, here_lies.2);
-          low = omega (arith, low_is, here_lies.1, deeper, room);
+          low = omega (arith, low_is, here_lies.1, deeper);
           high = omega (arith, low_is, place_is, fits);
         }
 
@@ -336,44 +314,42 @@ module _ (program : Program) (well : IsWellFormed program) (frames : List Frame)
         reached program well frames fit code formed addresses pages calls few c choice (plain.Call callee arguments count result) (states.Running entered) (Running d)
         (called_at program c callee choice (ap callee_of at_i) (λ slot. later.w_words (low + slot_offset its slot)) new_below) at_i refl
         (within program well frames fit code formed addresses pages calls few entered s.laid.paged deeper)
-        (inl (record {
+        (inr (inr (inr (record {
           run = d;
           r = r3;
           w = w2;
           base = low;
           is = refl;
-          now = now_at code formed addresses globals_length (words_per_call * calls) (function_line program frames callee) (instruction_line program frames callee 0) c.output c.input r3 w2 d (sym (line_first program frames callee)) later;
+          first = refl;
+          now = later;
           standing = entered_stands;
           caches = entered_caches;
-        }))
+        }))))
 
-    room_goes : (d : labelled.Configuration) → AtLine (here + 3) r w d → Goes 0 (suc here) (here + (7 + copies_count (frame_at frames c.active.function) (frame_at frames callee) arguments 0 count)) (Running d)
+    room_goes : (d : labelled.Configuration) → AtLine (here + 3) r w d → Goes 0 (suc here) (here + (5 + copies_count (frame_at frames c.active.function) (frame_at frames callee) arguments 0 count)) (Running d)
     room_goes d later =
-        walk_few code formed addresses globals_length (words_per_call * calls) 0 (3 + (length passed + 1)) (suc here) (here + (7 + copies_count (frame_at frames c.active.function) (frame_at frames callee) arguments 0 count)) c.output _ (Running d) (omega arith)
-        (walk_block code formed addresses globals_length (words_per_call * calls) entry (length passed + 1) (here + 3) (suc here) (here + (7 + copies_count (frame_at frames c.active.function) (frame_at frames callee) arguments 0 count)) c.output c.input _ r w d later
+        walk_few code formed addresses globals_length (words_per_call * calls) 0 (1 + (length passed + 1)) (suc here) (here + (5 + copies_count (frame_at frames c.active.function) (frame_at frames callee) arguments 0 count)) c.output _ (Running d) (omega arith)
+        (walk_block code formed addresses globals_length (words_per_call * calls) entry (length passed + 1) (here + 3) (suc here) (here + (5 + copies_count (frame_at frames c.active.function) (frame_at frames callee) arguments 0 count)) c.output c.input _ r w d later
         (stands_front code (here + 3) (ordinary entry) (ordinary passed ++ call_line) at_entry)
-        (return_cell program well frames fit addresses pages calls few c r w base (r RETURN_ADDRESS) (suc (length c.frames)) c.active.slots s, (refl, (refl, tt))) (omega arith)
+        (refl, tt) (omega arith)
         (λ e after.
-        walk_block code formed addresses globals_length (words_per_call * calls) passed 1 (here + 3 + 3) (here + 3 + 3) (here + (7 + copies_count (frame_at frames c.active.function) (frame_at frames callee) arguments 0 count)) c.output c.input _ r1 w1 e after
-        (stands_front code (here + 3 + 3) (ordinary passed) call_line at_passed) copied_now.safe (omega arith)
+        walk_block code formed addresses globals_length (words_per_call * calls) passed 1 (here + 3 + 1) (here + 3 + 1) (here + (5 + copies_count (frame_at frames c.active.function) (frame_at frames callee) arguments 0 count)) c.output c.input _ r1 w e after
+        (stands_front code (here + 3 + 1) (ordinary passed) call_line at_passed) copied_now.safe (omega arith)
         (λ f there.
-        walk_call code formed addresses globals_length (words_per_call * calls) 0 (here + 3 + 3 + length passed) (here + 3 + 3 + length passed) (here + (7 + copies_count (frame_at frames c.active.function) (frame_at frames callee) arguments 0 count)) c.output c.input _ r2 w2 f (function_line program frames callee) there at_call (omega arith)
+        walk_call code formed addresses globals_length (words_per_call * calls) 0 (here + 3 + 1 + length passed) (here + 3 + 1 + length passed) (here + (5 + copies_count (frame_at frames c.active.function) (frame_at frames callee) arguments 0 count)) c.output c.input _ r2 w2 f (function_line program frames callee) there at_call (omega arith)
         (omega (arith, ap addresses line_is, lie.below (behind_line program frames c.active.function c.active.next callee arguments count result) inside))
         (λ g called.
-        walk_end code formed addresses globals_length (words_per_call * calls) (suc (here + 3 + 3 + length passed)) (here + (7 + copies_count (frame_at frames c.active.function) (frame_at frames callee) arguments 0 count)) c.output _ (Running g) (omega (arith, length_copies mine its arguments 0 count))
+        walk_end code formed addresses globals_length (words_per_call * calls) (suc (here + 3 + 1 + length passed)) (here + (5 + copies_count (frame_at frames c.active.function) (frame_at frames callee) arguments 0 count)) c.output _ (Running g) (omega (arith, length_copies mine its arguments 0 count))
         (enters g called)))))
 
-  pub calling_goes : Goes 1 here (here + (7 + copies_count (frame_at frames c.active.function) (frame_at frames callee) arguments 0 count)) (Running run)
-  calling_goes = elim (cases_eq (r CALLS) 0) [
-    | inl none ↦
-        let stays : (if not (r CALLS == r 0) then here + 3 else here + 1) ≡ here + 1 = ap (λ (b : Bool). if not b then here + 3 else here + 1) (eq-eqb (r CALLS) (r 0) (none ∙ sym s.zero_is)) in
-        walk_branch code formed addresses globals_length (words_per_call * calls) 0 here here (here + (7 + copies_count (frame_at frames c.active.function) (frame_at frames callee) arguments 0 count)) c.output c.input _ r w run (conditions.Registers branch.NotEqual (register_of CALLS) (register_of 0)) (here + 3) (here + 1) now stands.0 (omega arith) stays
-        (λ d later. full_goes d none later)
+  pub calling_goes : Goes 1 here (here + (5 + copies_count (frame_at frames c.active.function) (frame_at frames callee) arguments 0 count)) (Running run)
+  calling_goes = elim (cases_eq (r FRAME) (r LOWEST)) [
+    | inl lowest ↦
+        let stays : (if not (r FRAME == r LOWEST) then here + 3 else here + 1) ≡ here + 1 = ap (λ (b : Bool). if not b then here + 3 else here + 1) (eq-eqb (r FRAME) (r LOWEST) lowest) in
+        walk_branch code formed addresses globals_length (words_per_call * calls) 0 here here (here + (5 + copies_count (frame_at frames c.active.function) (frame_at frames callee) arguments 0 count)) c.output c.input _ r w run (conditions.Registers branch.NotEqual (register_of FRAME) (register_of LOWEST)) (here + 3) (here + 1) now stands.0 (omega arith) stays
+        (λ d later. full_goes d lowest later)
     | inr other ↦
-        let leaps : (if not (r CALLS == r 0) then here + 3 else here + 1) ≡ here + 3 = ap (λ (b : Bool). if not b then here + 3 else here + 1) (ne_eqb (r CALLS) (r 0) (λ e. other (e ∙ s.zero_is))) in
-        walk_branch code formed addresses globals_length (words_per_call * calls) 0 here here (here + (7 + copies_count (frame_at frames c.active.function) (frame_at frames callee) arguments 0 count)) c.output c.input _ r w run (conditions.Registers branch.NotEqual (register_of CALLS) (register_of 0)) (here + 3) (here + 3) now stands.0 (omega arith) leaps
-        (λ d later. room_goes (positive (r CALLS) other) d later)
+        let leaps : (if not (r FRAME == r LOWEST) then here + 3 else here + 1) ≡ here + 3 = ap (λ (b : Bool). if not b then here + 3 else here + 1) (ne_eqb (r FRAME) (r LOWEST) other) in
+        walk_branch code formed addresses globals_length (words_per_call * calls) 0 here here (here + (5 + copies_count (frame_at frames c.active.function) (frame_at frames callee) arguments 0 count)) c.output c.input _ r w run (conditions.Registers branch.NotEqual (register_of FRAME) (register_of LOWEST)) (here + 3) (here + 3) now stands.0 (omega arith) leaps
+        (λ d later. room_goes other d later)
   ]
-    where
-      positive : (n : ℕ) → n ≢ 0 → 0 < n
-      positive n other = omega (arith, other)

@@ -1,5 +1,5 @@
 -- Arguments on their way from a caller, by registers or from its frame, to the slots of the frame below it.
-use Rattle.std.proofs.Common.{◌≡◌, ◌≢◌, ℕ, zero, suc, ◌+◌, ◌*◌, ◌%◌, ◌^◌, ◌<◌, ◌≤◌, Bool, true, false, List, [], ◌∷◌, ◌++◌, Option, Some, None, refl, sym, ap, subst, ◌∙◌, arith, inl, inr}
+use Rattle.std.proofs.Common.{◌≡◌, ◌≢◌, ℕ, zero, suc, ◌+◌, ◌%◌, ◌^◌, ◌<◌, ◌≤◌, Bool, true, false, List, [], ◌∷◌, ◌++◌, Option, Some, None, refl, sym, ap, subst, ◌∙◌, arith, inl, inr}
 use Rattle.std.specs.Prelude.{◌⊎◌, ◌==◌, ◌||◌, if◌then◌else◌}
 use Rattle.std.proofs.lemmas.Bool.{cases_eq, eqb-false, ne_eqb, false≢true}
 use Rattle.cyc_words.specs.Word.{IsWord, add_of}
@@ -10,11 +10,13 @@ use Rattle.cyc_plain.specs.State.{Words, put}
 use Rattle.cyc_plain.proofs.SlotLaws.{put-same, put-other}
 use Rattle.cyc_frame.specs.Layout.{slot_word}
 use Rattle.cyc_frame.specs.Frame.{Frame}
+use Rattle.cyc_frame.specs.declared.frame.TheConstants.{MOST_FRAME_WORDS}
 use Rattle.cyc_select.specs.Selection.{value_register, or_else, is_kept, made_in, slot_offset, load, store_slot, copy, keep_code, give_to, is_taken, free_register, passed_from, pass_from, pass, copies}
 use Rattle.cyc_select.proofs.values.Blocks.{safe_append}
 use Rattle.cyc_select.proofs.relation.Cells.{IsCell}
 use Rattle.cyc_select.proofs.values.Operations.{address_at}
 use Rattle.cyc_select.proofs.effects.Views.{Contents}
+use Rattle.cyc_select.proofs.relation.Standing.{frame_size}
 use Rattle.cyc_select.proofs.relation.Values.{made_is}
 use Rattle.cyc_select.proofs.effects.Walks.{after_r, after_w, after_r-append, after_w-append, AreSafe}
 
@@ -43,7 +45,7 @@ is_free (Some register) callee slot k from = go (is_taken callee slot register) 
 -- what the copies do to registers and memory, where the arguments have these values
 pub record Copied (globals stack : ℕ) (caller callee : Frame) (low base : ℕ) (v : ℕ → ℕ) (source slot count : ℕ) (q : Words) (m : Contents) : Type 0 where
   pub safe : AreSafe globals stack (copies caller callee source slot count) q m
-  pub kept : (n : ℕ) → n < 8 ⊎ 24 < n → after_r (copies caller callee source slot count) q m n ≡ q n
+  pub kept : (n : ℕ) → n < 6 ⊎ 24 < n → after_r (copies caller callee source slot count) q m n ≡ q n
   pub outside : (a : ℕ) → a < low ⊎ base ≤ a → (after_w (copies caller callee source slot count) q m).words a ≡ m.words a
   pub before : (j : ℕ) → j < slot → (after_w (copies caller callee source slot count) q m).words (low + slot_offset callee j) ≡ m.words (low + slot_offset callee j)
   pub inside : (j : ℕ) → j < count → is_kept callee (slot + j) ≡ true → (after_w (copies caller callee source slot count) q m).words (low + slot_offset callee (slot + j)) ≡ v (source + j)
@@ -51,26 +53,25 @@ pub record Copied (globals stack : ℕ) (caller callee : Frame) (low base : ℕ)
   -- each register that only one of these slots has got that slot's word; one that none has is as before
   pub values : (j k : ℕ) → j < count → value_register callee (slot + j) ≡ Some k → ((i : ℕ) → i < count → value_register callee (slot + i) ≡ Some k → j ≡ i)
       → after_r (copies caller callee source slot count) q m k ≡ v (source + j)
-  pub spares : (k : ℕ) → 8 ≤ k → k < 24 → ((i : ℕ) → i < count → value_register callee (slot + i) ≡ Some k → ⊥) → after_r (copies caller callee source slot count) q m k ≡ q k
+  pub spares : (k : ℕ) → 6 ≤ k → k < 24 → ((i : ℕ) → i < count → value_register callee (slot + i) ≡ Some k → ⊥) → after_r (copies caller callee source slot count) q m k ≡ q k
 
 -- Two frames, one right below the other; both lie in the stack.
-module _ (globals stack : ℕ) (caller callee : Frame) (caller_slots callee_slots : ℕ) (low base : ℕ) (above : low + 4 * callee.words ≡ base)
-    (small : callee.words ≤ 256) (caller_small : caller.words ≤ 256) (word : base + 4 * caller.words < 2 ^ 32)
-    (caller_inside : (slot : ℕ) → slot < caller_slots → slot_word caller slot < caller.words)
-    (callee_inside : (slot : ℕ) → slot < callee_slots → slot_word callee slot < callee.words)
+module _ (globals stack : ℕ) (caller callee : Frame) (caller_slots callee_slots : ℕ) (low base : ℕ) (above : low + frame_size ≡ base) (word : base + frame_size < 2 ^ 32)
+    (caller_inside : (slot : ℕ) → slot < caller_slots → slot_word caller slot < MOST_FRAME_WORDS)
+    (callee_inside : (slot : ℕ) → slot < callee_slots → slot_word callee slot < MOST_FRAME_WORDS)
     (apart : (a b : ℕ) → a < callee_slots → b < callee_slots → slot_word callee a ≡ slot_word callee b → a ≡ b)
     (caller_cell : (slot : ℕ) → slot < caller_slots → IsCell globals stack (base + slot_offset caller slot))
     (callee_cell : (slot : ℕ) → slot < callee_slots → IsCell globals stack (low + slot_offset callee slot))
-    (from_low : (slot k : ℕ) → value_register callee slot ≡ Some k → 8 ≤ k) (below_high : (slot k : ℕ) → value_register callee slot ≡ Some k → k < 24) where
+    (from_low : (slot k : ℕ) → value_register callee slot ≡ Some k → 6 ≤ k) (below_high : (slot k : ℕ) → value_register callee slot ≡ Some k → k < 24) where
   -- each comes by a register that no call keeps
-  made_range : (slot : ℕ) → (8 ≤ made_in callee slot % 32) × (made_in callee slot % 32 ≤ 24)
+  made_range : (slot : ℕ) → (6 ≤ made_in callee slot % 32) × (made_in callee slot % 32 ≤ 24)
   made_range slot = go (value_register callee slot) refl
     where
-      go : (o : Option ℕ) → value_register callee slot ≡ o → (8 ≤ or_else o FIRST % 32) × (or_else o FIRST % 32 ≤ 24)
+      go : (o : Option ℕ) → value_register callee slot ≡ o → (6 ≤ or_else o FIRST % 32) × (or_else o FIRST % 32 ≤ 24)
       go None none = ((omega arith), (omega arith))
       go (Some k) has = ((omega (arith, from_low slot k has, below_high slot k has)), (omega (arith, from_low slot k has, below_high slot k has)))
 
-  not_made : (slot n : ℕ) → n < 8 ⊎ 24 < n → n ≢ made_in callee slot % 32
+  not_made : (slot n : ℕ) → n < 6 ⊎ 24 < n → n ≢ made_in callee slot % 32
   not_made slot n (inl below) same = omega (arith, below, same, (made_range slot).0)
   not_made slot n (inr above) same = omega (arith, above, same, (made_range slot).1)
 
@@ -84,16 +85,16 @@ module _ (globals stack : ℕ) (caller callee : Frame) (caller_slots callee_slot
       go None none same = absurd (omega (arith, same, high))
       go (Some j) has same = other (has ∙ ap Some (let e : j ≡ k = omega (arith, same, below_high slot j has) in e))
 
-  from_caller : (q : Words) (slot : ℕ) → q FRAME ≡ low → slot < caller_slots → memory_address (q FRAME) (4 * callee.words + slot_offset caller slot) ≡ base + slot_offset caller slot
+  from_caller : (q : Words) (slot : ℕ) → q FRAME ≡ low → slot < caller_slots → memory_address (q FRAME) (frame_size + slot_offset caller slot) ≡ base + slot_offset caller slot
   from_caller q slot is_low below =
-      ap (λ (x : ℕ). memory_address x (4 * callee.words + slot_offset caller slot)) is_low
-      ∙ (address_at low (4 * callee.words + slot_offset caller slot) (omega (arith, small, caller_small, caller_inside slot below)) (omega (arith, above, word, caller_inside slot below))
-      ∙ (let e : low + (4 * callee.words + slot_offset caller slot) ≡ base + slot_offset caller slot = omega (arith, above) in e))
+      ap (λ (x : ℕ). memory_address x (frame_size + slot_offset caller slot)) is_low
+      ∙ (address_at low (frame_size + slot_offset caller slot) (omega (arith, caller_inside slot below)) (omega (arith, above, word, caller_inside slot below))
+      ∙ (let e : low + (frame_size + slot_offset caller slot) ≡ base + slot_offset caller slot = omega (arith, above) in e))
 
   to_callee : (q : Words) (slot : ℕ) → q FRAME ≡ low → slot < callee_slots → memory_address (q FRAME) (slot_offset callee slot) ≡ low + slot_offset callee slot
   to_callee q slot is_low below =
       ap (λ (x : ℕ). memory_address x (slot_offset callee slot)) is_low
-      ∙ address_at low (slot_offset callee slot) (omega (arith, small, callee_inside slot below)) (omega (arith, above, word, callee_inside slot below))
+      ∙ address_at low (slot_offset callee slot) (omega (arith, callee_inside slot below)) (omega (arith, above, word, callee_inside slot below))
 
   -- ---- a word in the callee's slot, where that lives in memory
 
@@ -124,7 +125,7 @@ module _ (globals stack : ℕ) (caller callee : Frame) (caller_slots callee_slot
 
   record Passes (is : List Instr) (slot : ℕ) (q : Words) (m : Contents) (value : ℕ) : Type 0 where
     pub safe : AreSafe globals stack is q m
-    pub kept : (n : ℕ) → n < 8 ⊎ 24 < n → after_r is q m n ≡ q n
+    pub kept : (n : ℕ) → n < 6 ⊎ 24 < n → after_r is q m n ≡ q n
     pub made : (k : ℕ) → value_register callee slot ≡ Some k → after_r is q m k ≡ value
     pub others : (n : ℕ) → n < 24 → (value_register callee slot ≡ Some n → ⊥) → after_r is q m n ≡ q n
     pub outside : (a : ℕ) → a ≢ low + slot_offset callee slot → (after_w is q m).words a ≡ m.words a
@@ -154,7 +155,7 @@ module _ (globals stack : ℕ) (caller callee : Frame) (caller_slots callee_slot
 
   one_passed : (source slot : ℕ) (q : Words) (m : Contents) (value : ℕ) → q 0 ≡ 0 → q FRAME ≡ low → source < caller_slots → slot < callee_slots
       → (passed_from caller callee source slot ≡ None → m.words (base + slot_offset caller source) ≡ value)
-      → ((k : ℕ) → passed_from caller callee source slot ≡ Some k → (8 ≤ k) × (k < 24) × (q k ≡ value) × IsWord value)
+      → ((k : ℕ) → passed_from caller callee source slot ≡ Some k → (6 ≤ k) × (k < 24) × (q k ≡ value) × IsWord value)
       → Passes (pass caller callee source slot) slot q m value
   one_passed source slot q m value zero_is is_low source_below slot_below there held = go (passed_from caller callee source slot) refl
     where
@@ -186,7 +187,7 @@ module _ (globals stack : ℕ) (caller callee : Frame) (caller_slots callee_slot
       go : (o : Option ℕ) → passed_from caller callee source slot ≡ o → Passes (pass_from o caller callee source slot) slot q m value
       go None none =
           let from = from_caller q source is_low source_below in
-          through (load (made_in callee slot) (4 * callee.words + slot_offset caller source)) slot q m value (m.words (memory_address (q FRAME) (4 * callee.words + slot_offset caller source))) is_low slot_below
+          through (load (made_in callee slot) (frame_size + slot_offset caller source)) slot q m value (m.words (memory_address (q FRAME) (frame_size + slot_offset caller source))) is_low slot_below
           ((ne_eqb (made_in callee slot % 32) 0 (λ e. absurd (omega (arith, e, (made_range slot).0))), subst (IsCell globals stack) (sym from) (caller_cell source source_below)), tt)
           refl refl (ap m.words from ∙ there none)
       go (Some k) some = let (k_low, high, is, fits) = held k some in given (value_register callee slot) k refl (high, is, fits)
@@ -199,7 +200,7 @@ module _ (globals stack : ℕ) (caller callee : Frame) (caller_slots callee_slot
 
   abbrev pub AreHeld : (v : ℕ → ℕ) (source slot count : ℕ) (q : Words) → Type 0
   AreHeld v source slot count q =
-      (j k : ℕ) → j < count → passed_from caller callee (source + j) (slot + j) ≡ Some k → (8 ≤ k) × (k < 24) × (q k ≡ v (source + j)) × IsWord (v (source + j))
+      (j k : ℕ) → j < count → passed_from caller callee (source + j) (slot + j) ≡ Some k → (6 ≤ k) × (k < 24) × (q k ≡ v (source + j)) × IsWord (v (source + j))
 
   pub copied_all : (v : ℕ → ℕ) (source slot count : ℕ) (q : Words) (m : Contents) → q 0 ≡ 0 → q FRAME ≡ low → source + count ≤ caller_slots → slot + count ≤ callee_slots
       → AreThere v source slot count m → AreHeld v source slot count q → Copied globals stack caller callee low base v source slot count q m
@@ -243,7 +244,7 @@ module _ (globals stack : ℕ) (caller callee : Frame) (caller_slots callee_slot
             ∙ one.others k high (λ taken. none 0 (omega arith) (ap (value_register callee) (let e : slot + 0 ≡ slot = omega arith in e) ∙ taken)));
       }
     where
-      out_of : (slot : ℕ) → slot_word callee slot < callee.words → (a : ℕ) → a < low ⊎ base ≤ a → a ≢ low + slot_offset callee slot
+      out_of : (slot : ℕ) → slot_word callee slot < MOST_FRAME_WORDS → (a : ℕ) → a < low ⊎ base ≤ a → a ≢ low + slot_offset callee slot
       out_of slot fits a (inl below) same = omega (arith, below, same)
       out_of slot fits a (inr over) same = omega (arith, over, same, above, fits)
 
@@ -257,7 +258,7 @@ module _ (globals stack : ℕ) (caller callee : Frame) (caller_slots callee_slot
           ap (λ (n : ℕ). m.words (base + slot_offset caller n)) (sym here)
           ∙ (there 0 (omega arith) (from_at source slot 0 source slot (omega arith) (omega arith) ∙ none) ∙ ap v here)
 
-      first_held : (v : ℕ → ℕ) (source slot count : ℕ) (q : Words) → AreHeld v source slot (suc count) q → (k : ℕ) → passed_from caller callee source slot ≡ Some k → (8 ≤ k) × (k < 24) × (q k ≡ v source) × IsWord (v source)
+      first_held : (v : ℕ → ℕ) (source slot count : ℕ) (q : Words) → AreHeld v source slot (suc count) q → (k : ℕ) → passed_from caller callee source slot ≡ Some k → (6 ≤ k) × (k < 24) × (q k ≡ v source) × IsWord (v source)
       first_held v source slot count q held k some =
           let here : source + 0 ≡ source = omega arith in
           let (k_low, high, is, fits) = held 0 k (omega arith) (from_at source slot 0 source slot (omega arith) (omega arith) ∙ some) in
@@ -272,7 +273,7 @@ module _ (globals stack : ℕ) (caller callee : Frame) (caller_slots callee_slot
 
       -- the registers of arguments behind the first are as before
       next_held : (v : ℕ → ℕ) (source slot count : ℕ) (q : Words) → AreHeld v source slot (suc count) q → (q1 : Words) → ((n : ℕ) → n < 24 → (value_register callee slot ≡ Some n → ⊥) → q1 n ≡ q n)
-          → (j k : ℕ) → j < count → passed_from caller callee (suc source + j) (suc slot + j) ≡ Some k → (8 ≤ k) × (k < 24) × (q1 k ≡ v (suc source + j)) × IsWord (v (suc source + j))
+          → (j k : ℕ) → j < count → passed_from caller callee (suc source + j) (suc slot + j) ≡ Some k → (6 ≤ k) × (k < 24) × (q1 k ≡ v (suc source + j)) × IsWord (v (suc source + j))
       next_held v source slot count q held q1 others j k below some =
           let next : source + suc j ≡ suc source + j = omega arith in
           let (k_low, high, is, fits) = held (suc j) k (omega (arith, below)) (from_at source slot (suc j) (suc source + j) (suc slot + j) (omega arith) (omega arith) ∙ some) in

@@ -99,7 +99,7 @@ moved_copied x destination source count ahead number = elim (cases_lt number des
 -- ---- the lines
 
 module _ (program : Program) (well : IsWellFormed program) (frames : List Frame) (fit : AreFrames program frames) (addresses : ℕ → ℕ) (pages calls : ℕ) (few : calls ≤ 4096)
-    (c : Configuration) (base back depth : ℕ) (right : AreHomes program (routine_at program c.active.function) (frame_at frames c.active.function).homes) where
+    (c : Configuration) (base back : ℕ) (in_frame : Bool) (right : AreHomes program (routine_at program c.active.function) (frame_at frames c.active.function).homes) where
   abbrev frame : Frame
   frame = frame_at frames c.active.function
 
@@ -110,7 +110,7 @@ module _ (program : Program) (well : IsWellFormed program) (frames : List Frame)
   Safe is q m = AreSafe globals_length (words_per_call * calls) is q m
 
   abbrev pub StandsWith : (q : Words) (m : Contents) (x : Words) → Type 0
-  StandsWith q m x = Standing program frames addresses pages calls c q m base back depth x
+  StandsWith q m x = Standing program frames addresses pages calls c q m base back in_frame x
 
   -- what a block has done that gives a slot a word
   record HasGiven (is : List Instr) (destination word : ℕ) (q : Words) (m : Contents) (x : Words) : Type 0 where
@@ -119,7 +119,7 @@ module _ (program : Program) (well : IsWellFormed program) (frames : List Frame)
     pub back_same : after_r is q m RETURN_ADDRESS ≡ q RETURN_ADDRESS
     pub lasts_same : lasting (after_r is q m) ≡ lasting q
     pub given : (k : ℕ) → value_register (frame_at frames c.active.function) destination ≡ Some k → after_r is q m k ≡ word
-    pub others : (n : ℕ) → 8 ≤ n → n < 24 → (value_register (frame_at frames c.active.function) destination ≡ Some n → ⊥) → after_r is q m n ≡ q n
+    pub others : (n : ℕ) → 6 ≤ n → n < 24 → (value_register (frame_at frames c.active.function) destination ≡ Some n → ⊥) → after_r is q m n ≡ q n
 
   -- a register into the slot's word in memory, where it lives there
   abbrev stored : Bool → (register destination : ℕ) → List Instr
@@ -131,31 +131,31 @@ module _ (program : Program) (well : IsWellFormed program) (frames : List Frame)
 
   module _ (q : Words) (m : Contents) (x : Words) (s : StandsWith q m x) (destination : ℕ) (below : destination < (routine_at program c.active.function).slots) where
     stored_safe : (b : Bool) (register : ℕ) → Safe (stored b register destination) q m
-    stored_safe true register = (slot_cell program well frames fit addresses pages calls few c q m base back depth x s destination below, tt)
+    stored_safe true register = (slot_cell program well frames fit addresses pages calls few c q m base back in_frame x s destination below, tt)
     stored_safe false register = tt
 
     stored_stands : (b : Bool) (register word : ℕ) → is_kept (frame_at frames c.active.function) destination ≡ b → q (register % 32) ≡ word
         → StandsWith q (after_w (stored b register destination) q m) (put x destination word)
     stored_stands true register word kept result =
-        let there = slot_address program well frames fit addresses pages calls few c q m base back depth x s destination below in
+        let there = slot_address program well frames fit addresses pages calls few c q m base back in_frame x s destination below in
         let puts : written m (memory_address (q FRAME) (slot_offset (frame_at frames c.active.function) destination)) (q (register % 32))
         ≡ written m (base + slot_offset (frame_at frames c.active.function) destination) word =
         ap (λ (a : ℕ). written m a (q (register % 32))) there ∙ ap (written m (base + slot_offset (frame_at frames c.active.function) destination)) result in
         subst (λ (y : Contents). StandsWith q y (put x destination word)) (sym puts)
-        (standing_slot program well frames fit addresses pages calls few c q m base back depth x s destination word below)
-    stored_stands false register word kept result = standing_unkept program well frames fit addresses pages calls few c q m base back depth x s destination word kept
+        (standing_slot program well frames fit addresses pages calls few c q m base back in_frame x s destination word below)
+    stored_stands false register word kept result = standing_unkept program well frames fit addresses pages calls few c q m base back in_frame x s destination word kept
 
   -- a block that leaves a word in a register, and the store of it
   block_gives : (q : Words) (m : Contents) (x : Words) → StandsWith q m x → (destination : ℕ) → destination < (routine_at program c.active.function).slots
       → (is : List Instr) (register but word : ℕ) → Keeps globals_length (words_per_call * calls) is q m but → after_r is q m (register % 32) ≡ word
       → (b : Bool) → is_kept (frame_at frames c.active.function) destination ≡ b
       → ((k : ℕ) → value_register (frame_at frames c.active.function) destination ≡ Some k → after_r is q m k ≡ word)
-      → ((n : ℕ) → 8 ≤ n → n < 24 → (value_register (frame_at frames c.active.function) destination ≡ Some n → ⊥) → n ≢ but)
+      → ((n : ℕ) → 6 ≤ n → n < 24 → (value_register (frame_at frames c.active.function) destination ≡ Some n → ⊥) → n ≢ but)
       → HasGiven (is ++ stored b register destination) destination word q m x
   block_gives q m x s destination below is register but word keeps result b kept cached aside =
       let q1 : Words = after_r is q m in
       let m1 : Contents = after_w is q m in
-      let in_q = standing_registers program well frames fit addresses pages calls few c q m base back depth x s q1 keeps.zero keeps.base keeps.left keeps.lasts in
+      let in_q = standing_registers program well frames fit addresses pages calls few c q m base back in_frame x s q1 keeps.zero keeps.base keeps.lowest (λ outside. keeps.back) keeps.lasts in
       let in_m : StandsWith q1 m1 x = subst (λ (y : Contents). StandsWith (after_r is q m) y x) (sym keeps.memory) in_q in
       let registers : after_r (is ++ stored b register destination) q m ≡ after_r is q m =
       after_r-append is (stored b register destination) q m ∙ stored_registers b register destination (after_r is q m) (after_w is q m) in
@@ -188,8 +188,8 @@ module _ (program : Program) (well : IsWellFormed program) (frames : List Frame)
       held_in : (o : Option ℕ) → value_register (frame_at frames c.active.function) source ≡ o
           → HeldIn globals_length (words_per_call * calls) o (frame_at frames c.active.function) (q FRAME) m q x source
       held_in None none = (
-        slot_cell program well frames fit addresses pages calls few c q m base back depth x s source source_below,
-        slot_word_is program well frames fit addresses pages calls few c q m base back depth x s source source_below (memory_kept (frame_at frames c.active.function) source none),
+        slot_cell program well frames fit addresses pages calls few c q m base back in_frame x s source source_below,
+        slot_word_is program well frames fit addresses pages calls few c q m base back in_frame x s source source_below (memory_kept (frame_at frames c.active.function) source none),
       )
       held_in (Some k) has = (right.low source k has, right.high source k has, cached k has, fits)
 
@@ -227,7 +227,7 @@ module _ (program : Program) (well : IsWellFormed program) (frames : List Frame)
     pub given : (i k : ℕ) → i < count → value_register (frame_at frames c.active.function) (destination + i) ≡ Some k
         → ((j : ℕ) → j < count → value_register (frame_at frames c.active.function) (destination + j) ≡ Some k → i ≡ j)
         → after_r (moves (frame_at frames c.active.function) destination source count) q m k ≡ x (source + i)
-    pub others : (n : ℕ) → 8 ≤ n → n < 24 → ((i : ℕ) → i < count → value_register (frame_at frames c.active.function) (destination + i) ≡ Some n → ⊥)
+    pub others : (n : ℕ) → 6 ≤ n → n < 24 → ((i : ℕ) → i < count → value_register (frame_at frames c.active.function) (destination + i) ≡ Some n → ⊥)
         → after_r (moves (frame_at frames c.active.function) destination source count) q m n ≡ q n
 
   -- no register that gets a word has one that is still to be moved

@@ -3,7 +3,6 @@ use Rattle.std.proofs.Common.{◌≡◌, ℕ, zero, suc, ◌+◌, ◌*◌, ◌%�
 use Rattle.std.specs.Prelude.{if◌then◌else◌}
 use Rattle.std.proofs.lemmas.Bool.{cases_eq}
 use Rattle.cyc_select.specs.declared.constants.TheConstants.{FRAME}
-use Rattle.cyc_machine.specs.declared.constants.TheConstants.{RETURN_ADDRESS}
 use Rattle.cyc_words.specs.Word.{IsWord}
 use Rattle.cyc_isa.specs.declared.instr.Instr.{Instr}
 use Rattle.cyc_isa.specs.Effect.{memory_address}
@@ -27,14 +26,14 @@ use Rattle.cyc_select.proofs.steps.Calls.{length_ordinary, calling_goes}
 use Rattle.cyc_select.proofs.steps.Copies.{is_free}
 use Rattle.cyc_select.proofs.emission.Counts.{length_spills}
 use Rattle.cyc_select.proofs.steps.Returns.{same_slots}
-use Rattle.cyc_select.proofs.relation.Standing.{Standing, behind_line, slot_address, slot_cell, standing_slot}
+use Rattle.cyc_select.proofs.relation.Standing.{Standing, behind_line, slot_address, slot_cell, standing_slot, keeps_back}
 use Rattle.cyc_select.proofs.relation.Matches.{At, Reached}
 use Rattle.cyc_select.proofs.relation.Values.{Caches, memory_kept, made_is, among}
 use Rattle.cyc_select.proofs.effects.Views.{Contents, written}
 use Rattle.cyc_select.proofs.effects.Walks.{Stands, stands_front, stands_back, after_r, after_w, after_r-append, after_w-append, AreSafe, Walk, now_at, now_is, walk_few, walk_from, walk_block}
 
 module _ (program : Program) (well : IsWellFormed program) (frames : List Frame) (fit : AreFrames program frames) (addresses : ℕ → ℕ) (pages calls : ℕ) (few : calls ≤ 4096)
-    (c : Configuration) (r : Words) (base back depth callee : ℕ) (known : c.active.function < length program.functions) where
+    (c : Configuration) (r : Words) (base back : ℕ) (in_frame : Bool) (callee : ℕ) (known : c.active.function < length program.functions) where
   abbrev frame : Frame
   frame = frame_at frames c.active.function
 
@@ -42,7 +41,7 @@ module _ (program : Program) (well : IsWellFormed program) (frames : List Frame)
   slots = (routine_at program c.active.function).slots
 
   abbrev StandsIn : (m : Contents) → Type 0
-  StandsIn m = Standing program frames addresses pages calls c r m base back depth c.active.slots
+  StandsIn m = Standing program frames addresses pages calls c r m base back in_frame c.active.slots
 
   -- the slot's word in the frame is its value
   abbrev IsThere : (m : Contents) (slot : ℕ) → Type 0
@@ -97,12 +96,12 @@ module _ (program : Program) (well : IsWellFormed program) (frames : List Frame)
       let at : ℕ = base + slot_offset (frame_at frames c.active.function) slot in
       let word : ℕ = c.active.slots slot in
       let puts : written m (memory_address (r FRAME) (slot_offset (frame_at frames c.active.function) slot)) (r (made_in (frame_at frames c.active.function) slot % 32)) ≡ written m at word =
-      ap (λ (a : ℕ). written m a (r (made_in (frame_at frames c.active.function) slot % 32))) (slot_address program well frames fit addresses pages calls few c r m base back depth c.active.slots s slot below)
+      ap (λ (a : ℕ). written m a (r (made_in (frame_at frames c.active.function) slot % 32))) (slot_address program well frames fit addresses pages calls few c r m base back in_frame c.active.slots s slot below)
       ∙ ap (written m at) (made_has slot unkept cached) in
-      let put_it = standing_slot program well frames fit addresses pages calls few c r m base back depth c.active.slots s slot word below in
-      let in_place = same_slots program well frames fit addresses pages calls few c r base back depth slot slot c.active.slots c.active.slots (written m at word) (put c.active.slots slot word) c.active.slots same_put put_it in
+      let put_it = standing_slot program well frames fit addresses pages calls few c r m base back in_frame c.active.slots s slot word below in
+      let in_place = same_slots program well frames fit addresses pages calls few c r base back in_frame slot slot c.active.slots c.active.slots (written m at word) (put c.active.slots slot word) c.active.slots same_put put_it in
       record {
-        safe = (slot_cell program well frames fit addresses pages calls few c r m base back depth c.active.slots s slot below, tt);
+        safe = (slot_cell program well frames fit addresses pages calls few c r m base back in_frame c.active.slots s slot below, tt);
         same = refl;
         standing = subst (λ (x : Contents). StandsIn x) (sym puts) in_place;
         stay = λ a a_below is. subst (λ (x : Contents). IsThere x a) (sym puts) (stays a a_below is);
@@ -183,9 +182,9 @@ module _ (program : Program) (well : IsWellFormed program) (frames : List Frame)
           (rest.there k (omega (arith, below)) (ap (λ (n : ℕ). from n (suc slot + k)) next ∙ (ap (from (source + suc k)) (let e : suc slot + k ≡ slot + suc k = omega arith in e) ∙ none))))
 
 module _ (program : Program) (well : IsWellFormed program) (frames : List Frame) (fit : AreFrames program frames) (code : Labelled) (formed : IsFormed code) (addresses : ℕ → ℕ) (pages calls : ℕ) (few : calls ≤ 4096)
-    (lie : AreAddresses code addresses) (c : Configuration) (run : labelled.Configuration) (r : Words) (w : Contents) (base : ℕ)
+    (lie : AreAddresses code addresses) (c : Configuration) (run : labelled.Configuration) (r : Words) (w : Contents) (base back : ℕ)
     (now : At program well frames fit code formed addresses pages calls few (instruction_line program frames c.active.function c.active.next) c.output c.input r w run)
-    (s : Standing program frames addresses pages calls c r w base (r RETURN_ADDRESS) (suc (length c.frames)) c.active.slots)
+    (s : Standing program frames addresses pages calls c r w base back (keeps_back frames c) c.active.slots)
     (caches : Caches program frames c.active.function c.active.next r c.active.slots)
     (callee arguments count result : ℕ) (at_i : instruction_at program (states.place_of (states.Running c)) ≡ Some (plain.Call callee arguments count result))
     (in_range : IsCallInRange program (routine_at program c.active.function) callee arguments count result)
@@ -211,7 +210,7 @@ module _ (program : Program) (well : IsWellFormed program) (frames : List Frame)
 
   -- what is passed from a register is wanted here
   held_there : (slot k : ℕ) → slot < count → passed_from mine (frame_at frames callee) (arguments + slot) slot ≡ Some k
-      → (8 ≤ k) × (k < 24) × (r k ≡ c.active.slots (arguments + slot)) × IsWord (c.active.slots (arguments + slot))
+      → (6 ≤ k) × (k < 24) × (r k ≡ c.active.slots (arguments + slot)) × IsWord (c.active.slots (arguments + slot))
   held_there slot k below some =
       let right = fit.homes c.active.function s.known in
       let has = (is_free (value_register mine (arguments + slot)) (frame_at frames callee) slot k some).0 in
@@ -221,7 +220,7 @@ module _ (program : Program) (well : IsWellFormed program) (frames : List Frame)
   pub call_goes : Walk code formed addresses globals_length (words_per_call * calls) 1 here (here + body_count program frames c.active.function (plain.Call callee arguments count result)) c.output (Reached program well frames fit code formed addresses pages calls few c) (Running run)
   call_goes =
       let hi : ℕ = here + body_count program frames c.active.function (plain.Call callee arguments count result) in
-      let all = are_spilled program well frames fit addresses pages calls few c r base (r RETURN_ADDRESS) (suc (length c.frames)) callee s.known w arguments 0 count in_range.arguments_in_range s
+      let all = are_spilled program well frames fit addresses pages calls few c r base back (keeps_back frames c) callee s.known w arguments 0 count in_range.arguments_in_range s
       (λ k below n has. caches (arguments + k) n has (0, (plain.Call callee arguments count result, at_i, among arguments count (arguments + k) (omega arith) (omega (arith, below))))) in
       let m : Contents = after_w before r w in
       let next = calling_code mine (frame_at frames callee) spilled (function_line program frames callee) arguments count in
@@ -233,6 +232,6 @@ module _ (program : Program) (well : IsWellFormed program) (frames : List Frame)
       let at_next = now_at code formed addresses globals_length (words_per_call * calls) (here + length before) spilled c.output c.input r m d (omega (arith, long))
       (now_is code formed addresses globals_length (words_per_call * calls) (here + length before) c.output c.input (after_r before r w) m r m d all.same refl later) in
       walk_from code formed addresses globals_length (words_per_call * calls) 1 (here + length before) spilled hi c.output _ (Running d) (omega (arith, long))
-      (subst (λ (n : ℕ). Walk code formed addresses globals_length (words_per_call * calls) 1 spilled n c.output (Reached program well frames fit code formed addresses pages calls few c) (Running d)) (let e : spilled + (7 + copies_count mine (frame_at frames callee) arguments 0 count) ≡ hi = omega arith in e)
-      (calling_goes program well frames fit code formed addresses pages calls few lie c d r m base spilled at_next all.standing callee arguments count result at_i in_range inside stands_next (omega arith)
+      (subst (λ (n : ℕ). Walk code formed addresses globals_length (words_per_call * calls) 1 spilled n c.output (Reached program well frames fit code formed addresses pages calls few c) (Running d)) (let e : spilled + (5 + copies_count mine (frame_at frames callee) arguments 0 count) ≡ hi = omega arith in e)
+      (calling_goes program well frames fit code formed addresses pages calls few lie c d r m base back spilled at_next all.standing callee arguments count result at_i in_range inside stands_next (omega arith)
       (λ slot below none. all.there slot below (at_slot slot ∙ none)) held_there))))

@@ -7,29 +7,28 @@ use Rattle.cyc_plain.specs.State.{Words, put, copied}
 use Rattle.cyc_plain.specs.Step.{is_intact}
 use Rattle.cyc_plain.proofs.SlotLaws.{put-same, put-other, copied-inside, copied-below, copied-above}
 
--- the words of a record
-abbrev pub record_words : (previous frame line left : ℕ) → Words
-record_words previous frame line left = λ (k : ℕ). if k == 0 then previous else (if k == 1 then frame else (if k == 2 then line else left))
+-- the words of a record, of which the last is as it was
+abbrev pub record_words : (previous frame line last : ℕ) → Words
+record_words previous frame line last = λ (k : ℕ). if k == 0 then previous else (if k == 1 then frame else (if k == 2 then line else last))
 
 -- the slots that have them
-abbrev pub recorded : (slots : Words) (first previous frame line left : ℕ) → Words
-recorded slots first previous frame line left = put (put (put (put slots first previous) (first + 1) frame) (first + 3) left) (first + 2) line
+abbrev pub recorded : (slots : Words) (first previous frame line : ℕ) → Words
+recorded slots first previous frame line = put (put (put slots first previous) (first + 1) frame) (first + 2) line
 
-pub recorded_is : (slots : Words) (first previous frame line left n : ℕ) → recorded slots first previous frame line left n ≡ copied (record_words previous frame line left) 0 4 slots first n
-recorded_is slots first previous frame line left n = elim (cases_eq n (first + 2)) [
+pub recorded_is : (slots : Words) (first previous frame line n : ℕ) → recorded slots first previous frame line n ≡ copied (record_words previous frame line (slots (first + 3))) 0 4 slots first n
+recorded_is slots first previous frame line n = elim (cases_eq n (first + 2)) [
   | inl two ↦
-      ap (put a3 (first + 2) line) two ∙ (put-same a3 (first + 2) line ∙ sym (ap (copied words 0 4 slots first) two ∙ copied-inside words slots 0 4 first 2 (omega arith)))
-  | inr not_two ↦ put-other a3 (first + 2) n line not_two ∙ elim (cases_eq n (first + 3)) [
-    | inl three ↦
-        ap (put a2 (first + 3) left) three ∙ (put-same a2 (first + 3) left ∙ sym (ap (copied words 0 4 slots first) three ∙ copied-inside words slots 0 4 first 3 (omega arith)))
-    | inr not_three ↦ put-other a2 (first + 3) n left not_three ∙ elim (cases_eq n (first + 1)) [
-      | inl one ↦
-          ap (put a1 (first + 1) frame) one ∙ (put-same a1 (first + 1) frame ∙ sym (ap (copied words 0 4 slots first) one ∙ copied-inside words slots 0 4 first 1 (omega arith)))
-      | inr not_one ↦ put-other a1 (first + 1) n frame not_one ∙ elim (cases_eq n first) [
-        | inl here ↦
-            let there : n ≡ first + 0 = omega (arith, here) in
-            ap (put slots first previous) here ∙ (put-same slots first previous ∙ sym (ap (copied words 0 4 slots first) there ∙ copied-inside words slots 0 4 first 0 (omega arith)))
-        | inr not_here ↦ put-other slots first n previous not_here ∙ elim (cases_lt n first) [
+      ap (put a2 (first + 2) line) two ∙ (put-same a2 (first + 2) line ∙ sym (ap (copied words 0 4 slots first) two ∙ copied-inside words slots 0 4 first 2 (omega arith)))
+  | inr not_two ↦ put-other a2 (first + 2) n line not_two ∙ elim (cases_eq n (first + 1)) [
+    | inl one ↦
+        ap (put a1 (first + 1) frame) one ∙ (put-same a1 (first + 1) frame ∙ sym (ap (copied words 0 4 slots first) one ∙ copied-inside words slots 0 4 first 1 (omega arith)))
+    | inr not_one ↦ put-other a1 (first + 1) n frame not_one ∙ elim (cases_eq n first) [
+      | inl here ↦
+          let there : n ≡ first + 0 = omega (arith, here) in
+          ap (put slots first previous) here ∙ (put-same slots first previous ∙ sym (ap (copied words 0 4 slots first) there ∙ copied-inside words slots 0 4 first 0 (omega arith)))
+      | inr not_here ↦ put-other slots first n previous not_here ∙ elim (cases_eq n (first + 3)) [
+        | inl three ↦ ap slots three ∙ sym (ap (copied words 0 4 slots first) three ∙ copied-inside words slots 0 4 first 3 (omega arith))
+        | inr not_three ↦ elim (cases_lt n first) [
           | inl below ↦ sym (copied-below words slots 0 4 first n below)
           | inr from ↦ sym (copied-above words slots 0 4 first n (past from not_here not_one not_two not_three))
         ]
@@ -39,16 +38,13 @@ recorded_is slots first previous frame line left n = elim (cases_eq n (first + 2
 ]
   where
     words : Words
-    words = record_words previous frame line left
+    words = record_words previous frame line (slots (first + 3))
 
     a1 : Words
     a1 = put slots first previous
 
     a2 : Words
     a2 = put (put slots first previous) (first + 1) frame
-
-    a3 : Words
-    a3 = put (put (put slots first previous) (first + 1) frame) (first + 3) left
 
     past : first ≤ n → n ≢ first → n ≢ first + 1 → n ≢ first + 2 → n ≢ first + 3 → first + 4 ≤ n
     past from zeroth one two three = omega (arith, from, zeroth, one, two, three)

@@ -1,5 +1,5 @@
 -- The instruction that calls the store.
-use Rattle.std.proofs.Common.{◌≡◌, ◌≢◌, ℕ, suc, ◌+◌, ◌*◌, ◌%◌, ◌^◌, ◌<◌, ◌≤◌, true, false, List, [], ◌∷◌, ◌++◌, length, length-append, Option, None, Some, refl, sym, ap, subst, ◌∙◌, arith, inl, inr}
+use Rattle.std.proofs.Common.{◌≡◌, ◌≢◌, ℕ, suc, ◌+◌, ◌*◌, ◌%◌, ◌^◌, ◌<◌, ◌≤◌, true, false, List, [], ◌∷◌, ◌++◌, length, length-append, Option, None, Some, refl, sym, ap, subst, ◌∙◌, arith, inl, inr, Bool}
 use Rattle.std.specs.Prelude.{◌⊎◌}
 use Rattle.std.proofs.lemmas.Bool.{eq-eqb, ne_eqb, or_left, or_right}
 use Rattle.cyc_words.specs.Ending.{Full}
@@ -30,7 +30,7 @@ use Rattle.cyc_frame.specs.Homes.{AreHomes, Wanted}
 use Rattle.cyc_frame.specs.Layout.{AreFrames, frame_at}
 use Rattle.cyc_frame.specs.Uses.{is_slot, request_reads, request_writes}
 use Rattle.cyc_frame.specs.Frame.{Frame}
-use Rattle.cyc_select.specs.declared.constants.TheConstants.{CALLS, FRAME, HANDLERS, REGIONS}
+use Rattle.cyc_select.specs.declared.constants.TheConstants.{LOWEST, FRAME, HANDLERS, REGIONS, GLOBALS}
 use Rattle.cyc_select.specs.Labelled.{Labelled, IsFormed}
 use Rattle.cyc_select.specs.Machine as labelled
 use Rattle.cyc_select.specs.Machine.{State, Running, Ended}
@@ -44,7 +44,7 @@ use Rattle.cyc_select.proofs.relation.Held.{operand_held}
 use Rattle.cyc_select.proofs.layout.Lines.{line_next}
 use Rattle.cyc_select.proofs.relation.Matches.{At, Reached, reached, within}
 use Rattle.cyc_select.proofs.values.Operations.{add_small}
-use Rattle.cyc_select.proofs.relation.Standing.{Standing, slot_address, slot_cell, standing_at, standing_slot, standing_store}
+use Rattle.cyc_select.proofs.relation.Standing.{Standing, slot_address, slot_cell, standing_at, standing_slot, standing_store, keeps_back}
 use Rattle.cyc_select.proofs.relation.Stores.{lexical_opened, lexical_besides, lexical_left, lexical_made, lexical_closed, marks_few, IsLaid, served_laid, served_words}
 use Rattle.cyc_select.proofs.relation.Values.{Caches, wanted_before, among, outside_among, next_led}
 use Rattle.cyc_select.proofs.effects.Views.{Contents, IsWritable, written, answered_r}
@@ -148,35 +148,35 @@ answered-other (services.OpenedLexical handle mark) q n first second = put-other
 answered-other (services.Allocated address) q n first second = put-other q 2 n address first
 
 module _ (program : Program) (well : IsWellFormed program) (frames : List Frame) (fit : AreFrames program frames) (addresses : ℕ → ℕ) (pages calls : ℕ) (few : calls ≤ 4096)
-    (c : Configuration) (q : Words) (base back depth : ℕ) where
+    (c : Configuration) (q : Words) (base back : ℕ) (in_frame : Bool) where
   -- what registers hold comes to slots
   pub record AreStored (slot : ℕ) (sources : List ℕ) (m : Contents) (slots : Words) : Type 0 where
     pub safe : AreSafe globals_length (words_per_call * calls) (store_all (frame_at frames c.active.function) slot sources) q m
     pub same : after_r (store_all (frame_at frames c.active.function) slot sources) q m ≡ q
-    pub standing : Standing program frames addresses pages calls c q (after_w (store_all (frame_at frames c.active.function) slot sources) q m) base back depth (put_all slot sources q slots)
+    pub standing : Standing program frames addresses pages calls c q (after_w (store_all (frame_at frames c.active.function) slot sources) q m) base back in_frame (put_all slot sources q slots)
 
   pub are_stored : (slot : ℕ) (sources : List ℕ) (m : Contents) (slots : Words) → slot + length sources ≤ (routine_at program c.active.function).slots
-      → Standing program frames addresses pages calls c q m base back depth slots → AreStored slot sources m slots
+      → Standing program frames addresses pages calls c q m base back in_frame slots → AreStored slot sources m slots
   are_stored slot [] m slots fits s = record { safe = tt; same = refl; standing = s }
   are_stored slot (source ∷ sources) m slots fits s =
       let below : slot < (routine_at program c.active.function).slots = omega (arith, fits) in
-      let there = slot_address program well frames fit addresses pages calls few c q m base back depth slots s slot below in
+      let there = slot_address program well frames fit addresses pages calls few c q m base back in_frame slots s slot below in
       let m1 : Contents = written m (memory_address (q FRAME) (slot_offset (frame_at frames c.active.function) slot)) (q (source % 32)) in
-      let in_m1 : Standing program frames addresses pages calls c q m1 base back depth (put slots slot (q (source % 32))) =
-      subst (λ (a : ℕ). Standing program frames addresses pages calls c q (written m a (q (source % 32))) base back depth (put slots slot (q (source % 32)))) (sym there)
-      (standing_slot program well frames fit addresses pages calls few c q m base back depth slots s slot (q (source % 32)) below) in
+      let in_m1 : Standing program frames addresses pages calls c q m1 base back in_frame (put slots slot (q (source % 32))) =
+      subst (λ (a : ℕ). Standing program frames addresses pages calls c q (written m a (q (source % 32))) base back in_frame (put slots slot (q (source % 32)))) (sym there)
+      (standing_slot program well frames fit addresses pages calls few c q m base back in_frame slots s slot (q (source % 32)) below) in
       let rest = are_stored (suc slot) sources m1 (put slots slot (q (source % 32))) (omega (arith, fits)) in_m1 in
       record {
-        safe = (slot_cell program well frames fit addresses pages calls few c q m base back depth slots s slot below, rest.safe);
+        safe = (slot_cell program well frames fit addresses pages calls few c q m base back in_frame slots s slot below, rest.safe);
         same = rest.same;
         standing = rest.standing;
       }
 
 module _ (program : Program) (well : IsWellFormed program) (frames : List Frame) (fit : AreFrames program frames) (code : Labelled) (formed : IsFormed code) (addresses : ℕ → ℕ) (pages calls : ℕ) (few : calls ≤ 4096)
     (c : Configuration)
-    (run : labelled.Configuration) (r : Words) (w : Contents) (base : ℕ)
+    (run : labelled.Configuration) (r : Words) (w : Contents) (base back : ℕ)
     (now : At program well frames fit code formed addresses pages calls few (instruction_line program frames c.active.function c.active.next) c.output c.input r w run)
-    (s : Standing program frames addresses pages calls c r w base (r RETURN_ADDRESS) (suc (length c.frames)) c.active.slots)
+    (s : Standing program frames addresses pages calls c r w base back (keeps_back frames c) c.active.slots)
     (caches : Caches program frames c.active.function c.active.next r c.active.slots) where
   abbrev here : ℕ
   here = instruction_line program frames c.active.function c.active.next
@@ -288,7 +288,7 @@ module _ (program : Program) (well : IsWellFormed program) (frames : List Frame)
 
     first : HasArgument is ARGUMENT (first_operand request) r w
     first = has_argument ARGUMENT refl refl (first_operand request) in_range.first_in_range fits.0
-        (λ operand some there. operand_held program well frames fit code formed addresses pages calls few c run r w base now s caches (plain.Ask request) at_i operand (λ slot is_it. first_used request operand slot some is_it) there)
+        (λ operand some there. operand_held program well frames fit code formed addresses pages calls few c run r w base back now s caches (plain.Ask request) at_i operand (λ slot is_it. first_used request operand slot some is_it) there)
         r w s.zero_is refl refl (λ n low high. refl)
 
     abbrev q : Words
@@ -300,7 +300,7 @@ module _ (program : Program) (well : IsWellFormed program) (frames : List Frame)
     second : HasArgument js SECOND_ARGUMENT (second_operand request) q v
     second =
         has_argument SECOND_ARGUMENT refl refl (second_operand request) in_range.second_in_range fits.1
-        (λ operand some there. operand_held program well frames fit code formed addresses pages calls few c run r w base now s caches (plain.Ask request) at_i operand (λ slot is_it. second_used request operand slot some is_it) there)
+        (λ operand some there. operand_held program well frames fit code formed addresses pages calls few c run r w base back now s caches (plain.Ask request) at_i operand (λ slot is_it. second_used request operand slot some is_it) there)
         q v
         (first.others 0 (omega arith) (λ e. absurd (omega (arith, e))) ∙ s.zero_is) (first.others FRAME (omega arith) (λ e. absurd (omega (arith, e)))) first.memory
         (λ n low high. first.others n (omega (arith, high)) (λ e. absurd (omega (arith, e, low))))
@@ -408,11 +408,14 @@ module _ (program : Program) (well : IsWellFormed program) (frames : List Frame)
       base_kept : final FRAME ≡ r FRAME
       base_kept = final_keeps FRAME (omega arith) (λ e. absurd (omega (arith, e))) (λ e. absurd (omega (arith, e))) (λ e. absurd (omega (arith, e))) (λ e. absurd (omega (arith, e))) (λ e. absurd (omega (arith, e)))
 
-      left_kept : final CALLS ≡ r CALLS
-      left_kept = final_keeps CALLS (omega arith) (λ e. absurd (omega (arith, e))) (λ e. absurd (omega (arith, e))) (λ e. absurd (omega (arith, e))) (λ e. absurd (omega (arith, e))) (λ e. absurd (omega (arith, e)))
+      left_kept : final LOWEST ≡ r LOWEST
+      left_kept = final_keeps LOWEST (omega arith) (λ e. absurd (omega (arith, e))) (λ e. absurd (omega (arith, e))) (λ e. absurd (omega (arith, e))) (λ e. absurd (omega (arith, e))) (λ e. absurd (omega (arith, e)))
 
       newest_kept : final HANDLERS ≡ r HANDLERS
       newest_kept = final_keeps HANDLERS (omega arith) (λ e. absurd (omega (arith, e))) (λ e. absurd (omega (arith, e))) (λ e. absurd (omega (arith, e))) (λ e. absurd (omega (arith, e))) (λ e. absurd (omega (arith, e)))
+
+      middle_kept : final GLOBALS ≡ r GLOBALS
+      middle_kept = final_keeps GLOBALS (omega arith) (λ e. absurd (omega (arith, e))) (λ e. absurd (omega (arith, e))) (λ e. absurd (omega (arith, e))) (λ e. absurd (omega (arith, e))) (λ e. absurd (omega (arith, e)))
 
       back_kept : final RETURN_ADDRESS ≡ r RETURN_ADDRESS
       back_kept = final_keeps RETURN_ADDRESS (omega arith) (λ e. absurd (omega (arith, e))) (λ e. absurd (omega (arith, e))) (λ e. absurd (omega (arith, e))) (λ e. absurd (omega (arith, e))) (λ e. absurd (omega (arith, e)))
@@ -431,10 +434,10 @@ module _ (program : Program) (well : IsWellFormed program) (frames : List Frame)
           (put-other p SERVICE REGIONS (add_of (p 0) (sign_extended (service_number request))) (λ e. absurd (omega (arith, e)))
           ∙ (kept REGIONS (omega arith) (λ e. absurd (omega (arith, e))) (λ e. absurd (omega (arith, e))) ∙ s.counted))
 
-      in_final : Standing program frames addresses pages calls c1 final w1 base (r RETURN_ADDRESS) (suc (length c.frames)) c.active.slots
+      in_final : Standing program frames addresses pages calls c1 final w1 base back (keeps_back frames c) c.active.slots
       in_final =
-          standing_store program well frames fit addresses pages calls few c r w base (r RETURN_ADDRESS) (suc (length c.frames)) c.active.slots s (served c.store call chosen)
-          final zero_kept base_kept left_kept newest_kept count_told laid
+          standing_store program well frames fit addresses pages calls few c r w base back (keeps_back frames c) c.active.slots s (served c.store call chosen)
+          final zero_kept base_kept left_kept back_kept newest_kept count_told middle_kept laid
 
       -- the answer comes to slots
       abbrev m : Contents
@@ -452,7 +455,7 @@ module _ (program : Program) (well : IsWellFormed program) (frames : List Frame)
         shares_none d slot k begun below has_d has wanted =
             homes_right.made c.active.next (c.active.next + 1) slot d k (plain.Ask request) at_i (answers_written request d begun below) (next_led c.active.next) has_d has wanted
 
-        low_words : (n : ℕ) → n < 8 → IsWord (after_r counts answered w1 n)
+        low_words : (n : ℕ) → n < 6 → IsWord (after_r counts answered w1 n)
         low_words n low = subst IsWord (sym (regions_others request answered w1 n (λ e. absurd (omega (arith, e, low))))) (answered_words n)
 
         few_answers : answer_count request ≤ 3
@@ -461,13 +464,10 @@ module _ (program : Program) (well : IsWellFormed program) (frames : List Frame)
         fits_here : destination_of request + length (result_registers (answer_count request)) ≤ (routine_at program c.active.function).slots
         fits_here = omega (arith, in_range.answer_in_range, length_registers (answer_count request) few_answers)
 
-        stored : AreBrought program well frames fit addresses pages calls few false c1 base (r RETURN_ADDRESS) (suc (length c.frames)) (c.active.next + 1) (destination_of request) past final low_words fits_here shares_none (destination_of request) (result_registers (answer_count request)) final w1 c.active.slots
+        stored : AreBrought program well frames fit addresses pages calls few false c1 base back (keeps_back frames c) (c.active.next + 1) (destination_of request) past final low_words fits_here shares_none (destination_of request) (result_registers (answer_count request)) final w1 c.active.slots
         stored =
-            are_brought program well frames fit addresses pages calls few false c1 base (r RETURN_ADDRESS) (suc (length c.frames)) (c.active.next + 1) (destination_of request) past final low_words fits_here shares_none (destination_of request) (result_registers (answer_count request)) final w1 c.active.slots
+            are_brought program well frames fit addresses pages calls few false c1 base back (keeps_back frames c) (c.active.next + 1) (destination_of request) past final low_words fits_here shares_none (destination_of request) (result_registers (answer_count request)) final w1 c.active.slots
             (omega arith) (omega arith) (results_low (answer_count request) few_answers) (λ n below. refl) in_final
-
-        back_same : brought RETURN_ADDRESS ≡ r RETURN_ADDRESS
-        back_same = stored.aside RETURN_ADDRESS (inr (omega arith)) ∙ back_kept
 
         -- what is not answered is in registers as before
         apart_kept : (a k : ℕ) → value_register (frame_at frames c.active.function) a ≡ Some k → Wanted program (routine_at program c.active.function) a (c.active.next + 1)
@@ -484,12 +484,11 @@ module _ (program : Program) (well : IsWellFormed program) (frames : List Frame)
         abbrev there : Words
         there = told (answer c.store call chosen) (destination_of request) c.active.slots
 
-        ends_at : Standing program frames addresses pages calls next brought m base (brought RETURN_ADDRESS) (suc (length c.frames)) there
+        ends_at : Standing program frames addresses pages calls next brought m base back (keeps_back frames c) there
         ends_at =
-            let in_slots : Standing program frames addresses pages calls c1 brought m base (r RETURN_ADDRESS) (suc (length c.frames)) there =
-            subst (λ (x : Words). Standing program frames addresses pages calls c1 brought m base (r RETURN_ADDRESS) (suc (length c.frames)) x) (told_is request c.store c.active.slots ready w1 chosen) stored.standing in
-            let at_next = standing_at program well frames fit addresses pages calls few c1 brought m base (r RETURN_ADDRESS) (suc (length c.frames)) there in_slots next refl refl refl refl refl refl s.input in
-            subst (λ (b : ℕ). Standing program frames addresses pages calls next brought m base b (suc (length c.frames)) there) (sym back_same) at_next
+            let in_slots : Standing program frames addresses pages calls c1 brought m base back (keeps_back frames c) there =
+            subst (λ (x : Words). Standing program frames addresses pages calls c1 brought m base back (keeps_back frames c) x) (told_is request c.store c.active.slots ready w1 chosen) stored.standing in
+            standing_at program well frames fit addresses pages calls few c1 brought m base back (keeps_back frames c) there in_slots next refl refl refl refl refl refl s.input
 
         -- both blocks, one behind the other
         block_safe : AreSafe globals_length (words_per_call * calls) (counts ++ answers) answered w1
@@ -516,6 +515,7 @@ module _ (program : Program) (well : IsWellFormed program) (frames : List Frame)
               r = brought;
               w = m;
               base = base;
+              back = back;
               is = refl;
               now = now_at code formed addresses globals_length (words_per_call * calls) (called + 1 + length (counts ++ answers)) (instruction_line program frames c.active.function (c.active.next + 1)) c.output c.input brought m d line_is
                   (now_is code formed addresses globals_length (words_per_call * calls) (called + 1 + length (counts ++ answers)) c.output c.input (after_r (counts ++ answers) answered w1) (after_w (counts ++ answers) answered w1) brought m d block_registers block_memory later);

@@ -2,7 +2,7 @@
 use Rattle.std.proofs.Common.{◌≡◌, ◌≢◌, ℕ, zero, suc, ◌+◌, ◌-◌, ◌*◌, ◌%◌, ◌<◌, ◌≤◌, Bool, true, false, not, List, [], ◌∷◌, ◌++◌, length, length-append, Some, slice_get, refl, sym, ap, subst, ◌∙◌, arith, inl, inr}
 use Rattle.std.specs.Prelude.{◌==◌, ◌⊎◌, if◌then◌else◌}
 use Rattle.std.proofs.lemmas.Bool.{cases_eq, cases_lt, cases_Bool, eq-eqb, ne_eqb, false≢true}
-use Rattle.cyc_select.specs.declared.constants.TheConstants.{CALLS, FRAME, HANDLERS, REGIONS}
+use Rattle.cyc_select.specs.declared.constants.TheConstants.{FRAME, LOWEST, HANDLERS, REGIONS, GLOBALS}
 use Rattle.cyc_machine.specs.declared.constants.TheConstants.{RETURN_ADDRESS}
 use Rattle.cyc_words.specs.Ending.{Returned}
 use Rattle.cyc_words.specs.Word.{IsWord, signed, add_of, sign_extended}
@@ -17,11 +17,11 @@ use Rattle.cyc_plain.specs.Program.{Program, no_routine, routine_at}
 use Rattle.cyc_plain.specs.State as states
 use Rattle.cyc_plain.specs.State.{Words, AreWords, put, copied, Configuration}
 use Rattle.cyc_plain.specs.Step.{instruction_at, performed, returns}
-use Rattle.cyc_plain.specs.WellFormed.{IsWellFormed, HasSlots}
+use Rattle.cyc_plain.specs.WellFormed.{IsWellFormed}
 use Rattle.cyc_plain.proofs.RunLaws.{zeros, zeros_at, over_within, calls_nothing}
 use Rattle.cyc_plain.proofs.SlotLaws.{put-same, put-other, copied-inside, copied-above, copied-below}
 use Rattle.cyc_frame.specs.Homes.{AreHomes, Wanted}
-use Rattle.cyc_frame.specs.Uses.{is_among, reads, writes}
+use Rattle.cyc_frame.specs.Uses.{writes}
 use Rattle.cyc_frame.specs.Layout.{AreFrames, frame_at}
 use Rattle.cyc_frame.specs.Frame.{Frame}
 use Rattle.cyc_select.specs.declared.code.Line.{Line}
@@ -30,26 +30,25 @@ use Rattle.cyc_select.specs.declared.code.Line.TheVariants as lines
 use Rattle.cyc_select.specs.Labelled.{Labelled, IsFormed, AreAddresses}
 use Rattle.cyc_select.specs.Machine as labelled
 use Rattle.cyc_select.specs.Machine.{State, Running, Ended, IsReturnPoint}
-use Rattle.cyc_select.specs.Selection.{value_register, reloads, reload_count, slot_offset, load, small, add_immediate, load_slot, load_all, store_all, bring_all, is_kept, pop_frame, result_registers, ordinary, syscall, ending_code, ending_count, returning_code, behind, instruction_line}
+use Rattle.cyc_select.specs.Selection.{value_register, reloads, reload_count, slot_offset, small, load_slot, load_all, store_all, bring_all, is_kept, pop_frame, result_registers, ordinary, syscall, ending_code, ending_count, behind, instruction_line}
 use Rattle.cyc_select.proofs.values.Blocks.{ValuesSame, lasting_same, Puts, safe_append}
 use Rattle.cyc_select.proofs.steps.Calls.{length_ordinary}
 use Rattle.cyc_select.proofs.steps.Answers.{put_all, results_low, CachesBut, AreBrought, are_brought}
 use Rattle.cyc_select.proofs.values.Computing.{HeldIn, slot_puts}
-use Rattle.cyc_select.proofs.relation.Held.{slot_held}
 use Rattle.cyc_select.proofs.layout.Lines.{line_next}
 use Rattle.cyc_select.proofs.values.Operations.{add_small}
-use Rattle.cyc_select.proofs.relation.Values.{Caches, among, outside_among, length_reloads, reloaded}
+use Rattle.cyc_select.proofs.relation.Values.{among, outside_among, length_reloads, reloaded}
 use Rattle.cyc_select.proofs.effects.Views.{Contents, IsWritable, written}
 use Rattle.cyc_select.proofs.effects.Walks.{Stands, stands_front, stands_back, after_r, after_w, after_r-append, after_w-append, AreSafe, Walk, now_at, now_is, walk_end, walk_few, walk_from, walk_block, walk_branch, walk_return, walk_returned}
 use Rattle.cyc_select.proofs.emission.Counts.{length_results, length_registers}
-use Rattle.cyc_select.proofs.relation.Standing.{Chain, IsNewest, kept_here, Standing, behind_line, lies, slot_address, slot_cell, slot_word_is, return_cell, return_address, standing_registers, standing_slot, AreBased}
+use Rattle.cyc_select.proofs.relation.Standing.{frame_size, Chain, IsNewest, keeps_back, saves_at, Standing, behind_line, lies, slot_address, slot_cell, slot_word_is, standing_registers, standing_slot, AreBased}
 use Rattle.cyc_select.proofs.relation.Matches.{At, Ready, Back, Reached, reached, within, result_register}
 
 -- ---- what a function returns, from slots into registers
 
 -- the last instructions of a return load what is returned and take the frame away
 abbrev pub loaded : Frame → (value count : ℕ) → List Instr
-loaded frame value count = load_all frame value (result_registers count) ++ pop_frame frame ∷ []
+loaded frame value count = load_all frame value (result_registers count) ++ pop_frame ∷ []
 
 pub length_loaded : (frame : Frame) (value count : ℕ) → count ≤ 3 → length (loaded frame value count) ≡ count + 1
 length_loaded frame value zero few = refl
@@ -61,11 +60,12 @@ length_loaded frame value (suc (suc (suc (suc count)))) few = absurd (omega (ari
 record AreLoaded (globals stack : ℕ) (frame : Frame) (value count : ℕ) (r : Words) (w : Contents) (slots : Words) : Type 0 where
   pub safe : AreSafe globals stack (loaded frame value count) r w
   pub zero_same : after_r (loaded frame value count) r w 0 ≡ r 0
-  pub base_moved : after_r (loaded frame value count) r w FRAME ≡ add_of (r FRAME) (sign_extended (4 * frame.words))
-  pub left_same : after_r (loaded frame value count) r w CALLS ≡ r CALLS
+  pub base_moved : after_r (loaded frame value count) r w FRAME ≡ add_of (r FRAME) (sign_extended frame_size)
+  pub lowest_same : after_r (loaded frame value count) r w LOWEST ≡ r LOWEST
   pub back_same : after_r (loaded frame value count) r w RETURN_ADDRESS ≡ r RETURN_ADDRESS
   pub newest_same : after_r (loaded frame value count) r w HANDLERS ≡ r HANDLERS
   pub count_same : after_r (loaded frame value count) r w REGIONS ≡ r REGIONS
+  pub middle_same : after_r (loaded frame value count) r w GLOBALS ≡ r GLOBALS
   pub unchanged : after_w (loaded frame value count) r w ≡ w
   pub returned : (k : ℕ) → k < count → after_r (loaded frame value count) r w (result_register k) ≡ slots (value + k)
 
@@ -80,10 +80,10 @@ module _ (globals stack : ℕ) (frame : Frame) (r : Words) (w : Contents) (slots
       slot_puts globals stack frame (r FRAME) w r slots q m (zero_same ∙ zero_is) base_same memory values (value_register frame slot) target slot writable held
 
   -- the other registers, one load later
-  one_later : (target slot : ℕ) (q : Words) (m : Contents) → target < 8 → Brings target slot q m → (n : ℕ) → n < 32 → n ≢ target → after_r (load_slot frame target slot ∷ []) q m n ≡ q n
+  one_later : (target slot : ℕ) (q : Words) (m : Contents) → target < 6 → Brings target slot q m → (n : ℕ) → n < 32 → n ≢ target → after_r (load_slot frame target slot ∷ []) q m n ≡ q n
   one_later target slot q m small puts n below other = puts.others n below (λ e. other (let f : n ≡ target = omega (arith, e, small) in f))
 
-  values_later : (target slot : ℕ) (q : Words) (m : Contents) → target < 8 → Brings target slot q m → ValuesSame q r → ValuesSame (after_r (load_slot frame target slot ∷ []) q m) r
+  values_later : (target slot : ℕ) (q : Words) (m : Contents) → target < 6 → Brings target slot q m → ValuesSame q r → ValuesSame (after_r (load_slot frame target slot ∷ []) q m) r
   values_later target slot q m small puts values n low high = one_later target slot q m small puts n (omega (arith, high)) (λ e. absurd (omega (arith, e, low, small))) ∙ values n low high
 
   one_is : (k : ℕ) (q : Words) → k < 1 → q 2 ≡ slots (value + 0) → q (result_register k) ≡ slots (value + k)
@@ -107,10 +107,11 @@ module _ (globals stack : ℕ) (frame : Frame) (r : Words) (w : Contents) (slots
     safe = (refl, tt);
     zero_same = refl;
     base_moved = refl;
-    left_same = refl;
+    lowest_same = refl;
     back_same = refl;
     newest_same = refl;
     count_same = refl;
+    middle_same = refl;
     unchanged = refl;
     returned = λ k below. absurd (omega (arith, below));
   }
@@ -120,11 +121,12 @@ module _ (globals stack : ℕ) (frame : Frame) (r : Words) (w : Contents) (slots
       record {
         safe = (a.safe.0, (refl, tt));
         zero_same = kept 0 (omega arith) (λ e. absurd (omega (arith, e)));
-        base_moved = ap (λ (x : ℕ). add_of x (sign_extended (4 * frame.words))) (kept FRAME (omega arith) (λ e. absurd (omega (arith, e))));
-        left_same = kept CALLS (omega arith) (λ e. absurd (omega (arith, e)));
+        base_moved = ap (λ (x : ℕ). add_of x (sign_extended frame_size)) (kept FRAME (omega arith) (λ e. absurd (omega (arith, e))));
+        lowest_same = kept LOWEST (omega arith) (λ e. absurd (omega (arith, e)));
         back_same = kept RETURN_ADDRESS (omega arith) (λ e. absurd (omega (arith, e)));
         newest_same = (kept HANDLERS (omega arith) (λ e. absurd (omega (arith, e))));
         count_same = (kept REGIONS (omega arith) (λ e. absurd (omega (arith, e))));
+        middle_same = (kept GLOBALS (omega arith) (λ e. absurd (omega (arith, e))));
         unchanged = a.memory;
         returned = λ k below. one_is k (after_r (loaded frame value 1) r w) below (a.result ∙ ap slots (let e : value ≡ value + 0 = omega arith in e));
       }
@@ -140,11 +142,12 @@ module _ (globals stack : ℕ) (frame : Frame) (r : Words) (w : Contents) (slots
       record {
         safe = (a.safe.0, (b.safe.0, (refl, tt)));
         zero_same = kept 0 (omega arith) (λ e. absurd (omega (arith, e))) (λ e. absurd (omega (arith, e)));
-        base_moved = ap (λ (x : ℕ). add_of x (sign_extended (4 * frame.words))) (kept FRAME (omega arith) (λ e. absurd (omega (arith, e))) (λ e. absurd (omega (arith, e))));
-        left_same = kept CALLS (omega arith) (λ e. absurd (omega (arith, e))) (λ e. absurd (omega (arith, e)));
+        base_moved = ap (λ (x : ℕ). add_of x (sign_extended frame_size)) (kept FRAME (omega arith) (λ e. absurd (omega (arith, e))) (λ e. absurd (omega (arith, e))));
+        lowest_same = kept LOWEST (omega arith) (λ e. absurd (omega (arith, e))) (λ e. absurd (omega (arith, e)));
         back_same = kept RETURN_ADDRESS (omega arith) (λ e. absurd (omega (arith, e))) (λ e. absurd (omega (arith, e)));
         newest_same = (kept HANDLERS (omega arith) (λ e. absurd (omega (arith, e))) (λ e. absurd (omega (arith, e))));
         count_same = (kept REGIONS (omega arith) (λ e. absurd (omega (arith, e))) (λ e. absurd (omega (arith, e))));
+        middle_same = (kept GLOBALS (omega arith) (λ e. absurd (omega (arith, e))) (λ e. absurd (omega (arith, e))));
         unchanged = b.memory ∙ a.memory;
         returned = λ k below.
             two_are k (after_r (loaded frame value 2) r w) below
@@ -172,11 +175,12 @@ module _ (globals stack : ℕ) (frame : Frame) (r : Words) (w : Contents) (slots
       record {
         safe = (a.safe.0, (b.safe.0, (d.safe.0, (refl, tt))));
         zero_same = kept_d 0 (omega arith) (λ e. absurd (omega (arith, e))) ∙ both 0 (omega arith) (λ e. absurd (omega (arith, e))) (λ e. absurd (omega (arith, e)));
-        base_moved = ap (λ (x : ℕ). add_of x (sign_extended (4 * frame.words))) (kept FRAME (omega arith) (omega arith));
-        left_same = kept CALLS (omega arith) (omega arith);
+        base_moved = ap (λ (x : ℕ). add_of x (sign_extended frame_size)) (kept FRAME (omega arith) (omega arith));
+        lowest_same = kept LOWEST (omega arith) (omega arith);
         back_same = kept RETURN_ADDRESS (omega arith) (omega arith);
         newest_same = (kept HANDLERS (omega arith) (omega arith));
         count_same = (kept REGIONS (omega arith) (omega arith));
+        middle_same = (kept GLOBALS (omega arith) (omega arith));
         unchanged = d.memory ∙ (b.memory ∙ a.memory);
         returned = λ k below.
             three_are k (after_r (loaded frame value 3) r w) below
@@ -186,41 +190,29 @@ module _ (globals stack : ℕ) (frame : Frame) (r : Words) (w : Contents) (slots
       }
   are_loaded (suc (suc (suc (suc count)))) few held = absurd (omega (arith, few))
 
+-- from the line on where the way back is in its register
 module _ (program : Program) (well : IsWellFormed program) (frames : List Frame) (fit : AreFrames program frames) (code : Labelled) (formed : IsFormed code) (addresses : ℕ → ℕ) (pages calls : ℕ) (few : calls ≤ 4096)
-    (lie : AreAddresses code addresses) (c : Configuration) (run : labelled.Configuration) (r : Words) (w : Contents) (base : ℕ)
-    (now : At program well frames fit code formed addresses pages calls few (instruction_line program frames c.active.function c.active.next) c.output c.input r w run)
-    (s : Standing program frames addresses pages calls c r w base (r RETURN_ADDRESS) (suc (length c.frames)) c.active.slots)
-    (caches : Caches program frames c.active.function c.active.next r c.active.slots)
+    (lie : AreAddresses code addresses) (c : Configuration) (run : labelled.Configuration) (r : Words) (w : Contents) (base back : ℕ) (here : ℕ)
+    (now : At program well frames fit code formed addresses pages calls few here c.output c.input r w run)
+    (s : Standing program frames addresses pages calls c r w base back (keeps_back frames c) c.active.slots) (way_back : r RETURN_ADDRESS ≡ back)
     (i : Instruction) (value : ℕ) (at_i : instruction_at program (states.place_of (states.Running c)) ≡ Some i) (free : calls_nothing i ≡ true)
-    (needs : (slot : ℕ) → is_among value (routine_at program c.active.function).results slot ≡ true → reads (routine_at program c.active.function).results i slot ≡ true)
+    (returned_held : (slot : ℕ) → value ≤ slot → slot < value + (routine_at program c.active.function).results
+    → HeldIn globals_length (words_per_call * calls) (value_register (frame_at frames c.active.function) slot) (frame_at frames c.active.function) (r FRAME) w r c.active.slots slot)
     (does : performed program zeros c i ≡ returns c value (routine_at program c.active.function).results c.frames) (none_open : c.active.handlers ≡ [])
-    (in_range : HasSlots (routine_at program c.active.function) value (routine_at program c.active.function).results)
     (returns_to : (function index callee arguments count result : ℕ) → instruction_at program (record { function = function; index = index }) ≡ Some (plain.Call callee arguments count result)
     → IsReturnPoint code (behind_line program frames function index callee arguments count result))
-    (stands : Stands code (instruction_line program frames c.active.function c.active.next) (returning_code (c.active.function == program.main) (frame_at frames c.active.function) (instruction_line program frames c.active.function c.active.next) value (routine_at program c.active.function).results)) where
-  abbrev here : ℕ
-  here = instruction_line program frames c.active.function c.active.next
-
+    (stands : Stands code here (ending_code (c.active.function == program.main) (frame_at frames c.active.function) here value ++ ordinary (loaded (frame_at frames c.active.function) value (routine_at program c.active.function).results) ++ lines.Return ∷ [])) where
   abbrev frame : Frame
   frame = frame_at frames c.active.function
 
   abbrev results : ℕ
   results = (routine_at program c.active.function).results
 
-  abbrev ending : ℕ
-  ending = ending_count program c.active.function
-
   abbrev Goes : (least lo hi : ℕ) → State → Type 0
   Goes least lo hi t = Walk code formed addresses globals_length (words_per_call * calls) least lo hi c.output (Reached program well frames fit code formed addresses pages calls few c) t
 
   abbrev AtLine : ℕ → (q : Words) (m : Contents) → labelled.Configuration → Type 0
   AtLine line q m d = At program well frames fit code formed addresses pages calls few line c.output c.input q m d
-
-  -- what is returned is wanted here
-  returned_held : (slot : ℕ) → value ≤ slot → slot < value + results → HeldIn globals_length (words_per_call * calls) (value_register frame slot) frame (r FRAME) w r c.active.slots slot
-  returned_held slot from below =
-      slot_held program well frames fit code formed addresses pages calls few c run r w base now s caches (value_register frame slot) slot refl (omega (arith, below, in_range))
-      (0, (i, at_i, needs slot (among value results slot from below)))
 
   -- ---- the end of the run
 
@@ -246,48 +238,47 @@ module _ (program : Program) (well : IsWellFormed program) (frames : List Frame)
   -- ---- back to a caller
 
   back_goes : (line hi : ℕ) (d : labelled.Configuration) (f : states.Frame) (waiting : List states.Frame) → c.frames ≡ f ∷ waiting
-      → Chain program frames addresses w base (r RETURN_ADDRESS) c.active.function (f ∷ waiting)
+      → Chain program frames addresses w base back c.active.function (f ∷ waiting)
       → Stands code line (ordinary (loaded frame value results) ++ lines.Return ∷ []) → line + length (ordinary (loaded frame value results)) + 1 ≤ hi → AtLine line r w d → Goes 1 line hi (Running d)
   back_goes line hi d f waiting under (arguments, count, index, known, at, next, is_back, holds, chain) stands_here far later =
       let size : ℕ = length (loaded frame value results) in
       let same_size = length_ordinary (loaded frame value results) in
-      let own = fit.each c.active.function s.known in
-      let l = lies program well frames fit addresses pages calls few c r w base (r RETURN_ADDRESS) (suc (length c.frames)) c.active.slots s in
+      let l = lies program well frames fit addresses pages calls few c r w base back (keeps_back frames c) c.active.slots s in
       let routine = well.functions c.active.function no_routine s.known in
       let load = are_loaded globals_length (words_per_call * calls) frame r w c.active.slots value s.zero_is results routine.results returned_held in
       let q : Words = after_r (loaded frame value results) r w in
-      let above : ℕ = base + 4 * frame.words in
+      let above : ℕ = base + frame_size in
       let next_state : Configuration = record c {
         active = record f.caller { slots = copied c.active.slots value results f.caller.slots f.result };
         frames = waiting;
       } in
       let is_returned : performed program zeros c i ≡ states.Running next_state = does ∙ ap (returns c value results) under in
       let base_is : after_r (loaded frame value results) r w FRAME ≡ above =
-      load.base_moved ∙ (ap (λ (x : ℕ). add_of x (sign_extended (4 * frame.words))) s.base_is
-      ∙ add_small base (4 * frame.words) (omega (arith, own.within, own.small)) (omega (arith, l.below_end))) in
+      load.base_moved ∙ (ap (λ (x : ℕ). add_of x (sign_extended frame_size)) s.base_is
+      ∙ add_small base frame_size (omega arith) (omega (arith, l.below_end))) in
       let deep : suc (suc (length waiting)) ≤ calls = subst (λ (fs : List states.Frame). suc (length fs) ≤ calls) under s.deep in
-      let left : r CALLS + suc (suc (length waiting)) ≡ calls = subst (λ (fs : List states.Frame). r CALLS + suc (length fs) ≡ calls) under s.left in
-      let own_newest : IsNewest program frames addresses calls (r HANDLERS) base c.active.function [] (f ∷ waiting) =
-      subst (λ (hs : List states.Handler). IsNewest program frames addresses calls (r HANDLERS) base c.active.function hs (f ∷ waiting)) none_open
-      (subst (λ (fs : List states.Frame). IsNewest program frames addresses calls (r HANDLERS) base c.active.function c.active.handlers fs) under s.newest) in
-      let back_newest : IsNewest program frames addresses calls (after_r (loaded frame value results) r w HANDLERS) above f.caller.function f.caller.handlers waiting =
-      subst (λ (n : ℕ). IsNewest program frames addresses calls n above f.caller.function f.caller.handlers waiting) (sym load.newest_same) own_newest in
-      let there : Standing program frames addresses pages calls next_state (after_r (loaded frame value results) r w) w above (w.words (above + 4 * (frame_at frames f.caller.function).return_address)) (suc (suc (length waiting))) f.caller.slots = record {
+      let own_newest : IsNewest program frames addresses (r HANDLERS) base c.active.function [] (f ∷ waiting) =
+      subst (λ (hs : List states.Handler). IsNewest program frames addresses (r HANDLERS) base c.active.function hs (f ∷ waiting)) none_open
+      (subst (λ (fs : List states.Frame). IsNewest program frames addresses (r HANDLERS) base c.active.function c.active.handlers fs) under s.newest) in
+      let back_newest : IsNewest program frames addresses (after_r (loaded frame value results) r w HANDLERS) above f.caller.function f.caller.handlers waiting =
+      subst (λ (n : ℕ). IsNewest program frames addresses n above f.caller.function f.caller.handlers waiting) (sym load.newest_same) own_newest in
+      let there : Standing program frames addresses pages calls next_state (after_r (loaded frame value results) r w) w above (w.words (above + 4 * (frame_at frames f.caller.function).return_address)) true f.caller.slots = record {
         known = known;
         base_is = base_is;
         zero_is = load.zero_same ∙ s.zero_is;
-        left = ap (λ (n : ℕ). n + suc (suc (length waiting))) load.left_same ∙ left;
+        lowest = ap (λ (n : ℕ). n + frame_size * calls) load.lowest_same ∙ s.lowest;
         deep = omega (arith, deep);
         holds = holds;
         chain = chain;
         newest = back_newest;
-        kept = kept_here (frame_at frames f.caller.function) w above (w.words (above + 4 * (frame_at frames f.caller.function).return_address)) f.caller.handlers refl;
+        way = refl;
         globals = s.globals;
         input = s.input;
         based = (subst (λ (fs : List states.Frame). AreBased frames base c.active.function c.active.base fs) under s.based).1;
         store = s.store;
         laid = s.laid;
         counted = load.count_same ∙ s.counted;
+        middle = load.middle_same ∙ s.middle;
       } in
       walk_few code formed addresses globals_length (words_per_call * calls) 1 (size + 1) line hi c.output _ (Running d) (omega arith)
       (walk_block code formed addresses globals_length (words_per_call * calls) (loaded frame value results) 1 line line hi c.output c.input _ r w d later
@@ -296,7 +287,7 @@ module _ (program : Program) (well : IsWellFormed program) (frames : List Frame)
       walk_return code formed addresses globals_length (words_per_call * calls) 0 (line + size) (line + size) hi c.output c.input _ (after_r (loaded frame value results) r w) (after_w (loaded frame value results) r w) e
       (behind_line program frames f.caller.function index c.active.function arguments count f.result) lie after
       (subst (λ (n : ℕ). slice_get code.lines (line + n) ≡ Some lines.Return) same_size (stands_back code line (ordinary (loaded frame value results)) (lines.Return ∷ []) stands_here).0)
-      (omega arith) (returns_to f.caller.function index c.active.function arguments count f.result at) (load.back_same ∙ is_back)
+      (omega arith) (returns_to f.caller.function index c.active.function arguments count f.result at) (load.back_same ∙ (way_back ∙ is_back))
       (λ g returned.
       walk_end code formed addresses globals_length (words_per_call * calls) (suc (line + size)) hi c.output _ (Running g) (omega (arith, far, same_size))
       (reached program well frames fit code formed addresses pages calls few c zeros i (states.Running next_state) (Running g) (zeros_at program c i at_i free) at_i is_returned
@@ -333,14 +324,14 @@ module _ (program : Program) (well : IsWellFormed program) (frames : List Frame)
   abbrev tail : List Line
   tail = ordinary (loaded frame value results) ++ lines.Return ∷ []
 
-  plain_goes : (c.active.function == program.main) ≡ false → Stands code here tail → (fs : List states.Frame) → c.frames ≡ fs → Chain program frames addresses w base (r RETURN_ADDRESS) c.active.function fs → Goes 1 here (here + (0 + results + 2)) (Running run)
+  plain_goes : (c.active.function == program.main) ≡ false → Stands code here tail → (fs : List states.Frame) → c.frames ≡ fs → Chain program frames addresses w base back c.active.function fs → Goes 1 here (here + (0 + results + 2)) (Running run)
   plain_goes other stands_here [] under (last, is_back, is_main) = absurd (let e : false ≡ true = sym other ∙ eq-eqb c.active.function program.main is_main in cc)
   plain_goes other stands_here (f ∷ waiting) under chain =
       back_goes here (here + (0 + results + 2)) run f waiting under chain stands_here (omega (arith, loaded_length)) now
 
-  main_goes : (c.active.function == program.main) ≡ true → Stands code here (ending_code true frame here value ++ tail) → (fs : List states.Frame) → c.frames ≡ fs → Chain program frames addresses w base (r RETURN_ADDRESS) c.active.function fs → Goes 1 here (here + (4 + results + 2)) (Running run)
+  main_goes : (c.active.function == program.main) ≡ true → Stands code here (ending_code true frame here value ++ tail) → (fs : List states.Frame) → c.frames ≡ fs → Chain program frames addresses w base back c.active.function fs → Goes 1 here (here + (4 + results + 2)) (Running run)
   main_goes main stands_here [] under (last, is_back, is_main) =
-      let stays : (if not (r RETURN_ADDRESS == r 0) then here + 4 else here + 1) ≡ here + 1 = ap (λ (b : Bool). if not b then here + 4 else here + 1) (eq-eqb (r RETURN_ADDRESS) (r 0) (is_back ∙ sym s.zero_is)) in
+      let stays : (if not (r RETURN_ADDRESS == r 0) then here + 4 else here + 1) ≡ here + 1 = ap (λ (b : Bool). if not b then here + 4 else here + 1) (eq-eqb (r RETURN_ADDRESS) (r 0) (way_back ∙ (is_back ∙ sym s.zero_is))) in
       let one : results ≡ 1 = ap (λ (f : ℕ). (routine_at program f).results) is_main ∙ well.main_results in
       walk_branch code formed addresses globals_length (words_per_call * calls) 0 here here (here + (4 + results + 2)) c.output c.input _ r w run (conditions.Registers branch.NotEqual (register_of RETURN_ADDRESS) (register_of 0)) (here + 4) (here + 1) now stands_here.0 (omega arith) stays
       (λ d later.
@@ -351,7 +342,7 @@ module _ (program : Program) (well : IsWellFormed program) (frames : List Frame)
   main_goes main stands_here (f ∷ waiting) under (arguments, count, index, known, at, next, is_back, holds, chain) =
       let line : ℕ = behind_line program frames f.caller.function index c.active.function arguments count f.result in
       let high = lie.from (behind_line program frames f.caller.function index c.active.function arguments count f.result) (returns_to f.caller.function index c.active.function arguments count f.result at).inside in
-      let other : r RETURN_ADDRESS ≢ r 0 = λ e. absurd (omega (arith, e, s.zero_is, is_back, high)) in
+      let other : r RETURN_ADDRESS ≢ r 0 = λ e. absurd (omega (arith, e, s.zero_is, way_back, is_back, high)) in
       let leaps : (if not (r RETURN_ADDRESS == r 0) then here + 4 else here + 1) ≡ here + 4 = ap (λ (b : Bool). if not b then here + 4 else here + 1) (ne_eqb (r RETURN_ADDRESS) (r 0) other) in
       walk_branch code formed addresses globals_length (words_per_call * calls) 0 here here (here + (4 + results + 2)) c.output c.input _ r w run (conditions.Registers branch.NotEqual (register_of RETURN_ADDRESS) (register_of 0)) (here + 4) (here + 4) now stands_here.0 (omega arith) leaps
       (λ d later.
@@ -360,8 +351,8 @@ module _ (program : Program) (well : IsWellFormed program) (frames : List Frame)
       (back_goes (here + 4) (here + (4 + results + 2)) d f waiting under (arguments, count, index, known, at, next, is_back, holds, chain)
       (stands_back code here (ending_code true frame here value) tail stands_here) (omega (arith, loaded_length)) later)))
 
-  pub return_goes : Goes 1 here (here + (ending_count program c.active.function + results + 2)) (Running run)
-  return_goes = elim (cases_Bool (c.active.function == program.main)) [
+  pub returning_goes : Goes 1 here (here + (ending_count program c.active.function + results + 2)) (Running run)
+  returning_goes = elim (cases_Bool (c.active.function == program.main)) [
     | inl main ↦
         subst (λ (n : ℕ). Goes 1 here (here + (n + results + 2)) (Running run)) (sym (ap (λ (b : Bool). if b then 4 else 0) main))
         (main_goes main (subst (λ (b : Bool). Stands code here (ending_code b frame here value ++ ordinary (loaded frame value results) ++ lines.Return ∷ [])) main stands) c.frames refl s.chain)
@@ -408,27 +399,28 @@ no_slots from to source destination number = elim (cases_lt number destination) 
 ]
 
 module _ (program : Program) (well : IsWellFormed program) (frames : List Frame) (fit : AreFrames program frames) (addresses : ℕ → ℕ) (pages calls : ℕ) (few : calls ≤ 4096)
-    (c : Configuration) (q : Words) (base back depth result first : ℕ) (values waiting : Words) where
+    (c : Configuration) (q : Words) (base back : ℕ) (in_frame : Bool) (result first : ℕ) (values waiting : Words) where
   abbrev StandsWith : (m : Contents) (slots : Words) → Type 0
-  StandsWith m slots = Standing program frames addresses pages calls c q m base back depth slots
+  StandsWith m slots = Standing program frames addresses pages calls c q m base back in_frame slots
 
   pub same_slots : (m : Contents) (slots slots' : Words) → ((slot : ℕ) → slots slot ≡ slots' slot) → StandsWith m slots → StandsWith m slots'
   same_slots m slots slots' same s = record {
     known = s.known;
     base_is = s.base_is;
     zero_is = s.zero_is;
-    left = s.left;
+    lowest = s.lowest;
     deep = s.deep;
     holds = λ slot below slot_kept. s.holds slot below slot_kept ∙ same slot;
     chain = s.chain;
     globals = s.globals;
     newest = s.newest;
-    kept = s.kept;
+    way = s.way;
     input = s.input;
     based = s.based;
     store = s.store;
     laid = s.laid;
     counted = s.counted;
+    middle = s.middle;
   }
 
   -- the registers hold the values from this one on
@@ -450,16 +442,16 @@ module _ (program : Program) (well : IsWellFormed program) (frames : List Frame)
   }
   are_stored slot k (source ∷ sources) m is_slot fits (one, others) s =
       let below : slot < (routine_at program c.active.function).slots = omega (arith, is_slot, fits) in
-      let there = slot_address program well frames fit addresses pages calls few c q m base back depth (copied values first k waiting result) s slot below in
+      let there = slot_address program well frames fit addresses pages calls few c q m base back in_frame (copied values first k waiting result) s slot below in
       let m1 : Contents = written m (memory_address (q FRAME) (slot_offset (frame_at frames c.active.function) slot)) (q (source % 32)) in
-      let put_one = standing_slot program well frames fit addresses pages calls few c q m base back depth (copied values first k waiting result) s slot (q (source % 32)) below in
+      let put_one = standing_slot program well frames fit addresses pages calls few c q m base back in_frame (copied values first k waiting result) s slot (q (source % 32)) below in
       let in_m1 : StandsWith m1 (put (copied values first k waiting result) slot (q (source % 32))) =
       subst (λ (a : ℕ). StandsWith (written m a (q (source % 32))) (put (copied values first k waiting result) slot (q (source % 32)))) (sym there) put_one in
       let next = same_slots m1 (put (copied values first k waiting result) slot (q (source % 32))) (copied values first (suc k) waiting result)
       (λ number. slots_next values waiting first k result slot number (q (source % 32)) is_slot one) in_m1 in
       let rest = are_stored (suc slot) (suc k) sources m1 (omega (arith, is_slot)) (omega (arith, fits)) others next in
       record {
-        safe = (slot_cell program well frames fit addresses pages calls few c q m base back depth (copied values first k waiting result) s slot below, rest.safe);
+        safe = (slot_cell program well frames fit addresses pages calls few c q m base back in_frame (copied values first k waiting result) s slot below, rest.safe);
         same = rest.same;
         standing = subst (λ (n : ℕ). StandsWith (after_w (store_all (frame_at frames c.active.function) (suc slot) sources) q m1) (copied values first n waiting result)) (let e : suc k + length sources ≡ k + suc (length sources) = omega arith in e) rest.standing;
       }
@@ -512,74 +504,31 @@ module _ (program : Program) (well : IsWellFormed program) (frames : List Frame)
   abbrev own_frame : Frame
   own_frame = frame_at frames c.active.function
 
-  abbrev first_two : List Instr
-  first_two = load RETURN_ADDRESS (4 * own_frame.return_address) ∷ add_immediate CALLS CALLS 1 ∷ []
-
   abbrev kept_words : List Instr
   kept_words = bring_all true own_frame b.result (result_registers (routine_at program b.callee).results)
 
   abbrev saved : ℕ
   saved = b.w.words (b.base + 4 * own_frame.return_address)
 
-  abbrev restored : Words
-  restored = after_r first_two b.r b.w
-
-  back_is : restored RETURN_ADDRESS ≡ saved
-  back_is = ap b.w.words (return_address program well frames fit addresses pages calls few c b.r b.w b.base saved (suc (suc (length c.frames))) b.waiting b.standing)
-
-  left_is : restored CALLS ≡ b.r CALLS + 1
-  left_is = add_small (b.r CALLS) 1 (omega arith) (omega (arith, b.standing.left))
-
-  small_register : (k : ℕ) → result_register k < CALLS
-  small_register zero = omega arith
-  small_register (suc zero) = omega arith
-  small_register (suc (suc zero)) = omega arith
-  small_register (suc (suc (suc k))) = omega arith
-
-  register_kept : (k : ℕ) → restored (result_register k) ≡ b.r (result_register k)
-  register_kept k =
-      put-other (put b.r RETURN_ADDRESS _) CALLS (result_register k) _ (λ e. absurd (omega (arith, e, small_register k)))
-      ∙ put-other b.r RETURN_ADDRESS (result_register k) _ (λ e. absurd (omega (arith, e, small_register k)))
-
-  restored_stands : Standing program frames addresses pages calls c restored b.w b.base saved (suc (length c.frames)) b.waiting
-  restored_stands = record {
-    known = b.standing.known;
-    base_is = b.standing.base_is;
-    zero_is = b.standing.zero_is;
-    left = one_less (restored CALLS) left_is;
-    deep = b.standing.deep;
-    holds = b.standing.holds;
-    chain = b.standing.chain;
-    globals = b.standing.globals;
-    newest = b.standing.newest;
-    kept = b.standing.kept;
-    input = b.standing.input;
-    based = b.standing.based;
-    store = b.standing.store;
-    laid = b.standing.laid;
-    counted = b.standing.counted;
-  }
-    where
-      one_less : (n : ℕ) → n ≡ b.r CALLS + 1 → n + suc (length c.frames) ≡ calls
-      one_less n is = omega (arith, is, b.standing.left)
-
   abbrev read_again : List Instr
   read_again = reloads own_frame
 
-  length_kept : length (first_two ++ (kept_words ++ read_again)) ≡ 2 + (routine_at program b.callee).results + reload_count own_frame
+  length_kept : length (kept_words ++ read_again) ≡ (routine_at program b.callee).results + reload_count own_frame
   length_kept =
       let long = length-append kept_words read_again in
       let stores = length_results own_frame b.result (result_registers (routine_at program b.callee).results) in
       let registers = length_registers (routine_at program b.callee).results few_results in
-      let e : suc (suc (length (kept_words ++ read_again))) ≡ 2 + (routine_at program b.callee).results + reload_count own_frame = omega (arith, long, stores, registers, length_reloads own_frame) in
-      e
+      omega (arith, long, stores, registers, length_reloads own_frame)
 
-  line_is : behind_line program frames c.active.function b.index b.callee b.arguments b.count b.result + length (first_two ++ (kept_words ++ read_again)) ≡ instruction_line program frames c.active.function c.active.next
+  line_is : behind_line program frames c.active.function b.index b.callee b.arguments b.count b.result + length (kept_words ++ read_again) ≡ instruction_line program frames c.active.function c.active.next
   line_is =
       let e = line_next program frames c.active.function b.index (plain.Call b.callee b.arguments b.count b.result) b.call in
       ap (λ (n : ℕ). behind_line program frames c.active.function b.index b.callee b.arguments b.count b.result + n) length_kept
-      ∙ ((let f : behind_line program frames c.active.function b.index b.callee b.arguments b.count b.result + (2 + (routine_at program b.callee).results + reload_count own_frame) ≡ instruction_line program frames c.active.function (b.index + 1) = omega (arith, e) in f)
+      ∙ ((let f : behind_line program frames c.active.function b.index b.callee b.arguments b.count b.result + ((routine_at program b.callee).results + reload_count own_frame) ≡ instruction_line program frames c.active.function (b.index + 1) = omega (arith, e) in f)
       ∙ ap (instruction_line program frames c.active.function) (sym b.next))
+
+  saves_is : keeps_back frames c ≡ true
+  saves_is = saves_at program frames fit c.active.function b.index (plain.Call b.callee b.arguments b.count b.result) b.standing.known b.call refl
 
   -- ---- what was returned comes to slots
 
@@ -617,37 +566,34 @@ module _ (program : Program) (well : IsWellFormed program) (frames : List Frame)
   shares_none d slot k begun below has_d has wanted =
       right.made b.index (suc b.index) slot d k (plain.Call b.callee b.arguments b.count b.result) b.call (written_by d begun below) (eq-eqb (suc b.index) (suc b.index) refl) has_d has (behind_next slot wanted)
 
-  low_words : (n : ℕ) → n < 8 → IsWord (restored n)
-  low_words n low =
-      subst IsWord
-      (sym (put-other (put b.r RETURN_ADDRESS _) CALLS n _ (λ e. absurd (omega (arith, e, low))) ∙ put-other b.r RETURN_ADDRESS n _ (λ e. absurd (omega (arith, e, low)))))
-      (b.now.r_words n)
+  low_words : (n : ℕ) → n < 6 → IsWord (b.r n)
+  low_words n low = b.now.r_words n
 
-  brought : AreBrought program well frames fit addresses pages calls few true c b.base saved (suc (length c.frames)) c.active.next b.result past restored low_words room_is shares_none b.result registers_of restored b.w b.waiting
+  brought : AreBrought program well frames fit addresses pages calls few true c b.base saved true c.active.next b.result past b.r low_words room_is shares_none b.result registers_of b.r b.w b.waiting
   brought =
-      are_brought program well frames fit addresses pages calls few true c b.base saved (suc (length c.frames)) c.active.next b.result past restored low_words room_is shares_none b.result registers_of restored b.w b.waiting
-      (omega arith) (omega arith) (results_low (routine_at program b.callee).results few_results) (λ n low. refl) restored_stands
+      are_brought program well frames fit addresses pages calls few true c b.base saved true c.active.next b.result past b.r low_words room_is shares_none b.result registers_of b.r b.w b.waiting
+      (omega arith) (omega arith) (results_low (routine_at program b.callee).results few_results) (λ n low. refl) b.standing
 
   abbrev given_r : Words
-  given_r = after_r kept_words restored b.w
+  given_r = after_r kept_words b.r b.w
 
   abbrev given_w : Contents
-  given_w = after_w kept_words restored b.w
+  given_w = after_w kept_words b.r b.w
 
   -- so the slots are those of the next instruction
-  slots_are : (number : ℕ) → put_all b.result registers_of restored b.waiting number ≡ c.active.slots number
+  slots_are : (number : ℕ) → put_all b.result registers_of b.r b.waiting number ≡ c.active.slots number
   slots_are number =
-      results_copied program well frames fit addresses pages calls few c restored b.base saved (suc (length c.frames)) b.result b.first b.values b.waiting (routine_at program b.callee).results few_results
-      (λ j below. register_kept j ∙ b.returned j below) number
+      results_copied program well frames fit addresses pages calls few c b.r b.base saved true b.result b.first b.values b.waiting (routine_at program b.callee).results few_results
+      (λ j below. b.returned j below) number
       ∙ sym (ap (λ (x : Words). x number) b.slots)
 
-  given_stands : Standing program frames addresses pages calls c given_r given_w b.base saved (suc (length c.frames)) c.active.slots
+  given_stands : Standing program frames addresses pages calls c given_r given_w b.base saved true c.active.slots
   given_stands =
-      same_slots program well frames fit addresses pages calls few c given_r b.base saved (suc (length c.frames)) b.result b.first b.values b.waiting given_w
-      (put_all b.result registers_of restored b.waiting) c.active.slots slots_are brought.standing
+      same_slots program well frames fit addresses pages calls few c given_r b.base saved true b.result b.first b.values b.waiting given_w
+      (put_all b.result registers_of b.r b.waiting) c.active.slots slots_are brought.standing
 
   -- what is wanted and not in memory was returned
-  alone_returned : CachesBut program well frames fit addresses pages calls few true c b.base saved (suc (length c.frames)) c.active.next b.result past restored low_words room_is shares_none b.result (length registers_of) restored b.waiting
+  alone_returned : CachesBut program well frames fit addresses pages calls few true c b.base saved true c.active.next b.result past b.r low_words room_is shares_none b.result (length registers_of) b.r b.waiting
   alone_returned a k has wanted last outside =
       absurd (false≢true (sym last ∙ right.behind b.index b.callee b.arguments b.count b.result a b.call (apart_from_all a outside) (behind_next a wanted)))
 
@@ -661,32 +607,28 @@ module _ (program : Program) (well : IsWellFormed program) (frames : List Frame)
   behind_goes n hi Goal rest =
       let k : ℕ = behind_line program frames c.active.function b.index b.callee b.arguments b.count b.result in
       let again = reloaded globals_length (words_per_call * calls) program frames c.active.function right c.active.next given_r given_w c.active.slots
-      (λ slot below. slot_cell program well frames fit addresses pages calls few c given_r given_w b.base saved (suc (length c.frames)) c.active.slots given_stands slot below)
-      (λ slot below slot_kept. slot_word_is program well frames fit addresses pages calls few c given_r given_w b.base saved (suc (length c.frames)) c.active.slots given_stands slot below slot_kept)
+      (λ slot below. slot_cell program well frames fit addresses pages calls few c given_r given_w b.base saved true c.active.slots given_stands slot below)
+      (λ slot below slot_kept. slot_word_is program well frames fit addresses pages calls few c given_r given_w b.base saved true c.active.slots given_stands slot below slot_kept)
       returned_alone in
       let final : Words = after_r read_again given_r given_w in
-      let registers : after_r (kept_words ++ read_again) restored b.w ≡ after_r read_again given_r given_w = after_r-append kept_words read_again restored b.w in
-      let memory : after_w (kept_words ++ read_again) restored b.w ≡ given_w = after_w-append kept_words read_again restored b.w ∙ again.memory in
-      let in_final = standing_registers program well frames fit addresses pages calls few c given_r given_w b.base saved (suc (length c.frames)) c.active.slots given_stands final
-      (again.others 0 (inl (omega arith))) (again.others FRAME (inr (omega arith))) (again.others CALLS (inr (omega arith)))
-      (lasting_same final given_r (again.others HANDLERS (inr (omega arith))) (again.others REGIONS (inr (omega arith)))) in
-      walk_few code formed addresses globals_length (words_per_call * calls) n (length (first_two ++ (kept_words ++ read_again)) + n) k hi c.output Goal (Running b.run) (omega arith)
-      (walk_block code formed addresses globals_length (words_per_call * calls) (first_two ++ (kept_words ++ read_again)) n k k hi c.output c.input Goal b.r b.w b.run b.now stands (
-        (refl, return_cell program well frames fit addresses pages calls few c b.r b.w b.base saved (suc (suc (length c.frames))) b.waiting b.standing),
-        (refl, safe_append globals_length (words_per_call * calls) kept_words read_again restored b.w brought.safe again.safe),
-      ) (omega arith)
+      let registers : after_r (kept_words ++ read_again) b.r b.w ≡ after_r read_again given_r given_w = after_r-append kept_words read_again b.r b.w in
+      let memory : after_w (kept_words ++ read_again) b.r b.w ≡ given_w = after_w-append kept_words read_again b.r b.w ∙ again.memory in
+      let in_final = standing_registers program well frames fit addresses pages calls few c given_r given_w b.base saved true c.active.slots given_stands final
+      (again.others 0 (inl (omega arith))) (again.others FRAME (inr (omega arith))) (again.others LOWEST (inr (omega arith))) (λ outside. again.others RETURN_ADDRESS (inr (omega arith)))
+      (lasting_same final given_r (again.others HANDLERS (inr (omega arith))) (again.others REGIONS (inr (omega arith))) (again.others GLOBALS (inr (omega arith)))) in
+      walk_few code formed addresses globals_length (words_per_call * calls) n (length (kept_words ++ read_again) + n) k hi c.output Goal (Running b.run) (omega arith)
+      (walk_block code formed addresses globals_length (words_per_call * calls) (kept_words ++ read_again) n k k hi c.output c.input Goal b.r b.w b.run b.now stands (safe_append globals_length (words_per_call * calls) kept_words read_again b.r b.w brought.safe again.safe) (omega arith)
       (λ d later.
-      walk_from code formed addresses globals_length (words_per_call * calls) n (k + length (first_two ++ (kept_words ++ read_again))) (instruction_line program frames c.active.function c.active.next) hi c.output Goal (Running d) (omega (arith, line_is))
+      walk_from code formed addresses globals_length (words_per_call * calls) n (k + length (kept_words ++ read_again)) (instruction_line program frames c.active.function c.active.next) hi c.output Goal (Running d) (omega (arith, line_is))
       (rest (Running d) (record {
         run = d;
         r = final;
         w = given_w;
         base = b.base;
+        back = saved;
         is = refl;
-        now = now_at code formed addresses globals_length (words_per_call * calls) (k + length (first_two ++ (kept_words ++ read_again))) (instruction_line program frames c.active.function c.active.next) c.output c.input final given_w d line_is
-            (now_is code formed addresses globals_length (words_per_call * calls) (k + length (first_two ++ (kept_words ++ read_again))) c.output c.input (after_r (kept_words ++ read_again) restored b.w) (after_w (kept_words ++ read_again) restored b.w) final given_w d registers memory later);
-        standing =
-            subst (λ (x : ℕ). Standing program frames addresses pages calls c final given_w b.base x (suc (length c.frames)) c.active.slots)
-            (sym (again.others RETURN_ADDRESS (inr (omega arith)) ∙ (brought.aside RETURN_ADDRESS (inr (omega arith)) ∙ back_is))) in_final;
+        now = now_at code formed addresses globals_length (words_per_call * calls) (k + length (kept_words ++ read_again)) (instruction_line program frames c.active.function c.active.next) c.output c.input final given_w d line_is
+            (now_is code formed addresses globals_length (words_per_call * calls) (k + length (kept_words ++ read_again)) c.output c.input (after_r (kept_words ++ read_again) b.r b.w) (after_w (kept_words ++ read_again) b.r b.w) final given_w d registers memory later);
+        standing = subst (λ (x : Bool). Standing program frames addresses pages calls c final given_w b.base saved x c.active.slots) (sym saves_is) in_final;
         caches = again.caches;
       }))))

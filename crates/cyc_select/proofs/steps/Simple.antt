@@ -1,11 +1,11 @@
 -- The instructions that neither call nor return.
-use Rattle.std.proofs.Common.{◌≡◌, ◌≢◌, ℕ, suc, slice_get, length-append, ◌+◌, ◌-◌, ◌*◌, ◌/◌, ◌%◌, ◌^◌, ◌<◌, ◌≤◌, Bool, true, false, not, List, [], ◌∷◌, ◌++◌, length, drop, Option, Some, None, refl, sym, ap, subst, ◌∙◌, arith, inl, inr}
+use Rattle.std.proofs.Common.{◌≡◌, ◌≢◌, ℕ, suc, slice_get, length-append, ◌+◌, ◌-◌, ◌*◌, ◌%◌, ◌^◌, ◌<◌, ◌≤◌, Bool, true, false, not, List, [], ◌∷◌, ◌++◌, length, drop, Option, Some, None, refl, sym, ap, subst, ◌∙◌, arith, inl, inr}
 use Rattle.std.specs.Prelude.{◌==◌, ◌||◌, if◌then◌else◌}
 use Rattle.std.specs.List.{AllByRecursion}
 use Rattle.std.proofs.lemmas.Bool.{cases_eq, eq-eqb, ne_eqb, or_left, or_right}
 use Rattle.cyc_words.specs.Ending.{Ending, Uncaught}
 use Rattle.cyc_words.specs.Word.{IsWord, signed, add_of, sign_extended}
-use Rattle.cyc_isa.specs.Effect.{branch_taken, branch_zero_taken, load_upper_result, memory_address}
+use Rattle.cyc_isa.specs.Effect.{branch_taken, branch_zero_taken, memory_address}
 use Rattle.cyc_isa.specs.declared.instr.Instr.{Instr}
 use Rattle.cyc_isa.specs.declared.instr.BranchOp.TheVariants as branch
 use Rattle.cyc_isa.specs.declared.instr.MoveFromOp.{MoveFromOp}
@@ -39,7 +39,7 @@ use Rattle.cyc_select.specs.declared.code.Line.{Line}
 use Rattle.cyc_select.specs.declared.code.Condition.{Condition}
 use Rattle.cyc_select.specs.declared.code.Condition.TheVariants as conditions
 use Rattle.cyc_select.specs.declared.code.Line.TheVariants as lines
-use Rattle.cyc_select.specs.declared.constants.TheConstants.{FIRST, SECOND, THIRD, ZERO, CALLS, FRAME, REGIONS}
+use Rattle.cyc_select.specs.declared.constants.TheConstants.{FIRST, SECOND, THIRD, ZERO, LOWEST, FRAME, REGIONS}
 use Rattle.cyc_select.specs.declared.plan.Plan.{Plan}
 use Rattle.cyc_select.specs.declared.plan.Test.{Test}
 use Rattle.cyc_select.specs.declared.plan.Test.TheVariants as tests
@@ -47,30 +47,31 @@ use Rattle.cyc_select.specs.Plans.{unary_plan, binary_plan, test_of}
 use Rattle.cyc_select.specs.Labelled.{Labelled, IsFormed}
 use Rattle.cyc_select.specs.Machine as labelled
 use Rattle.cyc_select.specs.Machine.{State, Running, Ended, holds_of}
-use Rattle.cyc_select.specs.Selection.{multiply_divide_of, move_from_of, product_code, quotient_code, copy, value_register, or_else, is_kept, keep_code, keep_count, give_to, give_code, give_count_to, give_count, move_to, move_count_to, move_count, divide_count, add_immediate, store_slot, slot_offset, small, ordinary, syscall, upper_of_global, at_global, word_code, load_code, operand_code, operand_register, made_in, operands_code, operation_of, computed_code, plan_code, branch_on, branch_code, divided_code, divide_code, word_count, load_count, operand_count, plan_count, test_count, is_tested, body, body_count, count_of, instruction_line}
-use Rattle.cyc_select.proofs.values.Blocks.{AreSame, all_same, lasting, Puts, Keeps, IsScratch, puts_keeps, keeps_append, safe_append}
+use Rattle.cyc_select.specs.Selection.{multiply_divide_of, move_from_of, product_code, quotient_code, copy, value_register, or_else, is_kept, keep_code, keep_count, give_to, give_code, give_count_to, give_count, move_to, move_count_to, move_count, divide_count, add_immediate, store_slot, slot_offset, small, ordinary, syscall, at_global, word_code, load_code, operand_code, operand_register, made_in, operands_code, operation_of, computed_code, plan_code, branch_on, branch_code, divided_code, divide_code, word_count, load_count, operand_count, plan_count, test_count, is_tested, body, body_count, count_of, instruction_line, reach_code, reach_register, reach_half, reach_count, global_code}
+use Rattle.cyc_select.proofs.values.Blocks.{AreSame, all_same, lasting, Puts, Keeps, IsScratch, puts_keeps, keeps_append, safe_append, middle_lasts, after_both}
 use Rattle.cyc_store.specs.State.{lexical_count}
 use Rattle.cyc_select.proofs.steps.Calls.{length_ordinary}
 use Rattle.cyc_select.proofs.relation.Cells.{IsCell}
-use Rattle.cyc_select.proofs.values.Computing.{IsHeld, IsComputable, word_puts, load_puts, operand_puts, operands_put, operation_leaves, plan_leaves, divided_put, first_scratch, second_scratch, argument_scratch, first_aside, second_aside, argument_aside, scratch_writable, not_second, made_scratch}
-use Rattle.cyc_select.proofs.emission.Counts.{load_some, operation_some, length_word, length_load, length_operand, length_computed, length_test, length_divided}
+use Rattle.cyc_select.proofs.values.Computing.{IsHeld, IsComputable, word_puts, load_puts, operand_puts, operands_put, operation_leaves, plan_leaves, divided_put, first_scratch, argument_scratch, first_aside, argument_aside, scratch_writable, not_second, made_scratch}
+use Rattle.cyc_select.proofs.emission.Counts.{load_some, operation_some, length_word, length_load, length_operand, length_computed, length_test, length_divided, length_global}
 use Rattle.cyc_select.proofs.effects.Effects.{byte_of}
 use Rattle.cyc_select.proofs.relation.Held.{operand_held, operand_is_word}
 use Rattle.cyc_select.proofs.values.Halves.{divisor_is}
 use Rattle.cyc_select.proofs.layout.Lines.{line_next}
-use Rattle.cyc_select.proofs.values.Operations.{add_small, global_lies}
+use Rattle.cyc_select.proofs.values.Operations.{add_small}
 use Rattle.cyc_select.proofs.values.Plans.{multiply_divide_result, if_low, AllOfTest, operation_word, plan_word, unary_word, binary_word, test_taken, test_goes, all_unary, all_binary, all_test}
 use Rattle.cyc_select.proofs.relation.Values.{Caches, memory_kept, made_is, apart_from, itself, next_led, caches_past}
 use Rattle.cyc_select.proofs.effects.Views.{Contents, written}
 use Rattle.cyc_select.proofs.effects.Walks.{Stands, stands_front, stands_back, stands_first, stands_behind, after_r, after_w, after_r-append, after_w-append, AreSafe, Walk, now_at, now_is, walk_end, walk_few, walk_from, walk_block, walk_branch, walk_jump, walk_get, walk_put, walk_uncaught}
-use Rattle.cyc_select.proofs.relation.Standing.{Standing, based_here, lies, slot_cell, global_cell, standing_global, standing_registers, standing_at}
+use Rattle.cyc_select.proofs.relation.Standing.{Standing, based_here, lies, slot_inside, slot_cell, global_cell, standing_global, standing_registers, standing_at, keeps_back}
 use Rattle.cyc_select.proofs.relation.Matches.{At, Reached, reached, reached_gives, reached_at, within}
+use Rattle.cyc_select.proofs.values.Reaching.{reaches}
 
 module _ (program : Program) (well : IsWellFormed program) (frames : List Frame) (fit : AreFrames program frames) (code : Labelled) (formed : IsFormed code) (addresses : ℕ → ℕ) (pages calls : ℕ) (few : calls ≤ 4096)
     (c : Configuration)
-    (run : labelled.Configuration) (r : Words) (w : Contents) (base : ℕ)
+    (run : labelled.Configuration) (r : Words) (w : Contents) (base back : ℕ)
     (now : At program well frames fit code formed addresses pages calls few (instruction_line program frames c.active.function c.active.next) c.output c.input r w run)
-    (s : Standing program frames addresses pages calls c r w base (r RETURN_ADDRESS) (suc (length c.frames)) c.active.slots)
+    (s : Standing program frames addresses pages calls c r w base back (keeps_back frames c) c.active.slots)
     (caches : Caches program frames c.active.function c.active.next r c.active.slots) where
   abbrev here : ℕ
   here = instruction_line program frames c.active.function c.active.next
@@ -88,7 +89,7 @@ module _ (program : Program) (well : IsWellFormed program) (frames : List Frame)
   Goes least lo hi t = Walk code formed addresses globals_length (words_per_call * calls) least lo hi c.output (Reached program well frames fit code formed addresses pages calls few c) t
 
   cell : (slot : ℕ) → slot < slots → IsCell globals_length (words_per_call * calls) (memory_address (r FRAME) (slot_offset frame slot))
-  cell slot below = slot_cell program well frames fit addresses pages calls few c r w base (r RETURN_ADDRESS) (suc (length c.frames)) c.active.slots s slot below
+  cell slot below = slot_cell program well frames fit addresses pages calls few c r w base back (keeps_back frames c) c.active.slots s slot below
 
   homes_right : AreHomes program (routine_at program c.active.function) (frame_at frames c.active.function).homes
   homes_right = fit.homes c.active.function s.known
@@ -115,10 +116,10 @@ module _ (program : Program) (well : IsWellFormed program) (frames : List Frame)
   Uses i o = (slot : ℕ) → is_slot o slot ≡ true → reads (routine_at program c.active.function).results i slot ≡ true
 
   held : (i : Instruction) → IsAt i → (o : Operand) → Uses i o → IsThere o → Held o
-  held i at_i o used there = operand_held program well frames fit code formed addresses pages calls few c run r w base now s caches i at_i o used there
+  held i at_i o used there = operand_held program well frames fit code formed addresses pages calls few c run r w base back now s caches i at_i o used there
 
   is_word : (o : Operand) → Held o → IsWord (word_of o)
-  is_word o there = operand_is_word program well frames fit code formed addresses pages calls few c run r w base now s caches o there
+  is_word o there = operand_is_word program well frames fit code formed addresses pages calls few c run r w base back now s caches o there
 
   -- of two operands
   left_used : (left right : Operand) (slot : ℕ) → is_slot left slot ≡ true → (is_slot left slot || is_slot right slot) ≡ true
@@ -146,23 +147,23 @@ module _ (program : Program) (well : IsWellFormed program) (frames : List Frame)
   pub record Agrees (but : ℕ) (q : Words) : Type 0 where
     pub zero_same : q 0 ≡ r 0
     pub base_same : q FRAME ≡ r FRAME
-    pub left_same : q CALLS ≡ r CALLS
+    pub lowest_same : q LOWEST ≡ r LOWEST
     pub back_same : q RETURN_ADDRESS ≡ r RETURN_ADDRESS
     pub lasts_same : lasting q ≡ lasting r
     pub values_same : AreSame but q r
 
   agrees_itself : (but : ℕ) → Agrees but r
-  agrees_itself but = record { zero_same = refl; base_same = refl; left_same = refl; back_same = refl; lasts_same = refl; values_same = λ n low high other. refl }
+  agrees_itself but = record { zero_same = refl; base_same = refl; lowest_same = refl; back_same = refl; lasts_same = refl; values_same = λ n low high other. refl }
 
   kept_agrees : (is : List Instr) → KeepsHere is → Agrees FIRST (after_r is r w)
   kept_agrees is keeps =
-      record { zero_same = keeps.zero; base_same = keeps.base; left_same = keeps.left; back_same = keeps.back; lasts_same = keeps.lasts; values_same = keeps.values }
+      record { zero_same = keeps.zero; base_same = keeps.base; lowest_same = keeps.lowest; back_same = keeps.back; lasts_same = keeps.lasts; values_same = keeps.values }
 
   but_any : (but : ℕ) (q : Words) → Agrees FIRST q → Agrees but q
   but_any but q agrees = record {
     zero_same = agrees.zero_same;
     base_same = agrees.base_same;
-    left_same = agrees.left_same;
+    lowest_same = agrees.lowest_same;
     back_same = agrees.back_same;
     lasts_same = agrees.lasts_same;
     values_same = λ n low high other. all_same q r agrees.values_same n low high;
@@ -202,7 +203,7 @@ module _ (program : Program) (well : IsWellFormed program) (frames : List Frame)
       → AllByRecursion IsWord input → (line count : ℕ) (q : Words) (d : labelled.Configuration) → At program well frames fit code formed addresses pages calls few line c.output input q w d
       → (is : List Instr) (register but : ℕ) → Agrees but q → Keeps globals_length (words_per_call * calls) is q w but → after_r is q w (register % 32) ≡ word
       → ((k : ℕ) → value_register frame destination ≡ Some k → after_r is q w k ≡ word)
-      → ((n : ℕ) → 8 ≤ n → n < 24 → (value_register frame destination ≡ Some n → ⊥) → n ≢ but)
+      → ((n : ℕ) → 6 ≤ n → n < 24 → (value_register frame destination ≡ Some n → ⊥) → n ≢ but)
       → line + (length is + keep_count frame destination) ≡ here + count → count_of program frames c.active.function i ≡ count
       → Stands code line (ordinary (is ++ stored (is_kept frame destination) register destination))
       → Goes (length is + keep_count frame destination) line (here + count) (Running d)
@@ -220,8 +221,8 @@ module _ (program : Program) (well : IsWellFormed program) (frames : List Frame)
       (walk_block code formed addresses globals_length (words_per_call * calls) all 0 line line (here + count) c.output input _ q w d now_d stands safe (omega arith)
       (λ e later.
       walk_end code formed addresses globals_length (words_per_call * calls) (line + length all) (here + count) c.output _ (Running e) (omega (arith, enough, long))
-      (reached_gives program well frames fit code formed addresses pages calls few c i at_i free r w base s caches destination word input (line + length all) e (after_r all q w) (after_w all q w)
-      below unwritten written_there led does fine (omega (arith, enough, counted, long)) (same 0 ∙ (keeps.zero ∙ agrees.zero_same)) (same FRAME ∙ (keeps.base ∙ agrees.base_same)) (same CALLS ∙ (keeps.left ∙ agrees.left_same))
+      (reached_gives program well frames fit code formed addresses pages calls few c i at_i free r w base back s caches destination word input (line + length all) e (after_r all q w) (after_w all q w)
+      below unwritten written_there led does fine (omega (arith, enough, counted, long)) (same 0 ∙ (keeps.zero ∙ agrees.zero_same)) (same FRAME ∙ (keeps.base ∙ agrees.base_same)) (same LOWEST ∙ (keeps.lowest ∙ agrees.lowest_same))
       (same RETURN_ADDRESS ∙ (keeps.back ∙ agrees.back_same)) (ap lasting registers ∙ (keeps.lasts ∙ agrees.lasts_same))
       (λ k has. same k ∙ cached k has)
       (λ n low high other. same n ∙ (keeps.values n low high (aside n low high other) ∙ agrees.values_same n low high (aside n low high other)))
@@ -233,7 +234,7 @@ module _ (program : Program) (well : IsWellFormed program) (frames : List Frame)
       let high = homes_right.high destination k has in
       omega (arith, made_is frame destination k has, high)
 
-  made_aside : (destination n : ℕ) → 8 ≤ n → n < 24 → (value_register frame destination ≡ Some n → ⊥) → n ≢ made_in frame destination % 32
+  made_aside : (destination n : ℕ) → 6 ≤ n → n < 24 → (value_register frame destination ≡ Some n → ⊥) → n ≢ made_in frame destination % 32
   made_aside destination n low high other = go (value_register frame destination) refl
     where
       go : (o : Option ℕ) → value_register frame destination ≡ o → n ≢ or_else o FIRST % 32
@@ -268,7 +269,7 @@ module _ (program : Program) (well : IsWellFormed program) (frames : List Frame)
   gives_register i at_i free destination word input given below does fine line count source q d now_d agrees is fits long counted stands = go (value_register frame destination) refl long stands
     where
       nothing : Keeps globals_length (words_per_call * calls) [] q w FIRST
-      nothing = record { safe = tt; memory = refl; zero = refl; base = refl; left = refl; back = refl; lasts = refl; values = λ n low high other. refl }
+      nothing = record { safe = tt; memory = refl; zero = refl; base = refl; lowest = refl; back = refl; lasts = refl; values = λ n low high other. refl }
 
       zero_is : q 0 ≡ 0
       zero_is = agrees.zero_same ∙ s.zero_is
@@ -421,7 +422,7 @@ module _ (program : Program) (well : IsWellFormed program) (frames : List Frame)
   parts_agree op a b q agrees = record {
     zero_same = agrees.zero_same;
     base_same = agrees.base_same;
-    left_same = agrees.left_same;
+    lowest_same = agrees.lowest_same;
     back_same = agrees.back_same;
     lasts_same = agrees.lasts_same;
     values_same = λ n low high other. put-other (put q 32 _) 33 n _ (λ e. absurd (omega (arith, e, high))) ∙ (put-other q 32 n _ (λ e. absurd (omega (arith, e, high))) ∙ agrees.values_same n low high other);
@@ -588,7 +589,7 @@ module _ (program : Program) (well : IsWellFormed program) (frames : List Frame)
       walk_jump code formed addresses globals_length (words_per_call * calls) 0 here here (here + 1) c.output c.input _ r w run (instruction_line program frames c.active.function target) now stands.0 (omega arith)
       (λ d later.
       walk_end code formed addresses globals_length (words_per_call * calls) (suc here) (here + 1) c.output _ (Running d) (omega arith)
-      (reached_at program well frames fit code formed addresses pages calls few c (plain.Jump target) at_i refl r w base s caches (at c target) (instruction_line program frames c.active.function target) d r w refl refl refl refl refl refl refl refl refl refl refl refl refl refl refl (λ n low high. refl) refl (λ slot. refl) (itself target) later))
+      (reached_at program well frames fit code formed addresses pages calls few c (plain.Jump target) at_i refl r w base back s caches (at c target) (instruction_line program frames c.active.function target) d r w refl refl refl refl refl refl refl refl refl refl refl refl refl refl refl (λ n low high. refl) refl (λ slot. refl) (itself target) later))
 
   -- the line of the place that is taken
   line_taken : (b : Bool) (target other : ℕ) (line : ℕ → ℕ) (n : ℕ) → n ≡ line other → (if b then line target else n) ≡ line (if b then target else other)
@@ -616,8 +617,8 @@ module _ (program : Program) (well : IsWellFormed program) (frames : List Frame)
       walk_branch code formed addresses globals_length (words_per_call * calls) 0 (here + length is) (here + length is) (here + count) c.output c.input _ (after_r is r w) (after_w is r w) d condition (line target) (line (if taken then target else c.active.next + 1)) later last_stands (omega arith) there
       (λ e after.
       walk_end code formed addresses globals_length (words_per_call * calls) (suc (here + length is)) (here + count) c.output _ (Running e) (omega (arith, long))
-      (reached_at program well frames fit code formed addresses pages calls few c i at_i free r w base s caches (at c (if taken then target else c.active.next + 1)) (line (if taken then target else c.active.next + 1)) e (after_r is r w) (after_w is r w)
-      refl refl refl refl refl refl refl refl does refl keeps.zero keeps.base keeps.left keeps.back keeps.lasts (all_same (after_r is r w) r keeps.values) keeps.memory unwritten led after))))
+      (reached_at program well frames fit code formed addresses pages calls few c i at_i free r w base back s caches (at c (if taken then target else c.active.next + 1)) (line (if taken then target else c.active.next + 1)) e (after_r is r w) (after_w is r w)
+      refl refl refl refl refl refl refl refl does refl keeps.zero keeps.base keeps.lowest keeps.back keeps.lasts (all_same (after_r is r w) r keeps.values) keeps.memory unwritten led after))))
 
   abbrev IsTestThere : Test → Type 0
   IsTestThere = AllOfTest Held zero_held IsPlanThere (λ op left right outcome l t. (l, t, tt)) (λ op left half outcome fits l. (l, zero_held, tt))
@@ -688,7 +689,7 @@ module _ (program : Program) (well : IsWellFormed program) (frames : List Frame)
       (record {
         zero_same = refl;
         base_same = refl;
-        left_same = refl;
+        lowest_same = refl;
         back_same = refl;
         lasts_same = refl;
         values_same = λ n low high other. put-other (put r 2 _) 2 n (byte_of c.input) (λ x. absurd (omega (arith, x, low))) ∙ put-other r 2 n _ (λ x. absurd (omega (arith, x, low)));
@@ -714,41 +715,46 @@ module _ (program : Program) (well : IsWellFormed program) (frames : List Frame)
       (λ e after.
       walk_put code formed addresses globals_length (words_per_call * calls) (here + length is + 1) (here + length is + 1) (here + (load_count source + 2)) c.output c.input _ (put (after_r is r w) 2 (add_of (after_r is r w 0) (sign_extended 2))) (after_w is r w) e after behind.1.0 (omega arith) (omega (arith, long)) service
       (λ f printed.
-      reached_at program well frames fit code formed addresses pages calls few c (plain.WriteByte source) at_i refl r w base s caches
+      reached_at program well frames fit code formed addresses pages calls few c (plain.WriteByte source) at_i refl r w base back s caches
       (record c { active = record c.active { next = c.active.next + 1 }; output = c.output ++ word_of source % 256 ∷ [] }) (here + length is + 1 + 1) f (put (after_r is r w) 2 (add_of (after_r is r w 0) (sign_extended 2))) (after_w is r w) refl refl refl refl refl refl refl refl refl
-      (omega (arith, line_next program frames c.active.function c.active.next (plain.WriteByte source) at_i, long)) keeps.zero keeps.base keeps.left keeps.back keeps.lasts
+      (omega (arith, line_next program frames c.active.function c.active.next (plain.WriteByte source) at_i, long)) keeps.zero keeps.base keeps.lowest keeps.back keeps.lasts
       (λ n low high. put-other (after_r is r w) 2 n _ (λ x. absurd (omega (arith, x, low))) ∙ all_same (after_r is r w) r keeps.values n low high) keeps.memory (λ slot. refl) (next_led c.active.next)
       (subst (λ (x : ℕ). At program well frames fit code formed addresses pages calls few (here + length is + 1 + 1) (c.output ++ x % 256 ∷ []) c.input (put (after_r is r w) 2 (add_of (after_r is r w 0) (sign_extended 2))) (after_w is r w) f) puts.result printed)))))
 
   -- ---- globals
 
-  global_memory : (global : ℕ) → global < length program.globals → memory_address (load_upper_result ((data_base + 4 * global + 2 ^ 15) / 2 ^ 16)) ((data_base + 4 * global) % 2 ^ 16) ≡ data_base + 4 * global
-  global_memory global below = global_lies (data_base + 4 * global) (omega (arith, well.globals))
-
-  global_stands : (global : ℕ) → global < length program.globals → IsCell globals_length (words_per_call * calls) (memory_address (load_upper_result ((data_base + 4 * global + 2 ^ 15) / 2 ^ 16)) ((data_base + 4 * global) % 2 ^ 16))
-  global_stands global below =
-      subst (IsCell globals_length (words_per_call * calls)) (sym (global_memory global below))
-      (global_cell program well frames fit addresses pages calls few c r w base (r RETURN_ADDRESS) (suc (length c.frames)) c.active.slots s global below)
+  -- the word of a global at the address that is reached
+  global_there : (global address : ℕ) → address ≡ data_base + 4 * global → global < length program.globals → IsCell globals_length (words_per_call * calls) address
+  global_there global address is below =
+      subst (IsCell globals_length (words_per_call * calls)) (sym is)
+      (global_cell program well frames fit addresses pages calls few c r w base back (keeps_back frames c) c.active.slots s global below)
 
   pub load_global_goes : (destination global : ℕ) → IsAt (plain.LoadGlobal destination global) → destination < slots → global < length program.globals
       → Stands code here (body program frames c.active.function here (plain.LoadGlobal destination global))
       → Goes 1 here (here + body_count program frames c.active.function (plain.LoadGlobal destination global)) (Running run)
   load_global_goes destination global at_i below global_below stands =
       let target : ℕ = made_in frame destination in
-      let is : List Instr = upper_of_global global ∷ at_global LoadWord (made_in frame destination) global ∷ [] in
-      let upper : ℕ = load_upper_result ((data_base + 4 * global + 2 ^ 15) / 2 ^ 16) in
-      let q : Words = put r SECOND (load_upper_result ((data_base + 4 * global + 2 ^ 15) / 2 ^ 16)) in
-      let word : ℕ = w.words (memory_address (load_upper_result ((data_base + 4 * global + 2 ^ 15) / 2 ^ 16)) ((data_base + 4 * global) % 2 ^ 16)) in
+      let js : List Instr = reach_code global in
+      let last : List Instr = at_global LoadWord (made_in frame destination) global ∷ [] in
+      let reach = reaches globals_length (words_per_call * calls) global (made_in frame destination % 32) r w s.middle (omega (arith, global_below, well.globals)) in
+      let q : Words = after_r js r w in
+      let m : Contents = after_w js r w in
+      let word : ℕ = m.words (memory_address (q (reach_register global % 32)) (reach_half global)) in
       let scratch = made_in_scratch destination in
-      let first : Puts globals_length (words_per_call * calls) (upper_of_global global ∷ []) r w SECOND SECOND upper =
-      record { safe = (refl, tt); memory = refl; result = refl; others = λ n n_below other. put-other r SECOND n upper other } in
-      let second : Puts globals_length (words_per_call * calls) (at_global LoadWord (made_in frame destination) global ∷ []) q w (made_in frame destination % 32) (made_in frame destination % 32) word =
-      record { safe = ((scratch_writable globals_length (words_per_call * calls) (target % 32) scratch, global_stands global global_below), tt); memory = refl; result = put-same q (target % 32) word; others = λ n n_below other. put-other q (target % 32) n word other } in
-      let keeps = keeps_append globals_length (words_per_call * calls) (upper_of_global global ∷ []) (at_global LoadWord (made_in frame destination) global ∷ []) r w (target % 32)
-      (puts_keeps globals_length (words_per_call * calls) (upper_of_global global ∷ []) r w SECOND SECOND upper (target % 32) (second_scratch globals_length (words_per_call * calls)) (second_aside globals_length (words_per_call * calls) (target % 32)) first)
-      (puts_keeps globals_length (words_per_call * calls) (at_global LoadWord (made_in frame destination) global ∷ []) q w (target % 32) (target % 32) word (target % 32) scratch (λ n low high other. other) second) in
-      gives_by (plain.LoadGlobal destination global) at_i refl is destination (c.globals global) (2 + keep_count frame destination) (omega arith) keeps
-      (second.result ∙ (ap w.words (global_memory global global_below) ∙ s.globals global global_below)) (gets destination) below refl refl (omega arith) stands
+      let puts : Puts globals_length (words_per_call * calls) (at_global LoadWord (made_in frame destination) global ∷ []) (after_r (reach_code global) r w) (after_w (reach_code global) r w) (made_in frame destination % 32) (made_in frame destination % 32) word = record {
+        safe = ((scratch_writable globals_length (words_per_call * calls) (target % 32) scratch, global_there global (memory_address (q (reach_register global % 32)) (reach_half global)) reach.there global_below), tt);
+        memory = refl;
+        result = put-same q (target % 32) word;
+        others = λ n n_below other. put-other q (target % 32) n word other;
+      } in
+      let keeps = keeps_append globals_length (words_per_call * calls) js last r w (target % 32) reach.keeps
+      (puts_keeps globals_length (words_per_call * calls) last q m (target % 32) (target % 32) word (target % 32) scratch (λ n low high other. other) puts) in
+      let word_is : word ≡ c.globals global =
+      ap (λ (x : Contents). x.words (memory_address (q (reach_register global % 32)) (reach_half global))) reach.keeps.memory
+      ∙ (ap w.words reach.there ∙ s.globals global global_below) in
+      let long = length_global LoadWord (made_in frame destination) global in
+      gives_by (plain.LoadGlobal destination global) at_i refl (global_code LoadWord (made_in frame destination) global) destination (c.globals global) (reach_count global + 1 + keep_count frame destination) (omega (arith, long)) keeps
+      (after_both globals_length (words_per_call * calls) js last r w (target % 32) ∙ (puts.result ∙ word_is)) (gets destination) below refl (omega (arith, long)) (omega arith) stands
 
   -- ---- how many lexical regions are open
 
@@ -760,37 +766,48 @@ module _ (program : Program) (well : IsWellFormed program) (frames : List Frame)
       s.counted (omega arith) refl (omega arith) stands
 
   pub store_global_goes : (global : ℕ) (source : Operand) → IsAt (plain.StoreGlobal global source) → global < length program.globals → IsThere source
-      → Stands code here (body program frames c.active.function here (plain.StoreGlobal global source)) → Goes 1 here (here + (operand_count frame source + 2)) (Running run)
+      → Stands code here (body program frames c.active.function here (plain.StoreGlobal global source)) → Goes 1 here (here + (operand_count frame source + reach_count global + 1)) (Running run)
   store_global_goes global source at_i global_below there stands =
       let is : List Instr = operand_code frame FIRST source in
-      let last : List Instr = upper_of_global global ∷ at_global StoreWord (operand_register frame FIRST source) global ∷ [] in
-      let upper : ℕ = load_upper_result ((data_base + 4 * global + 2 ^ 15) / 2 ^ 16) in
+      let js : List Instr = reach_code global in
+      let register : ℕ = operand_register frame FIRST source in
+      let last : List Instr = at_global StoreWord (operand_register frame FIRST source) global ∷ [] in
+      let hi : ℕ = here + (operand_count frame source + reach_count global + 1) in
       let source_held = held (plain.StoreGlobal global source) at_i source (λ slot is. is) there in
       let puts = operand_puts globals_length (words_per_call * calls) frame (r FRAME) w r c.active.slots r w s.zero_is refl refl (λ n low high. refl) FIRST refl source source_held in
       let keeps = puts_keeps globals_length (words_per_call * calls) is r w FIRST _ _ FIRST (first_scratch globals_length (words_per_call * calls)) (first_aside globals_length (words_per_call * calls) FIRST) puts in
-      let long : length is ≡ operand_count frame source = length_operand frame FIRST source in
-      let q : Words = put (after_r is r w) SECOND (load_upper_result ((data_base + 4 * global + 2 ^ 15) / 2 ^ 16)) in
-      let v : Contents = written (after_w is r w) (memory_address upper ((data_base + 4 * global) % 2 ^ 16)) (q (operand_register frame FIRST source % 32)) in
+      let p : Words = after_r is r w in
+      let u : Contents = after_w is r w in
+      let reach = reaches globals_length (words_per_call * calls) global FIRST (after_r (operand_code frame FIRST source) r w) (after_w (operand_code frame FIRST source) r w) (middle_lasts p r keeps.lasts ∙ s.middle) (omega (arith, global_below, well.globals)) in
+      let q : Words = after_r (reach_code global) (after_r (operand_code frame FIRST source) r w) (after_w (operand_code frame FIRST source) r w) in
+      let m : Contents = after_w (reach_code global) (after_r (operand_code frame FIRST source) r w) (after_w (operand_code frame FIRST source) r w) in
+      let at_word : ℕ = memory_address (q (reach_register global % 32)) (reach_half global) in
+      let v : Contents = written m (memory_address (q (reach_register global % 32)) (reach_half global)) (q (operand_register frame FIRST source % 32)) in
       let d : Configuration = record c { active = record c.active { next = c.active.next + 1 }; globals = put c.globals global (word_of source) } in
-      let stored : q (operand_register frame FIRST source % 32) ≡ word_of source =
-      put-other (after_r is r w) SECOND (operand_register frame FIRST source % 32) upper (not_second globals_length (words_per_call * calls) frame (r FRAME) w r c.active.slots r w s.zero_is refl refl (λ n low high. refl) source source_held) ∙ puts.result in
-      let puts : v ≡ written w (data_base + 4 * global) (word_of source) =
-      ap (λ (x : Contents). written x (memory_address upper ((data_base + 4 * global) % 2 ^ 16)) (q (operand_register frame FIRST source % 32))) keeps.memory
-      ∙ (ap (λ (a : ℕ). written w a (q (operand_register frame FIRST source % 32))) (global_memory global global_below) ∙ ap (written w (data_base + 4 * global)) stored) in
-      let one = standing_global program well frames fit addresses pages calls few c r w base (r RETURN_ADDRESS) (suc (length c.frames)) c.active.slots s global (word_of source) global_below in
+      let stored : q (register % 32) ≡ word_of source =
+      reach.others (register % 32) (omega arith) (not_second globals_length (words_per_call * calls) frame (r FRAME) w r c.active.slots r w s.zero_is refl refl (λ n low high. refl) source source_held) ∙ puts.result in
+      let wrote : v ≡ written w (data_base + 4 * global) (word_of source) =
+      ap (λ (x : Contents). written x at_word (q (operand_register frame FIRST source % 32))) (reach.keeps.memory ∙ keeps.memory)
+      ∙ (ap (λ (a : ℕ). written w a (q (operand_register frame FIRST source % 32))) reach.there ∙ ap (written w (data_base + 4 * global)) stored) in
+      let one = standing_global program well frames fit addresses pages calls few c r w base back (keeps_back frames c) c.active.slots s global (word_of source) global_below in
       let c' : Configuration = record c { globals = put c.globals global (word_of source) } in
-      let two = standing_registers program well frames fit addresses pages calls few c' r (written w (data_base + 4 * global) (word_of source)) base (r RETURN_ADDRESS) (suc (length c.frames)) c.active.slots one q keeps.zero keeps.base keeps.left keeps.lasts in
-      let three = standing_at program well frames fit addresses pages calls few c' q (written w (data_base + 4 * global) (word_of source)) base (r RETURN_ADDRESS) (suc (length c.frames)) c.active.slots two d refl refl refl refl refl refl s.input in
-      let with_back = subst (λ (b : ℕ). Standing program frames addresses pages calls d q (written w (data_base + 4 * global) (word_of source)) base b (suc (length c.frames)) c.active.slots) (sym keeps.back) three in
-      let four = subst (λ (x : Contents). Standing program frames addresses pages calls d q x base (q RETURN_ADDRESS) (suc (length c.frames)) c.active.slots) (sym puts) with_back in
-      let line : here + length is + 2 ≡ instruction_line program frames c.active.function (c.active.next + 1) = omega (arith, line_next program frames c.active.function c.active.next (plain.StoreGlobal global source) at_i, long) in
-      walk_few code formed addresses globals_length (words_per_call * calls) 1 (length is + (2 + 0)) here (here + (operand_count frame source + 2)) c.output _ (Running run) (omega arith)
-      (walk_block code formed addresses globals_length (words_per_call * calls) is (2 + 0) here here (here + (operand_count frame source + 2)) c.output c.input _ r w run now (stands_first code here is last stands) keeps.safe (omega arith)
-      (λ f before.
-      walk_block code formed addresses globals_length (words_per_call * calls) last 0 (here + length is) (here + length is) (here + (operand_count frame source + 2)) c.output c.input _ (after_r is r w) (after_w is r w) f before (stands_behind code here is last stands)
-      (refl, (global_stands global global_below, tt)) (omega arith)
+      let two = standing_registers program well frames fit addresses pages calls few c' r (written w (data_base + 4 * global) (word_of source)) base back (keeps_back frames c) c.active.slots one q
+      (reach.keeps.zero ∙ keeps.zero) (reach.keeps.base ∙ keeps.base) (reach.keeps.lowest ∙ keeps.lowest) (λ outside. reach.keeps.back ∙ keeps.back) (reach.keeps.lasts ∙ keeps.lasts) in
+      let three = standing_at program well frames fit addresses pages calls few c' q (written w (data_base + 4 * global) (word_of source)) base back (keeps_back frames c) c.active.slots two d refl refl refl refl refl refl s.input in
+      let four = subst (λ (x : Contents). Standing program frames addresses pages calls d q x base back (keeps_back frames c) c.active.slots) (sym wrote) three in
+      let long : length is + (length js + 1) ≡ operand_count frame source + reach_count global + 1 =
+      omega (arith, length_operand frame FIRST source, length_global StoreWord (operand_register frame FIRST source) global, length-append js last) in
+      let line : here + length is + length js + 1 ≡ instruction_line program frames c.active.function (c.active.next + 1) = omega (arith, line_next program frames c.active.function c.active.next (plain.StoreGlobal global source) at_i, long) in
+      let behind = stands_behind code here is (js ++ last) stands in
+      walk_few code formed addresses globals_length (words_per_call * calls) 1 (length is + (length js + (1 + 0))) here hi c.output _ (Running run) (omega arith)
+      (walk_block code formed addresses globals_length (words_per_call * calls) is (length js + (1 + 0)) here here hi c.output c.input _ r w run now (stands_first code here is (js ++ last) stands) keeps.safe (omega arith)
+      (λ g before.
+      walk_block code formed addresses globals_length (words_per_call * calls) js (1 + 0) (here + length is) (here + length is) hi c.output c.input _ (after_r is r w) (after_w is r w) g before (stands_first code (here + length is) js last behind) reach.keeps.safe (omega arith)
+      (λ f between.
+      walk_block code formed addresses globals_length (words_per_call * calls) last 0 (here + length is + length js) (here + length is + length js) hi c.output c.input _ q m f between (stands_behind code (here + length is) js last behind)
+      (global_there global at_word reach.there global_below, tt) (omega arith)
       (λ e later.
-      walk_end code formed addresses globals_length (words_per_call * calls) (here + length is + 2) (here + (operand_count frame source + 2)) c.output _ (Running e) (omega (arith, long))
+      walk_end code formed addresses globals_length (words_per_call * calls) (here + length is + length js + 1) hi c.output _ (Running e) (omega (arith, long))
       (reached program well frames fit code formed addresses pages calls few c zeros (plain.StoreGlobal global source) (states.Running d) (Running e) (zeros_at program c (plain.StoreGlobal global source) at_i refl) at_i refl
       (within program well frames fit code formed addresses pages calls few d s.laid.paged s.deep)
       (inl (record {
@@ -798,27 +815,27 @@ module _ (program : Program) (well : IsWellFormed program) (frames : List Frame)
         r = q;
         w = v;
         base = base;
+        back = back;
         is = refl;
-        now = now_at code formed addresses globals_length (words_per_call * calls) (here + length is + 2) (instruction_line program frames c.active.function (c.active.next + 1)) c.output c.input _ _ e line later;
+        now = now_at code formed addresses globals_length (words_per_call * calls) (here + length is + length js + 1) (instruction_line program frames c.active.function (c.active.next + 1)) c.output c.input _ _ e line later;
         standing = four;
         caches =
             caches_past program frames c.active.function homes_right c.active.next (c.active.next + 1) r q c.active.slots c.active.slots (plain.StoreGlobal global source) at_i (next_led c.active.next)
             (λ slot k has. refl) (λ slot k has. refl)
-            (λ n low high. put-other (after_r is r w) SECOND n upper (λ x. absurd (omega (arith, x, high))) ∙ all_same (after_r is r w) r keeps.values n low high) caches;
-      }))))))
+            (λ n low high. all_same q p reach.keeps.values n low high ∙ all_same p r keeps.values n low high) caches;
+      })))))))
 
   -- ---- addresses
 
   pub address_goes : (destination slot count : ℕ) → IsAt (plain.AddressOf destination slot count) → destination < slots → slot < slots
       → Stands code here (body program frames c.active.function here (plain.AddressOf destination slot count)) → Goes 1 here (here + body_count program frames c.active.function (plain.AddressOf destination slot count)) (Running run)
   address_goes destination slot count at_i below named stands =
-      let own = fit.each c.active.function s.known in
-      let inside = own.inside slot named in
-      let lie = lies program well frames fit addresses pages calls few c r w base (r RETURN_ADDRESS) (suc (length c.frames)) c.active.slots s in
+      let inside = slot_inside program well frames fit addresses pages calls few c r w base back (keeps_back frames c) c.active.slots s slot named in
+      let lie = lies program well frames fit addresses pages calls few c r w base back (keeps_back frames c) c.active.slots s in
       let place = based_here frames base c.active.function c.active.base c.frames s.based in
       let sum : add_of (r FRAME) (sign_extended (slot_offset frame slot)) ≡ base + slot_offset frame slot =
       ap (λ (x : ℕ). add_of x (sign_extended (slot_offset frame slot))) s.base_is
-      ∙ add_small base (slot_offset frame slot) (omega (arith, inside, own.within, own.small)) (omega (arith, inside, lie.below_end)) in
+      ∙ add_small base (slot_offset frame slot) (omega (arith, inside)) (omega (arith, inside, lie.below_end)) in
       let same : base + slot_offset frame slot ≡ add_of c.active.base (4 * slot) = omega (arith, place, inside, lie.below_end) in
       let target : ℕ = made_in frame destination in
       let puts : Puts globals_length (words_per_call * calls) (add_immediate (made_in frame destination) FRAME (slot_offset frame slot) ∷ []) r w (made_in frame destination % 32) (made_in frame destination % 32) (add_of (r FRAME) (sign_extended (slot_offset frame slot))) =

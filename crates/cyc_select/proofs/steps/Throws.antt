@@ -1,5 +1,5 @@
 -- The instruction that throws: the exception comes to the newest handler, or ends the run.
-use Rattle.std.proofs.Common.{◌≡◌, ◌≢◌, ℕ, suc, ◌+◌, ◌*◌, ◌<◌, ◌≤◌, Bool, true, false, not, List, [], ◌∷◌, ◌++◌, length, Some, refl, sym, ap, subst, ◌∙◌, arith, inr, length-append}
+use Rattle.std.proofs.Common.{◌≡◌, ◌≢◌, ℕ, suc, ◌+◌, ◌*◌, ◌<◌, ◌≤◌, Bool, true, false, not, List, [], ◌∷◌, ◌++◌, length, Some, refl, sym, ap, subst, ◌∙◌, arith, inr, length-append, inl}
 use Rattle.std.specs.Prelude.{◌==◌, if◌then◌else◌}
 use Rattle.std.proofs.lemmas.Bool.{eq-eqb, ne_eqb, or_left, or_right}
 use Rattle.cyc_words.specs.Ending.{Ending, Uncaught}
@@ -22,7 +22,8 @@ use Rattle.cyc_plain.proofs.RunLaws.{zeros, zeros_at, over_within}
 use Rattle.cyc_frame.specs.Uses.{is_slot}
 use Rattle.cyc_frame.specs.Layout.{AreFrames, slot_word, frame_at}
 use Rattle.cyc_frame.specs.Frame.{Frame}
-use Rattle.cyc_select.specs.declared.constants.TheConstants.{CALLS, FRAME, HANDLERS, REGIONS, ZERO}
+use Rattle.cyc_frame.specs.declared.frame.TheConstants.{MOST_FRAME_WORDS}
+use Rattle.cyc_select.specs.declared.constants.TheConstants.{FRAME, LOWEST, HANDLERS, REGIONS, ZERO, GLOBALS}
 use Rattle.cyc_select.specs.declared.code.Condition.TheVariants as conditions
 use Rattle.cyc_select.specs.declared.code.Line.{Line}
 use Rattle.cyc_select.specs.declared.code.Line.TheVariants as lines
@@ -30,7 +31,7 @@ use Rattle.cyc_select.specs.Labelled.{Labelled, IsFormed, AreAddresses}
 use Rattle.cyc_select.specs.Machine as labelled
 use Rattle.cyc_select.specs.Machine.{State, Running, Ended, IsReturnPoint}
 use Rattle.cyc_select.specs.Selection.{is_kept, ordinary, small, syscall, load_code, load_count, slot_offset, unwound_code, body, instruction_line}
-use Rattle.cyc_select.proofs.values.Blocks.{lasting, newest_lasts, count_lasts, Puts}
+use Rattle.cyc_select.proofs.values.Blocks.{lasting, newest_lasts, count_lasts, middle_lasts, Puts}
 use Rattle.cyc_select.proofs.steps.Calls.{length_ordinary}
 use Rattle.cyc_select.proofs.relation.Cells.{IsCell}
 use Rattle.cyc_select.proofs.values.Computing.{load_puts}
@@ -38,7 +39,7 @@ use Rattle.cyc_select.proofs.emission.Counts.{length_load}
 use Rattle.cyc_select.proofs.relation.Held.{operand_held}
 use Rattle.cyc_select.proofs.relation.Matches.{At, Landed, Reached, reached, within}
 use Rattle.cyc_select.proofs.values.Operations.{add_small, address_at}
-use Rattle.cyc_select.proofs.relation.Standing.{Chain, Lies, IsRecord, IsNewest, IsKept, kept_here, Standing, lies, word_cell}
+use Rattle.cyc_select.proofs.relation.Standing.{frame_size, Chain, Lies, IsRecord, IsNewest, IsBack, keeps_back, saves_at, Standing, lies, slot_inside, word_cell}
 use Rattle.cyc_select.proofs.relation.Values.{Caches, barred_kept, among}
 use Rattle.cyc_select.proofs.effects.Views.{Contents}
 use Rattle.cyc_select.proofs.effects.Walks.{Stands, stands_front, stands_back, stands_first, stands_behind, after_r, after_w, Walk, now_is, walk_end, walk_few, walk_block, walk_branch, walk_return, walk_uncaught}
@@ -47,7 +48,7 @@ use Rattle.cyc_select.proofs.steps.Records.{Holds4, holds_four}
 module _ (program : Program) (well : IsWellFormed program) (frames : List Frame) (fit : AreFrames program frames) (code : Labelled) (formed : IsFormed code) (addresses : ℕ → ℕ) (pages calls : ℕ) (few : calls ≤ 4096)
     (lie : AreAddresses code addresses) (c : Configuration)
     (range_of : (function index first handler : ℕ) → instruction_at program (record { function = function; index = index }) ≡ Some (plain.Try first handler) → IsTryInRange (routine_at program function) first handler)
-    (lands_at : (function index first handler : ℕ) → instruction_at program (record { function = function; index = index }) ≡ Some (plain.Try first handler) → IsReturnPoint code (instruction_line program frames function index + 5)) where
+    (lands_at : (function index first handler : ℕ) → instruction_at program (record { function = function; index = index }) ≡ Some (plain.Try first handler) → IsReturnPoint code (instruction_line program frames function index + 3)) where
   abbrev frame : Frame
   frame = frame_at frames c.active.function
 
@@ -63,9 +64,9 @@ module _ (program : Program) (well : IsWellFormed program) (frames : List Frame)
   abbrev IsAt : Instruction → Type 0
   IsAt i = instruction_at program (states.place_of (states.Running c)) ≡ Some i
 
-  module _ (run : labelled.Configuration) (r : Words) (w : Contents) (base : ℕ)
+  module _ (run : labelled.Configuration) (r : Words) (w : Contents) (base back : ℕ)
       (now : At program well frames fit code formed addresses pages calls few here c.output c.input r w run)
-      (s : Standing program frames addresses pages calls c r w base (r RETURN_ADDRESS) (suc (length c.frames)) c.active.slots)
+      (s : Standing program frames addresses pages calls c r w base back (keeps_back frames c) c.active.slots)
       (caches : Caches program frames c.active.function c.active.next r c.active.slots) where
     abbrev IsThere : Operand → Type 0
     IsThere o = IsOperand (routine_at program c.active.function) o × IsOfWord o
@@ -87,15 +88,15 @@ module _ (program : Program) (well : IsWellFormed program) (frames : List Frame)
       pub waiting : List states.Frame
       pub q : Words
       pub low : ℕ
-      pub back : ℕ
+      pub way_back : ℕ
       pub index : ℕ
       pub first : ℕ
       pub contents : Words
       pub rest : List Handler
-      pub stands : Standing program frames addresses pages calls (record c { active = call; frames = waiting }) q w low back (suc (length waiting)) call.slots
-      pub one : IsRecord program frames addresses calls (q HANDLERS) low call.function (suc (length waiting)) index first contents
-      pub others : IsNewest program frames addresses calls (contents 0) low call.function rest waiting
-      pub kept : w.words (low + 4 * (frame_at frames call.function).return_address) ≡ back
+      pub stands : Standing program frames addresses pages calls (record c { active = call; frames = waiting }) q w low way_back (frame_at frames call.function).saves call.slots
+      pub one : IsRecord program frames addresses (q HANDLERS) low call.function index first contents
+      pub others : IsNewest program frames addresses (contents 0) low call.function rest waiting
+      pub kept : w.words (low + 4 * (frame_at frames call.function).return_address) ≡ way_back
       pub same : lasting q ≡ lasting r
       pub intact : is_intact call.slots first contents ≡ true
       pub does : t ≡ states.Running (record c { active = record call { next = index; slots = put (put call.slots first tag) (suc first) value; handlers = Caught ∷ rest }; frames = waiting })
@@ -112,13 +113,13 @@ module _ (program : Program) (well : IsWellFormed program) (frames : List Frame)
 
       -- in one call, or beyond it
       in_call : (call : Activation) (waiting : List states.Frame) (q : Words) (low back : ℕ) (beyond : states.State)
-          → Standing program frames addresses pages calls (record c { active = call; frames = waiting }) q w low back (suc (length waiting)) call.slots → lasting q ≡ lasting r
+          → Standing program frames addresses pages calls (record c { active = call; frames = waiting }) q w low back (frame_at frames call.function).saves call.slots → lasting q ≡ lasting r
           → (call.handlers ≡ [] → Search tag value beyond) → (handlers : List Handler) → call.handlers ≡ handlers
-          → IsNewest program frames addresses calls (q HANDLERS) low call.function handlers waiting → IsKept (frame_at frames call.function) w low back handlers
+          → IsNewest program frames addresses (q HANDLERS) low call.function handlers waiting
           → Search tag value (lands c tag value call waiting beyond handlers)
-      in_call call waiting q low back beyond stands same further [] is records kept = further is
-      in_call call waiting q low back beyond stands same further (Caught ∷ rest) is records kept = absurd records
-      in_call call waiting q low back beyond stands same further (Open index first contents ∷ rest) is (one, others) kept = go (is_intact call.slots first contents) refl
+      in_call call waiting q low back beyond stands same further [] is records = further is
+      in_call call waiting q low back beyond stands same further (Caught ∷ rest) is records = absurd records
+      in_call call waiting q low back beyond stands same further (Open index first contents ∷ rest) is (one, others) = go (is_intact call.slots first contents) refl
         where
           go : (whole : Bool) → is_intact call.slots first contents ≡ whole → Search tag value (if is_intact call.slots first contents then come call waiting index first rest else states.Stuck c.output c.input)
           go false broken = lost (ap (λ (b : Bool). if b then come call waiting index first rest else states.Stuck c.output c.input) broken)
@@ -127,7 +128,7 @@ module _ (program : Program) (well : IsWellFormed program) (frames : List Frame)
             waiting = waiting;
             q = q;
             low = low;
-            back = back;
+            way_back = back;
             index = index;
             first = first;
             contents = contents;
@@ -135,7 +136,7 @@ module _ (program : Program) (well : IsWellFormed program) (frames : List Frame)
             stands = stands;
             one = one;
             others = others;
-            kept = kept;
+            kept = subst (λ (b : Bool). IsBack b (frame_at frames call.function) q w low back) (saves_at program frames fit call.function index (plain.Try first one.handler) stands.known one.opened refl) stands.way;
             same = same;
             intact = intact;
             does = ap (λ (b : Bool). if b then come call waiting index first rest else states.Stuck c.output c.input) intact;
@@ -143,41 +144,45 @@ module _ (program : Program) (well : IsWellFormed program) (frames : List Frame)
 
       -- the caller, as if the call had returned
       popped : (call : Activation) (f : states.Frame) (waiting : List states.Frame) (q : Words) (low back : ℕ) → call.handlers ≡ []
-          → Standing program frames addresses pages calls (record c { active = call; frames = f ∷ waiting }) q w low back (suc (suc (length waiting))) call.slots
+          → Standing program frames addresses pages calls (record c { active = call; frames = f ∷ waiting }) q w low back (frame_at frames call.function).saves call.slots
           → Standing program frames addresses pages calls (record c { active = f.caller; frames = waiting })
-          (put (put q FRAME (low + 4 * (frame_at frames call.function).words)) CALLS (q CALLS + 1)) w (low + 4 * (frame_at frames call.function).words)
-          (w.words (low + 4 * (frame_at frames call.function).words + 4 * (frame_at frames f.caller.function).return_address)) (suc (length waiting)) f.caller.slots
+          (put q FRAME (low + frame_size)) w (low + frame_size)
+          (w.words (low + frame_size + 4 * (frame_at frames f.caller.function).return_address)) (frame_at frames f.caller.function).saves f.caller.slots
       popped call f waiting q low back none stands =
           let (arguments, count, index, known, at, next, is_back, holds, chain) = stands.chain in
-          let above : ℕ = low + 4 * (frame_at frames call.function).words in
-          record {
+          let above : ℕ = low + frame_size in
+          let back_there : ℕ = w.words (above + 4 * (frame_at frames f.caller.function).return_address) in
+          let saved = saves_at program frames fit f.caller.function index (plain.Call call.function arguments count f.result) known at refl in
+          subst (λ (b : Bool). Standing program frames addresses pages calls (record c { active = f.caller; frames = waiting }) (put q FRAME (low + frame_size)) w (low + frame_size) back_there b f.caller.slots) (sym saved)
+          (record {
             known = known;
             base_is = refl;
             zero_is = stands.zero_is;
-            left = omega (arith, stands.left);
+            lowest = stands.lowest;
             deep = omega (arith, stands.deep);
             holds = holds;
             chain = chain;
             globals = stands.globals;
             input = stands.input;
-            newest = subst (λ (hs : List Handler). IsNewest program frames addresses calls (q HANDLERS) low call.function hs (f ∷ waiting)) none stands.newest;
-            kept = kept_here (frame_at frames f.caller.function) w above (w.words (above + 4 * (frame_at frames f.caller.function).return_address)) f.caller.handlers refl;
+            newest = subst (λ (hs : List Handler). IsNewest program frames addresses (q HANDLERS) low call.function hs (f ∷ waiting)) none stands.newest;
+            way = refl;
             based = stands.based.1;
             store = stands.store;
             laid = stands.laid;
             counted = stands.counted;
-          }
+            middle = stands.middle;
+          })
 
       search : (waiting : List states.Frame) (call : Activation) (q : Words) (low back : ℕ) → lasting q ≡ lasting r
-          → Standing program frames addresses pages calls (record c { active = call; frames = waiting }) q w low back (suc (length waiting)) call.slots → Search tag value (throws c tag value call waiting)
+          → Standing program frames addresses pages calls (record c { active = call; frames = waiting }) q w low back (frame_at frames call.function).saves call.slots → Search tag value (throws c tag value call waiting)
       search [] call q low back same stands =
           in_call call [] q low back (states.Ended (Uncaught tag (signed value)) c.output c.input) stands same
-          (λ none. nobody (sym (newest_lasts q r same) ∙ subst (λ (hs : List Handler). IsNewest program frames addresses calls (q HANDLERS) low call.function hs []) none stands.newest) refl)
-          call.handlers refl stands.newest stands.kept
+          (λ none. nobody (sym (newest_lasts q r same) ∙ subst (λ (hs : List Handler). IsNewest program frames addresses (q HANDLERS) low call.function hs []) none stands.newest) refl)
+          call.handlers refl stands.newest
       search (f ∷ waiting) call q low back same stands =
           in_call call (f ∷ waiting) q low back (throws c tag value f.caller waiting) stands same
           (λ none. search waiting f.caller _ _ _ same (popped call f waiting q low back none stands))
-          call.handlers refl stands.newest stands.kept
+          call.handlers refl stands.newest
 
       -- the record's words in memory
       module _ (t : states.State) (it : IsFound tag value t) where
@@ -190,26 +195,28 @@ module _ (program : Program) (well : IsWellFormed program) (frames : List Frame)
         its_range : IsTryInRange (routine_at program it.call.function) it.first it.one.handler
         its_range = range_of it.call.function it.index it.first it.one.handler it.one.opened
 
-        its_lies : Lies program frames fit addresses it.low it.call.function (suc (length it.waiting))
-        its_lies = lies program well frames fit addresses pages calls few there it.q w it.low it.back (suc (length it.waiting)) it.call.slots it.stands
+        its_lies : Lies program frames fit addresses it.low (suc (length it.waiting))
+        its_lies = lies program well frames fit addresses pages calls few there it.q w it.low it.way_back its.saves it.call.slots it.stands
 
         record_at : r HANDLERS ≡ it.low + slot_offset its it.first
         record_at = sym (newest_lasts it.q r it.same) ∙ it.one.at
 
         -- a word of it
+        word_inside : (k : ℕ) → k < 4 → slot_word its (it.first + k) < MOST_FRAME_WORDS
+        word_inside k below =
+            slot_inside program well frames fit addresses pages calls few there it.q w it.low it.way_back its.saves it.call.slots it.stands (it.first + k) (omega (arith, its_range.record_in_range, below))
+
         address_is : (k : ℕ) → k < 4 → memory_address (r HANDLERS) (4 * k) ≡ it.low + slot_offset its (it.first + k)
         address_is k below =
-            let own = fit.each it.call.function it.stands.known in
-            let word : slot_word its (it.first + k) < its.words = own.inside (it.first + k) (omega (arith, its_range.record_in_range, below)) in
+            let word = word_inside k below in
             ap (λ (n : ℕ). memory_address n (4 * k)) record_at
             ∙ (address_at (it.low + slot_offset its it.first) (4 * k) (omega (arith, below)) (omega (arith, word, its_lies.below_end))
             ∙ (let e : it.low + slot_offset its it.first + 4 * k ≡ it.low + slot_offset its (it.first + k) = omega arith in e))
 
         record_cell : (k : ℕ) → k < 4 → IsCell globals_length (words_per_call * calls) (memory_address (r HANDLERS) (4 * k))
         record_cell k below =
-            let own = fit.each it.call.function it.stands.known in
             subst (IsCell globals_length (words_per_call * calls)) (sym (address_is k below))
-            (word_cell program well frames fit addresses pages calls few there it.q w it.low it.back (suc (length it.waiting)) it.call.slots it.stands (slot_word its (it.first + k)) (own.inside (it.first + k) (omega (arith, its_range.record_in_range, below))))
+            (word_cell program well frames fit addresses pages calls few there it.q w it.low it.way_back its.saves it.call.slots it.stands (slot_word its (it.first + k)) (word_inside k below))
 
         record_word : (k : ℕ) → k < 4 → w.words (memory_address (r HANDLERS) (4 * k)) ≡ it.call.slots (it.first + k)
         record_word k below =
@@ -223,17 +230,14 @@ module _ (program : Program) (well : IsWellFormed program) (frames : List Frame)
         some none = absurd (omega (arith, none, record_at, its_lies.above_low, it.stands.deep))
 
         -- where it goes on, with registers that have the record's words
-        module _ (final : Words) (zero_is : final 0 ≡ 0) (previous_is : final HANDLERS ≡ it.contents 0) (base_is : final FRAME ≡ it.contents 1) (left_is : final CALLS ≡ it.contents 3) (count_is : final REGIONS ≡ r REGIONS)
+        module _ (final : Words) (zero_is : final 0 ≡ 0) (previous_is : final HANDLERS ≡ it.contents 0) (base_is : final FRAME ≡ it.contents 1) (lowest_is : final LOWEST ≡ r LOWEST) (count_is : final REGIONS ≡ r REGIONS) (middle_is : final GLOBALS ≡ r GLOBALS)
             (tag_is : final 4 ≡ tag) (value_is : final 5 ≡ value) (g : labelled.Configuration)
-            (at_line : At program well frames fit code formed addresses pages calls few (instruction_line program frames it.call.function it.index + 5) c.output c.input final w g) where
+            (at_line : At program well frames fit code formed addresses pages calls few (instruction_line program frames it.call.function it.index + 3) c.output c.input final w g) where
           abbrev next : Configuration
           next = record c {
             active = record it.call { next = it.index; slots = put (put it.call.slots it.first tag) (suc it.first) value; handlers = Caught ∷ it.rest };
             frames = it.waiting;
           }
-
-          left_from : (n m : ℕ) → n ≡ m → m + suc (length it.waiting) ≡ calls → n + suc (length it.waiting) ≡ calls
-          left_from n m same is = ap (λ (k : ℕ). k + suc (length it.waiting)) same ∙ is
 
           landed : Landed program well frames fit code formed addresses pages calls few next (Running g)
           landed = record {
@@ -253,18 +257,19 @@ module _ (program : Program) (well : IsWellFormed program) (frames : List Frame)
               known = it.stands.known;
               base_is = base_is ∙ it.one.frame;
               zero_is = zero_is;
-              left = left_from (final CALLS) (it.contents 3) left_is it.one.left;
+              lowest = ap (λ (n : ℕ). n + frame_size * calls) lowest_is ∙ s.lowest;
               deep = it.stands.deep;
               holds = it.stands.holds;
               chain = subst (λ (b : ℕ). Chain program frames addresses w it.low b it.call.function it.waiting) (sym it.kept) it.stands.chain;
               globals = it.stands.globals;
               input = it.stands.input;
-              newest = subst (λ (n : ℕ). IsNewest program frames addresses calls n it.low it.call.function it.rest it.waiting) (sym previous_is) it.others;
-              kept = kept_here its w it.low (w.words (it.low + 4 * its.return_address)) it.rest refl;
+              newest = subst (λ (n : ℕ). IsNewest program frames addresses n it.low it.call.function it.rest it.waiting) (sym previous_is) it.others;
+              way = refl;
               based = it.stands.based;
               store = it.stands.store;
               laid = it.stands.laid;
               counted = count_is ∙ (sym (count_lasts it.q r it.same) ∙ it.stands.counted);
+              middle = middle_is ∙ (sym (middle_lasts it.q r it.same) ∙ it.stands.middle);
             };
             slots =
                 ap (λ (x : ℕ). put (put it.call.slots it.first x) (suc it.first) value) (sym tag_is)
@@ -281,7 +286,7 @@ module _ (program : Program) (well : IsWellFormed program) (frames : List Frame)
       js = load_code frame SECOND_ARGUMENT value
 
       abbrev hi : ℕ
-      hi = here + (load_count tag + load_count value + 8)
+      hi = here + (load_count tag + load_count value + 7)
 
       abbrev label : ℕ
       label = here + (load_count tag + load_count value) + 3
@@ -323,14 +328,14 @@ module _ (program : Program) (well : IsWellFormed program) (frames : List Frame)
       first : Puts globals_length (words_per_call * calls) is r w ARGUMENT ARGUMENT (word_in tag)
       first =
           load_puts globals_length (words_per_call * calls) frame (r FRAME) w r c.active.slots r w s.zero_is refl refl (λ n low high. refl) ARGUMENT refl tag
-          (operand_held program well frames fit code formed addresses pages calls few c run r w base now s caches (plain.Throw tag value) at_i tag (λ slot is_it. or_left (is_slot tag slot) (is_slot value slot) is_it) tag_there)
+          (operand_held program well frames fit code formed addresses pages calls few c run r w base back now s caches (plain.Throw tag value) at_i tag (λ slot is_it. or_left (is_slot tag slot) (is_slot value slot) is_it) tag_there)
 
       second : Puts globals_length (words_per_call * calls) js q v SECOND_ARGUMENT SECOND_ARGUMENT (word_in value)
       second =
           load_puts globals_length (words_per_call * calls) frame (r FRAME) w r c.active.slots q v
           (first.others 0 (omega arith) (λ e. absurd (omega (arith, e))) ∙ s.zero_is) (first.others FRAME (omega arith) (λ e. absurd (omega (arith, e)))) first.memory
           (λ n low high. first.others n (omega (arith, high)) (λ e. absurd (omega (arith, e, low)))) SECOND_ARGUMENT refl value
-          (operand_held program well frames fit code formed addresses pages calls few c run r w base now s caches (plain.Throw tag value) at_i value (λ slot is_it. or_right (is_slot tag slot) (is_slot value slot) is_it) value_there)
+          (operand_held program well frames fit code formed addresses pages calls few c run r w base back now s caches (plain.Throw tag value) at_i value (λ slot is_it. or_right (is_slot tag slot) (is_slot value slot) is_it) value_there)
 
       abbrev p : Words
       p = after_r js q v
@@ -344,11 +349,17 @@ module _ (program : Program) (well : IsWellFormed program) (frames : List Frame)
       p_zero : p 0 ≡ 0
       p_zero = kept 0 (omega arith) (λ e. absurd (omega (arith, e))) (λ e. absurd (omega (arith, e))) ∙ s.zero_is
 
+      p_lowest : p LOWEST ≡ r LOWEST
+      p_lowest = kept LOWEST (omega arith) (λ e. absurd (omega (arith, e))) (λ e. absurd (omega (arith, e)))
+
       p_newest : p HANDLERS ≡ r HANDLERS
       p_newest = kept HANDLERS (omega arith) (λ e. absurd (omega (arith, e))) (λ e. absurd (omega (arith, e)))
 
       p_count : p REGIONS ≡ r REGIONS
       p_count = kept REGIONS (omega arith) (λ e. absurd (omega (arith, e))) (λ e. absurd (omega (arith, e)))
+
+      p_middle : p GLOBALS ≡ r GLOBALS
+      p_middle = kept GLOBALS (omega arith) (λ e. absurd (omega (arith, e))) (λ e. absurd (omega (arith, e)))
 
       p_tag : p 4 ≡ word_in tag
       p_tag = second.others ARGUMENT (omega arith) (λ e. absurd (omega (arith, e))) ∙ first.result
@@ -405,9 +416,6 @@ module _ (program : Program) (well : IsWellFormed program) (frames : List Frame)
         back_word : final RETURN_ADDRESS ≡ it.contents 2
         back_word = word_of 2 (omega arith) ∙ holds_it.two
 
-        left_word : final CALLS ≡ it.contents 3
-        left_word = word_of 3 (omega arith) ∙ holds_it.three
-
         base_word : final FRAME ≡ it.contents 1
         base_word = word_of 1 (omega arith) ∙ holds_it.one
 
@@ -418,29 +426,29 @@ module _ (program : Program) (well : IsWellFormed program) (frames : List Frame)
         found_goes =
             let other : p HANDLERS ≢ p 0 = λ e. some (word_in tag) (word_in value) (performed program zeros c (plain.Throw tag value)) it (sym p_newest ∙ (e ∙ p_zero)) in
             let leaps : (if not (p HANDLERS == p ZERO) then label else k + 1) ≡ label = ap (λ (b : Bool). if not b then label else k + 1) (ne_eqb (p HANDLERS) (p 0) other) in
-            let line : ℕ = instruction_line program frames it.call.function it.index + 5 in
+            let line : ℕ = instruction_line program frames it.call.function it.index + 3 in
             loads_go 0
             (λ d later.
             walk_branch code formed addresses globals_length (words_per_call * calls) 0 k k hi c.output c.input _ p w d (conditions.Registers branch.NotEqual (register_of HANDLERS) (register_of ZERO)) label label later rest_stands.0 (omega arith) leaps
             (λ e after.
-            walk_few code formed addresses globals_length (words_per_call * calls) 0 (4 + 1) (suc k) hi c.output _ (Running e) (omega arith)
+            walk_few code formed addresses globals_length (words_per_call * calls) 0 (3 + 1) (suc k) hi c.output _ (Running e) (omega arith)
             (walk_block code formed addresses globals_length (words_per_call * calls) unwound_code 1 label (suc k) hi c.output c.input _ p w e after
             (stands_front code label (ordinary unwound_code) (lines.Return ∷ []) unwound_stands)
-            ((refl, cell_of 2 (omega arith)), ((refl, cell_of 3 (omega arith)), ((refl, cell_of 1 (omega arith)), ((refl, cell_of 0 (omega arith)), tt)))) (omega (arith, long, more))
+            ((refl, cell_of 2 (omega arith)), ((refl, cell_of 1 (omega arith)), ((refl, cell_of 0 (omega arith)), tt))) (omega (arith, long, more))
             (λ f unwound.
-            walk_return code formed addresses globals_length (words_per_call * calls) 0 (label + 4) (label + 4) hi c.output c.input _ final w f (instruction_line program frames it.call.function it.index + 5) lie unwound
+            walk_return code formed addresses globals_length (words_per_call * calls) 0 (label + 3) (label + 3) hi c.output c.input _ final w f (instruction_line program frames it.call.function it.index + 3) lie unwound
             (stands_back code label (ordinary unwound_code) (lines.Return ∷ []) unwound_stands).0 (omega arith)
             (lands_at it.call.function it.index it.first it.one.handler it.one.opened) (back_word ∙ it.one.line)
             (λ g thrown.
-            walk_end code formed addresses globals_length (words_per_call * calls) (suc (label + 4)) hi c.output _ (Running g) (omega arith)
+            walk_end code formed addresses globals_length (words_per_call * calls) (suc (label + 3)) hi c.output _ (Running g) (omega arith)
             (reached program well frames fit code formed addresses pages calls few c zeros (plain.Throw tag value)
             (states.Running (record c { active = record it.call { next = it.index; slots = put (put it.call.slots it.first (word_in tag)) (suc it.first) (word_in value); handlers = Caught ∷ it.rest }; frames = it.waiting }))
             (Running g) (zeros_at program c (plain.Throw tag value) at_i refl) at_i it.does
             (within program well frames fit code formed addresses pages calls few (record c { active = record it.call { next = it.index; slots = put (put it.call.slots it.first (word_in tag)) (suc it.first) (word_in value); handlers = Caught ∷ it.rest }; frames = it.waiting }) s.laid.paged it.stands.deep)
-            (inr (inr (landed (word_in tag) (word_in value) (performed program zeros c (plain.Throw tag value)) it final p_zero previous_word base_word left_word p_count p_tag p_value g thrown)))))))))
+            (inr (inr (inl (landed (word_in tag) (word_in value) (performed program zeros c (plain.Throw tag value)) it final p_zero previous_word base_word p_lowest p_count p_middle p_tag p_value g thrown))))))))))
 
       pub throw_goes : Goes 1 here hi (Running run)
-      throw_goes = by (search (word_in tag) (word_in value) c.frames c.active r base (r RETURN_ADDRESS) refl s)
+      throw_goes = by (search (word_in tag) (word_in value) c.frames c.active r base back refl s)
         where
           by : Search (word_in tag) (word_in value) (performed program zeros c (plain.Throw tag value)) → Goes 1 here hi (Running run)
           by (nobody none does) = ends_goes none does

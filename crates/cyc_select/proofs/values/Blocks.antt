@@ -3,37 +3,41 @@ use Rattle.std.proofs.Common.{◌≡◌, ◌≢◌, ℕ, ◌<◌, ◌≤◌, Lis
 use Rattle.cyc_isa.specs.declared.instr.Instr.{Instr}
 use Rattle.cyc_machine.specs.declared.constants.TheConstants.{RETURN_ADDRESS}
 use Rattle.cyc_plain.specs.State.{Words}
-use Rattle.cyc_select.specs.declared.constants.TheConstants.{ZERO, FRAME, CALLS, HANDLERS, REGIONS}
+use Rattle.cyc_select.specs.declared.constants.TheConstants.{ZERO, FRAME, LOWEST, HANDLERS, REGIONS, GLOBALS}
 use Rattle.cyc_select.proofs.effects.Views.{Contents, does_r, does_w}
 use Rattle.cyc_select.proofs.effects.Walks.{after_r, after_w, AreSafe, after_r-append, after_w-append}
 
--- what stays in registers from call to call: the address of the newest handler's record, and how many lexical regions are open
-abbrev pub lasting : Words → ℕ × ℕ
-lasting r = (r HANDLERS, r REGIONS)
+-- what stays in registers from call to call: the address of the newest handler's record, how many lexical regions are open,
+-- and the address that the first globals are reached from
+abbrev pub lasting : Words → ℕ × ℕ × ℕ
+lasting r = (r HANDLERS, r REGIONS, r GLOBALS)
 
-pub lasting_same : (q r : Words) → q HANDLERS ≡ r HANDLERS → q REGIONS ≡ r REGIONS → lasting q ≡ lasting r
-lasting_same q r newest counted = λ i. (newest i, counted i)
+pub lasting_same : (q r : Words) → q HANDLERS ≡ r HANDLERS → q REGIONS ≡ r REGIONS → q GLOBALS ≡ r GLOBALS → lasting q ≡ lasting r
+lasting_same q r newest counted middle = λ i. (newest i, counted i, middle i)
 
 pub newest_lasts : (q r : Words) → lasting q ≡ lasting r → q HANDLERS ≡ r HANDLERS
-newest_lasts q r same = ap (λ (p : ℕ × ℕ). p.0) same
+newest_lasts q r same = ap (λ (p : ℕ × ℕ × ℕ). p.0) same
 
 pub count_lasts : (q r : Words) → lasting q ≡ lasting r → q REGIONS ≡ r REGIONS
-count_lasts q r same = ap (λ (p : ℕ × ℕ). p.1) same
+count_lasts q r same = ap (λ (p : ℕ × ℕ × ℕ). p.1) same
+
+pub middle_lasts : (q r : Words) → lasting q ≡ lasting r → q GLOBALS ≡ r GLOBALS
+middle_lasts q r same = ap (λ (p : ℕ × ℕ × ℕ). p.2) same
 
 -- the registers that values have are the same, but for this one
 abbrev pub AreSame : (but : ℕ) → (q r : Words) → Type 0
-AreSame but q r = (n : ℕ) → 8 ≤ n → n < 24 → n ≢ but → q n ≡ r n
+AreSame but q r = (n : ℕ) → 6 ≤ n → n < 24 → n ≢ but → q n ≡ r n
 
 -- all of them are
 abbrev pub ValuesSame : (q r : Words) → Type 0
-ValuesSame q r = (n : ℕ) → 8 ≤ n → n < 24 → q n ≡ r n
+ValuesSame q r = (n : ℕ) → 6 ≤ n → n < 24 → q n ≡ r n
 
 pub all_same : (q r : Words) → AreSame 24 q r → ValuesSame q r
 all_same q r same n low high = same n low high (λ e. absurd (omega (arith, e, high)))
 
 -- a register that no value has, but perhaps that one
 abbrev pub IsAside : (but target : ℕ) → Type 0
-IsAside but target = (n : ℕ) → 8 ≤ n → n < 24 → n ≢ but → n ≢ target
+IsAside but target = (n : ℕ) → 6 ≤ n → n < 24 → n ≢ but → n ≢ target
 
 module _ (globals stack : ℕ) where
   -- Instructions that write one register: where they have been executed, a word is in this register, and any other is as before.
@@ -49,7 +53,7 @@ module _ (globals stack : ℕ) where
     pub memory : after_w is r w ≡ w
     pub zero : after_r is r w ZERO ≡ r ZERO
     pub base : after_r is r w FRAME ≡ r FRAME
-    pub left : after_r is r w CALLS ≡ r CALLS
+    pub lowest : after_r is r w LOWEST ≡ r LOWEST
     pub back : after_r is r w RETURN_ADDRESS ≡ r RETURN_ADDRESS
     pub lasts : lasting (after_r is r w) ≡ lasting r
     pub values : AreSame but (after_r is r w) r
@@ -58,10 +62,11 @@ module _ (globals stack : ℕ) where
   pub record IsScratch (n : ℕ) : Type 0 where
     pub not_zero : ZERO ≢ n
     pub not_base : FRAME ≢ n
-    pub not_left : CALLS ≢ n
+    pub not_lowest : LOWEST ≢ n
     pub not_back : RETURN_ADDRESS ≢ n
     pub not_newest : HANDLERS ≢ n
     pub not_counted : REGIONS ≢ n
+    pub not_middle : GLOBALS ≢ n
 
   pub puts_keeps : (is : List Instr) (r : Words) (w : Contents) (target at word but : ℕ) → IsScratch target → IsAside but target → Puts is r w target at word → Keeps is r w but
   puts_keeps is r w target at word but scratch aside puts = record {
@@ -69,9 +74,9 @@ module _ (globals stack : ℕ) where
     memory = puts.memory;
     zero = puts.others ZERO (omega arith) scratch.not_zero;
     base = puts.others FRAME (omega arith) scratch.not_base;
-    left = puts.others CALLS (omega arith) scratch.not_left;
+    lowest = puts.others LOWEST (omega arith) scratch.not_lowest;
     back = puts.others RETURN_ADDRESS (omega arith) scratch.not_back;
-    lasts = lasting_same (after_r is r w) r (puts.others HANDLERS (omega arith) scratch.not_newest) (puts.others REGIONS (omega arith) scratch.not_counted);
+    lasts = lasting_same (after_r is r w) r (puts.others HANDLERS (omega arith) scratch.not_newest) (puts.others REGIONS (omega arith) scratch.not_counted) (puts.others GLOBALS (omega arith) scratch.not_middle);
     values = λ n low high other. puts.others n (omega (arith, high)) (aside n low high other);
   }
 
@@ -90,7 +95,7 @@ module _ (globals stack : ℕ) where
     memory = after_w-append is js r w ∙ (second.memory ∙ first.memory);
     zero = after_both is js r w ZERO ∙ (second.zero ∙ first.zero);
     base = after_both is js r w FRAME ∙ (second.base ∙ first.base);
-    left = after_both is js r w CALLS ∙ (second.left ∙ first.left);
+    lowest = after_both is js r w LOWEST ∙ (second.lowest ∙ first.lowest);
     back = after_both is js r w RETURN_ADDRESS ∙ (second.back ∙ first.back);
     lasts = ap lasting (after_r-append is js r w) ∙ (second.lasts ∙ first.lasts);
     values = λ n low high other. after_both is js r w n ∙ (second.values n low high other ∙ first.values n low high other);

@@ -85,7 +85,7 @@ module _ (globals stack : ℕ) where
   HeldIn None frame base w r slots slot =
       IsCell globals stack (memory_address base (slot_offset frame slot)) × (w.words (memory_address base (slot_offset frame slot)) ≡ slots slot)
   HeldIn (Some register) frame base w r slots slot =
-      (8 ≤ register) × (register < 24) × (r register ≡ slots slot) × IsWord (slots slot)
+      (6 ≤ register) × (register < 24) × (r register ≡ slots slot) × IsWord (slots slot)
 
   -- an operand is a word, or that of such a slot
   abbrev pub IsHeld : Frame → (base : ℕ) → (w : Contents) (r slots : Words) → Operand → Type 0
@@ -150,7 +150,7 @@ module _ (globals stack : ℕ) where
 
     fetched_not_second : (o : Option ℕ) (number : ℕ) → HeldIn o frame base w r slots number → or_else o FIRST % 32 ≢ SECOND
     fetched_not_second None number held e = absurd (omega (arith, e))
-    fetched_not_second (Some register) number (low, high, is, fits) e = absurd (omega (arith, e, high))
+    fetched_not_second (Some register) number (low, high, is, fits) e = absurd (omega (arith, e, low, high))
 
     word_not_second : (b : Bool) → (if b then ZERO else FIRST) % 32 ≢ SECOND
     word_not_second true e = absurd (omega (arith, e))
@@ -173,37 +173,40 @@ module _ (globals stack : ℕ) where
   first_scratch = record {
     not_zero = λ e. absurd (omega (arith, e));
     not_base = λ e. absurd (omega (arith, e));
-    not_left = λ e. absurd (omega (arith, e));
+    not_lowest = λ e. absurd (omega (arith, e));
     not_back = λ e. absurd (omega (arith, e));
     not_newest = λ e. absurd (omega (arith, e));
     not_counted = λ e. absurd (omega (arith, e));
+    not_middle = λ e. absurd (omega (arith, e));
   }
 
   pub argument_scratch : IsScratch globals stack ARGUMENT
   argument_scratch = record {
     not_zero = λ e. absurd (omega (arith, e));
     not_base = λ e. absurd (omega (arith, e));
-    not_left = λ e. absurd (omega (arith, e));
+    not_lowest = λ e. absurd (omega (arith, e));
     not_back = λ e. absurd (omega (arith, e));
     not_newest = λ e. absurd (omega (arith, e));
     not_counted = λ e. absurd (omega (arith, e));
+    not_middle = λ e. absurd (omega (arith, e));
   }
 
   pub second_scratch : IsScratch globals stack SECOND
   second_scratch = record {
     not_zero = λ e. absurd (omega (arith, e));
     not_base = λ e. absurd (omega (arith, e));
-    not_left = λ e. absurd (omega (arith, e));
+    not_lowest = λ e. absurd (omega (arith, e));
     not_back = λ e. absurd (omega (arith, e));
     not_newest = λ e. absurd (omega (arith, e));
     not_counted = λ e. absurd (omega (arith, e));
+    not_middle = λ e. absurd (omega (arith, e));
   }
 
   pub first_aside : (but : ℕ) → IsAside but FIRST
   first_aside but n low high other e = absurd (omega (arith, e, high))
 
   pub second_aside : (but : ℕ) → IsAside but SECOND
-  second_aside but n low high other e = absurd (omega (arith, e, high))
+  second_aside but n low high other e = absurd (omega (arith, e, low))
 
   pub argument_aside : (but : ℕ) → IsAside but ARGUMENT
   argument_aside but n low high other e = absurd (omega (arith, e, low))
@@ -344,18 +347,18 @@ module _ (globals stack : ℕ) where
 
     -- ---- division
 
-    fetched_not_third : (o : Option ℕ) (target number : ℕ) → 24 ≤ target → target < 32 → HeldIn o frame base w r slots number → or_else o target % 32 ≢ THIRD
-    fetched_not_third None target number above below held e = omega (arith, e, above, below)
-    fetched_not_third (Some register) target number above below (low, high, is, fits) e = omega (arith, e, low, high)
+    fetched_not_third : (o : Option ℕ) (target number : ℕ) → target % 32 ≢ THIRD → HeldIn o frame base w r slots number → or_else o target % 32 ≢ THIRD
+    fetched_not_third None target number apart held e = apart e
+    fetched_not_third (Some register) target number apart (low, high, is, fits) e = omega (arith, e, low, high)
 
-    word_not_third : (b : Bool) (target : ℕ) → 24 ≤ target → target < 32 → (if b then ZERO else target) % 32 ≢ THIRD
-    word_not_third true target above below e = absurd (omega (arith, e))
-    word_not_third false target above below e = omega (arith, e, above, below)
+    word_not_third : (b : Bool) (target : ℕ) → target % 32 ≢ THIRD → (if b then ZERO else target) % 32 ≢ THIRD
+    word_not_third true target apart e = absurd (omega (arith, e))
+    word_not_third false target apart e = apart e
 
     -- an operand is in another register than -1
-    not_third : (target : ℕ) → 24 ≤ target → target < 32 → (o : Operand) → IsHeld frame base w r slots o → operand_register frame target o % 32 ≢ THIRD
-    not_third target above below (operands.Slot number) held = fetched_not_third (value_register frame number) target number above below held
-    not_third target above below (operands.Word word) held = word_not_third (is_zero_word (operands.Word word)) target above below
+    not_third : (target : ℕ) → target % 32 ≢ THIRD → (o : Operand) → IsHeld frame base w r slots o → operand_register frame target o % 32 ≢ THIRD
+    not_third target apart (operands.Slot number) held = fetched_not_third (value_register frame number) target number apart held
+    not_third target apart (operands.Word word) held = word_not_third (is_zero_word (operands.Word word)) target apart
 
     -- dividend, divisor and -1 are in registers
     pub record AreDivided (is : List Instr) (left right : Operand) : Type 0 where
@@ -374,7 +377,7 @@ module _ (globals stack : ℕ) where
           memory = refl;
           zero = refl;
           base = refl;
-          left = refl;
+          lowest = refl;
           back = refl;
           lasts = refl;
           values = λ n low high other. put-other (after_r c q m) THIRD n _ (λ x. absurd (omega (arith, x, low)));
@@ -383,10 +386,10 @@ module _ (globals stack : ℕ) where
           keeps = keeps_append globals stack c e q m FIRST loaded.keeps third;
           dividend =
               after_both globals stack c e q m (operand_register frame FIRST left % 32)
-              ∙ (put-other (after_r c q m) THIRD (operand_register frame FIRST left % 32) _ (not_third FIRST (omega arith) (omega arith) left left_held) ∙ loaded.left_is);
+              ∙ (put-other (after_r c q m) THIRD (operand_register frame FIRST left % 32) _ (not_third FIRST (λ x. absurd (omega (arith, x))) left left_held) ∙ loaded.left_is);
           divisor =
               after_both globals stack c e q m (operand_register frame SECOND right % 32)
-              ∙ (put-other (after_r c q m) THIRD (operand_register frame SECOND right % 32) _ (not_third SECOND (omega arith) (omega arith) right right_held) ∙ loaded.right_is);
+              ∙ (put-other (after_r c q m) THIRD (operand_register frame SECOND right % 32) _ (not_third SECOND (λ x. absurd (omega (arith, x))) right right_held) ∙ loaded.right_is);
           minus_one = after_both globals stack c e q m THIRD ∙ minus_one_is (after_r c q m ZERO) (loaded.keeps.zero ∙ zero);
         }
 
@@ -399,13 +402,14 @@ made_scratch globals stack program r frame right slot = go (value_register frame
     go : (o : Option ℕ) → value_register frame slot ≡ o → IsScratch globals stack (or_else o FIRST % 32)
     go None none = first_scratch globals stack
     go (Some k) some =
-        let low : 8 ≤ k = right.low slot k some in
+        let low : 6 ≤ k = right.low slot k some in
         let high : k < 24 = right.high slot k some in
         record {
           not_zero = λ e. absurd (omega (arith, e, low, high));
           not_base = λ e. absurd (omega (arith, e, low, high));
-          not_left = λ e. absurd (omega (arith, e, low, high));
+          not_lowest = λ e. absurd (omega (arith, e, low, high));
           not_back = λ e. absurd (omega (arith, e, low, high));
           not_newest = λ e. absurd (omega (arith, e, low, high));
           not_counted = λ e. absurd (omega (arith, e, low, high));
+          not_middle = λ e. absurd (omega (arith, e, low, high));
         }

@@ -11,6 +11,8 @@ use Rattle.cyc_words.proofs.WordLemmas.{FitsSigned-signed, sign_extended_low, si
 use Rattle.cyc_isa.specs.Effect.{load_upper_result, memory_address, low_result, high_result}
 use Rattle.cyc_isa.specs.declared.instr.MultiplyDivideOp.TheVariants.{Multiply}
 use Rattle.cyc_plain.specs.Operators.{truth}
+use Rattle.cyc_select.specs.declared.constants.TheConstants.{GLOBALS_MIDDLE, NEAR_GLOBALS}
+use Rattle.cyc_machine.specs.State.{data_base}
 
 -- ---- constants and addresses
 
@@ -39,6 +41,17 @@ global_lies address is_word = elim (cases_lt (address % 2 ^ 16) (2 ^ 15)) [
   | inr high ↦
       ap (add_of (load_upper_result ((address + 2 ^ 15) / 2 ^ 16))) (sign_extended_high (address % 2 ^ 16) high (omega arith))
       ∙ (let e : add_of (load_upper_result ((address + 2 ^ 15) / 2 ^ 16)) (address % 2 ^ 16 + (2 ^ 32 - 2 ^ 16)) ≡ address = omega (arith, high) in e)
+]
+
+-- where one lies that is reached from the register of globals
+pub near_lies : (global : ℕ) → global < NEAR_GLOBALS → memory_address GLOBALS_MIDDLE ((data_base + 4 * global + 2 ^ 15) % 2 ^ 16) ≡ data_base + 4 * global
+near_lies global near = elim (cases_lt global (2 ^ 13)) [
+  | inl low ↦
+      ap (add_of GLOBALS_MIDDLE) (sign_extended_high ((data_base + 4 * global + 2 ^ 15) % 2 ^ 16) (omega (arith, low)) (omega arith))
+      ∙ (let e : add_of GLOBALS_MIDDLE ((data_base + 4 * global + 2 ^ 15) % 2 ^ 16 + (2 ^ 32 - 2 ^ 16)) ≡ data_base + 4 * global = omega (arith, low) in e)
+  | inr high ↦
+      ap (add_of GLOBALS_MIDDLE) (sign_extended_low ((data_base + 4 * global + 2 ^ 15) % 2 ^ 16) (omega (arith, near, high)))
+      ∙ (let e : add_of GLOBALS_MIDDLE ((data_base + 4 * global + 2 ^ 15) % 2 ^ 16) ≡ data_base + 4 * global = omega (arith, near, high) in e)
 ]
 
 -- ---- tests

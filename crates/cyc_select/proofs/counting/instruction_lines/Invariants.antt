@@ -9,4 +9,4 @@ abbrev pub invariant-loop-instruction : goal.invariant-loop-instruction
 invariant-loop-instruction l =
     (l.lines.items ++ instruction_lines l.plain l.frames l.function l.here (drop l.instruction-index l.code)
     ≡ instruction_lines l.plain l.frames l.function l.first l.code)
-    × (l.here + sum_by instruction_size (drop l.instruction-index l.code) ≤ most_lines)
+    × (l.here + sum_by instruction_size (drop l.instruction-index l.code) ≤ most_lines + 1)

@@ -1,25 +1,23 @@
-use Rattle.std.proofs.Common.{◌≡◌, ℕ, ◌<◌, ◌≤◌, List, [], ◌++◌, length, sym, ap, subst, ◌∙◌, arith}
+use Rattle.std.proofs.Common.{◌≡◌, ℕ, ◌<◌, List, [], ◌++◌, length, sym, ap, subst, ◌∙◌, arith}
 use Rattle.std.specs.Prelude.{slice_index_or}
-use Rattle.cyc_plain.specs.Program.{Program, routine_at}
-use Rattle.cyc_frame.specs.Layout.{frame_at}
-use Rattle.cyc_frame.specs.declared.frame.TheConstants.{MOST_FRAME_WORDS}
+use Rattle.cyc_plain.specs.Program.{Program}
 use Rattle.cyc_frame.specs.Frame.{Frame}
 use Rattle.cyc_select.specs.declared.constants.TheConstants.{START_LINES}
 use Rattle.cyc_select.specs.declared.code.Line.{Line}
 use Rattle.cyc_select.specs.Labelled.{Labelled, IsCode}
 use Rattle.cyc_select.specs.Selection.{start_code, function_line, function_lines, select_of}
 use Rattle.cyc_select.specs.Emission.{function_starts}
-use Rattle.cyc_select.proofs.emission.Numbering.{words_small, starts_length, starts_at}
+use Rattle.cyc_select.proofs.emission.Numbering.{starts_length, starts_at}
 use Rattle.cyc_select.proofs.layout.Whole.{is_code}
 use Rattle.cyc_select.proofs.selection.selected.Goals as goal
 
 -- the lines of the start, and behind them those of the functions
-all_lines : (plain : Program) (frames fs : List Frame) (starts : List ℕ) (main label : ℕ) (frame : Frame) (none begun lines : List Line)
+all_lines : (plain : Program) (frames fs : List Frame) (starts : List ℕ) (main label : ℕ) (none begun lines : List Line)
     → fs ≡ frames → starts ≡ function_starts plain fs 0 START_LINES plain.functions
     → main ≡ plain.main → main < length plain.functions → label ≡ slice_index_or starts main label
-    → none ≡ [] → frame ≡ frame_at fs main → begun ≡ none ++ start_code frame label → lines ≡ begun ++ function_lines plain fs 0 START_LINES plain.functions
+    → none ≡ [] → begun ≡ none ++ start_code label → lines ≡ begun ++ function_lines plain fs 0 START_LINES plain.functions
     → lines ≡ (select_of plain frames).lines
-all_lines plain frames fs starts main label frame none begun lines same_frames are_starts is_main in_range is_label is_none is_frame is_begun are =
+all_lines plain frames fs starts main label none begun lines same_frames are_starts is_main in_range is_label is_none is_begun are =
     let all = function_lines plain fs 0 START_LINES plain.functions in
     let first : label ≡ function_line plain fs main
     = is_label
@@ -27,10 +25,9 @@ all_lines plain frames fs starts main label frame none begun lines same_frames a
     ∙ starts_at plain fs 0 START_LINES plain.functions main label in_range in
     are
     ∙ ap (λ (ls : List Line). ls ++ all) is_begun
-    ∙ ap (λ (ls : List Line). ls ++ start_code frame label ++ all) is_none
-    ∙ ap (λ (f : Frame). start_code f label ++ all) is_frame
-    ∙ ap (λ (n : ℕ). start_code (frame_at fs main) n ++ all) first
-    ∙ ap (λ (n : ℕ). start_code (frame_at fs n) (function_line plain fs n) ++ all) is_main
+    ∙ ap (λ (ls : List Line). ls ++ start_code label ++ all) is_none
+    ∙ ap (λ (n : ℕ). start_code n ++ all) first
+    ∙ ap (λ (n : ℕ). start_code (function_line plain fs n) ++ all) is_main
     ∙ ap (λ (ff : List Frame). (select_of plain ff).lines) same_frames
 
 pub index-requires : goal.index-requires
@@ -38,31 +35,15 @@ index-requires c =
     let program = c.args.plain.now in
     omega (arith, c.main-main.ensures.in_range, ap length c.in_ok-starts.ensures.starts, starts_length program c.as_slice-frames.result.now 0 START_LINES program.functions)
 
-pub start-requires-clause-some : goal.start-requires-clause-some
-start-requires-clause-some c =
-    let main = c.main-main.result in
-    let own = c.requires.each c.main-main.result c.main-main.ensures.in_range in
-    let frame_is : c.frame_in-frame.result.now ≡ frame_at c.args.frames.now c.main-main.result
-    = c.frame_in-frame.ensures.value ∙ ap (λ (fs : List Frame). frame_at fs main) c.as_slice-frames.ensures in
-    subst (λ (f : Frame). 0 < f.words) (sym frame_is) (let inside = own.return_inside in omega (arith, inside))
-
-pub start-requires-clause-words : goal.start-requires-clause-words
-start-requires-clause-words c =
-    let main = c.main-main.result in
-    let own = c.requires.each c.main-main.result c.main-main.ensures.in_range in
-    let frame_is : c.frame_in-frame.result.now ≡ frame_at c.args.frames.now c.main-main.result
-    = c.frame_in-frame.ensures.value ∙ ap (λ (fs : List Frame). frame_at fs main) c.as_slice-frames.ensures in
-    subst (λ (f : Frame). f.words ≤ MOST_FRAME_WORDS) (sym frame_is) (words_small (routine_at c.args.plain.now main) (frame_at c.args.frames.now main) own)
-
 pub new-requires : goal.new-requires
 new-requires c =
     let program = c.args.plain.now in
     let frames = c.args.frames.now in
     let lines : c.functions.new.self.lines.items ≡ (select_of program frames).lines
-    = all_lines program frames c.as_slice-frames.result.now c.in_ok-starts.starts.items c.main-main.result c.index.result.now c.frame_in-frame.result.now
+    = all_lines program frames c.as_slice-frames.result.now c.in_ok-starts.starts.items c.main-main.result c.index.result.now
     c.new-emitter.result.lines.items c.start.new.self.lines.items c.functions.new.self.lines.items
     c.as_slice-frames.ensures c.in_ok-starts.ensures.starts c.main-main.ensures.value c.main-main.ensures.in_range c.index.ensures
-    c.new-emitter.ensures c.frame_in-frame.ensures.value c.in_ok-start.ensures c.in_ok-functions.ensures in
+    c.new-emitter.ensures c.in_ok-start.ensures c.in_ok-functions.ensures in
     let globals : c.in_ok-globals.globals.items ≡ program.globals
     = c.in_ok-globals.ensures.items ∙ c.globals.ensures in
     subst IsCode (λ i. record { lines = sym lines i; globals = sym globals i }) (is_code program frames c.in_ok-starts.ensures.plain c.requires)
@@ -72,10 +53,10 @@ returns-clause-code c =
     let program = c.args.plain.now in
     let frames = c.args.frames.now in
     let lines : c.functions.new.self.lines.items ≡ (select_of program frames).lines
-    = all_lines program frames c.as_slice-frames.result.now c.in_ok-starts.starts.items c.main-main.result c.index.result.now c.frame_in-frame.result.now
+    = all_lines program frames c.as_slice-frames.result.now c.in_ok-starts.starts.items c.main-main.result c.index.result.now
     c.new-emitter.result.lines.items c.start.new.self.lines.items c.functions.new.self.lines.items
     c.as_slice-frames.ensures c.in_ok-starts.ensures.starts c.main-main.ensures.value c.main-main.ensures.in_range c.index.ensures
-    c.new-emitter.ensures c.frame_in-frame.ensures.value c.in_ok-start.ensures c.in_ok-functions.ensures in
+    c.new-emitter.ensures c.in_ok-start.ensures c.in_ok-functions.ensures in
     let globals : c.in_ok-globals.globals.items ≡ program.globals
     = c.in_ok-globals.ensures.items ∙ c.globals.ensures in
     let made : Labelled = record { lines = c.functions.new.self.lines.items; globals = c.in_ok-globals.globals.items } in

@@ -1,6 +1,7 @@
 use borrow.Author.Rules.{rules, get_or_read}
 use Rattle.std.proofs.Common.{ℕ, List, [], ◌∷◌, ◌++◌, length, set, Option, ◌∙◌, refl, ap, arith}
 use Rattle.std.proofs.lemmas.Result.{on_ok_weaker}
+use Rattle.std.proofs.lemmas.List.{length-append}
 use Rattle.cyc_types.specs.declared.ty.Ty.TheFolds as types
 use Rattle.cyc_types.specs.declared.typed.Item.{Item}
 use Rattle.cyc_types.specs.declared.typed.Item.TheFolds as statements
@@ -14,7 +15,8 @@ use Rattle.cyc_lower.specs.Lowering.{items_code, statement_code}
 use Rattle.cyc_lower.specs.declared.statements.Exits.{Exits}
 use Rattle.cyc_lower.specs.declared.statements.Opened.{Opened}
 use Rattle.cyc_lower.specs.Emission.{view_starts}
-use Rattle.cyc_lower.proofs.emission.Branching.{made_block, made_if, made_loop, item_room, more_items, closes_begin, closes_next, closes_end}
+use Rattle.cyc_lower.proofs.emission.Branching.{made_block, made_if, item_room, more_items, closes_begin, closes_next, closes_end}
+use Rattle.cyc_lower.proofs.emission.Loops.{made_loop, entering_keeps}
 use Rattle.cyc_lower.proofs.emission.Handlers.{kept_of_clause, made_clause, made_clauses, more_clauses, made_handler, record_room, clauses_longer, body_longer}
 use Rattle.cyc_lower.proofs.emission.Emitting.{no_shorter_than}
 use Rattle.cyc_frame_count.proofs.NeedsFound.{block_keeps, try_keeps}
@@ -22,14 +24,23 @@ use Rattle.cyc_lower.proofs.emitter.Emitter.+statement.Goals as goal
 
 pub lower_loop-returns : goal.lower_loop-returns
 lower_loop-returns t c =
-    let code = c.reserve-2.new.self.code.items in
-    made_loop (view_starts c.args.starts.now) (view_expression c.args.condition.now) (view_statement c.args.body.now) c.args.exits c.args.free c.in_ok-condition.condition c.in_ok-condition.ensures.0 c.args.self.now.code.items (Jump 0) (Jump 0)
-    c.reserve.new.self.code.items code c.lower_statement.new.self.code.items c.jump_here.new.self.code.items c.lower_condition.new.self.code.items c.emit.new.self.code.items c.jump_here-2.new.self.code.items
-    c.in_ok-head.head c.in_ok-leaving.leaving c.place-again.result c.in_ok-head.ensures.0
-    c.in_ok-head.ensures.1 c.in_ok-leaving.ensures.0 c.in_ok-leaving.ensures.1 c.place-again.ensures
-    (c.in_ok-lower_statement.ensures ∙ ap (λ (o : Opened). code ++ statement_code (view_starts c.args.starts.now) (view_statement c.args.body.now) (length code) (record { head = c.in_ok-head.head; in_loop = o; in_function = c.args.exits.in_function }) c.args.free) c.nothing_opened.ensures)
-    c.jump_here.ensures c.in_ok-condition.ensures.1 (c.in_ok-emit.ensures ∙ ap (λ (i : Instruction). c.lower_condition.new.self.code.items ++ i ∷ []) c.holding_jump.ensures)
-    c.jump_here-2.ensures
+    let code = c.reserve.new.self.code.items in
+    made_loop (view_starts c.args.starts.now) (view_expression c.args.condition.now) (view_statement c.args.body.now) c.args.exits c.args.free c.in_ok-condition.condition c.in_ok-condition.ensures.0 c.args.self.now.code.items (Jump 0)
+    c.begin_loop.new.self.code.items code c.lower_statement.new.self.code.items c.enter_loop.new.self.code.items c.lower_choice.new.self.code.items c.emit.new.self.code.items c.jump_here.new.self.code.items
+    c.place-head.result c.in_ok-leaving.leaving c.place-again.result c.place-head.ensures
+    c.in_ok-begin_loop.ensures c.in_ok-leaving.ensures.0 c.in_ok-leaving.ensures.1 c.place-again.ensures
+    (c.in_ok-lower_statement.ensures ∙ ap (λ (o : Opened). code ++ statement_code (view_starts c.args.starts.now) (view_statement c.args.body.now) (length code) (record { head = c.place-head.result; leaving = c.in_ok-leaving.leaving; in_loop = o; in_function = c.args.exits.in_function }) c.args.free) c.nothing_opened.ensures)
+    c.enter_loop.ensures c.in_ok-condition.ensures.1 (c.in_ok-emit.ensures ∙ ap (λ (i : Instruction). c.lower_choice.new.self.code.items ++ i ∷ []) c.holding_jump.ensures)
+    c.jump_here.ensures
+
+pub lower_loop-jump_here-requires : goal.lower_loop-jump_here-requires
+lower_loop-jump_here-requires t c =
+    let zero = ap length c.in_ok-leaving.ensures.1 ∙ length-append c.begin_loop.new.self.code.items (Jump 0 ∷ []) in
+    let one = no_shorter_than c.reserve.new.self.code.items _ c.lower_statement.new.self.code.items c.in_ok-lower_statement.ensures in
+    let same = entering_keeps (view_starts c.args.starts.now) (view_expression c.args.condition.now) c.lower_statement.new.self.code.items c.place-head.result c.enter_loop.new.self.code.items c.enter_loop.ensures in
+    let two = no_shorter_than c.enter_loop.new.self.code.items _ c.lower_choice.new.self.code.items c.in_ok-condition.ensures.1 in
+    let three = no_shorter_than c.lower_choice.new.self.code.items _ c.emit.new.self.code.items c.in_ok-emit.ensures in
+    omega (arith, zero, one, same, two, three, c.in_ok-leaving.ensures.0)
 
 pub lower_statement-returns-in-Block : goal.lower_statement-returns-in-Block
 lower_statement-returns-in-Block t c =
@@ -40,7 +51,7 @@ lower_statement-returns-in-Block t c =
 pub lower_statement-returns-in_ok-lower_statement-in-If-2 : goal.lower_statement-returns-in_ok-lower_statement-in-If-2
 lower_statement-returns-in_ok-lower_statement-in-If-2 t c =
     made_if (view_starts c.args.starts.now) c.args.statement.now c.in-If.condition c.in-If.then c.in-If.otherwise c.in-If.is c.deref-in-If.result.now c.deref-in-If-2.result.now c.deref-in-If.ensures c.deref-in-If-2.ensures c.args.exits c.args.free c.in_ok-condition-in-If.condition c.in_ok-condition-in-If.ensures.0 c.args.self.now.code.items (Jump 0) (Jump 0)
-    c.lower_condition.new.self.code.items c.reserve.new.self.code.items c.lower_statement.new.self.code.items c.reserve-in-If.new.self.code.items c.jump_here_if_failing.new.self.code.items c.lower_statement-in-If.new.self.code.items c.jump_here.new.self.code.items
+    c.lower_choice.new.self.code.items c.reserve.new.self.code.items c.lower_statement.new.self.code.items c.reserve-in-If.new.self.code.items c.jump_here_if_failing.new.self.code.items c.lower_statement-in-If.new.self.code.items c.jump_here.new.self.code.items
     c.in_ok-over_then-in-If.over_then c.in_ok-over_otherwise-in-If.over_otherwise
     c.in_ok-condition-in-If.ensures.1 c.in_ok-over_then-in-If.ensures.0 c.in_ok-over_then-in-If.ensures.1 c.in_ok-lower_statement-in-If.ensures c.in_ok-over_otherwise-in-If.ensures.0 c.in_ok-over_otherwise-in-If.ensures.1 c.jump_here_if_failing.ensures c.in_ok-lower_statement-in-If-2.ensures c.jump_here.ensures
 

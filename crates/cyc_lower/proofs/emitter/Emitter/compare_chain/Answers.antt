@@ -2,7 +2,6 @@ use Rattle.std.proofs.Common.{◌≡◌, ap, sym, ◌∙◌, arith}
 use Rattle.std.proofs.lemmas.Result.{IfOk-weaker}
 use Rattle.cyc_types.specs.TypedTrees.{Expression}
 use Rattle.cyc_types.specs.TypedTreeView.{view_expression}
-use Rattle.cyc_plain.specs.declared.instruction.Comparison.TheVariants as comparisons
 use Rattle.cyc_lower.specs.ControlCode.{with_zero, compared_of}
 use Rattle.cyc_lower.specs.Emission.{view_starts}
 use Rattle.cyc_lower.proofs.emission.Conditions.{not_single, made_alone, made_compared}
@@ -13,9 +12,9 @@ returns-then-rest-ne1 c =
     let whole = view_expression c.args.value.now in
     let (ty, chain) = c.requires.chain in
     let alone = not_single (view_expression c.args.first.now) c.args.rest.now ty (λ one. omega (arith, one, c.if-rest-ne1.true)) in
-    let is : compared_of whole ≡ with_zero comparisons.Equal whole = ap compared_of chain ∙ alone ∙ ap (λ (x : Expression). with_zero comparisons.Equal x) (sym chain) in
+    let is : compared_of whole ≡ with_zero whole = ap compared_of chain ∙ alone ∙ ap (λ (x : Expression). with_zero x) (sym chain) in
     IfOk-weaker c.compare_with_zero.result _ _
-    (λ answer made. made_alone (view_starts c.args.starts.now) whole whole comparisons.Equal answer c.args.self.now.code.items c.compare_with_zero.new.self.code.items c.args.free is made)
+    (λ answer made. made_alone (view_starts c.args.starts.now) whole whole answer c.args.self.now.code.items c.compare_with_zero.new.self.code.items c.args.free is made)
     c.compare_with_zero.ensures
 
 pub returns-in-Some : goal.returns-in-Some

@@ -1,5 +1,6 @@
-use Rattle.std.proofs.Common.{◌≡◌, ◌++◌, drop}
-use Rattle.cyc_select.specs.Selection.{code_lines, function_line, instruction_line}
+use Rattle.std.proofs.Common.{◌≡◌, ◌+◌, ◌++◌, drop}
+use Rattle.cyc_frame.specs.Layout.{frame_at}
+use Rattle.cyc_select.specs.Selection.{saving_count, code_lines, function_line, instruction_line}
 use Rattle.cyc_select.proofs.emitter.Emitter.code.Given as goal
 
 -- the lines so far, with those of the other instructions, are all of them
@@ -8,4 +9,4 @@ invariant-loop-index l =
     l.self.lines.items
     ++ code_lines l.tables.plain.now l.tables.frames.now l.tables.function (instruction_line l.tables.plain.now l.tables.frames.now l.tables.function l.index) (drop l.index l.code)
     ≡ l.fn.self.lines.items
-    ++ code_lines l.tables.plain.now l.tables.frames.now l.tables.function (function_line l.tables.plain.now l.tables.frames.now l.tables.function) l.code
+    ++ code_lines l.tables.plain.now l.tables.frames.now l.tables.function (function_line l.tables.plain.now l.tables.frames.now l.tables.function + saving_count (frame_at l.tables.frames.now l.tables.function)) l.code

@@ -1,20 +1,16 @@
-use Rattle.std.proofs.Common.{◌<◌, ◌≤◌, length, sym, subst}
+use Rattle.std.proofs.Common.{◌<◌, length, sym, subst, arith}
 use Rattle.cyc_plain.specs.Program.{routine_at}
 use Rattle.cyc_frame.specs.Frame.{Frame}
 use Rattle.cyc_frame.specs.Layout.{frame_at}
 use Rattle.cyc_frame.specs.declared.frame.TheConstants.{MOST_FRAME_WORDS}
 use Rattle.cyc_select.specs.Emission.{AreReached}
-use Rattle.cyc_select.proofs.emission.Numbering.{words_small, slots_reached, homes_reached}
+use Rattle.cyc_select.proofs.emission.Numbering.{slots_reached, homes_reached}
 use Rattle.cyc_select.proofs.tables.Tables.frame.Goals as goal
-
-pub returns-clause-words : goal.returns-clause-words
-returns-clause-words c =
-    subst (λ (f : Frame). f.words ≤ MOST_FRAME_WORDS) (sym c.frame_in.ensures.value)
-    (words_small (routine_at c.args.self.now.plain.now c.args.function) (frame_at c.args.self.now.frames.now c.args.function) (c.requires.known.ready.fit.each c.args.function c.requires.function))
 
 pub returns-clause-return_address : goal.returns-clause-return_address
 returns-clause-return_address c =
-    subst (λ (f : Frame). f.return_address < f.words) (sym c.frame_in.ensures.value) (c.requires.known.ready.fit.each c.args.function c.requires.function).return_inside
+    let own = c.requires.known.ready.fit.each c.args.function c.requires.function in
+    subst (λ (f : Frame). f.return_address < MOST_FRAME_WORDS) (sym c.frame_in.ensures.value) (omega (arith, own.return_inside, own.small))
 
 pub returns-clause-slots : goal.returns-clause-slots
 returns-clause-slots c =

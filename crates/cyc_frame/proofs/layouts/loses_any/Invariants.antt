@@ -1,0 +1,7 @@
+use Rattle.std.proofs.Common.{◌≡◌, drop}
+use Rattle.cyc_frame.specs.Layout.{loses_any}
+use Rattle.cyc_frame.proofs.layouts.loses_any.Given as goal
+
+-- no instruction so far is one
+abbrev pub invariant-loop-instruction : goal.invariant-loop-instruction
+invariant-loop-instruction l = loses_any (drop l.instruction-index l.code) ≡ loses_any l.code

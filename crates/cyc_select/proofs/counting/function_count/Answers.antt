@@ -1,0 +1,28 @@
+use Rattle.std.proofs.Common.{ap, ◌∙◌, arith}
+use Rattle.std.specs.Prelude.{sum_by}
+use Rattle.cyc_plain.specs.Program.{routine_at}
+use Rattle.cyc_select.specs.Selection.{saving_count, count_of}
+use Rattle.cyc_select.proofs.emission.Numbering.{reads_few, routine_small}
+use Rattle.cyc_select.proofs.counting.function_count.Goals as goal
+
+pub returns-clause-value : goal.returns-clause-value
+returns-clause-value c =
+    let program = c.args.plain.now in
+    let frames = c.args.frames.now in
+    let saving = c.saving_count.ensures.value ∙ ap saving_count c.frame_in.ensures.value in
+    let lines = c.code_count.ensures.value ∙ ap (sum_by (count_of program frames c.args.function)) c.requires.code in
+    omega (arith, saving, lines)
+
+pub returns-clause-small : goal.returns-clause-small
+returns-clause-small c =
+    let program = c.args.plain.now in
+    let frames = c.args.frames.now in
+    let function = c.args.function in
+    let saving = c.saving_count.ensures.value ∙ ap saving_count c.frame_in.ensures.value in
+    let lines = c.code_count.ensures.value ∙ ap (sum_by (count_of program frames function)) c.requires.code in
+    omega (
+      arith,
+      saving,
+      lines,
+      routine_small program frames function (reads_few program frames c.requires.fit function) c.requires.few (routine_at program function).code (c.requires.fit.each function c.requires.function).saved,
+    )
