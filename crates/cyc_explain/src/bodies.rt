@@ -5,7 +5,7 @@ use crate::expressions::{
     explain_address, explain_binary, explain_chain, explain_key, explain_name, explain_place,
     explain_target,
 };
-use crate::forms::{Form, forms_of};
+use crate::forms::{Form, Forms, forms_of};
 use crate::homes::Origin;
 use crate::messages::Message;
 use crate::names::explain_region_twice;
@@ -20,9 +20,11 @@ use cyc_check::scope_at_fault;
 use cyc_heads::{heads, members};
 use cyc_scope::{Program, Scope};
 use cyc_syntax::{
-    Block, Clause, Declaration, Expr, Ident, Item, Member, PrefixOperator, Stmt, Tree,
+    Block, Clause, Declaration, Expr, Ident, Item, Member, Parameters, PrefixOperator, Stmt, Tree,
 };
+use cyc_types::RegionNames;
 use cyc_words::Span;
+use std::mem::ManuallyDrop;
 
 // ---- functions
 
@@ -30,8 +32,9 @@ use cyc_words::Span;
 pub(crate) fn explain_body(teller: &mut Teller, tree: &Tree, declaration: &Declaration) {
     if let Declaration::Function { body, .. } = declaration {
         if teller.is_from(body.span) && !teller.is_from(body.end) {
-            if let Ok(program) = heads(teller.alloc, tree) {
-                explain_function(teller, &program, tree, declaration);
+            let program = ManuallyDrop::new(heads(teller.alloc, tree));
+            if let Ok(program) = &*program {
+                explain_function(teller, program, &tree.declarations, declaration);
             }
         }
     }
@@ -41,7 +44,7 @@ pub(crate) fn explain_body(teller: &mut Teller, tree: &Tree, declaration: &Decla
 fn explain_function(
     teller: &mut Teller,
     program: &Program,
-    tree: &Tree,
+    declarations: &[Declaration],
     declaration: &Declaration,
 ) {
     if let Declaration::Function {
@@ -51,50 +54,89 @@ fn explain_function(
         body,
     } = declaration
     {
-        let alloc = teller.alloc;
-        if let Ok(mut scope) = scope_at_fault(alloc, program, result, *name, parameters, body) {
-            let members = members(parameters);
-            teller.notes.function = name.name.number;
-            teller
-                .notes
-                .homes
-                .add_parameters(scope.names(), *name, members);
-            teller.unknown = Message::UnknownInBody;
-            explain_parameters(teller, members, &body.items);
-            explain_forms(teller, &mut scope, tree, body);
+        let at_fault = scope_at_fault(teller.alloc, program, result, *name, parameters, body);
+        let mut at_fault = ManuallyDrop::new(at_fault);
+        if let Ok(scope) = &mut *at_fault {
+            explain_at_fault(teller, scope, declarations, *name, parameters, body);
         }
     }
 }
 
-/// Asks the forms of a body.
-fn explain_forms(teller: &mut Teller, scope: &mut Scope<'_>, tree: &Tree, body: &Block) {
-    let mut forms = forms_of(teller.alloc, body);
-    for _ in 0..forms.listed.len() {
-        if let Some(form) = forms.listed.pop() {
-            explain_form(teller, scope, tree, form);
-        }
-    }
+/// The same, in the scope where the fault stands.
+fn explain_at_fault(
+    teller: &mut Teller,
+    scope: &mut Scope<'_>,
+    declarations: &[Declaration],
+    name: Ident,
+    parameters: &Parameters,
+    body: &Block,
+) {
+    explain_head(
+        teller,
+        scope.names(),
+        name,
+        members(parameters),
+        &body.items,
+    );
+    let forms = ManuallyDrop::new(forms_of(teller.alloc, body));
+    explain_forms(teller, scope, declarations, &forms);
+}
+
+/// The words for a name of a parameter that a local has too; and notes what the head of a function tells.
+fn explain_head(
+    teller: &mut Teller,
+    names: &RegionNames,
+    name: Ident,
+    members: &[Member],
+    items: &[Item],
+) {
+    teller.notes.function = name.name.number;
+    teller.notes.homes.add_parameters(names, name, members);
+    teller.unknown = Message::UnknownInBody;
+    explain_parameters(teller, members, items);
+}
+
+/// Asks the forms of a body, the last one first.
+fn explain_forms(
+    teller: &mut Teller,
+    scope: &mut Scope<'_>,
+    declarations: &[Declaration],
+    forms: &Forms<'_>,
+) {
     teller.is_whole = teller.is_whole && forms.is_whole;
+    let mut left = forms.listed.len();
+    for _ in 0..forms.listed.len() {
+        left = left.saturating_sub(1);
+        if let Some(form) = forms.listed.get(left) {
+            explain_form(teller, scope, declarations, form);
+        }
+    }
 }
 
-fn explain_form(teller: &mut Teller, scope: &mut Scope<'_>, tree: &Tree, form: Form<'_>) {
+fn explain_form(
+    teller: &mut Teller,
+    scope: &mut Scope<'_>,
+    declarations: &[Declaration],
+    form: &Form<'_>,
+) {
     match form {
         Form::Expression { expression, role } => {
-            explain_expression(teller, scope, tree, expression);
-            explain_value(teller, scope, tree, expression, role);
+            explain_expression(teller, scope, declarations, expression);
+            explain_value(teller, scope, declarations, expression, role);
         }
         Form::Statement { statement, .. } => explain_statement(teller, scope, statement),
-        Form::Item { item, end } => explain_item(teller, scope, item, end),
-        Form::Items { items } => {
-            teller.declared.clear();
-            explain_declared(teller, items);
-        }
+        Form::Item { item, end } => explain_item(teller, scope, item, *end),
         Form::Clause { clause } => explain_clause(teller, scope, clause),
-        Form::Begin {
-            label: Some(label),
-            ..
-        } => add_region(teller, label, Origin::Block),
-        Form::Begin { label: None, span } => teller.notes.homes.add(None, span, Origin::Block),
+        Form::Items { items } => explain_items(teller, items),
+        Form::Begin { label, span } => explain_begin(teller, *label, *span),
+    }
+}
+
+/// Adds the region of a block.
+fn explain_begin(teller: &mut Teller, label: Option<Ident>, span: Span) {
+    match label {
+        Some(label) => add_region(teller, label, Origin::Block),
+        None => teller.notes.homes.add(None, span, Origin::Block),
     }
 }
 
@@ -120,6 +162,12 @@ fn explain_declared(teller: &mut Teller, items: &[Item]) {
     }
 }
 
+/// The words where the items of a block declare a local twice.
+fn explain_items(teller: &mut Teller, items: &[Item]) {
+    teller.declared.clear();
+    explain_declared(teller, items);
+}
+
 /// The words where the items of a function declare a local of the name of a parameter.
 fn explain_parameters(teller: &mut Teller, members: &[Member], items: &[Item]) {
     teller.declared.clear();
@@ -134,15 +182,9 @@ fn explain_item(teller: &mut Teller, scope: &mut Scope<'_>, item: &Item, end: Op
     match item {
         Item::Statement { .. } => {}
         Item::Local { of_type, .. } => explain_written_here(teller, scope, of_type),
-        Item::Region {
-            region,
-            key: Some(key),
-            ..
-        } => {
-            explain_opened(teller, scope, *region, *key);
-            teller.note_opened(*region, end);
+        Item::Region { region, key, .. } => {
+            explain_region_item(teller, scope, *region, *key, end);
         }
-        Item::Region { region, .. } => add_region(teller, *region, Origin::Item),
         Item::DynamicRegion { region, .. } => add_region(teller, *region, Origin::Dynamic),
         Item::Alias {
             region,
@@ -153,6 +195,23 @@ fn explain_item(teller: &mut Teller, scope: &mut Scope<'_>, item: &Item, end: Op
             add_region(teller, *region, Origin::Item);
             explain_alias(teller, scope, *region, of_type, *source);
         }
+    }
+}
+
+/// Asks an item that opens a region, by a key or as a new one, in a block that ends there.
+fn explain_region_item(
+    teller: &mut Teller,
+    scope: &Scope<'_>,
+    region: Ident,
+    key: Option<Ident>,
+    end: Option<Span>,
+) {
+    match key {
+        Some(key) => {
+            explain_opened(teller, scope, region, key);
+            teller.note_opened(region, end);
+        }
+        None => add_region(teller, region, Origin::Item),
     }
 }
 
@@ -167,7 +226,9 @@ fn add_region(teller: &mut Teller, name: Ident, origin: Origin) {
 fn explain_statement(teller: &mut Teller, scope: &mut Scope<'_>, statement: &Stmt) {
     match statement {
         Stmt::Swap { left, right } => explain_swap(teller, scope, left, right),
-        Stmt::Return { span, value } => explain_return(teller, scope, *span, value),
+        Stmt::Return { span, value } => {
+            explain_return(teller, scope, *span, value.is_some());
+        }
         Stmt::Throw { exception, .. } => explain_exception(teller, scope, *exception),
         _ => {}
     }
@@ -175,36 +236,58 @@ fn explain_statement(teller: &mut Teller, scope: &mut Scope<'_>, statement: &Stm
 
 /// Asks what stands before the items of a clause, and whether they declare its variable a second time.
 fn explain_clause(teller: &mut Teller, scope: &Scope<'_>, clause: &Clause) {
-    let exception = clause.exception;
-    explain_exception(teller, scope, exception);
-    teller.notes.homes.add(None, exception.span, Origin::Block);
+    explain_exception(teller, scope, clause.exception);
+    teller
+        .notes
+        .homes
+        .add(None, clause.exception.span, Origin::Block);
     if let Some(variable) = clause.variable {
-        teller.declared.clear();
-        teller.declare(variable);
-        explain_declared(teller, &clause.items);
+        explain_caught(teller, variable, &clause.items);
     }
+}
+
+/// The words where these items declare the variable of their clause a second time.
+fn explain_caught(teller: &mut Teller, variable: Ident, items: &[Item]) {
+    teller.declared.clear();
+    teller.declare(variable);
+    explain_declared(teller, items);
 }
 
 // ---- expressions
 
 /// Asks an expression, its parts and what is wanted of it apart.
-fn explain_expression(teller: &mut Teller, scope: &mut Scope<'_>, tree: &Tree, expression: &Expr) {
+fn explain_expression(
+    teller: &mut Teller,
+    scope: &mut Scope<'_>,
+    declarations: &[Declaration],
+    expression: &Expr,
+) {
     match expression {
-        Expr::UniqueRegion { span } => teller.tell(Message::UniqueRegionAlone, *span),
-        Expr::Variable { name } => explain_name(teller, scope, *name),
-        Expr::FreeKey { key, .. } => explain_key(teller, scope, *key),
         Expr::Call {
             function,
             arguments,
-        } if teller.is_at(function.span) => {
-            explain_call(teller, scope, tree, *function, arguments, None);
+        } => {
+            if teller.is_at(function.span) {
+                explain_call(teller, scope, declarations, *function, arguments, None);
+            }
         }
         Expr::Chained { base, postfixes } => explain_chain(teller, scope, base, postfixes),
+        Expr::Binary { first, rest } => explain_binary(teller, scope, first, rest),
         Expr::Prefixed {
             span,
             operator: PrefixOperator::Dereference,
             operand,
         } => explain_target(teller, scope, *span, operand),
+        _ => explain_plain(teller, scope, expression),
+    }
+}
+
+/// The same of one that asks nothing of the type of a value in it.
+fn explain_plain(teller: &mut Teller, scope: &Scope<'_>, expression: &Expr) {
+    match expression {
+        Expr::UniqueRegion { span } => teller.tell(Message::UniqueRegionAlone, *span),
+        Expr::Variable { name } => explain_name(teller, scope, *name),
+        Expr::FreeKey { key, .. } => explain_key(teller, scope, *key),
         Expr::Prefixed {
             operator: PrefixOperator::AddressOf,
             operand,
@@ -213,7 +296,6 @@ fn explain_expression(teller: &mut Teller, scope: &mut Scope<'_>, tree: &Tree, e
         Expr::New { value, .. } | Expr::RegionNew { value, .. } => {
             explain_made(teller, scope, value);
         }
-        Expr::Binary { first, rest } => explain_binary(teller, scope, first, rest),
         Expr::Assign { target, .. } => explain_place(teller, scope, target),
         _ => {}
     }

@@ -5,22 +5,27 @@ use crate::messages::Message;
 use crate::names::{Sort, explain_unknown};
 use crate::teller::Teller;
 use cyc_check::value_type;
-use cyc_forms::span_of;
 use cyc_forms::types::region_of;
 use cyc_heads::members;
 use cyc_scope::{Meaning, Scope};
-use cyc_syntax::{Declaration, Expr, Ident, Tree};
+use cyc_syntax::{Declaration, Expr, Ident};
 use cyc_types::typed::ValueType;
 use cyc_types::{Region, RegionNames, Signature, Ty};
-use cyc_words::Code;
+use cyc_words::{Code, Span};
 use std::alloc::Global;
+use std::mem::ManuallyDrop;
 
 // ---- regions at the call
 
 /// Notes the regions of the function of this name, as its own head names them.
-fn note_theirs(teller: &mut Teller, tree: &Tree, names: &RegionNames, function: Ident) {
+fn note_theirs(
+    teller: &mut Teller,
+    declarations: &[Declaration],
+    names: &RegionNames,
+    function: Ident,
+) {
     teller.notes.theirs.all.clear();
-    for declaration in &tree.declarations {
+    for declaration in declarations {
         if let Declaration::Function {
             name,
             parameters,
@@ -187,16 +192,15 @@ fn explain_effect(
     }
 }
 
-/// The words for an argument, which is found at the fault, that is not converted to the type of its parameter, or that is a unique pointer
+/// The words for an argument at this place, which is found, that is not converted to the type of its parameter, or that is a unique pointer
 /// where that is none.
 fn explain_argument(
     teller: &mut Teller,
     scope: &Scope<'_>,
-    argument: &Expr,
+    span: Span,
     parameter: &Ty,
     instance: &[Region],
 ) {
-    let span = span_of(argument);
     if teller.want_type(parameter.substituted(teller.alloc, instance).ok()) {
         explain_conversion(teller, scope, span);
     }
@@ -207,71 +211,82 @@ fn explain_argument(
 }
 
 /// The words for what a function asks of regions, where its region variables are these.
-fn explain_asked(
+fn explain_constraints(
     teller: &mut Teller,
     scope: &Scope<'_>,
     function: Ident,
-    signature: &Signature,
+    constraints: &[(Region, Region)],
     instance: &[Region],
 ) {
-    for own in &signature.constraints {
+    for own in constraints {
         let here = (own.0.substituted(instance), own.1.substituted(instance));
         explain_constraint(teller, scope, function, *own, here);
     }
-    for own in &signature.effect {
+}
+
+/// The same of its effect.
+fn explain_effects(
+    teller: &mut Teller,
+    scope: &Scope<'_>,
+    function: Ident,
+    effect: &[Region],
+    instance: &[Region],
+) {
+    for own in effect {
         let here = own.substituted(instance);
-        explain_effect(teller, scope, function, &signature.effect, *own, here);
+        explain_effect(teller, scope, function, effect, *own, here);
     }
 }
 
-/// The words for a call of a function with this signature, with these values, or for the argument of this number.
+/// The words for a call of a function with this signature, with these values, or for the argument of this number that stands there.
 fn explain_called(
     teller: &mut Teller,
     scope: &Scope<'_>,
     function: Ident,
-    arguments: &[Expr],
-    number: Option<usize>,
+    argument: Option<(usize, Span)>,
     values: &[ValueType],
     signature: &Signature,
 ) {
-    let instance = instance_of(teller.alloc, signature, values);
-    let parameters = &signature.parameters;
+    let instance = ManuallyDrop::new(instance_of(teller.alloc, signature, values));
     teller.notes.name = function.name.number;
-    match number {
-        Some(number) => {
-            if let (Some(argument), Some(parameter)) = (
-                arguments.get(number),
-                parameters.get(number),
-            ) {
-                explain_argument(teller, scope, argument, parameter, &instance);
+    match argument {
+        Some((number, span)) => {
+            if let Some(parameter) = signature.parameters.get(number) {
+                explain_argument(teller, scope, span, parameter, &instance);
             }
         }
         None => {
-            if arguments.len() != parameters.len() && teller.fault.code == Code::TypeMismatch {
-                teller.say_count(Message::ArgumentCount, parameters.len(), arguments.len());
-            }
-            explain_asked(teller, scope, function, signature, &instance);
+            explain_constraints(teller, scope, function, &signature.constraints, &instance);
+            explain_effects(teller, scope, function, &signature.effect, &instance);
         }
     }
 }
 
-/// The words for a call whose name, or whose argument of this number, stands at the fault.
+/// The words for another number of arguments than the function has parameters.
+fn explain_number(teller: &mut Teller, wanted: usize, found: usize) {
+    if wanted != found && teller.fault.code == Code::TypeMismatch {
+        teller.say_count(Message::ArgumentCount, wanted, found);
+    }
+}
+
+/// The words for a call whose name, or whose argument of this number at this place, stands at the fault.
 pub(crate) fn explain_call(
     teller: &mut Teller,
     scope: &mut Scope<'_>,
-    tree: &Tree,
+    declarations: &[Declaration],
     function: Ident,
     arguments: &[Expr],
-    number: Option<usize>,
+    argument: Option<(usize, Span)>,
 ) {
-    let values = values_of(scope, arguments);
-    note_theirs(teller, tree, scope.names(), function);
+    let values = ManuallyDrop::new(values_of(scope, arguments));
+    note_theirs(teller, declarations, scope.names(), function);
     match scope.meaning(function) {
         Meaning::Unknown => explain_unknown(teller, scope, Sort::Value, function),
         Meaning::Routine { signature, .. } => {
-            explain_called(
-                teller, scope, function, arguments, number, &values, signature,
-            );
+            if argument.is_none() {
+                explain_number(teller, signature.parameters.len(), arguments.len());
+            }
+            explain_called(teller, scope, function, argument, &values, signature);
         }
         _ => teller.tell_name(Message::VariableCalled, function),
     }

@@ -6,16 +6,16 @@ use crate::teller::Teller;
 use crate::written::explain_written;
 use cyc_heads::members;
 use cyc_syntax::{
-    BaseType, Constructor, Declaration, GlobalValue, Ident, Member, Parameters, Tree, WrittenType,
+    BaseType, Constructor, Declaration, GlobalValue, Ident, Member, Parameters, WrittenType,
 };
 use cyc_words::{Code, Span};
 
 /// The words for a fault in the head of a declaration, or for a `main` that is missing.
-pub(crate) fn explain_heads(teller: &mut Teller, tree: &Tree) {
+pub(crate) fn explain_heads(teller: &mut Teller, declarations: &[Declaration]) {
     teller.tell(Message::MainMissing, Span { line: 1, column: 1 });
-    explain_names(teller, tree, true);
-    explain_names(teller, tree, false);
-    for declaration in &tree.declarations {
+    explain_names(teller, declarations, true);
+    explain_names(teller, declarations, false);
+    for declaration in declarations {
         teller.declared.clear();
         teller.notes.function = NO_NAME;
         explain_head(teller, declaration);
@@ -23,9 +23,9 @@ pub(crate) fn explain_heads(teller: &mut Teller, tree: &Tree) {
 }
 
 /// The words for structs of one name, or for globals and functions of one name.
-fn explain_names(teller: &mut Teller, tree: &Tree, is_struct: bool) {
+fn explain_names(teller: &mut Teller, declarations: &[Declaration], is_struct: bool) {
     teller.declared.clear();
-    for declaration in &tree.declarations {
+    for declaration in declarations {
         match declaration {
             Declaration::Struct { name, .. } if is_struct => teller.declare(*name),
             Declaration::Global { name, .. } | Declaration::Function { name, .. } if !is_struct => {

@@ -113,19 +113,24 @@ fn target_of(value: &Option<ValueType>) -> Option<&Ty> {
     }
 }
 
+/// The type of the field of this name, where this is a struct that has it.
+fn type_of_field(scope: &Scope<'_>, of_type: &Ty, name: Ident) -> Option<Ty> {
+    if let Ty::Struct { number, regions } = of_type {
+        for field in scope.fields(*number) {
+            if field.name == name.name.number {
+                return field.of_type.substituted(scope.alloc(), regions).ok();
+            }
+        }
+    }
+    None
+}
+
 /// The type of what a pointer leads to, or of the field of this name there.
 fn type_behind(scope: &Scope<'_>, pointer: &Option<ValueType>, field: Option<Ident>) -> Option<Ty> {
-    match (target_of(pointer), field) {
-        (Some(target), None) => target.share().ok(),
-        (Some(Ty::Struct { number, regions }), Some(name)) => {
-            for field in scope.fields(*number) {
-                if field.name == name.name.number {
-                    return field.of_type.substituted(scope.alloc(), regions).ok();
-                }
-            }
-            None
-        }
-        _ => None,
+    let target = target_of(pointer)?;
+    match field {
+        Some(name) => type_of_field(scope, target, name),
+        None => target.share().ok(),
     }
 }
 
@@ -139,6 +144,14 @@ fn explain_behind(teller: &mut Teller, scope: &Scope<'_>, start: Span, field: Op
 
 // ---- postfixes
 
+/// The field that a postfix names; an index names none.
+fn field_of(postfix: &Postfix) -> Option<Ident> {
+    match postfix {
+        Postfix::Field { name } => Some(*name),
+        Postfix::Index { .. } => None,
+    }
+}
+
 /// What the postfixes behind an operand ask, one after the other.
 pub(crate) fn explain_chain(
     teller: &mut Teller,
@@ -151,7 +164,7 @@ pub(crate) fn explain_chain(
         teller.find(scope, base, true);
         for postfix in postfixes {
             if teller.notes.found.is_some() {
-                explain_postfix(teller, scope, start, postfix);
+                explain_postfix(teller, scope, start, field_of(postfix));
             }
         }
     }
@@ -161,26 +174,24 @@ pub(crate) fn explain_chain(
 fn is_in_chain(teller: &Teller, start: Span, postfixes: &[Postfix]) -> bool {
     let mut is_here = teller.is_at(start);
     for postfix in postfixes {
-        if let Postfix::Field { name } = postfix {
+        if let Some(name) = field_of(postfix) {
             is_here = is_here || teller.is_at(name.span);
         }
     }
     is_here
 }
 
-/// What a postfix asks of the pointer that is found, which begins at this place, and of what it leads to, which then is found.
-fn explain_postfix(teller: &mut Teller, scope: &Scope<'_>, start: Span, postfix: &Postfix) {
-    match postfix {
-        Postfix::Field { name } => {
+/// What a postfix asks, which names this field or is an index, of the pointer that is found, which begins at this place, and of what it
+/// leads to, which then is found.
+fn explain_postfix(teller: &mut Teller, scope: &Scope<'_>, start: Span, field: Option<Ident>) {
+    match field {
+        Some(name) => {
             explain_found(teller, scope, Wanted::Members, start);
-            explain_field_name(teller, scope, *name);
-            explain_behind(teller, scope, start, Some(*name));
+            explain_field_name(teller, scope, name);
         }
-        Postfix::Index { .. } => {
-            explain_found(teller, scope, Wanted::Fat, start);
-            explain_behind(teller, scope, start, None);
-        }
+        None => explain_found(teller, scope, Wanted::Fat, start),
     }
+    explain_behind(teller, scope, start, field);
 }
 
 /// The words for a field that the struct does not have to which the pointer that is found leads.

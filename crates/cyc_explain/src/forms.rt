@@ -27,6 +27,21 @@ pub(crate) enum Role<'b> {
     Argument(Ident, &'b [Expr], usize),
 }
 
+impl Role<'_> {
+    /// Whether anything is asked of the value.
+    pub(crate) fn is_asked(&self) -> bool {
+        !matches!(self, Role::Operand(Wanted::Nothing))
+    }
+
+    /// Whether the value is only looked at, so that a unique pointer stays where it is.
+    pub(crate) fn is_looked_at(&self) -> bool {
+        match self {
+            Role::Operand(wanted) => wanted.is_looked_at(),
+            _ => false,
+        }
+    }
+}
+
 /// What may ask something, its parts apart.
 #[derive(Clone, Copy)]
 pub(crate) enum Form<'b> {
@@ -78,22 +93,32 @@ pub(crate) fn forms_of<'b>(alloc: Global, body: &'b Block) -> Forms<'b> {
     };
     forms.add_items(&body.items, None);
     for _ in 0..MOST {
-        match forms.pending.pop() {
-            Some(form) => forms.take(form),
-            None => return forms,
+        if !forms.take_next() {
+            break;
         }
     }
     forms
 }
 
 impl<'b> Forms<'b> {
-    /// Lists a form, and adds its parts to what is pending.
-    fn take(&mut self, form: Form<'b>) {
-        self.is_whole = self.listed.push(form).is_ok() && self.is_whole;
+    /// Lists the next form, if there is one, and adds its parts to what is pending.
+    fn take_next(&mut self) -> bool {
+        match self.pending.pop() {
+            Some(form) => {
+                self.is_whole = self.listed.push(form).is_ok() && self.is_whole;
+                self.add_parts_of(&form);
+                true
+            }
+            None => false,
+        }
+    }
+
+    /// Adds the parts of a form.
+    fn add_parts_of(&mut self, form: &Form<'b>) {
         match form {
             Form::Expression { expression, .. } => self.add_parts(expression),
-            Form::Statement { statement, end } => self.add_inner(statement, end),
-            Form::Item { item, end } => self.add_in_item(item, end),
+            Form::Statement { statement, end } => self.add_inner(statement, *end),
+            Form::Item { item, end } => self.add_in_item(item, *end),
             Form::Items { .. } | Form::Clause { .. } | Form::Begin { .. } => {}
         }
     }
@@ -107,14 +132,18 @@ impl<'b> Forms<'b> {
     fn add_items(&mut self, items: &'b [Item], end: Option<Span>) {
         self.add(Form::Items { items });
         for item in items {
-            self.add(Form::Item { item, end });
+            self.add_item(item, end);
         }
+    }
+
+    fn add_item(&mut self, item: &'b Item, end: Option<Span>) {
+        self.add(Form::Item { item, end });
     }
 
     /// Adds the parts of an item.
     fn add_in_item(&mut self, item: &'b Item, end: Option<Span>) {
         match item {
-            Item::Statement { statement } => self.add(Form::Statement { statement, end }),
+            Item::Statement { statement } => self.add_statement(statement, end),
             Item::Local {
                 of_type,
                 value: Some(value),
@@ -126,6 +155,10 @@ impl<'b> Forms<'b> {
 
     // ---- statements
 
+    fn add_statement(&mut self, statement: &'b Stmt, end: Option<Span>) {
+        self.add(Form::Statement { statement, end });
+    }
+
     /// Adds the parts of a statement.
     fn add_inner(&mut self, statement: &'b Stmt, end: Option<Span>) {
         match statement {
@@ -136,12 +169,9 @@ impl<'b> Forms<'b> {
                 ..
             } => {
                 self.add_operand(condition, Wanted::Tested);
-                self.add(Form::Statement {
-                    statement: then,
-                    end,
-                });
+                self.add_statement(then, end);
                 if let Some(statement) = otherwise {
-                    self.add(Form::Statement { statement, end });
+                    self.add_statement(statement, end);
                 }
             }
             Stmt::While {
@@ -150,10 +180,7 @@ impl<'b> Forms<'b> {
                 ..
             } => {
                 self.add_operand(condition, Wanted::Tested);
-                self.add(Form::Statement {
-                    statement: body,
-                    end,
-                });
+                self.add_statement(body, end);
             }
             Stmt::Try {
                 span,
@@ -161,10 +188,7 @@ impl<'b> Forms<'b> {
                 clauses,
                 default,
             } => {
-                self.add(Form::Statement {
-                    statement: body,
-                    end,
-                });
+                self.add_statement(body, end);
                 self.add_clauses(clauses, end);
                 if let Some(items) = default {
                     self.add_default(items, *span, end);
@@ -197,10 +221,7 @@ impl<'b> Forms<'b> {
     }
 
     fn add_block(&mut self, label: Option<Ident>, block: &'b Block) {
-        self.add(Form::Begin {
-            label,
-            span: block.span,
-        });
+        self.add_begin(label, block.span);
         self.add_items(&block.items, Some(block.end));
     }
 
@@ -213,9 +234,12 @@ impl<'b> Forms<'b> {
 
     /// Adds the items of the default clause of a statement at this place.
     fn add_default(&mut self, items: &'b [Item], around: Span, end: Option<Span>) {
-        let span = start_of(items, around);
-        self.add(Form::Begin { label: None, span });
+        self.add_begin(None, start_of(items, around));
         self.add_items(items, end);
+    }
+
+    fn add_begin(&mut self, label: Option<Ident>, span: Span) {
+        self.add(Form::Begin { label, span });
     }
 
     // ---- expressions
@@ -235,19 +259,10 @@ impl<'b> Forms<'b> {
                 function,
                 arguments,
             } => self.add_arguments(*function, arguments),
-            Expr::Bracketed { inner, .. } => self.add_operand(inner, Wanted::Nothing),
-            Expr::NumberOfElements { pointer, .. } => self.add_operand(pointer, Wanted::Fat),
-            Expr::LowByteOf { value, .. } => self.add_operand(value, Wanted::Int),
-            Expr::FreeUnique { pointer, .. } => self.add_operand(pointer, Wanted::Freed),
             Expr::Chained { base, postfixes } => {
                 self.add_operand(base, Wanted::Nothing);
                 self.add_indices(postfixes);
             }
-            Expr::Prefixed {
-                operator,
-                operand,
-                ..
-            } => self.add_operand(operand, wanted_of(*operator)),
             Expr::New { value, .. } => self.add_initial(value),
             Expr::RegionNew { region, value, .. } => {
                 self.add_operand(region, Wanted::Handle);
@@ -261,6 +276,22 @@ impl<'b> Forms<'b> {
                 self.add_operand(target, Wanted::Nothing);
                 self.add_expression(value, Role::Assigned(target));
             }
+            _ => self.add_only_operand(expression),
+        }
+    }
+
+    /// Adds the operand of an expression that has one, and no other parts.
+    fn add_only_operand(&mut self, expression: &'b Expr) {
+        match expression {
+            Expr::Bracketed { inner, .. } => self.add_operand(inner, Wanted::Nothing),
+            Expr::NumberOfElements { pointer, .. } => self.add_operand(pointer, Wanted::Fat),
+            Expr::LowByteOf { value, .. } => self.add_operand(value, Wanted::Int),
+            Expr::FreeUnique { pointer, .. } => self.add_operand(pointer, Wanted::Freed),
+            Expr::Prefixed {
+                operator,
+                operand,
+                ..
+            } => self.add_operand(operand, wanted_of(*operator)),
             _ => {}
         }
     }

@@ -76,27 +76,29 @@ impl Homes {
     pub(crate) fn add_parameters(&mut self, names: &RegionNames, own: Ident, members: &[Member]) {
         self.add(Some(own), own.span, Origin::Block);
         for member in members {
-            self.add_type(names, &member.of_type);
-        }
-        for member in members {
-            if let BaseType::Key { region } = &member.of_type.base {
-                self.set_key(*region);
-            }
+            self.add_base(names, &member.of_type.base);
+            self.add_marks(names, &member.of_type);
         }
     }
 
-    fn add_type(&mut self, names: &RegionNames, written: &WrittenType) {
-        match &written.base {
+    /// Adds the regions of a type in front of its marks.
+    fn add_base(&mut self, names: &RegionNames, base: &BaseType) {
+        match base {
             BaseType::Int | BaseType::Char => {}
             BaseType::Struct { regions, .. } => {
                 for region in regions {
                     self.add_named(names, *region);
                 }
             }
-            BaseType::Handle { region } | BaseType::Key { region } => {
+            BaseType::Handle { region } => self.add_named(names, *region),
+            BaseType::Key { region } => {
                 self.add_named(names, *region);
+                self.set_key(*region);
             }
         }
+    }
+
+    fn add_marks(&mut self, names: &RegionNames, written: &WrittenType) {
         for mark in &written.marks {
             match mark.region {
                 Some(region) => self.add_named(names, region),
@@ -118,8 +120,11 @@ impl Homes {
     fn set_key(&mut self, name: Ident) {
         for i in 1..self.all.len() {
             if self.all[i].name == Some(name.name.number) {
-                self.all[i].span = name.span;
-                self.all[i].origin = Origin::Dynamic;
+                self.all[i] = Home {
+                    name: Some(name.name.number),
+                    span: name.span,
+                    origin: Origin::Dynamic,
+                };
             }
         }
     }

@@ -12,6 +12,7 @@
 //! | `%a`, `%b` | a region of a function that is called, as its own head names it, and another one |
 //! | `%c`, `%d` | the number that is wanted and the one that is found; `%e` is an s where more than one is wanted |
 //! | `%x` | a text |
+//! | `%/` | the end of a line |
 use cyc_words::Code;
 
 #[derive(Clone, Copy)]
@@ -82,6 +83,66 @@ pub(crate) enum Message {
     MainType,
 }
 
+/// The texts of the messages, in their order, a line for each.
+const TEXTS: &str = "\
+hint: did you mean `%n`?
+the parameters name no region `%n: write it into the type of one
+`%n is no region parameter of the struct: write it behind the struct's name
+no region `%n is in scope here: only `H and `U are
+no region `%n is in scope here
+`%n` is first declared at %p
+`%n is first declared at %p: a function declares a region's name once
+`%n is there in each function
+`%n is the region of the variables of %f
+`%n` is there in each program
+a clause for %n stands before this one
+expected %x, found %t
+expected a value, found %t%/hint: a struct is no value: read a field by ->
+expected two ints, two thin pointers to one type, or a pointer and NULL, found %t and %w
+%n is a function, and no value%/hint: call it: %n(..)
+%n is a variable, and no function%/hint: only a function is called, by its name
+expected %c argument%e, found %d%/hint: give as many as are wanted
+expected %c value%e, found %d%/hint: give as many as are wanted
+expected %c region%e, found %d%/hint: give as many as are wanted
+no pointer leads to a key%/hint: pass the key itself, which gives it away
+%n is a struct: only a * or @ pointer to it is a type%/hint: make the struct by new and keep a pointer: struct %n @p = new %n{..};
+a global is an int or a pointer%/hint: give the function what it needs as a parameter
+%n has an int%/hint: write it in brackets: throw new %n(1), or case &%n(n)
+%n has no int%/hint: leave out the brackets: throw new %n, or case &%n
+expected %w, found no value%/hint: write a value behind return
+%f returns no value%/hint: write return alone, or a type before the function's name
+expected the same type, with the same regions, found %t and %w%/hint: swap places of one type
+expected %w, found %t%/hint: an alias has its source's type, with its own region in place of `U
+found %t, which stays where it is: no second pointer leads to a unique object
+%n is a global: the unique pointer in it stays there
+%n is a global: only a local is lent%/hint: swap it into a variable by :=: first
+what %n leads to may be given back while its address is kept%/hint: lend it: let alias <`a> int *`a x = %n; with the pointer's own type, and take the address by x
+%n is the handle of a region item: it is not assigned and has no address%/hint: copy it into a variable: region_t<`r> copy = %n;
+%n counts the elements: it is not assigned and has no address%/hint: copy it into a variable
+%n is a function, and no variable
+hint: assign to a variable, *p, p->f or p[i]: these alone have an address
+unique_region stands alone between the brackets of rnew, and is no value%/hint: write rnew(unique_region) and what the object is made of
+%n is no key of a dynamic region: found %t%/hint: a key is declared so: let NewDynamicRegion{<`k> key} = new_ukey();
+a key has no address%/hint: pass the key itself, which gives it away
+a key is a variable, a parameter or a result, and no field%/hint: pass the key beside the struct
+no object holds a key, found %t%/hint: keep the key in a variable, a parameter or a result
+the key %o is not of `%n%/hint: a region is opened by its own key
+ufree takes a unique pointer (`U), found %t%/hint: make the object by rnew(unique_region) if it is to be given back
+%n is no unique pointer: found %t%/hint: only a unique pointer is lent: use %n itself
+%n is no unique pointer
+%a of %n would be `U%/hint: lend the pointer by let alias, or write `U in the parameter's type
+no struct has `%n as a region argument%/hint: name another region, or leave the regions out for `H
+`%n has no handle but the name unique_region%/hint: write rnew(unique_region) where the object is made
+`%n is always open, and has no key%/hint: name a dynamic region
+`%n is no region of a constraint%/hint: leave the constraint out
+`%n has a key in this head, or is `U: so no effect names it%/hint: leave it out of the effect
+the program has no function main
+main is a variable, and no function
+main has parameters
+main has an effect
+main returns no value
+main returns another type than int";
+
 /// The code of the fault that a message is about.
 pub(crate) fn code_of(message: Message) -> Code {
     match message {
@@ -129,133 +190,12 @@ pub(crate) fn code_of(message: Message) -> Code {
 
 /// The text of a message, with its gaps.
 pub(crate) fn text_of(message: Message) -> &'static str {
-    match message {
-        Message::NearName => "hint: did you mean `%n`?",
-        Message::UnknownInHead => {
-            "the parameters name no region `%n: write it into the type of one"
+    let mut left = message as usize;
+    for text in TEXTS.lines() {
+        if left == 0 {
+            return text;
         }
-        Message::UnknownInStruct => {
-            "`%n is no region parameter of the struct: write it behind the struct's name"
-        }
-        Message::UnknownInGlobal => "no region `%n is in scope here: only `H and `U are",
-        Message::UnknownInBody => "no region `%n is in scope here",
-        Message::FirstDeclared => "`%n` is first declared at %p",
-        Message::RegionFirstDeclared => {
-            "`%n is first declared at %p: a function declares a region's name once"
-        }
-        Message::RegionOfEach => "`%n is there in each function",
-        Message::RegionOfFunction => "`%n is the region of the variables of %f",
-        Message::InEachProgram => "`%n` is there in each program",
-        Message::ClauseBefore => "a clause for %n stands before this one",
-        Message::NotWanted => "expected %x, found %t",
-        Message::StructRead => {
-            "expected a value, found %t\nhint: a struct is no value: read a field by ->"
-        }
-        Message::NotCompared => {
-            "expected two ints, two thin pointers to one type, or a pointer and NULL, found %t and %w"
-        }
-        Message::FunctionRead => "%n is a function, and no value\nhint: call it: %n(..)",
-        Message::VariableCalled => {
-            "%n is a variable, and no function\nhint: only a function is called, by its name"
-        }
-        Message::ArgumentCount => {
-            "expected %c argument%e, found %d\nhint: give as many as are wanted"
-        }
-        Message::ValueCount => "expected %c value%e, found %d\nhint: give as many as are wanted",
-        Message::RegionCount => "expected %c region%e, found %d\nhint: give as many as are wanted",
-        Message::PointerToKey => {
-            "no pointer leads to a key\nhint: pass the key itself, which gives it away"
-        }
-        Message::StructAlone => {
-            "%n is a struct: only a * or @ pointer to it is a type\nhint: make the struct by new and keep a pointer: struct %n @p = new %n{..};"
-        }
-        Message::GlobalType => {
-            "a global is an int or a pointer\nhint: give the function what it needs as a parameter"
-        }
-        Message::IntWithout => {
-            "%n has an int\nhint: write it in brackets: throw new %n(1), or case &%n(n)"
-        }
-        Message::IntTooMany => {
-            "%n has no int\nhint: leave out the brackets: throw new %n, or case &%n"
-        }
-        Message::ValueMissing => {
-            "expected %w, found no value\nhint: write a value behind return"
-        }
-        Message::ValueTooMany => {
-            "%f returns no value\nhint: write return alone, or a type before the function's name"
-        }
-        Message::SwappedTypes => {
-            "expected the same type, with the same regions, found %t and %w\nhint: swap places of one type"
-        }
-        Message::AliasType => {
-            "expected %w, found %t\nhint: an alias has its source's type, with its own region in place of `U"
-        }
-        Message::UniqueStays => {
-            "found %t, which stays where it is: no second pointer leads to a unique object"
-        }
-        Message::GlobalStays => "%n is a global: the unique pointer in it stays there",
-        Message::GlobalLent => {
-            "%n is a global: only a local is lent\nhint: swap it into a variable by :=: first"
-        }
-        Message::AddressKept => {
-            "what %n leads to may be given back while its address is kept\nhint: lend it: let alias <`a> int *`a x = %n; with the pointer's own type, and take the address by x"
-        }
-        Message::HandleAssigned => {
-            "%n is the handle of a region item: it is not assigned and has no address\nhint: copy it into a variable: region_t<`r> copy = %n;"
-        }
-        Message::CounterAssigned => {
-            "%n counts the elements: it is not assigned and has no address\nhint: copy it into a variable"
-        }
-        Message::FunctionAssigned => "%n is a function, and no variable",
-        Message::NoAddress => {
-            "hint: assign to a variable, *p, p->f or p[i]: these alone have an address"
-        }
-        Message::UniqueRegionAlone => {
-            "unique_region stands alone between the brackets of rnew, and is no value\nhint: write rnew(unique_region) and what the object is made of"
-        }
-        Message::NoKey => {
-            "%n is no key of a dynamic region: found %t\nhint: a key is declared so: let NewDynamicRegion{<`k> key} = new_ukey();"
-        }
-        Message::KeyAddress => {
-            "a key has no address\nhint: pass the key itself, which gives it away"
-        }
-        Message::KeyInField => {
-            "a key is a variable, a parameter or a result, and no field\nhint: pass the key beside the struct"
-        }
-        Message::KeyInObject => {
-            "no object holds a key, found %t\nhint: keep the key in a variable, a parameter or a result"
-        }
-        Message::KeyOfAnother => {
-            "the key %o is not of `%n\nhint: a region is opened by its own key"
-        }
-        Message::FreedNotUnique => {
-            "ufree takes a unique pointer (`U), found %t\nhint: make the object by rnew(unique_region) if it is to be given back"
-        }
-        Message::LentNotUnique => {
-            "%n is no unique pointer: found %t\nhint: only a unique pointer is lent: use %n itself"
-        }
-        Message::LentNoPointer => "%n is no unique pointer",
-        Message::SharedNotUnique => {
-            "%a of %n would be `U\nhint: lend the pointer by let alias, or write `U in the parameter's type"
-        }
-        Message::NoArgument => {
-            "no struct has `%n as a region argument\nhint: name another region, or leave the regions out for `H"
-        }
-        Message::NoHandle => {
-            "`%n has no handle but the name unique_region\nhint: write rnew(unique_region) where the object is made"
-        }
-        Message::AlwaysOpen => { "`%n is always open, and has no key\nhint: name a dynamic region" }
-        Message::NoConstraint => {
-            "`%n is no region of a constraint\nhint: leave the constraint out"
-        }
-        Message::NoEffect => {
-            "`%n has a key in this head, or is `U: so no effect names it\nhint: leave it out of the effect"
-        }
-        Message::MainMissing => "the program has no function main",
-        Message::MainVariable => "main is a variable, and no function",
-        Message::MainParameters => "main has parameters",
-        Message::MainEffect => "main has an effect",
-        Message::MainVoid => "main returns no value",
-        Message::MainType => "main returns another type than int",
+        left -= 1;
     }
+    ""
 }

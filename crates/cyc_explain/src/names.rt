@@ -2,7 +2,7 @@
 use crate::lexicon::Lexicon;
 use crate::messages::Message;
 use crate::teller::Teller;
-use cyc_scope::{Meaning, Scope};
+use cyc_scope::{Field, Meaning, Scope};
 use cyc_syntax::{Ident, Name};
 use cyc_words::Code;
 
@@ -23,15 +23,17 @@ fn is_known(scope: &Scope<'_>, sort: Sort, name: Ident) -> bool {
         Sort::Value => !matches!(scope.meaning(name), Meaning::Unknown),
         Sort::Struct => scope.structs().parameters(number).is_some(),
         Sort::Exception => scope.exception(number).is_some(),
-        Sort::Field(of_struct) => {
-            for field in scope.fields(of_struct) {
-                if field.name == number {
-                    return true;
-                }
-            }
-            false
+        Sort::Field(of_struct) => is_among(scope.fields(of_struct), number),
+    }
+}
+
+fn is_among(fields: &[Field], name: usize) -> bool {
+    for field in fields {
+        if field.name == name {
+            return true;
         }
     }
+    false
 }
 
 /// Whether texts of at least three bytes differ in one place: by a byte that is another, is missing or is too many, or by two

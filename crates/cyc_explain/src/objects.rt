@@ -8,6 +8,7 @@ use cyc_syntax::{Ident, Initial};
 use cyc_types::Ty;
 use cyc_types::formation::arguments_or;
 use cyc_words::Code;
+use std::mem::ManuallyDrop;
 
 /// What stands behind `new` asks, the values in it apart.
 pub(crate) fn explain_made(teller: &mut Teller, scope: &Scope<'_>, initial: &Initial) {
@@ -56,8 +57,9 @@ pub(crate) fn field_type(
     match (count, scope.fields(of_struct).get(number)) {
         (Some(count), Some(field)) => {
             let alloc = scope.alloc();
-            match arguments_or(alloc, scope.names(), count, regions) {
-                Ok(arguments) => field.of_type.substituted(alloc, &arguments).ok(),
+            let arguments = ManuallyDrop::new(arguments_or(alloc, scope.names(), count, regions));
+            match &*arguments {
+                Ok(arguments) => field.of_type.substituted(alloc, arguments).ok(),
                 Err(_) => None,
             }
         }

@@ -40,13 +40,8 @@ pub(crate) fn result_type(scope: &Scope<'_>) -> Option<Ty> {
 }
 
 /// The words for a `return` at this place without a value, or with one where the function has none.
-pub(crate) fn explain_return(
-    teller: &mut Teller,
-    scope: &Scope<'_>,
-    span: Span,
-    value: &Option<Expr>,
-) {
-    if value.is_some() {
+pub(crate) fn explain_return(teller: &mut Teller, scope: &Scope<'_>, span: Span, has_value: bool) {
+    if has_value {
         if scope.result_type().is_none() {
             teller.tell(Message::ValueTooMany, span);
         }
@@ -61,10 +56,13 @@ pub(crate) fn explain_swap(teller: &mut Teller, scope: &mut Scope<'_>, left: &Ex
     explain_place(teller, scope, right);
     let span = span_of(left);
     if teller.is_fault(Code::TypeMismatch, span) {
-        let (found, wanted) = (place_type(scope, left), place_type(scope, right));
-        if teller.find_type(found) && teller.want_type(wanted) {
-            explain_content(teller, span);
-            teller.tell(Message::SwappedTypes, span);
+        let found = place_type(scope, left);
+        if teller.find_type(found) {
+            let wanted = place_type(scope, right);
+            if teller.want_type(wanted) {
+                explain_content(teller, span);
+                teller.tell(Message::SwappedTypes, span);
+            }
         }
     }
 }

@@ -5,13 +5,14 @@ use crate::forms::Role;
 use crate::objects::field_type;
 use crate::statements::{result_type, type_here};
 use crate::teller::Teller;
-use crate::wanted::{Wanted, explain_found};
+use crate::wanted::explain_found;
 use crate::words::given;
 use cyc_check::place_type;
 use cyc_forms::{Given, span_of};
 use cyc_scope::Scope;
-use cyc_syntax::{Expr, Tree};
+use cyc_syntax::{Declaration, Expr};
 use cyc_types::{Region, Ty};
+use cyc_words::Span;
 
 /// What is left out of the type of a local with this initial value.
 fn left_out_of(value: Given<'_>) -> Region {
@@ -22,13 +23,13 @@ fn left_out_of(value: Given<'_>) -> Region {
 }
 
 /// The type that a value is converted to, where this was found.
-fn type_wanted(scope: &mut Scope<'_>, role: Role<'_>, found: Given<'_>) -> Option<Ty> {
+fn type_wanted(scope: &mut Scope<'_>, role: &Role<'_>, found: Given<'_>) -> Option<Ty> {
     match role {
         Role::Operand(_) | Role::Argument(..) => None,
         Role::Assigned(target) => place_type(scope, target),
         Role::Local(written) => type_here(scope, written, left_out_of(found)),
         Role::Returned => result_type(scope),
-        Role::Field(name, regions, number) => field_type(scope, name, regions, number),
+        Role::Field(name, regions, number) => field_type(scope, *name, regions, *number),
     }
 }
 
@@ -36,32 +37,29 @@ fn type_wanted(scope: &mut Scope<'_>, role: Role<'_>, found: Given<'_>) -> Optio
 pub(crate) fn explain_value(
     teller: &mut Teller,
     scope: &mut Scope<'_>,
-    tree: &Tree,
+    declarations: &[Declaration],
     expression: &Expr,
-    role: Role<'_>,
+    role: &Role<'_>,
 ) {
     let span = span_of(expression);
-    if teller.is_at(span) {
-        match role {
-            Role::Operand(Wanted::Nothing) => {}
-            Role::Operand(wanted) => {
-                if teller.find(scope, expression, wanted.is_looked_at()) {
-                    explain_found(teller, scope, wanted, span);
+    if role.is_asked() && teller.is_at(span) {
+        if teller.find(scope, expression, role.is_looked_at()) {
+            match role {
+                Role::Operand(wanted) => explain_found(teller, scope, *wanted, span),
+                Role::Argument(function, arguments, number) => {
+                    let argument = Some((*number, span));
+                    explain_call(teller, scope, declarations, *function, arguments, argument);
                 }
-            }
-            Role::Argument(function, arguments, number) => {
-                if teller.find(scope, expression, false) {
-                    explain_call(teller, scope, tree, function, arguments, Some(number));
-                }
-            }
-            _ => {
-                if teller.find(scope, expression, false) {
-                    let wanted = type_wanted(scope, role, given(&teller.notes.found));
-                    if teller.want_type(wanted) {
-                        explain_conversion(teller, scope, span);
-                    }
-                }
+                _ => explain_converted(teller, scope, role, span),
             }
         }
+    }
+}
+
+/// The words for a value that is found at this place, and converted to a type.
+fn explain_converted(teller: &mut Teller, scope: &mut Scope<'_>, role: &Role<'_>, span: Span) {
+    let wanted = type_wanted(scope, role, given(&teller.notes.found));
+    if teller.want_type(wanted) {
+        explain_conversion(teller, scope, span);
     }
 }

@@ -91,14 +91,29 @@ impl Words {
             b'p' => self.put_place(notes.place),
             b't' => self.put_value(notes, &notes.found),
             b'w' => self.put_value(notes, &notes.wanted),
+            b'r' | b's' | b'a' | b'b' => self.fill_region(notes, letter),
+            _ => self.fill_plain(notes, letter),
+        }
+    }
+
+    /// The same of a region.
+    fn fill_region(&mut self, notes: &Notes, letter: u8) {
+        match letter {
             b'r' => self.put_of(notes, &notes.homes, notes.regions.0),
             b's' => self.put_of(notes, &notes.homes, notes.regions.1),
             b'a' => self.put_of(notes, &notes.theirs, notes.their_regions.0),
-            b'b' => self.put_of(notes, &notes.theirs, notes.their_regions.1),
+            _ => self.put_of(notes, &notes.theirs, notes.their_regions.1),
+        }
+    }
+
+    /// The same of a number or a text.
+    fn fill_plain(&mut self, notes: &Notes, letter: u8) {
+        match letter {
             b'c' => self.put_number(notes.counts.0),
             b'd' => self.put_number(notes.counts.1),
             b'e' if notes.counts.0 != 1 => self.put(b"s"),
             b'x' => self.put(notes.text.as_bytes()),
+            b'/' => self.put(b"\n"),
             _ => {}
         }
     }
@@ -145,26 +160,25 @@ impl Words {
         home: Option<Home>,
         is_placed: bool,
     ) {
-        match (region, home) {
-            (Region::Heap, _) => self.put(b"`H"),
-            (Region::Unique, _) => self.put(b"`U"),
-            (
-                _,
-                Some(
-                    Home {
-                        name: Some(name),
-                        ..
-                    },
-                ),
-            ) => {
-                self.put(b"`");
-                self.put_name(lexicon, name);
+        match region {
+            Region::Heap => self.put(b"`H"),
+            Region::Unique => self.put(b"`U"),
+            Region::Variable(_) => {
+                if let Some(home) = home {
+                    self.put_home(lexicon, home, is_placed);
+                }
             }
-            (_, Some(home)) if is_placed => {
-                self.put(text_on_place(home.origin));
-                self.put_place(home.span);
-            }
-            _ => {}
+        }
+    }
+
+    /// The same of one that begins there.
+    fn put_home(&mut self, lexicon: &Lexicon, home: Home, is_placed: bool) {
+        if let Some(name) = home.name {
+            self.put(b"`");
+            self.put_name(lexicon, name);
+        } else if is_placed {
+            self.put(text_on_place(home.origin));
+            self.put_place(home.span);
         }
     }
 
@@ -181,8 +195,13 @@ impl Words {
                 self.put(b",");
             }
             is_first = false;
-            self.put_region(&notes.lexicon, *region, notes.homes.find(*region), false);
+            self.put_unplaced(notes, *region);
         }
+    }
+
+    /// A region by its name, if it has one.
+    fn put_unplaced(&mut self, notes: &Notes, region: Region) {
+        self.put_region(&notes.lexicon, region, notes.homes.find(region), false);
     }
 
     // ---- types
@@ -205,7 +224,7 @@ impl Words {
             } => {
                 self.put_type(notes, target);
                 self.put(mark_of(*kind));
-                self.put_regions(notes, &[*region]);
+                self.put_unplaced(notes, *region);
             }
             _ => self.put_base(notes, of_type),
         }
@@ -216,21 +235,25 @@ impl Words {
         match of_type {
             Ty::Int | Ty::Pointer { .. } => self.put(b"int"),
             Ty::Char => self.put(b"char"),
-            Ty::Handle { region } => self.put_listed(notes, b"region_t<", &[*region]),
-            Ty::Key { region } => self.put_listed(notes, b"uregion_key_t<", &[*region]),
-            Ty::Struct { number, regions } => {
-                self.put(b"struct ");
-                self.put_name(&notes.lexicon, notes.lexicon.struct_name(*number));
-                if !regions.is_empty() {
-                    self.put_listed(notes, b"<", regions);
-                }
-            }
+            Ty::Handle { region } => self.put_one(notes, b"region_t<", *region),
+            Ty::Key { region } => self.put_one(notes, b"uregion_key_t<", *region),
+            Ty::Struct { number, regions } => self.put_struct(notes, *number, regions),
         }
     }
 
-    fn put_listed(&mut self, notes: &Notes, open: &[u8], regions: &[Region]) {
+    fn put_struct(&mut self, notes: &Notes, number: usize, regions: &[Region]) {
+        self.put(b"struct ");
+        self.put_name(&notes.lexicon, notes.lexicon.struct_name(number));
+        if !regions.is_empty() {
+            self.put(b"<");
+            self.put_regions(notes, regions);
+            self.put(b">");
+        }
+    }
+
+    fn put_one(&mut self, notes: &Notes, open: &[u8], region: Region) {
         self.put(open);
-        self.put_regions(notes, regions);
+        self.put_unplaced(notes, region);
         self.put(b">");
     }
 

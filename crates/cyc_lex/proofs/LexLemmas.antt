@@ -1,18 +1,21 @@
 -- Reading on: what is read of a text so far, and one piece more.
-use Rattle.std.proofs.Common.{◌≡◌, ◌≢◌, ℕ, ◌+◌, ◌-◌, ◌<◌, ◌≤◌, ⊎_elim, Option, Some, None, List, [], ◌∷◌, ◌++◌, length, take, drop, map, refl, sym, ap, subst, ◌∙◌, append-nil, arith}
+use Rattle.std.proofs.Common.{◌≡◌, ◌≢◌, ℕ, ◌+◌, ◌-◌, ◌<◌, ◌≤◌, true, false, inl, ⊎_elim, Option, Some, None, List, [], ◌∷◌, ◌++◌, length, get_or, take, drop, map, refl, sym, ap, subst, ◌∙◌, append-nil, arith}
 use Rattle.std.specs.Prelude.{All, slice_range}
-use Rattle.std.proofs.lemmas.Bool.{cases_lt}
+use Rattle.std.proofs.lemmas.Bool.{cases_lt, cond-true, cond-false}
+use Rattle.std.proofs.lemmas.Bool.Decides.{nat_tests}
 use Rattle.std.proofs.lemmas.List.{take-append-drop, length-drop, length_push, length-map, drop-drop, map_push}
 use Rattle.std.proofs.Math.Seq.{take-add}
 use Rattle.std.proofs.lemmas.List.Elements.{All-push, All-append, All-cons, All-nil}
 use Rattle.cyc_words.specs.declared.span.Span.{Span}
 use Rattle.cyc_syntax.specs.declared.tokens.Token.{Token as CodeToken}
 use Rattle.cyc_syntax.specs.declared.tokens.TokenKind.{TokenKind}
-use Rattle.cyc_syntax.specs.Spelling.{Piece, Lexeme, Space, Comment, OpenComment, SpellsToken}
+use Rattle.cyc_syntax.specs.Spelling.{is_letter, is_digit, is_space, Piece, Lexeme, Space, Comment, OpenComment, SpellsToken}
 use Rattle.cyc_syntax.specs.Tokens.{kind_of, token_of}
 use Rattle.cyc_syntax.specs.TokenRule.{IsRead, Part, IsCut, bytes_of, part_tokens, tokens_of, IsSmall, IsWithinLimits, LiesIn, line_behind, column_behind, max_tokens}
+use Rattle.cyc_syntax.proofs.PieceLemmas.{AtSpace, start_of}
 use Rattle.cyc_syntax.proofs.CutLemmas.{piece_nonempty, IsCut-push, bytes_of-push, tokens_of-append}
 use Rattle.cyc_lex.specs.Found.{IsReadAs, IsFound}
+use Rattle.cyc_lex.proofs.ShapeLemmas.{read_at}
 use Rattle.cyc_syntax.specs.Place.{IsBehind}
 
 -- a piece that was found has bytes
@@ -23,6 +26,23 @@ found_some text kind len found =
     by : (kind : Option TokenKind) → IsReadAs kind [] text → ⊥
     by None read = ⊎_elim (λ space. piece_nonempty Space space.spelled) (λ comment. piece_nonempty Comment comment.spelled) read
     by (Some k) read = piece_nonempty (Lexeme (kind_of [] k)) read.0.spelled
+
+-- a space at the head of a text
+pub found_space : (text : List ℕ) → 0 < length text → is_space (get_or text 0 0) ≡ true → IsFound text None 1
+found_space [] some space = absurd (omega arith)
+found_space (b ∷ bs) some space = record {
+  within = omega arith;
+  piece = inl (read_at Space AtSpace (b ∷ bs) 1 starts (omega arith) (b, refl, space) (λ front rest whole shape. omega (arith, shape)));
+}
+  where
+    no_letter : is_letter b ≡ false
+    no_letter = grind (arith, nat_tests)
+
+    no_digit : is_digit b ≡ false
+    no_digit = grind (arith, nat_tests)
+
+    starts : start_of b ≡ AtSpace
+    starts = cond-false (is_letter b) _ _ no_letter ∙ cond-false (is_digit b) _ _ no_digit ∙ cond-true (is_space b) _ _ space
 
 -- what is read of a text: all before `start`, with these tokens
 pub record IsReadUpTo (text : List ℕ) (tokens : List CodeToken) (start : ℕ) (place : Span) : Type 0 where

@@ -2,6 +2,7 @@
 pub mod AnswerLemmas
 pub mod FaultLemmas
 pub mod LexLemmas
+pub mod LineLemmas
 pub mod ShapeLemmas
 -- the piece that is read is the longest
 pub mod CommentLemmas

@@ -13,7 +13,7 @@ use Rattle.cyc_lex.specs.Found.{IsFound}
 use Rattle.cyc_lex.proofs.ShapeLemmas.{Shape, read_at, run_passes, run_bound}
 
 -- a name is of name bytes
-name_bytes : (name : List ℕ) → is_name name ≡ true → list_all is_name_byte name ≡ true
+pub name_bytes : (name : List ℕ) → is_name name ≡ true → list_all is_name_byte name ≡ true
 name_bytes [] named = absurd (true≢false (sym named))
 name_bytes (b ∷ bs) named =
     let parts = and_parts (is_letter b) (list_all is_name_byte bs) named in

@@ -6,6 +6,7 @@ ghost use Rattle.cyc_syntax.specs.Tokens.{token_of};
 ghost use Rattle.cyc_syntax.specs.TokenRule.{AreTokensOf};
 ghost use Rattle.cyc_lex.specs.Refusals.{IsAccepted, IsRefused};
 
+use crate::classes::is_space;
 use crate::pieces::read_piece;
 use cyc_syntax::{Token, place_behind};
 use cyc_words::{Code, Fault, Span};
@@ -45,6 +46,11 @@ fn read_tokens(alloc: Global, text: &[u8]) -> Result<Vec<Token>, Fault>
     let mut place = Span { line: 1, column: 1 };
     let mut start = 0;
     while start < text.len() {
+        if is_space(text[start]) {
+            place = place_behind(place, &text[start..start + 1]);
+            start += 1;
+            continue;
+        }
         let found = match read_piece(&text[start..]) {
             Ok(found) => found,
             Err(code) => return Err(Fault::new(code, place.line, place.column)),
@@ -61,8 +67,11 @@ fn read_tokens(alloc: Global, text: &[u8]) -> Result<Vec<Token>, Fault>
                 start,
                 end,
             })?;
+            // A token stands on one line.
+            place.column += found.len as u32;
+        } else {
+            place = place_behind(place, &text[start..end]);
         }
-        place = place_behind(place, &text[start..end]);
         start = end;
     }
     Ok(tokens)

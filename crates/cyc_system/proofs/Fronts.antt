@@ -103,17 +103,17 @@ abbrev pub IsAnswered : List ℕ → Result Flowed Fault → Type 0
 IsAnswered = IsAnsweredBy HasProgram
 
 -- a refusal is the same whatever would be answered
-pub refused_alike : {X Y : Type 0} (Gives : Program → X → Type 0) (Other : Program → Y → Type 0) (text : List ℕ) (f : Fault)
-    → IsAnsweredBy Gives text (Err f) → IsAnsweredBy Other text (Err f)
-refused_alike Gives Other text f d = record { accepted = tt; refused = d.refused; accepts = d.accepts; refuses = d.refuses }
+pub refused_alike : {X Y A : Type 0} {Accepted : A → Type 0} {Refused Faulty : Fault → Type 0} (Gives : A → X → Type 0) (Other : A → Y → Type 0) (f : Fault)
+    → Decides Accepted Gives Refused Faulty (Err f) → Decides Accepted Other Refused Faulty (Err f)
+refused_alike Gives Other f d = record { accepted = tt; refused = d.refused; accepts = d.accepts; refuses = d.refuses }
 
--- and an answer is as good as another that gives the same program
-pub accepted_alike : {X Y : Type 0} (Gives : Program → X → Type 0) (Other : Program → Y → Type 0) (text : List ℕ) (x : X) (y : Y)
-    → ((p : Program) → Gives p x → Other p y) → IsAnsweredBy Gives text (Ok x) → IsAnsweredBy Other text (Ok y)
-accepted_alike Gives Other text x y alike d = record {
-  accepted = let (p, is, same) = d.accepted in (p, is, alike p same);
+-- and an answer is as good as another that gives the same
+pub accepted_alike : {X Y A : Type 0} {Accepted : A → Type 0} {Refused Faulty : Fault → Type 0} (Gives : A → X → Type 0) (Other : A → Y → Type 0) (x : X) (y : Y)
+    → ((a : A) → Gives a x → Other a y) → Decides Accepted Gives Refused Faulty (Ok x) → Decides Accepted Other Refused Faulty (Ok y)
+accepted_alike Gives Other x y alike d = record {
+  accepted = let (a, is, gives) = d.accepted in (a, is, alike a gives);
   refused = tt;
-  accepts = λ p is. alike p (d.accepts p is);
+  accepts = λ a is. alike a (d.accepts a is);
   refuses = d.refuses;
 }
 

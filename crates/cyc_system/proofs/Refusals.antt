@@ -1,5 +1,5 @@
 -- What is refused behind the front end, said of the text's program.
-use Rattle.std.proofs.Common.{◌≡◌, ◌⊎◌, inl, inr, ⊎_elim, ℕ, ◌≤◌, List, Result, Ok, Err, refl, sym, subst, length}
+use Rattle.std.proofs.Common.{Vec, Global, ◌≡◌, ◌⊎◌, inl, inr, ⊎_elim, ℕ, ◌≤◌, List, Result, Ok, Err, refl, sym, subst, length}
 use Rattle.std.specs.Prelude.{IfOk, IfErr, MatchResult}
 use Rattle.cyc_words.specs.declared.fault.Fault.{Fault}
 use Rattle.cyc_words.specs.Decision.{Decides}
@@ -11,9 +11,18 @@ use Rattle.cyc_lower.specs.Lowered as lowering
 use Rattle.cyc_lower.specs.Lowered.{HasTooMany, IsLowered}
 use Rattle.cyc_frame.specs.Layout as frames
 use Rattle.cyc_frame.specs.Layout.{HasSmallFrames}
+use Rattle.cyc_system.specs.FullPreservation.{IsImageOf}
+use Rattle.cyc_system.specs.declared.compiler.Compilation.{Compilation}
 use Rattle.cyc_system.specs.Front.{IsAcceptedText, IsRefusedText, HasFault}
 use Rattle.cyc_system.specs.Compiled.{IsTooLarge, IsSmallEnough, IsSmall, IsCompiledText, IsRefusedAtLast, HasFaultAtLast}
 use Rattle.cyc_system.proofs.Sizes.{large_above, large_below, small_above, small_below}
+
+-- the bytes of a file are an image of the program, alone or beside the text's tokens
+abbrev pub HasImage : Program → Vec ℕ Global → Type 0
+HasImage p file = IsImageOf p file.items
+
+abbrev pub HasImageBeside : Program → Compilation → Type 0
+HasImageBeside p made = HasImage p made.image
 
 -- ---- what stands behind the front end, for a typed program
 

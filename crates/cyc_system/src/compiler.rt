@@ -16,7 +16,7 @@ ghost use Rattle.cyc_system.specs.FullPreservation.{IsImageOf};
 ghost use Rattle.cyc_system.specs.Notes.{AreAllowedIfAny, Carries};
 ghost use Rattle.cyc_system.specs.Compiled.{IsTooLarge, IsSmall, IsCompiledText, IsRefusedAtLast, HasFaultAtLast};
 
-use crate::front::accept;
+use crate::front::run_phases;
 use crate::image::write_program;
 use cyc_asm::assemble;
 use cyc_flow::Flowed;
@@ -24,23 +24,27 @@ use cyc_frame::{Frames, layout};
 use cyc_lower::lower;
 use cyc_plain::Plain;
 use cyc_select::select;
+use cyc_syntax::Token;
 use cyc_words::Fault;
 use std::alloc::Global;
 
 /// Compiles a plain program whose functions have frames. The bytes are an image of each program that was lowered to the plain one, if no run of it is dead or wrong.
 fn compile_plain(
     alloc: Global,
-    plain: &Plain,
-    frames: &Frames,
+    plain: Plain,
+    frames: Frames,
     note: Option<(u32, u32)>,
 ) -> Result<Vec<u8>, Fault>
-    requires frames { AreFrames plain.now frames.now }
+    requires frames { AreFrames plain frames }
     requires allowed { AreAllowedIfAny note }
-    ensures image { IfOk result (λ file. (p : Program) → IsSound p → IsLowered p plain.now → IsImageOf p file.items) }
+    ensures image { IfOk result (λ file. (p : Program) → IsSound p → IsLowered p plain → IsImageOf p file.items) }
     ensures note { IfOk result (λ file. Carries file.items note) }
     ensures refused { IfErr result (λ f. f ≡ memory_fault) }
 {
-    let code = select(alloc, plain, frames)?;
+    let code = select(alloc, &plain, &frames)?;
+    // Their memory is room for the words and the file.
+    drop(plain);
+    drop(frames);
     let words = assemble(alloc, &code)?;
     let file = write_program(alloc, &words, code.globals(), note)?;
     Ok(file)
@@ -59,7 +63,41 @@ fn build(alloc: Global, program: &Flowed, note: Option<(u32, u32)>) -> Result<Ve
 {
     let plain = lower(alloc, program)?;
     let frames = layout(alloc, &plain)?;
-    compile_plain(alloc, &plain, &frames, note)
+    compile_plain(alloc, plain, frames, note)
+}
+
+/// What is made of a text that is compiled: its tokens, its typed tree, and the image, as the bytes of a file.
+#[derive(Drop)]
+pub struct Compilation {
+    pub tokens: Vec<Token>,
+    pub program: Flowed,
+    pub image: Vec<u8>,
+}
+
+/// `compile_with`, whose image is answered beside the text's tokens. The typed tree comes with them, so that a program that ends behind
+/// this need not give it back.
+pub fn compile_with_tokens(
+    alloc: Global,
+    text: &[u8],
+    note: Option<(u32, u32)>,
+) -> Result<Compilation, Fault>
+    requires { AreAllowedIfAny note }
+    // What is answered and what is refused is as `compile_with` says.
+    ensures decides { Decides (IsCompiledText text.now) (λ p made. IsImageOf p made.image.items) (IsRefusedAtLast text.now) (HasFaultAtLast text.now) result }
+    // No step of any run of the program is dead or wrong, whatever its input, and without limits.
+    ensures sound { IfOk result (λ _. (p : Program) → IsAcceptedText text.now p → IsSound p) }
+    // The image carries these limits.
+    ensures note { IfOk result (λ made. Carries made.image.items note) }
+{
+    let phases = run_phases(alloc, text)?;
+    // The memory of the tree is enough for all that the passes behind the front end make.
+    drop(phases.tree);
+    let image = build(alloc, &phases.program, note)?;
+    Ok(Compilation {
+        tokens: phases.tokens,
+        program: phases.program,
+        image,
+    })
 }
 
 /// Compiles a text to an image that carries limits for its runs, pages and calls, or none, as the bytes of a file.
@@ -79,8 +117,8 @@ pub fn compile_with(alloc: Global, text: &[u8], note: Option<(u32, u32)>) -> Res
     // The image carries these limits. They change nothing of what it does: a run is given its limits by who runs it.
     ensures note { IfOk result (λ file. Carries file.items note) }
 {
-    let program = accept(alloc, text)?;
-    build(alloc, &program, note)
+    let made = compile_with_tokens(alloc, text, note)?;
+    Ok(made.image)
 }
 
 /// Compiles a text to an image that carries no limits, as the bytes of a file: `compile_with` with `None`.

@@ -26,7 +26,7 @@ fn bytes_of_words(alloc: Global, words: &[u32]) -> Result<Vec<u8>, AllocError>
     ensures bytes { IfOk result (λ bytes. bytes.items ≡ bytes_of_words words.now) }
     ensures words { IfOk result (λ _. AllByRecursion IsWord words.now) }
 {
-    let mut bytes = Vec::new(alloc);
+    let mut bytes = Vec::with_capacity(alloc, 4 * words.len())?;
     for word in words {
         bytes.extend_from_slice(&bytes_of(*word))?;
     }

@@ -10,7 +10,7 @@ mod listing;
 mod notes;
 mod report;
 
-pub use compiler::{compile, compile_with};
+pub use compiler::{Compilation, compile, compile_with, compile_with_tokens};
 pub use engine::{run, run_with};
 pub use front::{Phases, accept, run_phases};
 pub use listing::disassemble;

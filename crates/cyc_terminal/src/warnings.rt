@@ -24,15 +24,33 @@ fn assigns(tokens: &[Token]) -> bool {
 /// What is to be said of the first of the tokens, by those behind it.
 fn warning(tokens: &[Token]) -> Option<&'static str> {
     let (first, rest) = tokens.split_first()?;
-    let (second, behind) = rest.split_first()?;
-    match (first.kind, second.kind) {
-        (TokenKind::Sign(Sign::Minus), TokenKind::Sign(Sign::Minus)) if first.end == second.start =>
-            { Some("`--` is two minus signs and changes nothing: to count down write i = i - 1") }
-        (TokenKind::Keyword(Keyword::If | Keyword::While), _) if assigns(behind) => {
-            Some("the condition assigns: to compare write ==, and else put brackets round it")
+    match first.kind {
+        TokenKind::Sign(Sign::Minus) => warning_of_minus(*first, *rest.first()?),
+        TokenKind::Keyword(Keyword::If | Keyword::While) => {
+            let (_, behind) = rest.split_first()?;
+            if assigns(behind) {
+                return Some(
+                    "the condition assigns: to compare write ==, and else put brackets round it",
+                );
+            }
+            None
         }
-        (TokenKind::Sign(Sign::ShiftLeft | Sign::ShiftRight), TokenKind::Number(count))
-            if count >= WIDTH => { Some("the count of a shift is taken modulo 32") }
+        TokenKind::Sign(Sign::ShiftLeft | Sign::ShiftRight) => match rest.first()?.kind {
+            TokenKind::Number(count) if count >= WIDTH => Some(
+                "the count of a shift is taken modulo 32",
+            ),
+            _ => None,
+        },
+        _ => None,
+    }
+}
+
+/// The same of a minus sign, by the token behind it.
+fn warning_of_minus(minus: Token, next: Token) -> Option<&'static str> {
+    match next.kind {
+        TokenKind::Sign(Sign::Minus) if minus.end == next.start => {
+            Some("`--` is two minus signs and changes nothing: to count down write i = i - 1")
+        }
         _ => None,
     }
 }

@@ -19,7 +19,7 @@ use Rattle.cyclone.specs.declared.answer.Answer.{Answer}
 use Rattle.cyclone.specs.declared.answer.Answer.TheVariants.{Done, NoMemory}
 
 -- THE ANSWER TO A CHECK: the text is accepted; or its fault is that of the first phase that refuses it, unless memory ran out
-abbrev pub AnswersCheck : List ℕ → Result (Unit {0}) Fault → Type 0
+abbrev pub AnswersCheck : {X : Type 0} → List ℕ → Result X Fault → Type 0
 AnswersCheck text (Ok done) = (p : Program) × IsAcceptedText text p
 AnswersCheck text (Err fault) = (fault ≡ memory_fault) ⊎ IsRefusedText text fault
 

@@ -3,6 +3,7 @@ ghost use Rattle.std.specs.Prelude.{◌≡◌, IfOk, IfSome};
 ghost use Rattle.cyc_system.specs.Front.{IsRefusedText};
 ghost use Rattle.cyclone.specs.Refusal.{HasTree, is_explained};
 
+use cyc_check::refusal;
 use cyc_explain::explain;
 use cyc_lex::lex;
 use cyc_parse::parse;
@@ -50,11 +51,11 @@ pub fn words_for(alloc: Global, text: &[u8], fault: Fault) -> Option<Vec<u8>>
     let Ok(tree) = tree_of(alloc, text) else {
         return None;
     };
-    let Some(explained) = explain(alloc, &tree) else {
+    let Some(found) = refusal(alloc, &tree) else {
         return None;
     };
-    if explained.fault != fault {
+    if found != fault {
         return None;
     }
-    explained.words
+    explain(alloc, &tree, fault)
 }

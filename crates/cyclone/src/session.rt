@@ -8,15 +8,16 @@ use crate::files::{read_image, read_text, write_image};
 use crate::flow_cause::cause_of;
 use crate::message::Message;
 use crate::refusal::words_for;
-use crate::work::{check, limits_of_run, list_image, run_image};
+use crate::work::{check, limits_of_run, list_image, run_image, widen_heap};
 use clap::error::ErrorKind;
-use cyc_lex::lex;
-use cyc_system::compile_with;
+use cyc_syntax::Token;
+use cyc_system::compile_with_tokens;
 use cyc_terminal::{GivenLimits, Keyboard, Request, Screen, Shown, Warnings, read_request};
 use cyc_words::Fault;
 use std::cell::RefCell;
 use std::env::{Env, FillError};
 use std::io::{BufReader, BufWriter, IsTerminal, Stdout};
+use std::mem::ManuallyDrop;
 use std::{env, io};
 
 type Buffer = RefCell<BufWriter<Stdout>>;
@@ -44,12 +45,8 @@ fn report_refusal(rt: &HostRuntime, name: &str, text: &[u8], fault: Fault) -> An
     answer
 }
 
-/// Says to a person what an accepted program has that means something else than in C. Where memory runs out there is nothing to say.
-fn report_warnings(rt: &HostRuntime, name: &str, text: &[u8]) {
-    let Ok(tokens) = lex(rt.alloc(), text) else {
-        return;
-    };
-    let tokens = tokens.as_slice();
+/// Says to a person what an accepted program with these tokens has that means something else than in C.
+fn report_warnings(rt: &HostRuntime, name: &str, text: &[u8], tokens: &[Token]) {
     let _ = rt.eprint(Warnings { name, text, tokens });
 }
 
@@ -57,9 +54,10 @@ fn report_warnings(rt: &HostRuntime, name: &str, text: &[u8]) {
 fn check_file(rt: &HostRuntime, source: &str) -> Result<Answer, Answer> {
     let text = read_text(rt, source)?;
     let text = text.as_slice();
+    widen_heap(rt.alloc());
     match check(rt.alloc(), text) {
-        Ok(()) => {
-            report_warnings(rt, source, text);
+        Ok(phases) => {
+            report_warnings(rt, source, text, phases.tokens.as_slice());
             Ok(Answer::Done)
         }
         Err(fault) => Err(report_refusal(rt, source, text, fault)),
@@ -75,10 +73,13 @@ fn compile_file(
 ) -> Result<Answer, Answer> {
     let text = read_text(rt, source)?;
     let text = text.as_slice();
-    match compile_with(rt.alloc(), text, limits.carried()) {
-        Ok(bytes) => {
-            report_warnings(rt, source, text);
-            Ok(write_image(rt, image, bytes.as_slice()))
+    widen_heap(rt.alloc());
+    match compile_with_tokens(rt.alloc(), text, limits.carried()) {
+        Ok(made) => {
+            // The program ends behind this, so what was made is not given back, as in `check`.
+            let made = ManuallyDrop::new(made);
+            report_warnings(rt, source, text, made.tokens.as_slice());
+            Ok(write_image(rt, image, made.image.as_slice()))
         }
         Err(fault) => Err(report_refusal(rt, source, text, fault)),
     }

@@ -7,10 +7,10 @@ ghost use Rattle.cyclone.specs.Work.{AnswersCheck, AnswersListing, AnswersNoImag
 
 use crate::answer::Answer;
 use cyc_machine::Limits;
-use cyc_system::{Report, RunFault, disassemble, note_of, run, run_phases};
+use cyc_system::{Phases, Report, RunFault, disassemble, note_of, run, run_phases};
 use cyc_terminal::GivenLimits;
 use cyc_words::{ByteIn, ByteOut, Fault, Reader, Writer};
-use std::alloc::Global;
+use std::alloc::{AllocError, Global};
 use std::io;
 use std::io::{Read, Write};
 use std::mem::ManuallyDrop;
@@ -24,16 +24,25 @@ pub fn read_up_to<R: Read + Drop>(alloc: Global, reader: R, most: u64) -> io::Re
     Ok(bytes)
 }
 
-/// Checks a text: its tokens, its grammar, its types and its flow.
-pub fn check(alloc: Global, text: &[u8]) -> Result<(), Fault>
+/// More bytes than any list that is made of a text has.
+const LARGEST: usize = 4194304;
+
+/// Asks for a block larger than all that will be, and gives it back unused. The C library has pages of their own for each block above a
+/// bound, and takes them from the system anew each time; it raises the bound to the largest block that it was given back. So the lists of
+/// a phase have pages that earlier ones gave back.
+pub fn widen_heap(alloc: Global) {
+    let _: Result<Vec<u8>, AllocError> = Vec::with_capacity(alloc, LARGEST);
+}
+
+/// Checks a text: its tokens, its grammar, its types and its flow. What the phases made of it is answered, and not given back.
+pub fn check(alloc: Global, text: &[u8]) -> Result<ManuallyDrop<Phases>, Fault>
     ensures answer { AnswersCheck text.now result }
     // A text that has a fault is never done.
     ensures refuses { (fault : Fault) → HasFault text.now fault
         → MatchResult result (λ _. ⊥) (λ f. (f ≡ memory_fault) ⊎ (f ≡ fault)) }
 {
     // The program ends behind this. To give back what the phases made, node by node, would take a sixth of the check's time.
-    ManuallyDrop::new(run_phases(alloc, text)?);
-    Ok(())
+    Ok(ManuallyDrop::new(run_phases(alloc, text)?))
 }
 
 /// The answer, or a write fault where what was written could not all be passed on.

@@ -1,15 +1,18 @@
-use Rattle.std.proofs.Common.{◌++◌, [], ◌∷◌, Some, None, Vec, Global, ◌≡◌, ◌∙◌, ◌+◌, ◌-◌, ◌≤◌, ◌<◌, length, take, drop, inr, sym, ap, subst, arith}
-use Rattle.std.proofs.lemmas.List.{take_rest}
+use Rattle.std.proofs.Common.{◌++◌, [], ◌∷◌, Some, None, ◌≡◌, ◌∙◌, ◌+◌, ◌-◌, ◌≤◌, ◌<◌, true, get_or, length, take, drop, inr, refl, sym, ap, subst, arith}
+use Rattle.std.proofs.lemmas.List.{take_rest, length-drop, length-take-le, get_or-drop}
 use Rattle.cyc_words.specs.declared.fault.Code.TheVariants as codes
-use Rattle.cyc_syntax.specs.declared.tokens.Token.{Token as CodeToken}
+use Rattle.cyc_words.specs.declared.span.Span.{Span}
+use Rattle.cyc_syntax.specs.Spelling.{is_space}
 use Rattle.cyc_syntax.specs.TokenRule.{max_tokens}
+use Rattle.cyc_syntax.specs.Tokens.{kind_of}
 use Rattle.cyc_syntax.specs.Place.{IsBehind}
 use Rattle.cyc_lex.specs.Found.{IsFound, IsReadAs}
 use Rattle.cyc_lex.specs.Refusals.{FailsHere, IsFirstFault}
 use Rattle.cyc_lex.proofs.FaultLemmas.{fails_first, too_many_first}
-use Rattle.cyc_lex.proofs.LexLemmas.{IsReadUpTo, token_at, tokens_within, found_some, blank_read, token_read}
+use Rattle.cyc_lex.proofs.LexLemmas.{IsReadUpTo, token_at, tokens_within, found_some, found_space, blank_read, token_read}
+use Rattle.cyc_lex.proofs.LineLemmas.{token_stays, behind_one_line}
 use Rattle.cyc_lex.proofs.lexer.read_tokens.Goals as goal
-use Rattle.cyc_lex.proofs.lexer.read_tokens.Goals.{in-Some+else-len-eq-MAX_TOKENS+in_ok-push, in_default, In-Ok}
+use Rattle.cyc_lex.proofs.lexer.read_tokens.Goals.{In-Ok}
 
 -- what was found of the text from `start` on
 found : (c : In-Ok) → IsFound (drop c.loop-start.start c.args.text.now) c.in-Ok.found.kind c.in-Ok.found.len
@@ -36,35 +39,59 @@ returns-then-len-eq-MAX_TOKENS-clause-refused c =
     let many : max_tokens ≤ length c.loop-start.tokens.items = omega (arith, c.loop-start.tokens.ok.0) in
     inr (inr (c.requires, subst (IsFirstFault text) (sym is) (too_many_first text c.loop-start.tokens.items start c.loop-start.place c.loop-start.invariant c.in-Some.kind c.in-Ok.found.len token many)))
 
-pub loop-start-smaller : goal.loop-start-smaller
-loop-start-smaller c =
-    let some = found_some _ _ _ (found (goal.at.loop-start-smaller c).In-Ok) in
+pub loop-start-smaller-in_ok-push : goal.loop-start-smaller-in_ok-push
+loop-start-smaller-in_ok-push c =
+    let some = found_some _ _ _ (found (goal.at.loop-start-smaller-in_ok-push c).In-Ok) in
     omega arith
 
+-- a space is passed over
+pub loop-start-preserved-then-is_space : goal.loop-start-preserved-then-is_space
+loop-start-preserved-then-is_space c =
+    let text = c.args.text.now in
+    let start = c.loop-start.start in
+    let done = c.loop-start.invariant in
+    let some : 0 < length (drop start text) = omega (arith, length-drop start text, c.loop-start-test.true) in
+    let zero : start + 0 ≡ start = omega arith in
+    let space : is_space (get_or (drop start text) 0 0) ≡ true = ap is_space (get_or-drop start text 0 0) ∙ ap (λ n. is_space (get_or text n 0)) zero ∙ sym c.is_space.ensures ∙ c.if-is_space.true in
+    let here = found_space (drop start text) some space in
+    let count : start + 1 - start ≡ 1 = omega arith in
+    let next : IsBehind c.place_behind-place.result (take start text ++ take 1 (drop start text)) =
+    subst (λ n. IsBehind c.place_behind-place.result (take start text ++ take n (drop start text))) count (c.place_behind-place.ensures (take start text) done.behind) in
+    blank_read text c.loop-start.tokens.items start 1 c.loop-start.place c.place_behind-place.result done here.within next here.piece
+
+-- a token stands on the line of its place
+pub loop-start-preserved-in_ok-push : goal.loop-start-preserved-in_ok-push
+loop-start-preserved-in_ok-push c =
+    let text = c.args.text.now in
+    let start = c.loop-start.start in
+    let len = c.in-Ok.found.len in
+    let tokens = c.loop-start.tokens.items in
+    let place = c.loop-start.place in
+    let done = c.loop-start.invariant in
+    let here = found (goal.at.loop-start-preserved-in_ok-push c).In-Ok in
+    let bytes = take len (drop start text) in
+    let kind = c.in-Some.kind in
+    let piece : IsReadAs (Some kind) bytes (drop len (drop start text)) = subst (λ k. IsReadAs k bytes (drop len (drop start text))) c.in-Some.is here.piece in
+    let behind : Span = record { line = place.line; column = place.column + len } in
+    let next : IsBehind behind (take start text ++ bytes) =
+    behind_one_line place behind (take start text) bytes (token_stays (kind_of bytes kind) bytes piece.0.spelled) refl (ap (λ n. place.column + n) (sym (length-take-le len (drop start text) here.within))) done.behind in
+    let most = tokens_within text tokens start place done in
+    let room : length tokens < max_tokens = omega (arith, c.loop-start.tokens.ok.0) in
+    subst (λ ts. IsReadUpTo text ts (start + len) behind) (sym c.in_ok-push.ensures.items)
+    (token_read text tokens start len place behind done here.within next kind room (found_some _ _ _ here) piece)
+
+-- what is no token may end lines
 pub loop-start-preserved : goal.loop-start-preserved
 loop-start-preserved c =
     let text = c.args.text.now in
     let start = c.loop-start.start in
     let len = c.in-Ok.found.len in
-    let tokens = c.loop-start.tokens.items in
     let done = c.loop-start.invariant in
     let here = found (goal.at.loop-start-preserved c).In-Ok in
+    let place = c.place_behind-place-in_default.result in
     let count : start + len - start ≡ len = omega arith in
-    let next : IsBehind c.place_behind-place.result (take start text ++ take len (drop start text)) =
-    subst (λ n. IsBehind c.place_behind-place.result (take start text ++ take n (drop start text))) count (c.place_behind-place.ensures (take start text) done.behind) in
-    elim c.match-found.branch [
-      | in-Some+else-len-eq-MAX_TOKENS+in_ok-push w ↦
-          let piece : IsReadAs (Some w.in-Some.kind) (take len (drop start text)) (drop len (drop start text)) =
-          subst (λ k. IsReadAs k (take len (drop start text)) (drop len (drop start text))) w.in-Some.is here.piece in
-          let pushed : c.match-found.tokens.items ≡ tokens ++ token_at w.in-Some.kind c.loop-start.place start (start + len) ∷ [] =
-          ap (λ (v : Vec CodeToken Global). v.items) w.tokens-is ∙ w.in_ok-push.ensures.items in
-          let most = tokens_within text tokens start c.loop-start.place done in
-          let room : length tokens < max_tokens = omega (arith, c.loop-start.tokens.ok.0) in
-          subst (λ ts. IsReadUpTo text ts (start + len) c.place_behind-place.result) (sym pushed)
-          (token_read text tokens start len c.loop-start.place c.place_behind-place.result done here.within next w.in-Some.kind room (found_some _ _ _ here) piece)
-      | in_default w ↦
-          let piece : IsReadAs None (take len (drop start text)) (drop len (drop start text)) =
-          subst (λ k. IsReadAs k (take len (drop start text)) (drop len (drop start text))) w.in_default.is here.piece in
-          subst (λ (v : Vec CodeToken Global). IsReadUpTo text v.items (start + len) c.place_behind-place.result) (sym w.tokens-is)
-          (blank_read text tokens start len c.loop-start.place c.place_behind-place.result done here.within next piece)
-    ]
+    let next : IsBehind place (take start text ++ take len (drop start text)) =
+    subst (λ n. IsBehind place (take start text ++ take n (drop start text))) count (c.place_behind-place-in_default.ensures (take start text) done.behind) in
+    let piece : IsReadAs None (take len (drop start text)) (drop len (drop start text)) =
+    subst (λ k. IsReadAs k (take len (drop start text)) (drop len (drop start text))) c.in_default.is here.piece in
+    blank_read text c.loop-start.tokens.items start len c.loop-start.place place done here.within next piece

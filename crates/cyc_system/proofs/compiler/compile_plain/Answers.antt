@@ -8,7 +8,7 @@ use Rattle.cyc_system.proofs.compiler.compile_plain.Goals as goal
 pub returns-clause-image : goal.returns-clause-image
 returns-clause-image c = λ p sound is.
     let code = c.in_ok-code.code in
-    image_made p c.args.plain.now code (addresses_of code) c.in_ok-words.words.items c.deref.result.now c.globals.result.now c.args.note c.in_ok-file.file.items
+    image_made p c.args.plain code (addresses_of code) c.in_ok-words.words.items c.deref.result.now c.globals.result.now c.args.note c.in_ok-file.file.items
     c.deref.ensures.value c.globals.ensures.value sound is c.in_ok-code.ensures.selected c.in_ok-code.ensures.globals c.in_ok-words.ensures.means c.in_ok-words.ensures.runs
     c.globals.ensures.code c.in_ok-file.ensures.words c.in_ok-file.ensures.globals c.in_ok-file.ensures.read c.in_ok-file.ensures.exact
 

@@ -18,7 +18,7 @@ returns-in_err-tokens c =
     let f = c.in_err-tokens.field-0.0 in
     let d = c.in_err-tokens.ensures.decides in
     let p = err_from_is_err_and c.from_residual.result c.from_residual.ensures.1 in
-    record { decides = rw (p.1, p.2) (refused_alike HasProgram HasPhases text f (lexer_answers text f d.refused (stopped _ _ _ _ f d))); sound = rw p.1 tt }
+    record { decides = rw (p.1, p.2) (refused_alike HasProgram HasPhases f (lexer_answers text f d.refused (stopped _ _ _ _ f d))); sound = rw p.1 tt }
 
 pub returns-in_err-tree : goal.returns-in_err-tree
 returns-in_err-tree c =
@@ -29,7 +29,7 @@ returns-in_err-tree c =
     let f = c.in_err-tree.field-0.0 in
     let d = c.in_err-tree.ensures.decides in
     let p = err_from_is_err_and c.from_residual-in_err-tree.result c.from_residual-in_err-tree.ensures.1 in
-    record { decides = rw (p.1, p.2) (refused_alike HasProgram HasPhases text f (parser_answers text tokens f l d.refused (stopped _ _ _ _ f d))); sound = rw p.1 tt }
+    record { decides = rw (p.1, p.2) (refused_alike HasProgram HasPhases f (parser_answers text tokens f l d.refused (stopped _ _ _ _ f d))); sound = rw p.1 tt }
 
 pub returns-in_err-typed : goal.returns-in_err-typed
 returns-in_err-typed c =
@@ -41,7 +41,7 @@ returns-in_err-typed c =
     let f = c.in_err-typed.field-0.0 in
     let d = c.in_err-typed.ensures.decides in
     let p = err_from_is_err_and c.from_residual-in_err-typed.result c.from_residual-in_err-typed.ensures.1 in
-    record { decides = rw (p.1, p.2) (refused_alike HasProgram HasPhases text f (checker_answers text tokens (declarations_of c.in_ok-tree.tree) c.in_ok-tree.tree.names f l r c.in_ok-tree.ensures.names d.refused (stopped _ _ _ _ f d))); sound = rw p.1 tt }
+    record { decides = rw (p.1, p.2) (refused_alike HasProgram HasPhases f (checker_answers text tokens (declarations_of c.in_ok-tree.tree) c.in_ok-tree.tree.names f l r c.in_ok-tree.ensures.names d.refused (stopped _ _ _ _ f d))); sound = rw p.1 tt }
 
 pub returns-in_err-program : goal.returns-in_err-program
 returns-in_err-program c =
@@ -56,7 +56,7 @@ returns-in_err-program c =
     (passed view_program (IsTypedProgram texts tree) (IsRefusedProgram texts tree) (IsRefusedProgram texts tree) c.in_ok-typed.typed c.in_ok-typed.ensures.decides) in
     let f = c.in_err-program.field-0.0 in
     let p = err_from_is_err_and c.from_residual-in_err-program.result c.from_residual-in_err-program.ensures.1 in
-    record { decides = rw (p.1, p.2) (refused_alike HasProgram HasPhases text f (flow_answers text tokens tree c.in_ok-typed.typed (Err f) l r k c.in_err-program.ensures.decides)); sound = rw p.1 tt }
+    record { decides = rw (p.1, p.2) (refused_alike HasProgram HasPhases f (flow_answers text tokens tree c.in_ok-typed.typed (Err f) l r k c.in_err-program.ensures.decides)); sound = rw p.1 tt }
 
 pub returns : goal.returns
 returns c =
@@ -73,6 +73,6 @@ returns c =
     let d = flow_answers text tokens tree c.in_ok-typed.typed (Ok program) l r k c.in_ok-program.ensures.decides in
     let (one, allowed, same) = c.in_ok-program.ensures.decides.accepted in
     record {
-      decides = accepted_alike HasProgram HasPhases text program _ (λ p same. same) d;
+      decides = accepted_alike HasProgram HasPhases program _ (λ p same. same) d;
       sound = subst (λ (t : TypedTree). IsSound (view_program t)) (sym same) (c.in_ok-program.ensures.sound (names_in tokens) tree k.is);
     }
