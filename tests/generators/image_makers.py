@@ -28,6 +28,12 @@ WITH_DATA = bytes.fromhex("""
 00000001 0000008c 10000000 10000000 00000008 00000010 00000006 00000004
 3c081000 8d040000 24020002 0000000c 24020003 0000000c
 00000048 00000069""")
+# Two segments in one place: a fault. No random image is made of it.
+DOUBLED = bytes.fromhex("""
+7f454c46010201000000000000000000 0002000800000001 00400000 00000034 0000000000000000 0034002000020000 00000000
+00000001 00000074 00400000 00400000 00000018 00000018 00000005 00000004
+00000001 00000074 00400000 00400000 00000018 00000018 00000005 00000004
+24040001 10000002 24840002 24840004 24020003 0000000c""")
 SMALL_IMAGES = {"one segment": PLAIN, "a note": WITH_NOTE, "two segments": WITH_DATA}
 SET_TO = (0x00, 0x7F, 0xFF)
 # Values at the ends of what a field of a header may hold, and one beyond.
@@ -407,7 +413,7 @@ def made(numbers):
 
 def spoiled():
     """Each small image cut at each length, and with each byte set to 00, 7f and ff."""
-    for name, file in SMALL_IMAGES.items():
+    for name, file in {**SMALL_IMAGES, "one place": DOUBLED}.items():
         for length in range(len(file)):
             yield Made(f"{name}, cut at {length}", file[:length])
         for at in range(len(file)):

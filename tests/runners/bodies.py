@@ -11,6 +11,9 @@ OWNER = re.compile(r"(?:pub(?:\(\w+\))? |unsafe )*(?:trait (?P<trait>\w+)|impl (
 TYPE = re.compile(r"(?:pub(?:\(\w+\))? )?(?:struct|enum|union) (\w+)")
 TRAIT = re.compile(r"pub trait (\w+)", re.MULTILINE)
 CYCLE = re.compile(r" *#\[cycle\((\w+)\)\]")
+# What stands before an item that tests alone have, and such a module.
+OF_TESTS = re.compile(r" *#\[(?:cfg\()?test\b")
+TEST_MODULE = re.compile(r"^#\[cfg\(test\)\]\nmod (\w+);", re.MULTILINE)
 # The parameters of the trait that an `impl` is of.
 PARAMETERS = re.compile(r"impl(?:<.*?>)? [\w:]+<(.*)> for ")
 # What other crates can name: what a module takes from another, its public modules, and its public items.
@@ -20,9 +23,9 @@ ITEM = re.compile(r"^pub (?:(?:const|final|unsafe|ghost) )*(?:fn|struct|enum|uni
 
 # A function with a body: its path in the crate, the folder of its proof in `proofs`, its file, the numbers of the body's first line and of
 # the one behind it, the words in it, the number of the line that says which cycle of calls it is in, or None, whether the path is
-# sure: that of a method of a trait with parameters may have more of them in it; and whether its body is to do what a contract says of
-# another crate's call.
-Body = collections.namedtuple("Body", "function proof path first behind words cycle is_sure is_public", defaults=(False,))
+# sure: that of a method of a trait with parameters may have more of them in it; whether its body is to do what a clause of its own says;
+# and whether it is to do what a contract says of another crate's call.
+Body = collections.namedtuple("Body", "function proof path first behind words cycle is_sure is_promised is_public", defaults=(False, False))
 
 
 def opening(lines, head, indent):
@@ -86,29 +89,32 @@ def has_promise(lines, head, opens, owner):
 
 
 def bodies_in(path, text, types, reached=frozenset(), traits=frozenset()):
-    """The bodies of a file's functions. Methods stand where their type does, in one of these modules."""
+    """The bodies of a file's functions, those of tests apart. Methods stand where their type does, in one of these modules."""
     lines, found = text.split("\n"), []
     types = types | types_in(path, text)
-    owner, home, cycle = None, steps_to(path), None
+    owner, home, cycle, is_of_tests = None, steps_to(path), None, False
     for at, line in enumerate(lines):
         if OWNER.match(without_parameters(line)):
             owner = Owner(line)
             home = types.get(owner.type, steps_to(path))
         cycle = at if CYCLE.match(line) else cycle
+        is_of_tests = is_of_tests or bool(OF_TESTS.match(line))
         head = HEAD.match(line)
         if not head:
             continue
         above = [*home, owner.name] if head[1] else steps_to(path)
         proof = os.path.join(*above, head[2] if cycle is None else f"+{CYCLE.match(lines[cycle])[1]}")
         opens = opening(lines, at, head[1])
-        if opens is not None:
+        if opens is not None and not is_of_tests:
             closes = lines.index(head[1] + "}", opens)
             words = frozenset(re.findall(r"\w+", "\n".join(lines[opens + 1:closes])))
             is_called = owner.is_public(line, home, reached, traits) if head[1] else (tuple(above), head[2]) in reached
+            is_promised = has_promise(lines, at, opens, None)
             is_public = is_called and has_promise(lines, at, opens, head[1] and owner)
             is_sure = not head[1] or owner.is_sure
-            found.append(Body("::".join([*above, head[2]]), proof, path, opens + 1, closes, words, cycle, is_sure, is_public))
-        cycle = None
+            path_of = "::".join([*above, head[2]])
+            found.append(Body(path_of, proof, path, opens + 1, closes, words, cycle, is_sure, is_promised, is_public))
+        cycle, is_of_tests = None, False
     return found
 
 
@@ -165,6 +171,8 @@ class Bodies:
     def __init__(self, crates, crate, traits=frozenset()):
         self.crates = crates
         texts = dict(sources_of(crates, crate))
+        of_tests = {(*steps_to(path), name) for path, text in texts.items() for name in TEST_MODULE.findall(text)}
+        texts = {path: text for path, text in texts.items() if tuple(steps_to(path)) not in of_tests}
         types = {name: steps for path, text in texts.items() for name, steps in types_in(path, text).items()}
         reached = reached_in(texts)
         self.all = [self.settled(body, crate) for path, text in texts.items() for body in bodies_in(path, text, types, reached, traits)]
@@ -181,6 +189,14 @@ class Bodies:
         """All functions but these and those of their cycles, where their paths are sure."""
         proofs = {it.proof for it in self.all if it.function in functions}
         return [it for it in self.all if it.is_sure and it.proof not in proofs]
+
+    def shortest(self, functions):
+        """The function with the shortest body of those that are in no cycle of calls, but for these; or None. Where it can be, it is one
+        that promises something, and that calls nothing of the crate."""
+        names = {it.function.split("::")[-1] for it in self.all}
+        found = [it for it in self.beside(functions) if not os.path.basename(it.proof).startswith("+")]
+        order = lambda it: (not it.is_promised, bool(it.words & names), it.behind - it.first, it.function)
+        return min(map(order, found), default=(None,))[-1]
 
     def turned_by(self, case):
         """The function that must be refused, where a case changes its body and maybe its proof, and nothing else; or None."""

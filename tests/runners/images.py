@@ -5,7 +5,7 @@
 
 Four parts, of which --part takes one alone:
 
-- spoiled: three small images, cut at each length, and with each byte set to 00, 7f and ff;
+- spoiled: four small images, cut at each length, and with each byte set to 00, 7f and ff;
 - random: words of instructions, calls of a store of few pages, changed and random headers, with limits and without; `--count` of them,
   and the same seed gives the same images;
 - compiled: the examples, as the program compiles them, and each with some of its words changed;

@@ -263,6 +263,34 @@ const THIRD: u32 = 3;
 fn third(n: u32) -> u32 {
     n / THIRD
 }
+
+fn sixth(n: u32) -> u32 {
+    n / 6
+}
+
+#[cycle(parity)]
+fn even(n: u32) -> bool
+    ensures { result ≡ is_even n }
+{
+    n == 0 || odd(n - 1)
+}
+
+#[cycle(parity)]
+fn odd(n: u32) -> bool
+    ensures { result ≡ is_odd n }
+{
+    n != 0 && even(n - 1)
+}
+
+#[cfg(test)]
+fn same(n: u32) -> u32
+    ensures { result ≡ n }
+{
+    n
+}
+
+#[cfg(test)]
+mod tests;
 """
 
 TURNS = """\
@@ -299,6 +327,20 @@ old: a
 new: b
 refused: third
 
+== none_is_odd
+tests: even
+file: src/lib.rt
+old: n == 0 || odd(n - 1)
+new: n == 1 || odd(n - 1)
+refused: even
+
+== none_is_even
+tests: odd
+file: src/lib.rt
+old: n != 0 && even(n - 1)
+new: n != 1 && even(n - 1)
+refused: odd
+
 == more_is_two_more
 tests: more
 file: src/lib.rt
@@ -328,7 +370,10 @@ refused: half
 # The cases that are tried together, and whether each turns the body of its function alone: a constant is no body, and lines that stay are
 # not turned.
 ROUNDS = [
-    [("half_is_a_third", True), ("part_is_one_more", True), ("third_is_one_more", True), ("more_is_two_more", True)],
+    [
+        ("half_is_a_third", True), ("part_is_one_more", True), ("third_is_one_more", True), ("none_is_odd", True), ("none_is_even", True),
+        ("more_is_two_more", True),
+    ],
     [("more_is_the_same", True), ("half_is_a_fourth", True)],
     [("third_is_a_fourth", False)],
 ]
@@ -476,6 +521,104 @@ def are_missing_found(folder):
     return got == LACKING
 
 
+# When the file of a crate was changed, and when its library and that below it were made, if they were: the functions that are proved as
+# they stand for a case that turns the body of `half` and one that turns what `third` rests on, and the one that each run proves beside.
+STANDING = [
+    ({"source": 1, "low": 2, "mid": 3}, (["third"], "part")),
+    ({"source": 1, "low": 2}, (["half", "third"], None)),
+    ({"source": 1, "low": 3, "mid": 2}, (["half", "third"], None)),
+    ({"source": 3, "low": 1, "mid": 2}, (["half", "third"], None)),
+]
+
+
+def are_proofs_taken(folder):
+    """Whether functions are taken for proved as they stand where what is left of their crate is newer than all that it is made of, and the
+    cases change their bodies alone."""
+    right = True
+    for at, (times, wanted) in enumerate(STANDING):
+        crates = os.path.join(folder, f"standing{at}")
+        paths = {name: os.path.join(crates, name, "out", "rlib", f"{name}.rlib", "format") for name in ("low", "mid")}
+        paths["source"] = os.path.join(crates, "mid", "src", "lib.rt")
+        for name, time in times.items():
+            os.makedirs(os.path.dirname(paths[name]))
+            with open(paths[name], "w", encoding="utf-8") as file:
+                file.write(SOURCE)
+            os.utime(paths[name], (time, time))
+        path = os.path.join(folder, "mid.cases")
+        with open(path, "w", encoding="utf-8") as file:
+            file.write(TURNS)
+        cases = [it for it in wrong.cases_in(path) if it.name in ("half_is_a_third", "third_is_a_fourth")]
+        settings = wrong.Settings(folder, crates, {"low": [], "mid": ["low"]}, crates, folder)
+        group, other = (wrong.Group("mid", set(), cases, it) for it in (settings, settings._replace(is_trusting=False)))
+        got = group.unproved(), group.beside
+        if got != wanted or other.unproved() != ["half", "third"] or other.beside:
+            print(suite.difference(f"what is proved as it stands, with {times}", wanted, got))
+            right = False
+    # Where each function has a wrong body, one of them is proved; and where that one is not, no case counts.
+    group = wrong.Group("mid", set(), cases, settings)
+    group.is_proved, group.bodies.shortest = lambda: True, lambda functions: None if functions else "part"
+    lines = {it: f"fn mid::{it}: {said}" for it, said in (("part", "not proved"), ("third", "proved"))}
+    group.ask = lambda cases, functions, kept: (wrong.Answer(1, "\n".join([*map(lines.get, functions), SOME]), "mid", crates), 1.0)
+    got = group.prove()
+    wanted = dict.fromkeys(("half", "third"), "part as it stands: not proved"), 1.0
+    if got != wanted:
+        print(suite.difference("a function that stands for others", wanted, got))
+    return right and got == wanted
+
+
+# What is said of the function that a run proves as it stands beside a wrong body that it refuses, and what is wrong with the case then.
+BESIDE = {"proved": None, "no proof: it calls `mid::b::g`, which is not proved": None, "not proved": "a::kept as it stands: not proved"}
+
+
+def is_right_body_wanted(folder):
+    """Whether a wrong body counts as refused only where its run proves another function as it stands."""
+    right = True
+    for said, wanted in BESIDE.items():
+        answer = wrong.Answer(1, "\n".join([GOAL, LEFT, f"fn mid::a::kept: {said}", SOME]), "mid", "/crates")
+        group = wrong.Group("mid", set(), [], wrong.Settings(folder, folder, {"mid": []}, folder, folder))
+        group.beside, group.ask = "a::kept", lambda cases, functions, kept: (answer, 1.0)
+        turned = bodies.Body("a::f", "a/f", "mid/src/a.rt", 1, 2, frozenset(), None, True)
+        got = group.attempt([(case_on("src/a.rt"), turned)])
+        if got != ([wanted], 1.0):
+            print(suite.difference(f"a wrong body beside a function that is {said}", ([wanted], 1.0), got))
+            right = False
+    return right
+
+
+class Runs:
+    """A group that asks no prover: what it was asked, in order, and how many of its runs were at work when each began."""
+
+    def __init__(self, seed):
+        self.crate, self.cases, self.bodies, self.seed = "mid", [case_on("src/a.rt"), case_on("src/b.rt"), case_on("src/c.rt")], self, seed
+        self.asked = []
+
+    def turned_by(self, case):
+        return None
+
+    def prove(self):
+        return {}, 0.0
+
+    def attempt(self, together):
+        self.asked.append((together, self.seed))
+        self.seed = "kept"
+        return [None] * len(together), 1.0
+
+
+def is_first_run_kept():
+    """Whether the first run of a group that has no seed ends before its others begin, which then take what it kept."""
+    right = True
+    for seed, wanted in ((None, [None, "kept", "kept"]), ("seed", ["seed", "kept", "kept"])):
+        group = Runs(seed)
+        with contextlib.redirect_stdout(None):
+            run_of = wrong.Run([group], False)
+            run_of.on(1 if seed else 3)
+        got = [it for _, it in group.asked]
+        if got != wanted or list(run_of.faults.values()) != [None] * 3 or run_of.costs["mid"] != [3, 0.0, 3.0]:
+            print(suite.difference("what the runs of a group begin with", wanted, got))
+            right = False
+    return right
+
+
 # So many runs of the prover side by side, by processors and by free memory in GB.
 LANES = {(1, 16): 1, (2, 8): 2, (4, 7): 2, (4, 13): 4, (2, 1): 1}
 
@@ -517,6 +660,16 @@ ANSWERS_TO_BODIES = [
     (1, [GOAL, LEFT], "the prover gave no answer"),
     (3, ["fn mid::a::f: could not tell", NONE], "the prover gave no answer"),
     (2, ["rattle: a::f fits no function"], "the prover gave no answer"),
+]
+# The same of `a::f` where `a::g` is another wrong body of the same proof.
+OTHER_GOAL = GOAL.replace("`returns`", "`g-returns`")
+ANSWERS_TO_SEVERAL = [
+    (1, [OTHER_GOAL, GOAL.replace("`returns`", "`f-returns`"), LEFT, NONE], None),
+    (1, [OTHER_GOAL, LEFT, NONE], "refused by a"),
+    (1, [f"./proofs/a/f/Answers.antt:5:3: error: `f-returns-in_err`: {TYPES}", REFUSED, NONE], None),
+    (1, [f"./proofs/a/f/Answers.antt:5:3: error: `g-returns`: {TYPES}, as `f-returns`", REFUSED, NONE], "refused by a"),
+    (1, [f"./proofs/a/f/Answers.antt:5:3: error: `lemma`: {TYPES}", REFUSED, NONE], "refused by a"),
+    (0, ["fn mid::a::f: proved", "only=1 proved=1"], "not refused by a"),
 ]
 LAW = "fn mid::a::f: not proved"
 ANSWERS_TO_DEFINITIONS = [
@@ -563,10 +716,14 @@ def is_judge_right():
     """Whether what the prover says of wrong bodies and definitions is judged as it should be."""
     right = True
     body = bodies.Body("a::f", "a/f", "mid/src/a.rt", 1, 2, frozenset(), None, True)
-    for path, turned, answers in (("src/a.rt", body, ANSWERS_TO_BODIES), ("../low/specs/Rules.antt", None, ANSWERS_TO_DEFINITIONS)):
+    for path, turned, answers, is_shared in (
+        ("src/a.rt", body, ANSWERS_TO_BODIES, False),
+        ("src/a.rt", body, ANSWERS_TO_SEVERAL, True),
+        ("../low/specs/Rules.antt", None, ANSWERS_TO_DEFINITIONS, False),
+    ):
         for status, said, wanted in answers:
             answer = wrong.Answer(status, "\n".join(said), "mid", "/crates")
-            got = wrong.judged(case_on(path), turned, answer, ["low", "between", "mid"])
+            got = wrong.judged(case_on(path), turned, answer, ["low", "between", "mid"], is_shared)
             if (got or "").partition(":")[0] != (wanted or ""):
                 print(suite.difference(said[0], wanted, got))
                 right = False
@@ -765,7 +922,8 @@ def main():
             texts = json.load(file)
     with tempfile.TemporaryDirectory() as folder:
         right = [is_runner_right(folder), is_judge_of_images_right(folder), is_table_right(), are_rounds_right(folder), are_missing_found(folder)]
-        right += [are_lanes_right(), are_groups_right(folder), is_judge_right(), are_promises_told()]
+        right += [are_lanes_right(), are_groups_right(folder), are_proofs_taken(folder), is_right_body_wanted(folder)]
+        right += [is_first_run_kept(), is_judge_right(), are_promises_told()]
         right.append(are_pairs_right(folder))
     right += reference.with_room(lambda: [is_case_right(case) for case in cases] + [is_text_right(case) for case in texts])
     right += reference.with_room(lambda: [is_program_right(*one) for name in ("accepted", "refused") for one in in_trees.programs_in(name)])

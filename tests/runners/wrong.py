@@ -4,15 +4,20 @@
     python3 tests/runners/wrong.py [CRATE ..] [--only NAME ..]
 
 `wrong/CRATE.cases` has those that a proof of the crate must refuse: what each puts in the place of what, and the functions, laws or
-files of proofs which that is. First these are proved as they stand, so that a case that no check reads fails. Then the prover is asked
-for them with the case in its place, and for nothing else: what it would refuse elsewhere does not count. A case that it cannot read, or
-one that only takes away a name which a proof has, fails too, since no contract was tried.
+files of proofs which that is. As they stand these are proved, so that what is refused is refused for the case. With the case in its
+place the prover is asked for them, and for nothing else: what it would refuse elsewhere does not count. A case that it cannot read, that
+no check reads, or that only takes away a name which a proof has, fails, since no contract was tried.
 
 A proof rests on what other functions promise, and on no other body. So the proofs of the crate's other functions are left out, which
 `rt ci` has proved, and wrong bodies of several functions are tried together. What is not refused so is tried once more alone; with
 `--alone` each is. Of the crates below, the libraries are taken that `rt ci` leaves in `crates/NAME/out`. Where a case
 changes a file of another crate, that crate and those between are taken as they are written, and what refuses it must be a proof of a
 crate that it does not change.
+
+As they stand the functions are proved here, but for those that `rt ci` has just proved and of which a case changes the body alone: what
+it leaves of their crate is newer then than all that this is made of. Each run has another function beside them then, as it stands, which
+must be proved: so the runs themselves show that a right body is proved where a wrong one is refused. Where each function of the crate has
+a wrong body, one of them is proved as it stands before. With `--right` all are proved here.
 
 Before the last line, `N passed, M failed`, stands what it took.
 """
@@ -257,22 +262,29 @@ def show_missing(chosen_crates):
 
 
 def rounds_of(cases, bodies, is_alone):
-    """The cases that are tried together, list by list: each changes the body of a function whose proof no other one changes. With each
-    stands that function, or None where a case changes something else, and is alone."""
+    """The cases that are tried together, list by list: each changes the body of a function that no other one changes. Functions of a cycle
+    of calls have one proof, in which each goal has the name of its own: none of these has the name of another. With each case stands its
+    function, or None where it changes something else, and is alone."""
     rounds, others = [], []
     for case in cases:
         turned = bodies.turned_by(case)
         if not turned or is_alone:
             others.append([(case, turned)])
             continue
-        for proofs, together in rounds:
-            if turned.proof not in proofs:
-                proofs.add(turned.proof)
+        goals = turned.proof, name_of(turned.function)
+        for taken, together in rounds:
+            if goals not in taken:
+                taken.add(goals)
                 together.append((case, turned))
                 break
         else:
-            rounds.append(({turned.proof}, [(case, turned)]))
+            rounds.append(({goals}, [(case, turned)]))
     return [together for _, together in rounds] + others
+
+
+def name_of(function):
+    """A function's name, by its path."""
+    return function.split("::")[-1]
 
 
 # ---- what the prover says
@@ -282,6 +294,8 @@ GOAL = re.compile(r"note: \S+\.rt:\d+:\d+: it is not proved that ")
 COUNTS = re.compile(r"only=\d+ proved=\d+|logic=.*")
 # What is said of a function whose own proof holds, where one that it calls, or that its cycle of calls does, has none.
 RESTS = re.compile(r"no proof: (in `[^`]*`, of this cycle of calls: )?it calls [^;]*, which (is|are) not proved")
+# The function that a goal is of, in a proof of several: what an error begins with, or a note ends with.
+ITS_GOAL = re.compile(r"^`(\w+)-|\(`(\w+)-[^`]*`\)")
 # What a note says of a goal that does not hold.
 IS_FALSE = "the facts known there allow values at which this goal is false"
 # Errors that say no more than that another declaration was refused.
@@ -341,22 +355,24 @@ def is_file(refused):
     return refused.startswith("proofs/")
 
 
-def judged(case, turned, answer, between=()):
+def judged(case, turned, answer, between=(), is_shared=False):
     """What the prover's answer to a case comes to: None where each proof is refused, and else what is wrong. `turned` is the function
-    whose body alone it changes, or None, and `between` are the crates from those that it changes up to its own."""
+    whose body alone it changes, or None, and `between` are the crates from those that it changes up to its own; whether its proof is that
+    of other wrong bodies too."""
     fault = answer.fault({it.path for it in case.edits})
     if fault:
         return fault
     for function in case.refused:
-        fault = fault or judged_of(case, function, turned, answer, between)
+        fault = fault or judged_of(case, function, turned, answer, between, is_shared)
     return fault
 
 
-def judged_of(case, function, turned, answer, between):
+def judged_of(case, function, turned, answer, between, is_shared):
     """What the answer to a case comes to for one function.
 
-    A wrong body is refused by an error in the function's own proof, or by a goal that is left there; a wrong definition by one in what the
-    proof rests on, but not in a crate that is not its own and that it changes: such proofs say how the definitions hang together."""
+    A wrong body is refused by an error in the function's own proof, or by a goal that is left there, and where the proof is that of other
+    wrong bodies too, by one of the function's own goals; a wrong definition by one in what the proof rests on, but not in a crate that is
+    not its own and that it changes: such proofs say how the definitions hang together."""
     said, goals = answer.of(case.crate, function)
     if said is None and not is_file(function):
         return f"the prover says nothing of {function}"
@@ -372,6 +388,9 @@ def judged_of(case, function, turned, answer, between):
         folders = [os.path.join(it, "proofs", "") for it in between if it == case.crate or it not in case.changed()]
         goals = [goal for _, several in answer.functions.values() for goal in several]
     errors = [it for it in answer.errors if it.path.startswith(tuple(folders)) and not FOLLOWS.search(it.text)]
+    if is_shared:
+        errors = [it for it in errors if is_goal_of(function, it.text)]
+        goals = [it for it in goals if is_goal_of(function, it)]
     unread = [it for it in errors if UNREAD.search(it.text)]
     if len(unread) < len(errors) or any(IS_FALSE in it or not unread for it in goals):
         return None
@@ -380,11 +399,17 @@ def judged_of(case, function, turned, answer, between):
     return f"refused by {function}, but by nothing of its own: {said}"
 
 
+def is_goal_of(function, said):
+    """Whether an error or a note speaks of a goal of this function, in a proof of several."""
+    found = ITS_GOAL.search(said)
+    return bool(found) and name_of(function) in found.groups()
+
+
 # ---- the prover's runs
 
 # Where the prover and its libraries are, the crates, what each stands on, a folder with the libraries that are built of them, and one for
-# what is made here.
-Settings = collections.namedtuple("Settings", "kit crates graph built room")
+# what is made here; and whether functions are taken for proved that `rt ci` has proved.
+Settings = collections.namedtuple("Settings", "kit crates graph built room is_trusting", defaults=(True,))
 # The prover's processes, which end where the script is ended, and whether that has been.
 RUNNING = set()
 IS_ENDED = threading.Event()
@@ -400,10 +425,38 @@ class Group:
         self.order = in_order(crate, settings.graph)
         self.written = [it for it in self.order if it == crate or others & set(in_order(it, settings.graph))]
         self.bodies = Bodies(settings.crates, crate)
+        # the function that each run proves as it stands, where the others are not; whether one of theirs stands for it, which is proved
+        # before; and a folder with what the first run proved
+        self.beside = None
+        self.is_sample = False
         self.seed = None
 
     def library(self, crate):
         return os.path.join(self.settings.built, crate, "out", "rlib", f"{crate}.rlib")
+
+    def is_proved(self):
+        """Whether what `rt ci` leaves of the crate, its library or its program, is newer than all that it is made of."""
+        left = [os.path.join(self.library(self.crate), "format"), os.path.join(self.settings.built, self.crate, "out", self.crate)]
+        made = [os.path.getmtime(it) for it in left if os.path.isfile(it)]
+        return bool(made) and self.settings.is_trusting and self.written == [self.crate] and max(self.changes()) < max(made)
+
+    def changes(self):
+        """When the crate's files were changed, and the libraries were made that it stands on."""
+        for part in PARTS:
+            for at, _, names in os.walk(os.path.join(self.settings.crates, self.crate, part)):
+                yield from (os.path.getmtime(os.path.join(at, name)) for name in names)
+        for it in self.order[:-1]:
+            yield os.path.getmtime(os.path.join(self.library(it), "format"))
+
+    def unproved(self):
+        """The functions of its cases that are to be proved as they stand."""
+        named = {it for case in self.cases for it in case.refused}
+        shown = {it for case in self.cases if not self.bodies.turned_by(case) for it in case.refused}
+        if shown == named or not self.is_proved():
+            return sorted(named)
+        self.beside = self.bodies.shortest(self.bodies.turned_by_any(self.cases))
+        self.is_sample = not self.beside
+        return sorted(shown | {self.bodies.shortest(()) or min(named)} if self.is_sample else shown)
 
     def missing(self):
         """The crates whose libraries it needs and that are not built."""
@@ -414,15 +467,15 @@ class Group:
         folders = [os.path.join(self.settings.crates, name, part) for name in self.written for part in PARTS]
         return sum(os.path.getsize(os.path.join(at, name)) for folder in folders for at, _, names in os.walk(folder) for name in names)
 
-    def fill(self, folder, cases):
+    def fill(self, folder, cases, functions):
         """Makes a folder of crates that has those which are taken as they are written, with cases in their places. The bodies and the
-        proofs of functions that no case names are left out: a proof rests on what they promise, and `rt ci` has proved that."""
+        proofs of other functions than these are left out: a proof rests on what they promise, and `rt ci` has proved that."""
         for name in self.written:
             for part in PARTS:
                 there = os.path.join(self.settings.crates, name, part)
                 if os.path.isdir(there):
                     shutil.copytree(there, os.path.join(folder, name, part))
-        left_out = self.bodies.beside({it for case in self.cases for it in case.refused})
+        left_out = self.bodies.beside(set(functions))
         for body in left_out:
             there = os.path.join(folder, self.crate, "proofs", body.proof)
             for name in ("Answers.antt", "Invariants.antt", "Proof.antt"):
@@ -461,7 +514,7 @@ class Group:
         """The prover's answer for these functions, with cases in their places, and the seconds of processors that it took. In a folder the
         prover keeps what it proves."""
         with tempfile.TemporaryDirectory(dir=self.settings.room) as crates:
-            self.fill(crates, cases)
+            self.fill(crates, cases, functions)
             how = {"stdin": subprocess.DEVNULL, "stdout": subprocess.PIPE, "stderr": subprocess.STDOUT, "text": True, "errors": "replace"}
             with subprocess.Popen(self.words(crates, kept, functions), cwd=os.path.join(crates, self.crate), **how) as process:
                 RUNNING.add(process)
@@ -474,25 +527,43 @@ class Group:
             return Answer(process.returncode, said, self.crate, crates), used.ru_utime + used.ru_stime
 
     def prove(self):
-        """Proves the functions of all cases as they stand, and says of each that is not proved why; and the seconds that it took."""
+        """Proves functions of its cases as they stand, and says of each that is not proved why; and the seconds that it took."""
+        functions = self.unproved()
+        if not functions:
+            return {}, 0.0
         self.seed = tempfile.mkdtemp(dir=self.settings.room)
-        functions = sorted({it for case in self.cases for it in case.refused})
         answer, spent = self.ask([], functions, self.seed)
         fault = answer.fault(())
-        said = {it: answer.of(self.crate, it)[0] for it in functions}
-        return {it: fault or f"{it} as it stands: {said[it]}" for it in functions if fault or not answer.holds(self.crate, it)}, spent
+        faults = {it: fault or unproved_of(answer, self.crate, it) for it in functions if fault or not answer.holds(self.crate, it)}
+        if faults and self.is_sample:
+            faults = dict.fromkeys((it for case in self.cases for it in case.refused), next(iter(faults.values())))
+        return faults, spent
 
     def attempt(self, together):
-        """Tries cases together: what is wrong with each, or None; and the seconds that it took."""
+        """Tries cases together: what is wrong with each, or None; and the seconds that it took. The first to be tried begin with nothing
+        that is kept, where nothing was proved before."""
         cases = [case for case, _ in together]
+        is_checked = self.beside and all(turned for _, turned in together)
+        functions = sorted({it for case in cases for it in case.refused}) + [self.beside] * bool(is_checked)
         with tempfile.TemporaryDirectory(dir=self.settings.room) as folder:
             kept = os.path.join(folder, "kept")
-            linked(self.seed, kept)
+            if self.seed:
+                linked(self.seed, kept)
+            else:
+                kept = self.seed = tempfile.mkdtemp(dir=self.settings.room)
             try:
-                answer, spent = self.ask(cases, sorted({it for case in cases for it in case.refused}), kept)
+                answer, spent = self.ask(cases, functions, kept)
             except (OSError, ValueError) as error:
                 return [str(error)] * len(together), 0.0
-        return [judged(case, turned, answer, self.written) for case, turned in together], spent
+        if is_checked and not answer.holds(self.crate, self.beside):
+            return [answer.fault(()) or unproved_of(answer, self.crate, self.beside)] * len(together), spent
+        proofs = collections.Counter(turned and turned.proof for _, turned in together)
+        return [judged(case, turned, answer, self.written, bool(turned) and proofs[turned.proof] > 1) for case, turned in together], spent
+
+
+def unproved_of(answer, crate, function):
+    """What is wrong where a function is not proved as it stands."""
+    return f"{function} as it stands: {answer.of(crate, function)[0]}"
 
 
 def linked(seed, folder):
@@ -515,6 +586,8 @@ class Run:
         self.waiting = [Task(group, None) for group in groups]
         self.is_alone = is_alone
         self.ready = []
+        # the tasks of groups whose first run is still to keep what the others take
+        self.later = {}
         # what is wrong with each case that was tried, and by crate the runs of the prover, and the seconds of processors that they took,
         # for proofs as they stand and for cases
         self.faults = {}
@@ -545,11 +618,12 @@ class Run:
     def take(self, task, result, spent):
         """Takes what a task came to."""
         cost = self.costs[task.group.crate]
-        cost[0] += 1
+        cost[0] += spent > 0
         cost[2 if task.together else 1] += spent
         if not task.together:
             self.begin(task.group, result)
             return
+        self.ready += self.later.pop(task.group, [])
         for (case, turned), fault in zip(task.together, result):
             if fault and len(task.together) > 1:
                 self.ready.append(Task(task.group, [(case, turned)]))
@@ -571,7 +645,10 @@ class Run:
             rounds = []
             for case in cases:
                 self.end(case, str(error))
-        self.ready += [Task(group, together) for together in rounds]
+        tasks = [Task(group, together) for together in rounds]
+        first = len(tasks) if group.seed else 1
+        self.ready += tasks[:first]
+        self.later[group] = tasks[first:]
 
     def end(self, case, fault):
         self.faults[case] = fault
@@ -619,6 +696,7 @@ def main():
     parser.add_argument("--lanes", type=int, help="so many runs of the prover side by side; else as processors and memory allow")
     built = os.path.join(suite.ROOT, "crates")
     parser.add_argument("--built", default=built, metavar="FOLDER", help="the crates whose libraries are taken")
+    parser.add_argument("--right", action="store_true", help="proves all functions as they stand first, also what `rt ci` has proved")
     parser.add_argument("--write", action="store_true", help="makes the table in docs/GUARANTEES.md of the cases, and tries none")
     parser.add_argument("--missing", action="store_true", help="lists the public functions that have no wrong body, and tries none")
     options = parser.parse_args()
@@ -634,7 +712,8 @@ def main():
     kit = os.path.dirname(subprocess.run(["rt", "doc"], capture_output=True, text=True, check=True).stdout.strip())
     refused = {head[0] for head, _ in in_trees.programs_in("refused")}
     with tempfile.TemporaryDirectory(prefix="wrong-") as room:
-        settings = Settings(kit, os.path.join(suite.ROOT, "crates"), stands_on(suite.ROOT), os.path.abspath(options.built), room)
+        crates = os.path.join(suite.ROOT, "crates")
+        settings = Settings(kit, crates, stands_on(suite.ROOT), os.path.abspath(options.built), room, not options.right)
         groups = groups_of(cases, settings)
         run = Run([it for it in groups if not it.missing()], options.alone)
         for group in groups:

@@ -1,13 +1,11 @@
-//! The tests of runs that no compiler and no kind device stands behind: any file as an image, over both stores, and devices that fail.
+//! The tests of devices that fail in the middle of a run, over both stores.
 #![tactic(auto)]
 
 #[cfg(test)]
 mod devices;
 #[cfg(test)]
+mod expect;
+#[cfg(test)]
 mod failures;
 #[cfg(test)]
-mod images;
-#[cfg(test)]
 mod outcomes;
-#[cfg(test)]
-mod rows;

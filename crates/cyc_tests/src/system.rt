@@ -3,7 +3,6 @@
 use crate::expect::{expect, expect_text};
 use cyc_machine::Limits;
 use cyc_rows::devices::{EndsOnce, FailsOnce};
-use cyc_rows::rows::bytes_of_words;
 use cyc_system::{RunFault, accept, compile, disassemble, run};
 use cyc_words::{ByteIn, ByteOut, Reader, Writer};
 use std::alloc::Global;
@@ -149,66 +148,4 @@ fn expect_listing<A: Abort>(rt: &A, alloc: Global) -> Option<()> {
 fn images_are_listed(rt: HostRuntime) {
     let made = expect_listing(&rt, rt.alloc());
     expect(&rt, made.is_some(), "the listing");
-}
-
-/// The file of six instructions that end with 3.
-const SMALL: &str = "\
-7f454c46 01020100 00000000 00000000 00020008 00000001 00400000 00000034
-00000000 00000000 00340020 00010000 00000000 00000001 00000054 00400000
-00400000 00000018 00000018 00000005 00000004 24040001 10000002 24840002
-24840004 24020003 0000000c";
-
-/// How a run of a file comes out, in a word: of at most a thousand instructions, on the empty input, whose devices do not fail.
-fn outcome(alloc: Global, file: &[u8]) -> Option<&'static str> {
-    let mut output = Vec::new(alloc);
-    let mut writer = Writer::new(&mut output);
-    let limits = Limits::new(1024, 4096)?;
-    match run(
-        alloc,
-        file,
-        limits,
-        1000,
-        &mut Reader::new(&b""[..]),
-        &mut writer,
-    ) {
-        Ok(report) if report.count <= 1000 => Some("report"),
-        Err(RunFault::Elf(_) | RunFault::Load(_)) => Some("fault"),
-        _ => None,
-    }
-}
-
-/// A file with one of its bytes changed runs, or has a fault.
-fn expect_changed<A: Abort>(rt: &A, alloc: Global, byte: u8) -> Option<()> {
-    let file = bytes_of_words(alloc, SMALL)?;
-    for place in 0..file.len() {
-        let mut changed = file.clone().ok()?;
-        *changed.get_mut(place)? = byte;
-        expect(rt, outcome(alloc, &changed).is_some(), "a changed file");
-    }
-    Some(())
-}
-
-#[test]
-fn changed_files_have_answers(rt: HostRuntime) {
-    for &byte in &[0x00, 0x7f, 0xff] {
-        let read = expect_changed(&rt, rt.alloc(), byte);
-        expect(&rt, read.is_some(), "a changed file");
-    }
-}
-
-/// Each part of a file has a fault, and all of it runs.
-fn expect_parts<A: Abort>(rt: &A, alloc: Global) -> Option<()> {
-    let file = bytes_of_words(alloc, SMALL)?;
-    for length in 0..file.len() {
-        let got = outcome(alloc, file.get(..length)?)?;
-        expect_text(rt, got, "fault", "a part of a file");
-    }
-    expect_text(rt, outcome(alloc, &file)?, "report", "a whole file");
-    Some(())
-}
-
-#[test]
-fn parts_of_files_have_faults(rt: HostRuntime) {
-    let read = expect_parts(&rt, rt.alloc());
-    expect(&rt, read.is_some(), "a part of a file");
 }
