@@ -567,7 +567,14 @@ def are_proofs_taken(folder):
 
 
 # What is said of the function that a run proves as it stands beside a wrong body that it refuses, and what is wrong with the case then.
-BESIDE = {"proved": None, "no proof: it calls `mid::b::g`, which is not proved": None, "not proved": "a::kept as it stands: not proved"}
+BESIDE = {
+    "proved": None,
+    "no proof: it calls `mid::b::g`, which is not proved": None,
+    "no proof: it calls `mid::StopFromE::from`, which is not proved; it passes the block `mid::StopFromE`, which is not proved": None,
+    "no proof: it calls `mid::b::g`, which is not proved; it has no measure":
+        "a::kept as it stands: no proof: it calls `mid::b::g`, which is not proved; it has no measure",
+    "not proved": "a::kept as it stands: not proved",
+}
 
 
 def is_right_body_wanted(folder):

@@ -293,7 +293,8 @@ ERROR = re.compile(r"(\S+?\.(?:antt|rt)):\d+:\d+: error(\[[\w-]+\])?: (.*)")
 GOAL = re.compile(r"note: \S+\.rt:\d+:\d+: it is not proved that ")
 COUNTS = re.compile(r"only=\d+ proved=\d+|logic=.*")
 # What is said of a function whose own proof holds, where one that it calls, or that its cycle of calls does, has none.
-RESTS = re.compile(r"no proof: (in `[^`]*`, of this cycle of calls: )?it calls [^;]*, which (is|are) not proved")
+RESTS_ON = r"(in `[^`]*`, of this cycle of calls: )?it (calls|passes the block) [^;]*, which (is|are) not proved"
+RESTS = re.compile(f"no proof: {RESTS_ON}(; {RESTS_ON})*")
 # The function that a goal is of, in a proof of several: what an error begins with, or a note ends with.
 ITS_GOAL = re.compile(r"^`(\w+)-|\(`(\w+)-[^`]*`\)")
 # What a note says of a goal that does not hold.
