@@ -8,7 +8,7 @@ use Rattle.cyc_syntax.specs.Grammar.{max_items}
 use Rattle.cyc_syntax.specs.Trees.{Expression, Number, Variable, NoPostfixes}
 use Rattle.cyc_parse.specs.Parsing.{Outcome, and_then, bind, choose, if_sees, next, sees, advance}
 use Rattle.cyc_parse.specs.Expressions.{Nested, nested, unary, primary, postfixes}
-use Rattle.cyc_parse.specs.Steps.{one_field, one_postfix, level_at, behind, is_continued, operand}
+use Rattle.cyc_parse.specs.Steps.{one_field, one_postfix, with_chain, level_at, behind, is_continued, operand}
 use Rattle.cyc_parse.proofs.Levels.{climb_all, climb_ends}
 
 no_either : (b c : Bool) → b || c ≡ false → (b ≡ false) × (c ≡ false)
@@ -24,6 +24,11 @@ no_postfixes : (room left : ℕ) (inner : Nested) (ts : List Symbol) → sees si
 unfolding postfixes if_sees
 no_postfixes room zero inner ts none = let each = no_either (sees signs.LeftBracket ts) (sees signs.Arrow ts) none in rw (each.0, each.1) refl
 no_postfixes room (suc left) inner ts none = let each = no_either (sees signs.LeftBracket ts) (sees signs.Arrow ts) none in rw (each.0, each.1) refl
+
+-- an operand without postfixes
+pub no_chain : (room : ℕ) (e : Expression) (ts : List Symbol) → sees signs.LeftBracket ts || sees signs.Arrow ts ≡ false → with_chain room (nested room) e ts ≡ Ok (e, ts)
+unfolding bind
+no_chain room e ts none = rw (no_postfixes room max_items (nested room) ts none) refl
 
 -- an operand of which the first symbols are all
 ends : (room below : ℕ) (e : Expression) (ts us : List Symbol) → unary room (nested room) ts ≡ Ok (e, us) → level_at 0 below (next us) ≡ None → operand room (nested room) below ts ≡ Ok (e, us)

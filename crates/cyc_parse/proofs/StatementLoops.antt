@@ -1,11 +1,11 @@
 -- The lists of items and of clauses that the code reads in a loop are what the parser of the list gives.
-use Rattle.std.proofs.Common.{◌≡◌, ℕ, suc, ◌+◌, ◌-◌, ◌<◌, List, [], ◌∷◌, Option, None, option_map, Ok, Err, refl, sym, ap, ◌∙◌, arith}
+use Rattle.std.proofs.Common.{◌≡◌, ℕ, suc, ◌+◌, ◌-◌, ◌<◌, true, false, List, [], ◌∷◌, Option, Some, None, option_map, Ok, Err, refl, sym, ap, ◌∙◌, arith}
 use Rattle.cyc_syntax.specs.declared.tokens.Keyword.TheVariants as words
 use Rattle.cyc_syntax.specs.declared.tokens.Sign.TheVariants as signs
 use Rattle.cyc_syntax.specs.declared.tree.Item.{Item as ItemCode}
 use Rattle.cyc_syntax.specs.declared.tree.Clause.{Clause}
 use Rattle.cyc_syntax.specs.Symbols.{Symbol}
-use Rattle.cyc_syntax.specs.Trees.{NoItems, MoreItems, Clauses}
+use Rattle.cyc_syntax.specs.Trees.{Item, NoItems, MoreItems, Clauses}
 use Rattle.cyc_syntax.specs.TreeView.{view_item, items_of, clauses_of}
 use Rattle.cyc_parse.specs.declared.stop.Stop.{Stop}
 use Rattle.cyc_parse.specs.declared.stop.Stop.TheVariants as stops
@@ -28,6 +28,22 @@ unfolding items_in if_starts bind
 items_in_steps room inner = record {
   step = λ n ts. by_test _ (starts begins_item (next ts)) _ _ _ _ ts (lift _ (item room inner ts) _ _ (λ i us. refl)) refl;
 }
+
+module _ (room : ℕ) (inner : Nested) (ts : List Symbol) where
+  -- where no item begins, the list ends
+  pub no_item : starts begins_item (next ts) ≡ false → one_item room inner ts ≡ Ok (None, ts)
+  unfolding if_starts
+  no_item ends = rw ends refl
+
+  -- where one begins, it is what is read
+  pub an_item : starts begins_item (next ts) ≡ true → (i : Item) (us : List Symbol) → item room inner ts ≡ Ok (i, us) → one_item room inner ts ≡ Ok (Some i, us)
+  unfolding if_starts bind
+  an_item begins i us is = rw begins (rw is refl)
+
+  pub no_more_of_item : (e : Stop) → starts begins_item (next ts) ≡ true → (us : List Symbol) → Stops e (item room inner ts) us → Stops e (one_item room inner ts) us
+  unfolding if_starts bind
+  no_more_of_item stops.Memory begins us stopped = tt
+  no_more_of_item (stops.Refused why) begins us stopped = rw begins (rw stopped refl)
 
 -- what is done with the outcome of two parsers, done with the second's
 both : {A B C : Type 0} (o : Outcome A) (f : A → Parser B) (k : B → Parser C) → and_then o (λ a us. and_then (f a us) k) ≡ and_then (and_then o f) k

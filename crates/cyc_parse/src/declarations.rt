@@ -10,6 +10,7 @@ ghost use Rattle.cyc_parse.specs.Steps.{after_comma, one_of, one_declaration};
 ghost use Rattle.cyc_parse.specs.Declarations.{begins_void, begins_constructor, member, field, has_int, constructor, no_more_of, some_of, parameter_list, effect_regions, effect, constraint, constraints, parameters, value, global_value, global, function, typed, struct_fields, struct_or_typed, exceptions, declaration, program_of};
 
 use crate::cursor::{Parser, refusal};
+use crate::growth::append;
 use crate::stop::{Reason, Stop};
 use crate::symbol::Terminal;
 use crate::types::MAX_ITEMS;
@@ -81,12 +82,12 @@ impl<'a> Parser<'a> {
     {
         let first = self.parse_field()?;
         let mut fields = Vec::new(self.alloc());
-        fields.push(first)?;
+        append(&mut fields, first)?;
         for _ in 1..MAX_ITEMS {
             let Some(field) = self.parse_next_field()? else {
                 return Ok(fields);
             };
-            fields.push(field)?;
+            append(&mut fields, field)?;
         }
         self.end_fields()?;
         Ok(fields)
@@ -137,12 +138,12 @@ impl<'a> Parser<'a> {
     {
         let first = self.parse_constructor()?;
         let mut constructors = Vec::new(self.alloc());
-        constructors.push(first)?;
+        append(&mut constructors, first)?;
         for _ in 1..MAX_ITEMS {
             let Some(constructor) = self.parse_next_constructor()? else {
                 return Ok(constructors);
             };
-            constructors.push(constructor)?;
+            append(&mut constructors, constructor)?;
         }
         self.end_constructors()?;
         Ok(constructors)
@@ -174,12 +175,12 @@ impl<'a> Parser<'a> {
     {
         let first = self.parse_member()?;
         let mut members = Vec::new(self.alloc());
-        members.push(first)?;
+        append(&mut members, first)?;
         for _ in 1..MAX_ITEMS {
             let Some(member) = self.parse_member_after_comma()? else {
                 return Ok(members);
             };
-            members.push(member)?;
+            append(&mut members, member)?;
         }
         self.end_members()?;
         Ok(members)
@@ -256,12 +257,12 @@ impl<'a> Parser<'a> {
     {
         let first = self.parse_constraint()?;
         let mut constraints = Vec::new(self.alloc());
-        constraints.push(first)?;
+        append(&mut constraints, first)?;
         for _ in 1..MAX_ITEMS {
             let Some(constraint) = self.parse_constraint_after_comma()? else {
                 return Ok(constraints);
             };
-            constraints.push(constraint)?;
+            append(&mut constraints, constraint)?;
         }
         self.end_constraints()?;
         Ok(constraints)

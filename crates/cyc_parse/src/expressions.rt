@@ -14,6 +14,7 @@ ghost use Rattle.cyc_syntax.specs.Trees.{Expression, NoPostfixes, NoOperations, 
 ghost use Rattle.cyc_parse.specs.Expressions.{binary_operator, chained, binary_of, nested, begins_expression, begins_initial, operator_at, no_more_operations, operations, climb, group, arguments, from_name, primary, no_more_postfixes, postfixes, with_postfixes, unary, assignment, binary, expression, values, fields, initial_from_name, array, initial};
 
 use crate::cursor::{Parser, refusal};
+use crate::growth::append;
 use crate::stop::{Reason, Stop};
 use crate::symbol::Terminal;
 use crate::types::MAX_ITEMS;
@@ -211,12 +212,12 @@ impl<'a> Parser<'a> {
     {
         let first = self.parse_expression(room)?;
         let mut arguments = Vec::new(self.alloc());
-        arguments.push(Box::into_inner(first))?;
+        append(&mut arguments, Box::into_inner(first))?;
         for _ in 1..MAX_ITEMS {
             let Some(argument) = self.parse_argument_after_comma(room)? else {
                 return Ok(arguments);
             };
-            arguments.push(argument)?;
+            append(&mut arguments, argument)?;
         }
         self.end_arguments(room)?;
         Ok(arguments)
@@ -402,7 +403,7 @@ impl<'a> Parser<'a> {
             let Some(postfix) = self.parse_postfix(room)? else {
                 return Ok(postfixes);
             };
-            postfixes.push(postfix)?;
+            append(&mut postfixes, postfix)?;
         }
         self.end_postfixes()?;
         Ok(postfixes)
@@ -417,6 +418,9 @@ impl<'a> Parser<'a> {
     ) -> Result<Box<Expr>, Stop>
         ensures { Gives view_boxed result (with_chain room (nested room) (view_boxed base) self.old) self.new }
     {
+        if !self.begins_postfix() {
+            return Ok(base);
+        }
         let postfixes = self.parse_postfixes(room)?;
         self.chained(base, postfixes)
     }
@@ -620,7 +624,7 @@ impl<'a> Parser<'a> {
             let Some(operation) = self.parse_operation(room, below)? else {
                 return Ok(operations);
             };
-            operations.push(operation)?;
+            append(&mut operations, operation)?;
         }
         self.end_operations(below)?;
         Ok(operations)
@@ -716,13 +720,13 @@ impl<'a> Parser<'a> {
     {
         let first = self.parse_expression(room)?;
         let mut values = Vec::new(self.alloc());
-        values.push(Box::into_inner(first))?;
+        append(&mut values, Box::into_inner(first))?;
         let most = self.len();
         for _ in 0..most {
             let Some(value) = self.parse_argument_after_comma(room)? else {
                 return Ok(values);
             };
-            values.push(value)?;
+            append(&mut values, value)?;
         }
         Ok(values)
     }

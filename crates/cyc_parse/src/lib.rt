@@ -4,6 +4,7 @@
 mod cursor;
 mod declarations;
 mod expressions;
+mod growth;
 pub mod laws;
 mod statements;
 mod stop;

@@ -11,10 +11,11 @@ ghost use Rattle.cyc_parse.specs.Code.{Gives};
 ghost use Rattle.cyc_parse.specs.Parsing.{next, starts, inside, sign, word};
 ghost use Rattle.cyc_parse.specs.Types.{region_of};
 ghost use Rattle.cyc_parse.specs.Statements.{begins_statement, begins_item, is_case, is_default, begins_clause, is_else, is_unary, ends_in_new, ends_in_name, end_of_swap, nested_statements, body, expression_from, swap, behind, else_part, return_value, thrown, caught, clauses_in, clauses, if_statement, while_statement, throw_statement, try_statement, statement, local_value, local, opened_key, region, alias, new_key, dynamic_region, item, items};
-ghost use Rattle.cyc_parse.specs.StatementSteps.{one_item, view_clause_head, clause_head, one_clause, then_clause, default_clause, end_of_block, end_of_try, statement_from, conditional, plain_statement, after_symbol, return_statement, named_statement, block_statement, expression_statement, let_item};
+ghost use Rattle.cyc_parse.specs.StatementSteps.{view_clause_head, clause_head, one_clause, then_clause, default_clause, end_of_block, end_of_try, statement_from, conditional, plain_statement, after_symbol, return_statement, named_statement, block_statement, expression_statement, let_item};
 
 use crate::cursor::{Parser, refusal};
 use crate::expressions::LEVELS;
+use crate::growth::append;
 use crate::stop::{Reason, Stop};
 use crate::symbol::Terminal;
 use cyc_syntax::{Block, Clause, Expr, Ident, Initial, Item, Keyword, Name, Sign, Stmt};
@@ -404,7 +405,7 @@ impl<'a> Parser<'a> {
                 let default = self.parse_default_clause(room)?;
                 return Ok(Handlers { clauses, default });
             };
-            clauses.push(clause)?;
+            append(&mut clauses, clause)?;
         }
         Ok(Handlers {
             clauses,
@@ -637,17 +638,6 @@ impl<'a> Parser<'a> {
         }
     }
 
-    /// An item, if one comes next.
-    #[cycle(statement)]
-    fn parse_next_item(&mut self, room: u32) -> Result<Option<Item>, Stop>
-        ensures { Gives (option_map view_item) result (one_item room (nested_statements room) self.old) self.new }
-    {
-        if !self.begins_item() {
-            return Ok(None);
-        }
-        Ok(Some(self.parse_item(room)?))
-    }
-
     #[cycle(statement)]
     fn parse_items_here(&mut self, room: u32) -> Result<Vec<Item>, Stop>
         ensures { Gives (λ v. items_of v.items) result (items room (nested_statements room) self.old) self.new }
@@ -655,10 +645,11 @@ impl<'a> Parser<'a> {
         let mut items = Vec::new(self.alloc());
         let most = self.len();
         for _ in 0..most {
-            let Some(item) = self.parse_next_item(room)? else {
+            if !self.begins_item() {
                 return Ok(items);
-            };
-            items.push(item)?;
+            }
+            let item = self.parse_item(room)?;
+            append(&mut items, item)?;
         }
         Ok(items)
     }

@@ -89,7 +89,7 @@ fn symbols_of_tokens(
     ensures names { OnOk result (names.new ≡ fold with_text names.old (texts_in (map (token_of text.now) tokens.now))) }
     ensures symbols { IfOk result (λ v. map view_symbol v.items ≡ map (symbol_of names.new) (map (token_of text.now) tokens.now)) }
 {
-    let mut symbols = Vec::new(alloc);
+    let mut symbols = Vec::with_capacity(alloc, tokens.len())?;
     for token in tokens {
         let symbol = symbol_of_token(*token, text, names)?;
         symbols.push(symbol)?;

@@ -8,6 +8,7 @@ ghost use Rattle.cyc_parse.specs.Steps.{after_comma, one_pointer};
 ghost use Rattle.cyc_parse.specs.Types.{begins_type, mark_at, optional_region, region_of, no_more_pointers, pointers_of, with_pointers, optional_regions, written_type};
 
 use crate::cursor::{Parser, refusal};
+use crate::growth::append;
 use crate::stop::{Reason, Stop};
 use crate::symbol::Terminal;
 use cyc_syntax::{BaseType, Ident, Keyword, Pointer, PointerKind, Sign, WrittenType};
@@ -63,12 +64,12 @@ impl<'a> Parser<'a> {
     {
         let first = self.take_region_name()?;
         let mut regions = Vec::new(self.alloc());
-        regions.push(first)?;
+        append(&mut regions, first)?;
         for _ in 1..MAX_ITEMS {
             let Some(region) = self.parse_region_after_comma()? else {
                 return Ok(regions);
             };
-            regions.push(region)?;
+            append(&mut regions, region)?;
         }
         self.end_regions()?;
         Ok(regions)
@@ -155,7 +156,7 @@ impl<'a> Parser<'a> {
             let Some(pointer) = self.parse_pointer()? else {
                 return Ok(pointers);
             };
-            pointers.push(pointer)?;
+            append(&mut pointers, pointer)?;
         }
         self.end_pointers()?;
         Ok(pointers)

@@ -1,14 +1,15 @@
-use Rattle.std.proofs.Common.{◌≡◌, ℕ, suc, List, [], map, Option, option_map, Ok, refl, ap, subst, ◌∙◌}
+use Rattle.std.proofs.Common.{◌≡◌, ℕ, suc, List, [], map, Option, option_map, Ok, refl, sym, ap, subst, ◌∙◌}
 use Rattle.std.proofs.lemmas.Result.{err_from_is_err_and}
 use Rattle.cyc_syntax.specs.Symbols.{Symbol}
 use Rattle.cyc_syntax.specs.Trees.{Postfixes, NoPostfixes, NoOperations, NoExpressions}
 use Rattle.cyc_syntax.specs.TreeView.{view_expression, then_postfix, postfixes_of, operations_of, expressions_of}
 use Rattle.cyc_parse.specs.Expressions.{nested, begins_expression, more_values, postfixes, operations}
 use Rattle.cyc_parse.specs.Steps.{one_field, operand, then_operation}
+use Rattle.cyc_parse.specs.Boxes.{view_boxed}
 use Rattle.cyc_parse.specs.Code.{Gives}
 use Rattle.cyc_parse.specs.Parsing.{Outcome, more_items}
 use Rattle.cyc_parse.proofs.Loops.{goes_on, fails, fails_full, ends_as, is_full_as, onto-map, onto-expressions, onto-postfixes, onto-operations, more_items_steps, postfixes_steps, operations_steps, more_values_steps}
-use Rattle.cyc_parse.proofs.LoneOperands.{no_bracket}
+use Rattle.cyc_parse.proofs.LoneOperands.{no_bracket, no_chain}
 use Rattle.cyc_parse.proofs.cursor.Parser.+expression.Goals as goal
 
 pub parse_argument_list-returns-in_err-argument : goal.parse_argument_list-returns-in_err-argument
@@ -22,7 +23,7 @@ parse_argument_list-returns-in_default t c =
 
 pub parse_argument_list-loop-preserved : goal.parse_argument_list-loop-preserved
 parse_argument_list-loop-preserved t c =
-    rw c.in_ok-push-2.ensures.items (goes_on view_expression _ _ _ _ (more_items_steps c.args.room begins_expression (nested c.args.room).expression) c.loop.arguments.items 64 c.loop.counter c.loop.self c.parse_argument_after_comma.new.self c.in_ok-argument.field-0 c.in-Some.argument _ c.loop-test.true c.in_ok-argument.ensures c.in-Some.is c.loop.invariant)
+    rw c.in_ok-append-2.ensures.items (goes_on view_expression _ _ _ _ (more_items_steps c.args.room begins_expression (nested c.args.room).expression) c.loop.arguments.items 64 c.loop.counter c.loop.self c.parse_argument_after_comma.new.self c.in_ok-argument.field-0 c.in-Some.argument _ c.loop-test.true c.in_ok-argument.ensures c.in-Some.is c.loop.invariant)
 
 pub parse_argument_list-returns-in_err-end_arguments : goal.parse_argument_list-returns-in_err-end_arguments
 unfolding more_items
@@ -51,7 +52,7 @@ parse_postfixes-returns-in_default t c =
 
 pub parse_postfixes-loop-preserved : goal.parse_postfixes-loop-preserved
 parse_postfixes-loop-preserved t c =
-    rw c.in_ok-push.ensures.items (goes_on then_postfix _ _ _ _ (postfixes_steps c.args.room (nested c.args.room)) c.loop.postfixes.items 64 c.loop.counter c.loop.self c.parse_postfix.new.self c.in_ok-postfix.field-0 c.in-Some.postfix _ c.loop-test.true c.in_ok-postfix.ensures c.in-Some.is c.loop.invariant)
+    rw c.in_ok-append.ensures.items (goes_on then_postfix _ _ _ _ (postfixes_steps c.args.room (nested c.args.room)) c.loop.postfixes.items 64 c.loop.counter c.loop.self c.parse_postfix.new.self c.in_ok-postfix.field-0 c.in-Some.postfix _ c.loop-test.true c.in_ok-postfix.ensures c.in-Some.is c.loop.invariant)
 
 pub parse_postfixes-returns-in_err-end_postfixes : goal.parse_postfixes-returns-in_err-end_postfixes
 unfolding postfixes
@@ -64,6 +65,10 @@ unfolding postfixes
 parse_postfixes-returns t c =
     is_full_as then_postfix _ NoPostfixes postfixes_of onto-postfixes _ _ (postfixes_steps c.args.room (nested c.args.room)) c.loop.postfixes.items 64 c.loop.counter c.loop.self c.end_postfixes.new.self _ c.loop-test.false c.in_ok-end_postfixes.ensures c.loop.invariant
 
+pub parse_rest_of_operand-returns-then-not-begins_postfix : goal.parse_rest_of_operand-returns-then-not-begins_postfix
+parse_rest_of_operand-returns-then-not-begins_postfix t c =
+    no_chain c.args.room (view_boxed c.args.base) c.args.self.now (sym c.begins_postfix.ensures ∙ c.if-not-begins_postfix.true)
+
 pub parse_operations-returns-in_err-operation : goal.parse_operations-returns-in_err-operation
 parse_operations-returns-in_err-operation t c =
     let p = err_from_is_err_and c.from_residual-in_err-operation.result c.from_residual-in_err-operation.ensures.1 in
@@ -75,7 +80,7 @@ parse_operations-returns-in_default t c =
 
 pub parse_operations-loop-preserved : goal.parse_operations-loop-preserved
 parse_operations-loop-preserved t c =
-    rw c.in_ok-push.ensures.items (goes_on then_operation _ _ _ _ (operations_steps (operand c.args.room (nested c.args.room) c.args.below) (suc c.args.below)) c.loop.operations.items 64 c.loop.counter c.loop.self c.parse_operation.new.self c.in_ok-operation.field-0 c.in-Some.operation _ c.loop-test.true c.in_ok-operation.ensures c.in-Some.is c.loop.invariant)
+    rw c.in_ok-append.ensures.items (goes_on then_operation _ _ _ _ (operations_steps (operand c.args.room (nested c.args.room) c.args.below) (suc c.args.below)) c.loop.operations.items 64 c.loop.counter c.loop.self c.parse_operation.new.self c.in_ok-operation.field-0 c.in-Some.operation _ c.loop-test.true c.in_ok-operation.ensures c.in-Some.is c.loop.invariant)
 
 pub parse_operations-returns-in_err-end_operations : goal.parse_operations-returns-in_err-end_operations
 unfolding operations
@@ -99,7 +104,7 @@ parse_values-returns-in_default t c =
 
 pub parse_values-loop-preserved : goal.parse_values-loop-preserved
 parse_values-loop-preserved t c =
-    rw c.in_ok-push-2.ensures.items (goes_on view_expression _ _ _ _ (more_values_steps c.args.room (nested c.args.room)) c.loop.values.items c.len-most.result c.loop.counter c.loop.self c.parse_argument_after_comma.new.self c.in_ok-value.field-0 c.in-Some.value _ c.loop-test.true c.in_ok-value.ensures c.in-Some.is c.loop.invariant)
+    rw c.in_ok-append-2.ensures.items (goes_on view_expression _ _ _ _ (more_values_steps c.args.room (nested c.args.room)) c.loop.values.items c.len-most.result c.loop.counter c.loop.self c.parse_argument_after_comma.new.self c.in_ok-value.field-0 c.in-Some.value _ c.loop-test.true c.in_ok-value.ensures c.in-Some.is c.loop.invariant)
 
 no_more_values : (room : ℕ) (ts : List Symbol) → more_values room (nested room) 0 ts ≡ Ok (NoExpressions, ts)
 unfolding more_values

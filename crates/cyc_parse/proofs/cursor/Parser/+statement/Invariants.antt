@@ -51,9 +51,6 @@ decreases-parse_statement_here l = 16 * l.room + 5
 abbrev pub decreases-parse_item : goal.decreases-parse_item
 decreases-parse_item l = 16 * l.room + 6
 
-abbrev pub decreases-parse_next_item : goal.decreases-parse_next_item
-decreases-parse_next_item l = 16 * l.room + 7
-
 abbrev pub decreases-parse_items_here : goal.decreases-parse_items_here
 decreases-parse_items_here l = 16 * l.room + 8
 

@@ -17,7 +17,7 @@ returns-in_default c = λ room.
 
 pub loop-preserved : goal.loop-preserved
 loop-preserved c = λ room.
-    rw c.in_ok-push-2.ensures.items (goes_on view_constraint _ _ _ _ (more_items_steps (suc room) begins_region (constraint (suc room))) c.loop.constraints.items 64 c.loop.counter c.loop.self c.parse_constraint_after_comma.new.self c.in_ok-constraint.field-0 c.in-Some.constraint _ c.loop-test.true (c.in_ok-constraint.ensures room) c.in-Some.is (c.loop.invariant room))
+    rw c.in_ok-append-2.ensures.items (goes_on view_constraint _ _ _ _ (more_items_steps (suc room) begins_region (constraint (suc room))) c.loop.constraints.items 64 c.loop.counter c.loop.self c.parse_constraint_after_comma.new.self c.in_ok-constraint.field-0 c.in-Some.constraint _ c.loop-test.true (c.in_ok-constraint.ensures room) c.in-Some.is (c.loop.invariant room))
 
 pub returns-in_err-end_constraints : goal.returns-in_err-end_constraints
 unfolding more_items

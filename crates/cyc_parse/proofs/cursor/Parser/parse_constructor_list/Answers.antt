@@ -16,7 +16,7 @@ returns-in_default c =
 
 pub loop-preserved : goal.loop-preserved
 loop-preserved c =
-    rw c.in_ok-push-2.ensures.items (goes_on view_constructor _ _ _ _ (more_of_steps begins_constructor (constructor 200)) c.loop.constructors.items 64 c.loop.counter c.loop.self c.parse_next_constructor.new.self c.in_ok-constructor.field-0 c.in-Some.constructor _ c.loop-test.true c.in_ok-constructor.ensures c.in-Some.is c.loop.invariant)
+    rw c.in_ok-append-2.ensures.items (goes_on view_constructor _ _ _ _ (more_of_steps begins_constructor (constructor 200)) c.loop.constructors.items 64 c.loop.counter c.loop.self c.parse_next_constructor.new.self c.in_ok-constructor.field-0 c.in-Some.constructor _ c.loop-test.true c.in_ok-constructor.ensures c.in-Some.is c.loop.invariant)
 
 pub returns-in_err-end_constructors : goal.returns-in_err-end_constructors
 unfolding more_of

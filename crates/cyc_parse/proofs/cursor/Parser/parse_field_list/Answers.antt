@@ -17,7 +17,7 @@ returns-in_default c = λ room.
 
 pub loop-preserved : goal.loop-preserved
 loop-preserved c = λ room.
-    rw c.in_ok-push-2.ensures.items (goes_on view_member _ _ _ _ (more_of_steps begins_type (field (suc room))) c.loop.fields.items 64 c.loop.counter c.loop.self c.parse_next_field.new.self c.in_ok-field.field-0 c.in-Some.field _ c.loop-test.true (c.in_ok-field.ensures room) c.in-Some.is (c.loop.invariant room))
+    rw c.in_ok-append-2.ensures.items (goes_on view_member _ _ _ _ (more_of_steps begins_type (field (suc room))) c.loop.fields.items 64 c.loop.counter c.loop.self c.parse_next_field.new.self c.in_ok-field.field-0 c.in-Some.field _ c.loop-test.true (c.in_ok-field.ensures room) c.in-Some.is (c.loop.invariant room))
 
 pub returns-in_err-end_fields : goal.returns-in_err-end_fields
 unfolding more_of

@@ -18,7 +18,7 @@ returns-in_default c = λ room.
 
 pub loop-preserved : goal.loop-preserved
 loop-preserved c = λ room.
-    rw c.in_ok-push-2.ensures.items (goes_on view_member _ _ _ _ (more_items_steps (suc room) begins_type (member (suc room))) c.loop.members.items 64 c.loop.counter c.loop.self c.parse_member_after_comma.new.self c.in_ok-member.field-0 c.in-Some.member _ c.loop-test.true (c.in_ok-member.ensures room) c.in-Some.is (c.loop.invariant room))
+    rw c.in_ok-append-2.ensures.items (goes_on view_member _ _ _ _ (more_items_steps (suc room) begins_type (member (suc room))) c.loop.members.items 64 c.loop.counter c.loop.self c.parse_member_after_comma.new.self c.in_ok-member.field-0 c.in-Some.member _ c.loop-test.true (c.in_ok-member.ensures room) c.in-Some.is (c.loop.invariant room))
 
 pub returns-in_err-end_members : goal.returns-in_err-end_members
 unfolding more_items

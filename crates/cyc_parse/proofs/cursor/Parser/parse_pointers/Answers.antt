@@ -16,7 +16,7 @@ returns-in_default c = λ room.
 
 pub loop-preserved : goal.loop-preserved
 loop-preserved c = λ room.
-    rw c.in_ok-push.ensures.items (goes_on view_pointer _ _ _ _ (pointers_of_steps (suc room)) c.loop.pointers.items 64 c.loop.counter c.loop.self c.parse_pointer.new.self c.in_ok-pointer.field-0 c.in-Some.pointer _ c.loop-test.true (c.in_ok-pointer.ensures room) c.in-Some.is (c.loop.invariant room))
+    rw c.in_ok-append.ensures.items (goes_on view_pointer _ _ _ _ (pointers_of_steps (suc room)) c.loop.pointers.items 64 c.loop.counter c.loop.self c.parse_pointer.new.self c.in_ok-pointer.field-0 c.in-Some.pointer _ c.loop-test.true (c.in_ok-pointer.ensures room) c.in-Some.is (c.loop.invariant room))
 
 pub returns-in_err-end_pointers : goal.returns-in_err-end_pointers
 unfolding pointers_of

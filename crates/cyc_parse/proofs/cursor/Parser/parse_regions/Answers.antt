@@ -16,7 +16,7 @@ returns-in_default c = λ room.
 
 pub loop-preserved : goal.loop-preserved
 loop-preserved c = λ room.
-    rw c.in_ok-push-2.ensures.items (goes_on view_name _ _ _ _ (more_items_steps (suc room) begins_region (region_name (suc room))) c.loop.regions.items 64 c.loop.counter c.loop.self c.parse_region_after_comma.new.self c.in_ok-region.field-0 c.in-Some.region _ c.loop-test.true (c.in_ok-region.ensures room) c.in-Some.is (c.loop.invariant room))
+    rw c.in_ok-append-2.ensures.items (goes_on view_name _ _ _ _ (more_items_steps (suc room) begins_region (region_name (suc room))) c.loop.regions.items 64 c.loop.counter c.loop.self c.parse_region_after_comma.new.self c.in_ok-region.field-0 c.in-Some.region _ c.loop-test.true (c.in_ok-region.ensures room) c.in-Some.is (c.loop.invariant room))
 
 pub returns-in_err-end_regions : goal.returns-in_err-end_regions
 unfolding more_items

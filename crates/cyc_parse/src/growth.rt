@@ -1,0 +1,16 @@
+//! Lists that grow by one item.
+ghost use Rattle.std.specs.Prelude.{◌≡◌, [], ◌∷◌, ◌++◌, is_ok, if◌then◌else◌};
+
+use std::alloc::AllocError;
+
+/// Appends an item. Most lists of a program are short, so a list has room for two items first, and for twice as many where
+/// that is taken.
+pub(crate) fn append<T: Drop>(list: &mut Vec<T>, item: T) -> Result<(), AllocError>
+    ensures items { list.new.items ≡ (if is_ok result then list.old.items ++ item ∷ [] else list.old.items) }
+{
+    if list.len() == list.capacity() {
+        list.reserve_exact(list.len().max(2))?;
+    }
+    list.push(item)?;
+    Ok(())
+}
