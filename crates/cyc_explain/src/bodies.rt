@@ -71,29 +71,21 @@ fn explain_at_fault(
     parameters: &Parameters,
     body: &Block,
 ) {
-    explain_head(
-        teller,
-        scope.names(),
-        name,
-        members(parameters),
-        &body.items,
-    );
+    note_head(teller, scope.names(), name, members(parameters));
+    explain_declared(teller, &body.items);
     let forms = ManuallyDrop::new(forms_of(teller.alloc, body));
     explain_forms(teller, scope, declarations, &forms);
 }
 
-/// The words for a name of a parameter that a local has too; and notes what the head of a function tells.
-fn explain_head(
-    teller: &mut Teller,
-    names: &RegionNames,
-    name: Ident,
-    members: &[Member],
-    items: &[Item],
-) {
+/// Notes what the head of a function tells, and declares its parameters.
+fn note_head(teller: &mut Teller, names: &RegionNames, name: Ident, members: &[Member]) {
     teller.notes.function = name.name.number;
     teller.notes.homes.add_parameters(names, name, members);
     teller.unknown = Message::UnknownInBody;
-    explain_parameters(teller, members, items);
+    teller.declared.clear();
+    for member in members {
+        teller.declare(member.name);
+    }
 }
 
 /// Asks the forms of a body, the last one first.
@@ -127,7 +119,7 @@ fn explain_form(
         Form::Statement { statement, .. } => explain_statement(teller, scope, statement),
         Form::Item { item, end } => explain_item(teller, scope, item, *end),
         Form::Clause { clause } => explain_clause(teller, scope, clause),
-        Form::Items { items } => explain_items(teller, items),
+        Form::Items { items } => explain_declared(teller, items),
         Form::Begin { label, span } => explain_begin(teller, *label, *span),
     }
 }
@@ -142,39 +134,18 @@ fn explain_begin(teller: &mut Teller, label: Option<Ident>, span: Span) {
 
 // ---- items
 
-/// The local that an item declares.
-fn local_of(item: &Item) -> Option<Ident> {
-    match item {
-        Item::Statement { .. } => None,
-        Item::Local { name, .. }
-        | Item::Region { handle: name, .. }
-        | Item::Alias { name, .. }
-        | Item::DynamicRegion { key: name, .. } => Some(*name),
-    }
-}
-
-/// The words where these items declare a local that their block, or what stands around it, has already.
-fn explain_declared(teller: &mut Teller, items: &[Item]) {
+/// The words where these items declare a local twice, or one that is declared already; behind them nothing is.
+fn explain_declared(teller: &mut Teller, items: &Vec<Item>) {
     for item in items {
-        if let Some(name) = local_of(item) {
-            teller.declare(name);
+        match item {
+            Item::Statement { .. } => {}
+            Item::Local { name, .. }
+            | Item::Region { handle: name, .. }
+            | Item::Alias { name, .. }
+            | Item::DynamicRegion { key: name, .. } => teller.declare(*name),
         }
     }
-}
-
-/// The words where the items of a block declare a local twice.
-fn explain_items(teller: &mut Teller, items: &[Item]) {
     teller.declared.clear();
-    explain_declared(teller, items);
-}
-
-/// The words where the items of a function declare a local of the name of a parameter.
-fn explain_parameters(teller: &mut Teller, members: &[Member], items: &[Item]) {
-    teller.declared.clear();
-    for member in members {
-        teller.declare(member.name);
-    }
-    explain_declared(teller, items);
 }
 
 /// Asks an item of a block that ends there.
@@ -227,7 +198,7 @@ fn explain_statement(teller: &mut Teller, scope: &mut Scope<'_>, statement: &Stm
     match statement {
         Stmt::Swap { left, right } => explain_swap(teller, scope, left, right),
         Stmt::Return { span, value } => {
-            explain_return(teller, scope, *span, value.is_some());
+            explain_return(teller, scope, *span, matches!(value, Some(_)));
         }
         Stmt::Throw { exception, .. } => explain_exception(teller, scope, *exception),
         _ => {}
@@ -242,15 +213,9 @@ fn explain_clause(teller: &mut Teller, scope: &Scope<'_>, clause: &Clause) {
         .homes
         .add(None, clause.exception.span, Origin::Block);
     if let Some(variable) = clause.variable {
-        explain_caught(teller, variable, &clause.items);
+        teller.declare(variable);
+        explain_declared(teller, &clause.items);
     }
-}
-
-/// The words where these items declare the variable of their clause a second time.
-fn explain_caught(teller: &mut Teller, variable: Ident, items: &[Item]) {
-    teller.declared.clear();
-    teller.declare(variable);
-    explain_declared(teller, items);
 }
 
 // ---- expressions

@@ -139,10 +139,15 @@ fn say_here(teller: &mut Teller, own: Region, here: Region) {
     teller.notes.regions.0 = here;
     let theirs = name_of(&teller.notes.theirs, own);
     let ours = name_of(&teller.notes.homes, here);
-    if theirs.is_some() && theirs == ours {
-        teller.say(", and %a of %n is %r of %f here");
-    } else if let Region::Variable(_) = own {
-        teller.say(", and %a is %r here");
+    match (theirs, ours) {
+        (Some(their_name), Some(our_name)) if their_name == our_name => {
+            teller.say(Message::HereOfSameName);
+        }
+        _ => {
+            if let Region::Variable(_) = own {
+                teller.say(Message::Here);
+            }
+        }
     }
 }
 
@@ -156,7 +161,7 @@ fn explain_constraint(
 ) {
     if teller.is_fault(Code::NotOutlived, function.span) && !scope.outlives(here.0, here.1) {
         teller.notes.their_regions = own;
-        teller.say("%n has the constraint %a > %b");
+        teller.say(Message::HasConstraint);
         say_here(teller, own.0, here.0);
         say_here(teller, own.1, here.1);
         say_shorter(teller, here.0, here.1);
@@ -165,14 +170,18 @@ fn explain_constraint(
 
 /// Says the effect of a function.
 fn say_effect(teller: &mut Teller, effect: &[Region]) {
-    teller.say("the effect of %n is {");
+    teller.say(Message::Effect);
     let mut is_first = true;
     for region in effect {
         teller.notes.their_regions.0 = *region;
-        teller.say(if is_first { "%a" } else { ", %a" });
+        teller.say(if is_first {
+            Message::EffectFirst
+        } else {
+            Message::EffectNext
+        });
         is_first = false;
     }
-    teller.say("}");
+    teller.say(Message::EffectEnd);
 }
 
 /// The words for a region of an effect that is not live, where it is this one.
@@ -187,7 +196,7 @@ fn explain_effect(
     if teller.is_fault(Code::EffectNotCovered, function.span) && !scope.is_live(here) {
         say_effect(teller, effect);
         say_here(teller, own, here);
-        teller.say("\n");
+        teller.say(Message::LineEnd);
         say_closed(teller, here);
     }
 }

@@ -1,5 +1,6 @@
 //! Words for values that are converted to a type, and for regions: that are not live, or do not outlive each other.
 use crate::homes::{Home, Origin};
+use crate::messages::Message;
 use crate::teller::Teller;
 use crate::words::{Notes, given};
 use cyc_forms::{Given, convert};
@@ -30,7 +31,7 @@ pub(crate) fn say_closed(teller: &mut Teller, region: Region) {
                 origin: Origin::Caller,
                 ..
             },
-        ) => teller.say("%r is not in the effect of %f"),
+        ) => teller.say(Message::NotInEffect),
         Some(
             Home {
                 origin: Origin::Dynamic,
@@ -39,13 +40,13 @@ pub(crate) fn say_closed(teller: &mut Teller, region: Region) {
             },
         ) => {
             teller.notes.place = span;
-            teller.say("%r, the dynamic region declared at %p, is not open here");
+            teller.say(Message::NotOpen);
             if let Some(end) = last_end(teller, name) {
                 teller.notes.place = end;
-                teller.say(": the block that opened it ended at %p");
+                teller.say(Message::OpenBefore);
             }
         }
-        _ => teller.say("%r is not live here"),
+        _ => teller.say(Message::NotLive),
     }
 }
 
@@ -53,7 +54,7 @@ pub(crate) fn say_closed(teller: &mut Teller, region: Region) {
 pub(crate) fn explain_closed(teller: &mut Teller, scope: &Scope<'_>, span: Span) {
     let region = given(&teller.notes.found).region();
     if teller.is_fault(Code::RegionNotLive, span) && !scope.is_live(region) {
-        teller.say("found %t\n");
+        teller.say(Message::ClosedRegion);
         say_closed(teller, region);
     }
 }
@@ -61,90 +62,86 @@ pub(crate) fn explain_closed(teller: &mut Teller, scope: &Scope<'_>, span: Span)
 // ---- regions that do not outlive others
 
 /// Where a region begins that has this home, if there is more to say of that than what it is called.
-fn beginning_of(region: Region, home: Option<Home>) -> &'static str {
+fn beginning_of(region: Region, home: Option<Home>) -> Option<Message> {
     match home {
         Some(home) => match home.origin {
-            _ if home.name.is_none() => "",
-            Origin::Caller => "%r comes from the caller",
-            Origin::Block | Origin::Item => "%r begins at %p",
-            Origin::Dynamic => "%r is a dynamic region, declared at %p",
+            _ if matches!(home.name, None) => None,
+            Origin::Caller => Some(Message::FromCaller),
+            Origin::Block | Origin::Item => Some(Message::BeginsAt),
+            Origin::Dynamic => Some(Message::DynamicAt),
         },
         None => match region {
-            Region::Heap => "%r lives for the whole run",
-            Region::Unique => "%r stands apart from all regions",
-            Region::Variable(_) => "",
+            Region::Heap => Some(Message::HeapLives),
+            Region::Unique => Some(Message::UniqueApart),
+            Region::Variable(_) => None,
         },
     }
 }
 
 /// Says where a region begins behind a mark, if there is anything to say.
-fn say_beginning(teller: &mut Teller, mark: &str, region: Region) -> bool {
+fn say_beginning(teller: &mut Teller, mark: Message, region: Region) -> bool {
     let home = teller.notes.homes.find(region);
-    let text = beginning_of(region, home);
+    let beginning = beginning_of(region, home);
     if let Some(home) = home {
         teller.notes.place = home.span;
     }
-    if !text.is_empty() {
-        teller.notes.regions.0 = region;
-        teller.say(mark);
-        teller.say(text);
+    match beginning {
+        Some(beginning) => {
+            teller.notes.regions.0 = region;
+            teller.say(mark);
+            teller.say(beginning);
+            true
+        }
+        None => false,
     }
-    !text.is_empty()
 }
 
 /// Says in a line of its own which region does not outlive which, and where each begins, and then what to do.
 pub(crate) fn say_shorter(teller: &mut Teller, region: Region, other: Region) {
     teller.notes.regions = (region, other);
-    teller.say("\n%r does not outlive %s");
-    let is_begun = say_beginning(teller, ": ", region);
+    teller.say(Message::NotOutlived);
+    let is_begun = say_beginning(teller, Message::FirstBeginning, region);
     if region != other {
-        say_beginning(teller, if is_begun { ", " } else { ": " }, other);
+        let mark = if is_begun {
+            Message::NextBeginning
+        } else {
+            Message::FirstBeginning
+        };
+        say_beginning(teller, mark, other);
     }
     teller.notes.regions = (region, other);
     if let Some(home) = teller.notes.homes.find(region) {
         let other_home = teller.notes.homes.find(other);
-        teller.hint(advice_on_regions(home, other, other_home));
+        teller.say(advice_on_regions(home, other, other_home));
     }
 }
 
 /// What to do about a region of the function at hand that does not outlive another.
-fn advice_on_regions(home: Home, other: Region, other_home: Option<Home>) -> &'static str {
+fn advice_on_regions(home: Home, other: Region, other_home: Option<Home>) -> Message {
     match other {
-        Region::Unique => "",
+        Region::Unique => Message::Nothing,
         Region::Heap => match home.origin {
-            Origin::Caller => {
-                "a parameter's pointer may lead anywhere: write `H behind its mark to take heap pointers alone, or name one region on both sides, as in int *`r same(int *`r p)"
-            }
-            Origin::Block => "a variable is gone when its block ends: make the object by new",
-            Origin::Item | Origin::Dynamic => {
-                "what is in %r is gone when its region ends: make the object by new, or write the region into the type"
-            }
+            Origin::Caller => Message::CallerToHeap,
+            Origin::Block => Message::LocalToHeap,
+            Origin::Item | Origin::Dynamic => Message::RegionToHeap,
         },
         Region::Variable(_) => match other_home {
             Some(other) => advice_between(home, other),
-            None => "",
+            None => Message::Nothing,
         },
     }
 }
 
 /// The same, where the other one is of the function at hand too.
-fn advice_between(home: Home, other: Home) -> &'static str {
-    if matches!(other.origin, Origin::Dynamic) {
-        return "a dynamic region ends where its key is given back: only the heap is known to outlive it";
-    }
-    match home.origin {
-        Origin::Caller if home.name.is_some() && other.name.is_some() => {
-            "if it does at each call, declare so behind the parameters: %r > %s"
-        }
-        Origin::Caller => {
-            "name the regions of both types, as one, or as two with a constraint: `a > `b"
-        }
-        Origin::Block => {
-            "a variable is gone when its block ends: make an object by new, or by rnew in the other region"
-        }
-        Origin::Item | Origin::Dynamic => {
-            "what is in %r is gone when its block ends: make the object in %s"
-        }
+fn advice_between(home: Home, other: Home) -> Message {
+    match (home.origin, other.origin) {
+        (_, Origin::Dynamic) => Message::DynamicEnds,
+        (Origin::Caller, _) => match (home.name, other.name) {
+            (Some(_), Some(_)) => Message::NamedByCaller,
+            _ => Message::LeftOutByCaller,
+        },
+        (Origin::Block, _) => Message::LocalToRegion,
+        (Origin::Item | Origin::Dynamic, _) => Message::RegionToRegion,
     }
 }
 
@@ -177,28 +174,24 @@ fn has_shape(of_type: &Ty, wanted: &Ty) -> bool {
 }
 
 /// What more there is to say of a value of another type than this.
-fn more_on(given: Given<'_>, wanted: &Ty) -> &'static str {
+fn more_on(given: Given<'_>, wanted: &Ty) -> Message {
     match (given, wanted) {
-        (Given::Void, _) => "\nhint: a function that returns no value is called by itself",
+        (Given::Void, _) => Message::VoidUsed,
         (Given::Value(of_type), Ty::Pointer { .. }) if has_shape(of_type, wanted) => {
-            ", with other regions inside"
+            Message::OtherRegions
         }
-        (Given::Value(Ty::Pointer { .. }), Ty::Int | Ty::Char) => {
-            "\nhint: write *p for what p leads to"
-        }
+        (Given::Value(Ty::Pointer { .. }), Ty::Int | Ty::Char) => Message::TargetWanted,
         (Given::Value(Ty::Pointer { target, .. }), Ty::Pointer { .. })
-            if !matches!(**target, Ty::Int | Ty::Char) => {
-            "\nhint: what a pointer leads to is not converted: put a value of that very type there"
-        }
+            if !matches!(**target, Ty::Int | Ty::Char) => Message::OtherTarget,
         (Given::Int | Given::Char | Given::Value(Ty::Int | Ty::Char), Ty::Pointer { .. }) => {
-            "\nhint: write NULL for a null pointer"
+            Message::NullWanted
         }
-        _ => "",
+        _ => Message::Nothing,
     }
 }
 
 /// The demand that is broken where what is found is converted to what is wanted; and what more there is to say of the types.
-fn broken(notes: &Notes, scope: &Scope<'_>, span: Span) -> Option<(Code, &'static str)> {
+fn broken(notes: &Notes, scope: &Scope<'_>, span: Span) -> Option<(Code, Message)> {
     if let Some(ValueType::Value { of_type }) = &notes.wanted {
         let found = given(&notes.found);
         let mut settled = Settled::new();
@@ -214,7 +207,7 @@ fn broken(notes: &Notes, scope: &Scope<'_>, span: Span) -> Option<(Code, &'stati
 pub(crate) fn explain_conversion(teller: &mut Teller, scope: &Scope<'_>, span: Span) {
     if let Some((code, more)) = broken(&teller.notes, scope, span) {
         if teller.is_fault(code, span) {
-            teller.say("expected %w, found %t");
+            teller.say(Message::OtherType);
             match code {
                 Code::TypeMismatch => teller.say(more),
                 Code::NotOutlived => {

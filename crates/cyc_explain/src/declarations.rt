@@ -136,9 +136,9 @@ fn explain_constrained(teller: &mut Teller, region: Ident) {
 fn message_on_main(returned: &Option<WrittenType>, parameters: &Parameters) -> Message {
     if !members(parameters).is_empty() {
         Message::MainParameters
-    } else if parameters.effect.is_some() {
+    } else if matches!(parameters.effect, Some(_)) {
         Message::MainEffect
-    } else if returned.is_none() {
+    } else if matches!(returned, None) {
         Message::MainVoid
     } else {
         Message::MainType
@@ -147,16 +147,16 @@ fn message_on_main(returned: &Option<WrittenType>, parameters: &Parameters) -> M
 
 // ---- globals
 
-/// What a global begins with, and its place.
-fn initial(written: &WrittenType, value: Option<GlobalValue>) -> (Span, &'static str) {
+/// The place of what a global begins with, and what that is.
+fn initial(written: &WrittenType, value: Option<GlobalValue>) -> (Span, Message) {
     match value {
-        None => (written.span, ", found no value, which is NULL"),
+        None => (written.span, Message::FoundNoValue),
         Some(
             GlobalValue::Number { span, .. }
             | GlobalValue::Negative { span, .. }
             | GlobalValue::Character { span, .. },
-        ) => (span, ", found int"),
-        Some(GlobalValue::Null { span }) => (span, ", found NULL"),
+        ) => (span, Message::FoundInt),
+        Some(GlobalValue::Null { span }) => (span, Message::FoundNull),
     }
 }
 
@@ -167,7 +167,7 @@ fn explain_global(teller: &mut Teller, written: &WrittenType, value: Option<Glob
     teller.tell(Message::GlobalType, written.span);
     let (span, found) = initial(written, value);
     if teller.is_fault(Code::TypeMismatch, span) || teller.is_fault(Code::NullForNonNull, span) {
-        teller.say("expected ");
+        teller.say(Message::GlobalWanted);
         teller.words.put_written(&teller.notes.lexicon, written);
         teller.say(found);
     }

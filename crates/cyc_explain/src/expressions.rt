@@ -163,7 +163,7 @@ pub(crate) fn explain_chain(
     if is_in_chain(teller, start, postfixes) {
         teller.find(scope, base, true);
         for postfix in postfixes {
-            if teller.notes.found.is_some() {
+            if matches!(teller.notes.found, Some(_)) {
                 explain_postfix(teller, scope, start, field_of(postfix));
             }
         }
@@ -241,19 +241,19 @@ fn explain_operation(
 
 /// The words for two values that are not compared, if both are known.
 fn explain_compared(teller: &mut Teller, span: Span) {
-    if teller.notes.wanted.is_some() {
+    if matches!(teller.notes.wanted, Some(_)) {
         let is_left = given(&teller.notes.found).is_pointer();
         let is_right = given(&teller.notes.wanted).is_pointer();
         let advice = if is_left && is_right {
-            "? pointers are not compared: put both into * variables of one type first"
+            Message::FatCompared
         } else if is_left || is_right {
-            "compare a pointer with NULL"
+            Message::NullCompared
         } else {
-            ""
+            Message::Nothing
         };
         if teller.is_fault(Code::TypeMismatch, span) {
-            teller.tell(Message::NotCompared, span);
-            teller.hint(advice);
+            teller.say(Message::NotCompared);
+            teller.say(advice);
         }
     }
 }

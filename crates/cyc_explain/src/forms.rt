@@ -60,7 +60,7 @@ pub(crate) enum Form<'b> {
     },
     /// A block, in front of its items.
     Items {
-        items: &'b [Item],
+        items: &'b Vec<Item>,
     },
     /// A clause, in front of its items.
     Clause {
@@ -129,15 +129,11 @@ impl<'b> Forms<'b> {
 
     // ---- items
 
-    fn add_items(&mut self, items: &'b [Item], end: Option<Span>) {
+    fn add_items(&mut self, items: &'b Vec<Item>, end: Option<Span>) {
         self.add(Form::Items { items });
         for item in items {
-            self.add_item(item, end);
+            self.add(Form::Item { item, end });
         }
-    }
-
-    fn add_item(&mut self, item: &'b Item, end: Option<Span>) {
-        self.add(Form::Item { item, end });
     }
 
     /// Adds the parts of an item.
@@ -225,7 +221,7 @@ impl<'b> Forms<'b> {
         self.add_items(&block.items, Some(block.end));
     }
 
-    fn add_clauses(&mut self, clauses: &'b [Clause], end: Option<Span>) {
+    fn add_clauses(&mut self, clauses: &'b Vec<Clause>, end: Option<Span>) {
         for clause in clauses {
             self.add(Form::Clause { clause });
             self.add_items(&clause.items, end);
@@ -233,7 +229,7 @@ impl<'b> Forms<'b> {
     }
 
     /// Adds the items of the default clause of a statement at this place.
-    fn add_default(&mut self, items: &'b [Item], around: Span, end: Option<Span>) {
+    fn add_default(&mut self, items: &'b Vec<Item>, around: Span, end: Option<Span>) {
         self.add_begin(None, start_of(items, around));
         self.add_items(items, end);
     }
@@ -347,7 +343,7 @@ impl<'b> Forms<'b> {
 }
 
 /// Where the items of a default clause begin. The clause has no place of its own; this is where its statement does.
-fn start_of(items: &[Item], around: Span) -> Span {
+fn start_of(items: &Vec<Item>, around: Span) -> Span {
     match items.first() {
         Some(Item::Local { of_type, .. }) => of_type.span,
         Some(

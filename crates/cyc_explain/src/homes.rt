@@ -111,7 +111,7 @@ impl Homes {
     fn add_named(&mut self, names: &RegionNames, name: Ident) {
         let number = name.name.number;
         let is_fixed = matches!(names.find(number), Some(Region::Heap | Region::Unique));
-        if !is_fixed && self.find_named(number).is_none() {
+        if !is_fixed && matches!(self.find_named(number), None) {
             self.add(Some(name), name.span, Origin::Caller);
         }
     }

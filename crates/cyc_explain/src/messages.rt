@@ -1,4 +1,4 @@
-//! What is said: for each message the code of the fault that it belongs to, and its text.
+//! What is said: for each message its text, and for one that begins what is said of a fault the code that it belongs to.
 //!
 //! In a text a `%` and a letter are a gap, which what was noted last under it fills (`Notes`):
 //!
@@ -11,8 +11,8 @@
 //! | `%r`, `%s` | a region of the function at hand, and another one |
 //! | `%a`, `%b` | a region of a function that is called, as its own head names it, and another one |
 //! | `%c`, `%d` | the number that is wanted and the one that is found; `%e` is an s where more than one is wanted |
-//! | `%x` | a text |
 //! | `%/` | the end of a line |
+//! | `%.` | nothing, behind a space that ends a text |
 use cyc_words::Code;
 
 #[derive(Clone, Copy)]
@@ -31,7 +31,15 @@ pub(crate) enum Message {
     InEachProgram,
     ClauseBefore,
     // 22
-    NotWanted,
+    NoContent,
+    NoInt,
+    NotTested,
+    NotMoved,
+    NoPointer,
+    NotFat,
+    NoMembers,
+    NotFreed,
+    NoHandleFound,
     StructRead,
     NotCompared,
     FunctionRead,
@@ -81,10 +89,67 @@ pub(crate) enum Message {
     MainEffect,
     MainVoid,
     MainType,
+
+    // What is said behind one of these.
+    // operands
+    VoidUsed,
+    NullAsContent,
+    NullTested,
+    ElementsOfFat,
+    FatMoves,
+    NoOrder,
+    TargetWanted,
+    ElementFirst,
+    FatCompared,
+    NullCompared,
+    // conversions
+    OtherType,
+    OtherRegions,
+    OtherTarget,
+    NullWanted,
+    GlobalWanted,
+    FoundNoValue,
+    FoundInt,
+    FoundNull,
+    // regions that are not live
+    ClosedRegion,
+    NotInEffect,
+    NotOpen,
+    OpenBefore,
+    NotLive,
+    // regions that do not outlive others
+    NotOutlived,
+    FirstBeginning,
+    NextBeginning,
+    FromCaller,
+    BeginsAt,
+    DynamicAt,
+    HeapLives,
+    UniqueApart,
+    CallerToHeap,
+    LocalToHeap,
+    RegionToHeap,
+    DynamicEnds,
+    NamedByCaller,
+    LeftOutByCaller,
+    LocalToRegion,
+    RegionToRegion,
+    // calls
+    HasConstraint,
+    HereOfSameName,
+    Here,
+    Effect,
+    EffectFirst,
+    EffectNext,
+    EffectEnd,
+    LineEnd,
+
+    /// Whose text is empty.
+    Nothing,
 }
 
 /// The texts of the messages, in their order, a line for each.
-const TEXTS: &str = "\
+pub(crate) const TEXTS: &str = "\
 hint: did you mean `%n`?
 the parameters name no region `%n: write it into the type of one
 `%n is no region parameter of the struct: write it behind the struct's name
@@ -96,7 +161,15 @@ no region `%n is in scope here
 `%n is the region of the variables of %f
 `%n` is there in each program
 a clause for %n stands before this one
-expected %x, found %t
+expected a value with a type, found %t
+expected int, found %t
+expected int or a pointer, found %t
+expected int or a ? pointer, found %t
+expected a pointer, found %t
+expected a ? pointer, found %t
+expected a * or @ pointer to a struct, found %t
+expected a pointer of `U, found %t
+expected the handle of a region, found %t
 expected a value, found %t%/hint: a struct is no value: read a field by ->
 expected two ints, two thin pointers to one type, or a pointer and NULL, found %t and %w
 %n is a function, and no value%/hint: call it: %n(..)
@@ -141,9 +214,58 @@ main is a variable, and no function
 main has parameters
 main has an effect
 main returns no value
-main returns another type than int";
+main returns another type than int
+%/hint: a function that returns no value is called by itself
+%/hint: put NULL into a variable of the type first
+%/hint: compare the pointer with NULL by == or !=
+%/hint: only a ? pointer has elements: declare it with ?, or write *p for what p leads to
+%/hint: only a ? pointer that is not unique moves on: declare it with ?
+%/hint: pointers have no order and no distance: keep the number of the element in an int
+%/hint: write *p for what p leads to
+%/hint: take an element first: p[0]->f
+%/hint: ? pointers are not compared: put both into * variables of one type first
+%/hint: compare a pointer with NULL
+expected %w, found %t
+, with other regions inside
+%/hint: what a pointer leads to is not converted: put a value of that very type there
+%/hint: write NULL for a null pointer
+expected %.
+, found no value, which is NULL
+, found int
+, found NULL
+found %t%/
+%r is not in the effect of %f
+%r, the dynamic region declared at %p, is not open here
+: the block that opened it ended at %p
+%r is not live here
+%/%r does not outlive %s
+: %.
+, %.
+%r comes from the caller
+%r begins at %p
+%r is a dynamic region, declared at %p
+%r lives for the whole run
+%r stands apart from all regions
+%/hint: a parameter's pointer may lead anywhere: write `H behind its mark to take heap pointers alone, or name one region on both sides, \
+as in int *`r same(int *`r p)
+%/hint: a variable is gone when its block ends: make the object by new
+%/hint: what is in %r is gone when its region ends: make the object by new, or write the region into the type
+%/hint: a dynamic region ends where its key is given back: only the heap is known to outlive it
+%/hint: if it does at each call, declare so behind the parameters: %r > %s
+%/hint: name the regions of both types, as one, or as two with a constraint: `a > `b
+%/hint: a variable is gone when its block ends: make an object by new, or by rnew in the other region
+%/hint: what is in %r is gone when its block ends: make the object in %s
+%n has the constraint %a > %b
+, and %a of %n is %r of %f here
+, and %a is %r here
+the effect of %n is {
+%a
+, %a
+}
+%/
+";
 
-/// The code of the fault that a message is about.
+/// The code of the fault that a message is about, where it begins what is said.
 pub(crate) fn code_of(message: Message) -> Code {
     match message {
         Message::NearName
@@ -186,16 +308,4 @@ pub(crate) fn code_of(message: Message) -> Code {
         | Message::MainType => Code::BadMain,
         _ => Code::TypeMismatch,
     }
-}
-
-/// The text of a message, with its gaps.
-pub(crate) fn text_of(message: Message) -> &'static str {
-    let mut left = message as usize;
-    for text in TEXTS.lines() {
-        if left == 0 {
-            return text;
-        }
-        left -= 1;
-    }
-    ""
 }

@@ -21,8 +21,8 @@ fn is_known(scope: &Scope<'_>, sort: Sort, name: Ident) -> bool {
     let number = name.name.number;
     match sort {
         Sort::Value => !matches!(scope.meaning(name), Meaning::Unknown),
-        Sort::Struct => scope.structs().parameters(number).is_some(),
-        Sort::Exception => scope.exception(number).is_some(),
+        Sort::Struct => matches!(scope.structs().parameters(number), Some(_)),
+        Sort::Exception => matches!(scope.exception(number), Some(_)),
         Sort::Field(of_struct) => is_among(scope.fields(of_struct), number),
     }
 }

@@ -42,7 +42,7 @@ pub(crate) fn result_type(scope: &Scope<'_>) -> Option<Ty> {
 /// The words for a `return` at this place without a value, or with one where the function has none.
 pub(crate) fn explain_return(teller: &mut Teller, scope: &Scope<'_>, span: Span, has_value: bool) {
     if has_value {
-        if scope.result_type().is_none() {
+        if matches!(scope.result_type(), None) {
             teller.tell(Message::ValueTooMany, span);
         }
     } else if teller.want_type(result_type(scope)) {

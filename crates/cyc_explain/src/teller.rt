@@ -1,7 +1,7 @@
 //! Who says why a program is refused: once, where its fault stands. What the words name is noted before.
 use crate::homes::Homes;
 use crate::lexicon::{Lexicon, NO_NAME};
-use crate::messages::{Message, code_of, text_of};
+use crate::messages::{Message, code_of};
 use crate::words::{Notes, Words};
 use cyc_check::value_type;
 use cyc_scope::Scope;
@@ -55,7 +55,6 @@ impl Teller {
                 regions: (region, region),
                 their_regions: (region, region),
                 counts: (0, 0),
-                text: "",
             },
             unknown: Message::UnknownInHead,
             endings: Vec::new(alloc),
@@ -128,7 +127,7 @@ impl Teller {
     /// Says a message, if the fault at this place is what it is about.
     pub(crate) fn tell(&mut self, message: Message, span: Span) {
         if self.is_fault(code_of(message), span) {
-            self.say(text_of(message));
+            self.say(message);
         }
     }
 
@@ -140,23 +139,15 @@ impl Teller {
         }
     }
 
-    /// Says a text, with its gaps.
-    pub(crate) fn say(&mut self, text: &str) {
-        self.words.say(&self.notes, text);
-    }
-
-    /// Says what to do, if there is anything, in place of what is said of the fault's code.
-    pub(crate) fn hint(&mut self, text: &str) {
-        if !text.is_empty() {
-            self.say("\nhint: ");
-            self.say(text);
-        }
+    /// Says the text of a message, with its gaps.
+    pub(crate) fn say(&mut self, message: Message) {
+        self.words.say(&self.notes, message);
     }
 
     /// Says a message on how many there are.
     pub(crate) fn say_count(&mut self, message: Message, wanted: usize, found: usize) {
         self.notes.counts = (wanted, found);
-        self.say(text_of(message));
+        self.say(message);
     }
 
     // ---- what is found and wanted
@@ -164,19 +155,19 @@ impl Teller {
     /// Notes the type of an expression as what is found, whose value is used or only looked at; whether it is known.
     pub(crate) fn find(&mut self, scope: &mut Scope<'_>, value: &Expr, is_looked_at: bool) -> bool {
         self.notes.found = value_type(scope, value, is_looked_at);
-        self.notes.found.is_some()
+        matches!(self.notes.found, Some(_))
     }
 
     /// Notes a type as what is found.
     pub(crate) fn find_type(&mut self, of_type: Option<Ty>) -> bool {
         self.notes.found = value_of(of_type);
-        self.notes.found.is_some()
+        matches!(self.notes.found, Some(_))
     }
 
     /// Notes a type as what is wanted.
     pub(crate) fn want_type(&mut self, of_type: Option<Ty>) -> bool {
         self.notes.wanted = value_of(of_type);
-        self.notes.wanted.is_some()
+        matches!(self.notes.wanted, Some(_))
     }
 }
 

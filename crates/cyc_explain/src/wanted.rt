@@ -59,44 +59,41 @@ fn has_members(given: Given<'_>) -> bool {
 }
 
 impl Wanted {
-    fn text(self) -> &'static str {
+    /// What is said of a value of another type.
+    fn message(self) -> Message {
         match self {
-            Wanted::Nothing => "",
-            Wanted::Content => "a value with a type",
-            Wanted::Int | Wanted::Measured => "int",
-            Wanted::Tested | Wanted::Compared => "int or a pointer",
-            Wanted::Moved => "int or a ? pointer",
-            Wanted::Pointer => "a pointer",
-            Wanted::Fat => "a ? pointer",
-            Wanted::Members => "a * or @ pointer to a struct",
-            Wanted::Freed => "a pointer of `U",
-            Wanted::Handle => "the handle of a region",
+            Wanted::Nothing => Message::Nothing,
+            Wanted::Content => Message::NoContent,
+            Wanted::Int | Wanted::Measured => Message::NoInt,
+            Wanted::Tested | Wanted::Compared => Message::NotTested,
+            Wanted::Moved => Message::NotMoved,
+            Wanted::Pointer => Message::NoPointer,
+            Wanted::Fat => Message::NotFat,
+            Wanted::Members => Message::NoMembers,
+            Wanted::Freed => Message::NotFreed,
+            Wanted::Handle => Message::NoHandleFound,
         }
     }
 
-    /// What to do about a value of another type, if there is anything to say.
-    fn advice(self, given: Given<'_>) -> &'static str {
+    /// What to do about it, if there is anything to say.
+    fn advice(self, given: Given<'_>) -> Message {
         match (self, given) {
-            (_, Given::Void) => "a function that returns no value is called by itself",
-            (Wanted::Content, Given::Null) => "put NULL into a variable of the type first",
-            (Wanted::Tested, Given::Null) => "compare the pointer with NULL by == or !=",
+            (_, Given::Void) => Message::VoidUsed,
+            (Wanted::Content, Given::Null) => Message::NullAsContent,
+            (Wanted::Tested, Given::Null) => Message::NullTested,
             _ if given.is_pointer() => self.advice_on_pointer(given),
-            _ => "",
+            _ => Message::Nothing,
         }
     }
 
-    fn advice_on_pointer(self, given: Given<'_>) -> &'static str {
+    fn advice_on_pointer(self, given: Given<'_>) -> Message {
         match self {
-            Wanted::Fat => {
-                "only a ? pointer has elements: declare it with ?, or write *p for what p leads to"
-            }
-            Wanted::Moved => "only a ? pointer that is not unique moves on: declare it with ?",
-            Wanted::Measured => {
-                "pointers have no order and no distance: keep the number of the element in an int"
-            }
-            Wanted::Int => "write *p for what p leads to",
-            Wanted::Members if is_fat(given) => "take an element first: p[0]->f",
-            _ => "",
+            Wanted::Fat => Message::ElementsOfFat,
+            Wanted::Moved => Message::FatMoves,
+            Wanted::Measured => Message::NoOrder,
+            Wanted::Int => Message::TargetWanted,
+            Wanted::Members if is_fat(given) => Message::ElementFirst,
+            _ => Message::Nothing,
         }
     }
 
@@ -158,9 +155,8 @@ pub(crate) fn explain_found(teller: &mut Teller, scope: &Scope<'_>, wanted: Want
     let found = given(&teller.notes.found);
     if teller.is_fault(Code::TypeMismatch, span) && !wanted.allows(found) {
         let advice = wanted.advice(found);
-        teller.notes.text = wanted.text();
-        teller.tell(Message::NotWanted, span);
-        teller.hint(advice);
+        teller.say(wanted.message());
+        teller.say(advice);
     }
     let misused = match wanted {
         Wanted::Freed => Message::FreedNotUnique,

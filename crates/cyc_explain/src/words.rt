@@ -1,7 +1,8 @@
 //! Lines of words: a text, in whose gaps names, places, regions and types stand as a program writes them. Where memory runs out nothing is
 //! said. No call here stops, so who says something has no way out.
 use crate::homes::{Home, Homes, Origin};
-use crate::lexicon::{Lexicon, NO_NAME};
+use crate::lexicon::Lexicon;
+use crate::messages::{Message, TEXTS};
 use cyc_forms::Given;
 use cyc_syntax::{BaseType, Ident, PointerKind, WrittenType};
 use cyc_types::typed::ValueType;
@@ -31,7 +32,6 @@ pub(crate) struct Notes {
     pub(crate) their_regions: (Region, Region),
     /// How many are wanted, and how many are found.
     pub(crate) counts: (usize, usize),
-    pub(crate) text: &'static str,
 }
 
 /// The lines that are said.
@@ -69,17 +69,28 @@ fn text_on_place(origin: Origin) -> &'static [u8] {
 impl Words {
     // ---- texts
 
-    /// Says a text, in which each `%` and the letter behind it are a gap.
-    pub(crate) fn say(&mut self, notes: &Notes, text: &str) {
+    /// Says the text of a message, in which each `%` and the letter behind it are a gap.
+    pub(crate) fn say(&mut self, notes: &Notes, message: Message) {
+        let wanted = message as usize;
+        let mut line = 0usize;
         let mut is_gap = false;
-        for byte in text.as_bytes() {
-            if is_gap {
-                self.fill(notes, *byte);
-            } else if *byte != b'%' {
-                self.put(&[*byte]);
+        for byte in TEXTS.as_bytes() {
+            if *byte == b'\n' {
+                line = line.saturating_add(1);
+            } else if line == wanted {
+                is_gap = self.say_byte(notes, *byte, is_gap);
             }
-            is_gap = !is_gap && *byte == b'%';
         }
+    }
+
+    /// Says a byte of a text, which may be the letter of a gap; whether the next one is.
+    fn say_byte(&mut self, notes: &Notes, byte: u8, is_gap: bool) -> bool {
+        if is_gap {
+            self.fill(notes, byte);
+        } else if byte != b'%' {
+            self.put_byte(byte);
+        }
+        byte == b'%' && !is_gap
     }
 
     /// Fills the gap of this letter.
@@ -111,11 +122,14 @@ impl Words {
         match letter {
             b'c' => self.put_number(notes.counts.0),
             b'd' => self.put_number(notes.counts.1),
-            b'e' if notes.counts.0 != 1 => self.put(b"s"),
-            b'x' => self.put(notes.text.as_bytes()),
-            b'/' => self.put(b"\n"),
+            b'e' if notes.counts.0 != 1 => self.put_byte(b's'),
+            b'/' => self.put_byte(b'\n'),
             _ => {}
         }
+    }
+
+    fn put_byte(&mut self, byte: u8) {
+        self.is_whole = self.bytes.push(byte).is_ok() && self.is_whole;
     }
 
     fn put(&mut self, bytes: &[u8]) {
@@ -132,7 +146,7 @@ impl Words {
             let digit = number.checked_div(unit).unwrap_or(0) % 10;
             is_begun = is_begun || digit > 0 || unit == 1;
             match DIGITS.get(digit) {
-                Some(byte) if is_begun => self.put(&[*byte]),
+                Some(byte) if is_begun => self.put_byte(*byte),
                 _ => {}
             }
             unit /= 10;
@@ -141,7 +155,7 @@ impl Words {
 
     fn put_place(&mut self, span: Span) {
         self.put_number(span.line as usize);
-        self.put(b":");
+        self.put_byte(b':');
         self.put_number(span.column as usize);
     }
 
@@ -174,7 +188,7 @@ impl Words {
     /// The same of one that begins there.
     fn put_home(&mut self, lexicon: &Lexicon, home: Home, is_placed: bool) {
         if let Some(name) = home.name {
-            self.put(b"`");
+            self.put_byte(b'`');
             self.put_name(lexicon, name);
         } else if is_placed {
             self.put(text_on_place(home.origin));
@@ -192,7 +206,7 @@ impl Words {
         let mut is_first = true;
         for region in regions {
             if !is_first {
-                self.put(b",");
+                self.put_byte(b',');
             }
             is_first = false;
             self.put_unplaced(notes, *region);
@@ -245,45 +259,50 @@ impl Words {
         self.put(b"struct ");
         self.put_name(&notes.lexicon, notes.lexicon.struct_name(number));
         if !regions.is_empty() {
-            self.put(b"<");
+            self.put_byte(b'<');
             self.put_regions(notes, regions);
-            self.put(b">");
+            self.put_byte(b'>');
         }
     }
 
     fn put_one(&mut self, notes: &Notes, open: &[u8], region: Region) {
         self.put(open);
         self.put_unplaced(notes, region);
-        self.put(b">");
+        self.put_byte(b'>');
     }
 
     /// A type of a global as it is written, in which what is left out is the heap.
     pub(crate) fn put_written(&mut self, lexicon: &Lexicon, written: &WrittenType) {
-        let (open, name, close) = match &written.base {
-            BaseType::Int => ("int", NO_NAME, ""),
-            BaseType::Char => ("char", NO_NAME, ""),
-            BaseType::Struct { name, .. } => ("struct ", name.name.number, ""),
-            BaseType::Handle { region } | BaseType::Key { region } => {
-                ("region_t<`", region.name.number, ">")
-            }
-        };
-        self.put(open.as_bytes());
-        self.put_name(lexicon, name);
-        self.put(close.as_bytes());
+        self.put_written_base(lexicon, &written.base);
         for mark in &written.marks {
             self.put(mark_of(mark.kind));
             self.put_mark_region(lexicon, mark.region);
         }
     }
 
+    /// The same of what stands in front of its marks.
+    fn put_written_base(&mut self, lexicon: &Lexicon, base: &BaseType) {
+        match base {
+            BaseType::Int => self.put(b"int"),
+            BaseType::Char => self.put(b"char"),
+            BaseType::Struct { name, .. } => {
+                self.put(b"struct ");
+                self.put_name(lexicon, name.name.number);
+            }
+            BaseType::Handle { region } | BaseType::Key { region } => {
+                self.put(b"region_t<`");
+                self.put_name(lexicon, region.name.number);
+                self.put_byte(b'>');
+            }
+        }
+    }
+
     /// The region behind a mark.
     fn put_mark_region(&mut self, lexicon: &Lexicon, region: Option<Ident>) {
+        self.put_byte(b'`');
         match region {
-            Some(region) => {
-                self.put(b"`");
-                self.put_name(lexicon, region.name.number);
-            }
-            None => self.put(b"`H"),
+            Some(region) => self.put_name(lexicon, region.name.number),
+            None => self.put_byte(b'H'),
         }
     }
 }
