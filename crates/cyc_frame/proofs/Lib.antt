@@ -5,3 +5,4 @@ pub mod InMemory
 pub mod Bits
 pub mod Lives
 pub mod Homes
+pub mod IdleCode

@@ -9,6 +9,7 @@ use Rattle.cyc_plain.specs.declared.instruction.Instruction.TheVariants as instr
 use Rattle.cyc_plain.specs.Program.{Routine, Program, routine_at}
 use Rattle.cyc_frame.specs.Frame.{Frame}
 use Rattle.cyc_frame.specs.Homes.{AreHomes}
+use Rattle.cyc_frame.specs.Idle.{AreIdle}
 use Rattle.cyc_frame.specs.declared.frame.TheConstants.{MOST_FRAME_WORDS}
 
 -- the word of a frame that holds a slot
@@ -40,19 +41,22 @@ pub record IsFrame (r : Routine) (frame : Frame) : Type 0 where
 -- the frame of the function of this index; where there is none, an empty one
 abbrev pub frame_at : List Frame → ℕ → Frame
 frame_at frames function =
-    slice_index_or frames function (record { return_address = 0; saves = false; first_slot = 0; homes = [] })
+    slice_index_or frames function (record { return_address = 0; saves = false; first_slot = 0; homes = []; idle = [] })
 
--- frames of the first functions, so many of them, with homes of their slots
+-- frames of the first functions, so many of them, with homes of their slots and idle places
 pub record AreFirstFrames (program : Program) (count : ℕ) (frames : List Frame) : Type 0 where
   pub as_many : length frames ≡ count
   pub each : (k : ℕ) → k < count → IsFrame (routine_at program k) (frame_at frames k)
   pub homes : (k : ℕ) → k < count → AreHomes program (routine_at program k) (frame_at frames k).homes
+  pub idle : (k : ℕ) → k < count → AreIdle program (routine_at program k) (frame_at frames k).homes (frame_at frames k).idle
 
 -- there is a frame for each function
 pub record AreFrames (program : Program) (frames : List Frame) : Type 0 where
   pub as_many : length frames ≡ length program.functions
   pub each : (k : ℕ) → k < length program.functions → IsFrame (routine_at program k) (frame_at frames k)
   pub homes : (k : ℕ) → k < length program.functions → AreHomes program (routine_at program k) (frame_at frames k).homes
+  pub idle : (k : ℕ) → k < length program.functions
+      → AreIdle program (routine_at program k) (frame_at frames k).homes (frame_at frames k).idle
 
 -- where the name stands of the first function whose frame is too large
 abbrev pub is_too_large : Routine → Bool

@@ -3,11 +3,13 @@ ghost use Rattle.std.specs.Prelude.{◌≡◌, ◌+◌, ◌≤◌, length, IfOk}
 ghost use Rattle.cyc_plain.specs.Program.{routine_of};
 ghost use Rattle.cyc_frame.specs.Allocation.{AreFirstHomes, IsHomeOf, register_count};
 ghost use Rattle.cyc_frame.specs.Homes.{AreHomes, both_count};
+ghost use Rattle.cyc_frame.specs.Idle.{AreIdle};
 ghost use Rattle.cyc_frame.specs.Live.{IsSound};
 ghost use Rattle.cyc_frame.specs.Masks.{AreMasks};
 
 use crate::gains::gains_of;
 use crate::home::{FIRST_REGISTER, Home, MOST_BOTH};
+use crate::idle::idle_places;
 use crate::live::{Lives, MOST_CHOSEN, MOST_REGISTERS, is_sound, lives_of, may_have};
 use crate::masks::mask_at;
 use cyc_plain::{Function, Plain};
@@ -125,20 +127,37 @@ fn in_memory(alloc: Global, plain: &Plain, function: &Function) -> Result<Vec<Ho
     Ok(vec![in alloc; Home::Memory; function.slots]?)
 }
 
-/// A home for each slot of a function. Those that gain most by it get registers, in order, while there are some.
+/// Where the words of a function's slots live, and where nothing is to be done.
+#[derive(Drop)]
+pub(crate) struct Allocation {
+    /// The home of each slot.
+    pub(crate) homes: Vec<Home>,
+    /// Whether each place of the code is idle. Those behind the last are not.
+    pub(crate) idle: Vec<bool>,
+}
+
+/// A home for each slot of a function, and the places that are idle by them. Those slots that gain most by it get registers,
+/// in order, while there are some.
+#[tactic(auto, using(crate::proofs::IdleCode::none_idle))]
 pub(crate) fn allocate(
     alloc: Global,
     plain: &Plain,
     function: &Function,
-) -> Result<Vec<Home>, AllocError>
-    ensures { IfOk result (λ homes. AreHomes plain.now (routine_of function.now) homes.items) }
+) -> Result<Allocation, AllocError>
+    ensures homes { IfOk result (λ given. AreHomes plain.now (routine_of function.now) given.homes.items) }
+    ensures idle { IfOk result (λ given. AreIdle plain.now (routine_of function.now) given.homes.items given.idle.items) }
 {
     let gains = gains_of(alloc, function)?;
     let masks = masks_of(alloc, &gains.chosen(alloc)?)?;
     let lives = lives_of(alloc, plain, function, &masks, &gains.backward)?;
     if !is_sound(plain, function, &masks, &lives) {
-        return in_memory(alloc, plain, function);
+        return Ok(Allocation {
+            homes: in_memory(alloc, plain, function)?,
+            idle: Vec::new(alloc),
+        });
     }
     let taken = gains.taken(&masks, &lives);
-    homes_in(alloc, plain, function, &masks, &lives, taken)
+    let homes = homes_in(alloc, plain, function, &masks, &lives, taken)?;
+    let idle = idle_places(alloc, plain, function, &masks, &lives, &homes)?;
+    Ok(Allocation { homes, idle })
 }

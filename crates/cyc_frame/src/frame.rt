@@ -1,6 +1,7 @@
 //! The frames of a program's functions.
 ghost use Rattle.std.specs.Prelude.{◌≡◌};
 ghost use Rattle.cyc_frame.specs.Homes.{home_of};
+ghost use Rattle.cyc_frame.specs.Idle.{idle_at};
 
 use crate::home::Home;
 use std::marker::Model;
@@ -20,6 +21,8 @@ pub struct Frame {
     pub first_slot: usize,
     /// The home of each slot, by its number.
     pub homes: Vec<Home>,
+    /// Whether each place of the function's code is idle. Nothing is to be done there.
+    pub idle: Vec<bool>,
 }
 
 impl Model for Frame {
@@ -32,6 +35,7 @@ impl Model for Frame {
       saves = a.saves;
       first_slot = a.first_slot;
       homes = a.homes.items;
+      idle = a.idle.items;
     } };
 }
 
@@ -43,6 +47,16 @@ impl Frame {
         match self.homes.get(slot) {
             Some(home) => *home,
             None => Home::Memory,
+        }
+    }
+
+    /// Whether the place of this index is idle.
+    pub fn is_idle(&self, index: usize) -> bool
+        ensures { result ≡ idle_at self.now.idle index }
+    {
+        match self.idle.get(index) {
+            Some(is_idle) => *is_idle,
+            None => false,
         }
     }
 }

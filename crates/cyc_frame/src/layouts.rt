@@ -4,6 +4,7 @@ ghost use Rattle.std.specs.Prelude.{◌≡◌, ◌+◌, ◌≤◌, length, map, 
 ghost use Rattle.cyc_words.specs.Decision.{Decides};
 ghost use Rattle.cyc_plain.specs.Program.{routine_of};
 ghost use Rattle.cyc_frame.specs.Homes.{AreHomes};
+ghost use Rattle.cyc_frame.specs.Idle.{AreIdle};
 ghost use Rattle.cyc_frame.specs.Layout.{AreFirstFrames, AreFrames, HasSmallFrames, IsAccepted, IsFrame, IsTooLarge, first_too_large, loses, loses_any};
 
 use crate::allocation::allocate;
@@ -55,13 +56,15 @@ fn frame_of(alloc: Global, plain: &Plain, function: &Function) -> Result<Frame, 
     requires small { function.now.frame_count ≤ MOST_FRAME_WORDS }
     ensures frame { IfOk result (λ frame. IsFrame (routine_of function.now) frame) }
     ensures homes { IfOk result (λ frame. AreHomes plain.now (routine_of function.now) frame.homes) }
+    ensures idle { IfOk result (λ frame. AreIdle plain.now (routine_of function.now) frame.homes frame.idle) }
 {
-    let homes = allocate(alloc, plain, function)?;
+    let given = allocate(alloc, plain, function)?;
     Ok(Frame {
         return_address: 0,
         saves: loses_any(&function.code),
         first_slot: LAYOUT_WORDS,
-        homes,
+        homes: given.homes,
+        idle: given.idle,
     })
 }
 

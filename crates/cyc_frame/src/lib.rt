@@ -6,6 +6,7 @@ mod frame;
 mod frames;
 mod gains;
 mod home;
+mod idle;
 mod layouts;
 mod live;
 mod masks;

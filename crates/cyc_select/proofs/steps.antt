@@ -13,3 +13,4 @@ pub mod Leaving
 pub mod Records
 pub mod Handlers
 pub mod Throws
+pub mod Idle

@@ -71,11 +71,11 @@ most_lines = START_LINES + MOST_SIZE
 abbrev pub AreFew : Program → Type 0
 AreFew program = (k : ℕ) → (routine_at program k).results ≤ GREATEST_VALUE
 
--- the line numbers of the instructions of a function's code, of which the first has this one
-abbrev pub instruction_lines : Program → List Frame → (function here : ℕ) → List Instruction → List ℕ
-instruction_lines program frames function here [] = []
-instruction_lines program frames function here (i ∷ code) =
-    here ∷ instruction_lines program frames function (here + count_of program frames function i) code
+-- the line numbers of the instructions of a function's code from this index on, of which the first has this one
+abbrev pub instruction_lines : Program → List Frame → (function index here : ℕ) → List Instruction → List ℕ
+instruction_lines program frames function index here [] = []
+instruction_lines program frames function index here (i ∷ code) =
+    here ∷ instruction_lines program frames function (suc index) (here + count_of program frames function index i) code
 
 -- the line numbers of functions, of which the first has this one
 abbrev pub function_starts : Program → List Frame → (function here : ℕ) → List Routine → List ℕ
@@ -98,7 +98,7 @@ IsReady ready = AreReady ready.plain.now ready.frames.now ready.starts.now
 pub record AreTables (program : Program) (frames : List Frame) (starts lines : List ℕ) (function : ℕ) : Type 0 where
   pub ready : AreReady program frames starts
   pub function_in_range : function < length program.functions
-  pub lines_are : lines ≡ instruction_lines program frames function (function_line program frames function + saving_count (frame_at frames function)) (routine_at program function).code
+  pub lines_are : lines ≡ instruction_lines program frames function 0 (function_line program frames function + saving_count (frame_at frames function)) (routine_at program function).code
 
 abbrev pub IsKnown : Tables → Type 0
 IsKnown tables =

@@ -1,6 +1,7 @@
 -- Which numbers stand in an instruction: halves that are extended by their sign or by zeros, and how far a shift goes. The
 -- formats are those of the MIPS32 architecture, volume II.
 use Rattle.std.specs.Prelude.{ℕ, ◌-◌, ◌%◌, ◌^◌, ◌==◌, Bool, true, false, not, ◌&&◌, ◌||◌, nat_le, nat_lt, Option, Some, None, if◌then◌else◌}
+use Rattle.std.specs.Int.Count.{count_trailing_zeros}
 use Rattle.cyc_words.specs.Word.{add_of, sub_of}
 use Rattle.cyc_plain.specs.declared.instruction.Operand.{Operand}
 use Rattle.cyc_plain.specs.declared.instruction.Operand.TheVariants as operands
@@ -48,3 +49,9 @@ is_plain_divisor (operands.Word word) = not (word == 0) && not (word == 2 ^ 32 -
 abbrev pub shift_amount : Operand → Option ℕ
 shift_amount (operands.Slot number) = None
 shift_amount (operands.Word word) = Some (word % 32)
+
+-- how far a shift to the left goes that multiplies by an operand: by a word that is a power of two
+abbrev pub power_of : Operand → Option ℕ
+power_of (operands.Slot number) = None
+power_of (operands.Word word) =
+    if 2 ^ count_trailing_zeros 32 word == word then Some (count_trailing_zeros 32 word) else None

@@ -22,7 +22,7 @@ use Rattle.cyc_plain.specs.declared.instruction.Comparison.{Comparison}
 use Rattle.cyc_plain.specs.declared.instruction.Comparison.TheVariants as comparisons
 use Rattle.cyc_plain.specs.declared.instruction.Operand.{Operand}
 use Rattle.cyc_plain.specs.declared.instruction.Operand.TheVariants as operands
-use Rattle.cyc_select.specs.Numbers.{signed_half, negated_half, next_half, low_half, is_word, is_zero_word, shift_amount}
+use Rattle.cyc_select.specs.Numbers.{signed_half, negated_half, next_half, low_half, is_word, is_zero_word, shift_amount, power_of}
 use Rattle.cyc_select.specs.declared.plan.Operation.TheVariants as operations
 use Rattle.cyc_select.specs.declared.plan.Outcome.{Outcome}
 use Rattle.cyc_select.specs.declared.plan.Outcome.TheVariants as outcomes
@@ -60,6 +60,14 @@ shift_plan op left right = shift_by (shift_amount right) op left right
 abbrev pub multiply_divide_plan : MultiplyDivideOp → MoveFromOp → (left right : Operand) → Plan
 multiply_divide_plan op from left right =
     record { operation = operations.MultiplyDivide op from; left = left; right = right; outcome = outcomes.AsItIs }
+
+-- a product: by a power of two it is a shift
+abbrev pub product_or : Option ℕ → (left right : Operand) → Plan
+product_or (Some amount) left right = shift_by (Some amount) shift.Left left right
+product_or None left right = multiply_divide_plan Multiply Low left right
+
+abbrev pub product_plan : (left right : Operand) → Plan
+product_plan left right = product_or (power_of right) left right
 
 -- ---- comparisons
 
@@ -157,7 +165,7 @@ bits_plan op number_op left right =
 abbrev pub operator_plan : BinaryOperator → (left right : Operand) → Plan
 operator_plan binary.Add left right = sum_plan left right
 operator_plan binary.Subtract left right = difference_plan left right
-operator_plan binary.Multiply left right = multiply_divide_plan Multiply Low left right
+operator_plan binary.Multiply left right = product_plan left right
 operator_plan binary.Divide left right = multiply_divide_plan Divide Low left right
 operator_plan binary.Remainder left right = multiply_divide_plan Divide High left right
 operator_plan binary.And left right = bits_plan arithmetic.And immediate.And left right
@@ -175,6 +183,7 @@ operator_plan binary.GreaterOrEqual left right = comparison_plan comparisons.Gre
 -- the operands are better the other way round: the left one is a word, and the operator commutes
 abbrev pub is_swapped : BinaryOperator → Operand → Bool
 is_swapped binary.Add left = is_word left
+is_swapped binary.Multiply left = is_word left
 is_swapped binary.And left = is_word left
 is_swapped binary.Or left = is_word left
 is_swapped binary.Xor left = is_word left

@@ -1,5 +1,5 @@
 -- When labelled code is the code of a plain program.
-use Rattle.std.specs.Prelude.{◌≡◌, ℕ, ◌+◌, ◌<◌, ◌≤◌, List, ◌++◌, length, sum_by, Contains, slice_index_or}
+use Rattle.std.specs.Prelude.{◌≡◌, ℕ, ◌+◌, ◌<◌, ◌≤◌, List, ◌++◌, length, sum_by, slice_index_or}
 use Rattle.std.specs.List.{AllByRecursion, range_with_len, flat_map}
 use Rattle.cyc_store.specs.State.{StoreState}
 use Rattle.cyc_store.specs.New.{IsNew}
@@ -17,14 +17,13 @@ use Rattle.cyc_select.specs.Machine as labelled
 abbrev pub words_at : Labelled → ℕ → ℕ
 words_at code number = words_of (slice_index_or code.lines number lines.Return)
 
--- Each line belongs to the start or to one place of the plain program, each place has lines of its own, and a run of the
--- code follows a run of the program: it meets a place's own lines once for each step from the place.
+-- Each line belongs to the start or to one place of the plain program, and a run of the code follows a run of the program: it
+-- meets a place's own lines once for each step from the place. (A place where nothing is to be done may have none.)
 pub record IsCodeOf (program : Program) (code : Labelled) : Type 0 where
   pub formed : IsFormed code
   pub before : List ℕ
   pub own : CodePlace → List ℕ
   pub parts : before ++ flat_map own (places_of program) ≡ range_with_len 0 (length code.lines)
-  pub some : (place : CodePlace) → Contains (places_of program) place → 0 < length (own place)
   pub few_before : sum_by (words_at code) before ≤ MAX_START_WORDS
   pub few_own : (function : ℕ) → function < length program.functions
       → sum_by (λ (index : ℕ). sum_by (words_at code) (own (record { function = function; index = index })))

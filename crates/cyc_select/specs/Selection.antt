@@ -41,6 +41,7 @@ use Rattle.cyc_frame.specs.declared.home.Home.TheVariants as homes
 use Rattle.cyc_frame.specs.Homes as homing
 use Rattle.cyc_frame.specs.Uses.{is_crossing}
 use Rattle.cyc_frame.specs.Frame.{Frame}
+use Rattle.cyc_frame.specs.Idle.{idle_at}
 use Rattle.cyc_select.specs.declared.constants.TheConstants.{ZERO, FIRST_RESULT, SECOND_RESULT, THIRD_RESULT, FIRST, SECOND, THIRD, FRAME, FRAME_SHIFT, LOWEST, HANDLERS, REGIONS, START_LINES, GLOBALS, GLOBALS_MIDDLE, NEAR_GLOBALS}
 use Rattle.cyc_select.specs.declared.code.Line.{Line}
 use Rattle.cyc_select.specs.declared.code.Condition.TheVariants as conditions
@@ -646,11 +647,32 @@ behind_count program frames function (plain.Call callee arguments count result) 
     (routine_at program callee).results + reload_count (frame_at frames function)
 behind_count program frames function instruction = 0
 
-abbrev pub count_of : Program → List Frame → (function : ℕ) → Instruction → ℕ
-count_of program frames function instruction = body_count program frames function instruction + behind_count program frames function instruction
+-- An idle place has no lines of its own: where its frame says so, of an instruction that may be idle.
+abbrev pub is_idle : Frame → (index : ℕ) → Instruction → Bool
+is_idle frame index (plain.Move destination source) = idle_at frame.idle index
+is_idle frame index (plain.Unary operator destination operand) = idle_at frame.idle index
+is_idle frame index (plain.Binary operator destination left right) = idle_at frame.idle index
+is_idle frame index (plain.Jump target) = idle_at frame.idle index
+is_idle frame index (plain.Branch comparison left right target) = idle_at frame.idle index
+is_idle frame index instruction = false
+
+-- the lines of an instruction at this index up to what it does, and all of them
+abbrev pub place_count : Program → List Frame → (function index : ℕ) → Instruction → ℕ
+place_count program frames function index instruction =
+    if is_idle (frame_at frames function) index instruction then 0 else body_count program frames function instruction
+
+abbrev pub count_of : Program → List Frame → (function index : ℕ) → Instruction → ℕ
+count_of program frames function index instruction =
+    place_count program frames function index instruction + behind_count program frames function instruction
+
+-- those of code from this index on
+abbrev pub code_count : Program → List Frame → (function index : ℕ) → List Instruction → ℕ
+code_count program frames function index [] = 0
+code_count program frames function index (i ∷ code) =
+    count_of program frames function index i + code_count program frames function (suc index) code
 
 abbrev pub function_count : Program → List Frame → (function : ℕ) → Routine → ℕ
-function_count program frames function r = saving_count (frame_at frames function) + sum_by (count_of program frames function) r.code
+function_count program frames function r = saving_count (frame_at frames function) + code_count program frames function 0 r.code
 
 abbrev pub functions_count : Program → List Frame → (first : ℕ) → List Routine → ℕ
 functions_count program frames first [] = 0
@@ -663,7 +685,7 @@ function_line program frames function = START_LINES + functions_count program fr
 -- the number of the first line of an instruction
 abbrev pub instruction_line : Program → List Frame → (function index : ℕ) → ℕ
 instruction_line program frames function index =
-    function_line program frames function + saving_count (frame_at frames function) + sum_by (count_of program frames function) (take index (routine_at program function).code)
+    function_line program frames function + saving_count (frame_at frames function) + code_count program frames function 0 (take index (routine_at program function).code)
 
 -- ---- the lines
 
@@ -907,16 +929,21 @@ behind program frames function (plain.Call callee arguments count result) =
     returned_code (frame_at frames function) result (routine_at program callee).results
 behind program frames function instruction = []
 
-abbrev pub code_lines : Program → List Frame → (function here : ℕ) → List Instruction → List Line
-code_lines program frames function here [] = []
-code_lines program frames function here (i ∷ code) =
-    body program frames function here i ++ behind program frames function i
-    ++ code_lines program frames function (here + count_of program frames function i) code
+-- what the instruction at this index does, from this line on
+abbrev pub place_lines : Program → List Frame → (function index here : ℕ) → Instruction → List Line
+place_lines program frames function index here instruction =
+    if is_idle (frame_at frames function) index instruction then [] else body program frames function here instruction
+
+abbrev pub code_lines : Program → List Frame → (function index here : ℕ) → List Instruction → List Line
+code_lines program frames function index here [] = []
+code_lines program frames function index here (i ∷ code) =
+    place_lines program frames function index here i ++ behind program frames function i
+    ++ code_lines program frames function (suc index) (here + count_of program frames function index i) code
 
 abbrev pub routine_lines : Program → List Frame → (function here : ℕ) → Routine → List Line
 routine_lines program frames function here r =
     ordinary (saving_code (frame_at frames function))
-    ++ code_lines program frames function (here + saving_count (frame_at frames function)) r.code
+    ++ code_lines program frames function 0 (here + saving_count (frame_at frames function)) r.code
 
 abbrev pub function_lines : Program → List Frame → (function here : ℕ) → List Routine → List Line
 function_lines program frames function here [] = []

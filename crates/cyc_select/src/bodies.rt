@@ -2,11 +2,11 @@
 ghost use Rattle.std.specs.Prelude.{◌≡◌, ◌+◌, ◌<◌, ◌≤◌, ◌++◌, OnOk, length};
 ghost use Rattle.cyc_plain.specs.Program.{routine_at};
 ghost use Rattle.cyc_plain.specs.WellFormed.{IsInRange};
-ghost use Rattle.cyc_select.specs.Selection.{body, behind};
+ghost use Rattle.cyc_select.specs.Selection.{body, behind, place_lines, instruction_line};
 ghost use Rattle.cyc_select.specs.Emission.{AddsLines, IsKnown, most_lines};
 
 use crate::code::Line;
-use crate::counting::spills_count;
+use crate::counting::{is_idle, spills_count};
 use crate::emitter::Emitter;
 use crate::operators::Parts;
 use crate::plan::{test_of, unary_plan};
@@ -148,19 +148,21 @@ impl Emitter {
         }
     }
 
-    /// All lines of an instruction.
+    /// All lines of the instruction at this index.
     pub(crate) fn instruction(
         &mut self,
         tables: &Tables,
-        here: usize,
+        index: usize,
         instruction: Instruction,
     ) -> Result<(), AllocError>
         requires known { IsKnown tables.now }
         requires in_range { IsInRange tables.now.plain.now (routine_at tables.now.plain.now tables.now.function) instruction }
-        requires fits { here ≤ most_lines }
-        ensures { AddsLines result self.old self.new (body tables.now.plain.now tables.now.frames.now tables.now.function here instruction ++ behind tables.now.plain.now tables.now.frames.now tables.now.function instruction) }
+        requires index { index < length (routine_at tables.now.plain.now tables.now.function).code }
+        ensures { AddsLines result self.old self.new (place_lines tables.now.plain.now tables.now.frames.now tables.now.function index (instruction_line tables.now.plain.now tables.now.frames.now tables.now.function index) instruction ++ behind tables.now.plain.now tables.now.frames.now tables.now.function instruction) }
     {
-        self.body(tables, here, instruction)?;
+        if !is_idle(tables.frame(tables.function), index, instruction) {
+            self.body(tables, tables.line(index), instruction)?;
+        }
         self.behind(tables, instruction)
     }
 }

@@ -4,7 +4,7 @@ ghost use Rattle.cyc_plain.specs.Program.{routine_of, routine_at, instruction_si
 ghost use Rattle.cyc_plain.specs.WellFormed.{IsPlain, IsInRange};
 ghost use Rattle.cyc_frame.specs.Layout.{AreFrames, frame_at};
 ghost use Rattle.cyc_frame.specs.declared.home.TheConstants.{MOST_BOTH};
-ghost use Rattle.cyc_select.specs.Selection.{saving_count, reload_count, spill_count, spills_count, pass_count, copies_count, moves_count, move_words_count, operator_count, ending_count, body_count, behind_count, count_of, function_count};
+ghost use Rattle.cyc_select.specs.Selection.{saving_count, reload_count, spill_count, spills_count, pass_count, copies_count, moves_count, move_words_count, operator_count, ending_count, body_count, behind_count, is_idle, count_of, code_count, function_count};
 ghost use Rattle.cyc_select.specs.Emission.{AreFew, most_lines, instruction_lines, function_starts};
 
 use crate::asking::ask_count;
@@ -279,19 +279,44 @@ fn behind_count(plain: &Plain, frames: &[Frame], function: usize, instruction: I
     }
 }
 
-/// The lines of an instruction.
-#[tactic(auto, using(crate::proofs::emission::Numbering::count_fits))]
-fn count_of(plain: &Plain, frames: &[Frame], function: usize, instruction: Instruction) -> usize
+/// Whether the place of this index has no lines of its own. Only an instruction that goes on to the next one, whatever is in the
+/// slots, may stand there.
+pub(crate) fn is_idle(frame: &Frame, index: usize, instruction: Instruction) -> bool
+    ensures { result ≡ is_idle frame.now index instruction }
+{
+    match instruction {
+        Instruction::Move { .. }
+        | Instruction::Unary { .. }
+        | Instruction::Binary { .. }
+        | Instruction::Jump { .. }
+        | Instruction::Branch { .. } => frame.is_idle(index),
+        _ => false,
+    }
+}
+
+/// The lines of the instruction at this index.
+#[tactic(auto, using(crate::proofs::emission::Numbering::body_fits))]
+fn count_of(
+    plain: &Plain,
+    frames: &[Frame],
+    function: usize,
+    index: usize,
+    instruction: Instruction,
+) -> usize
     requires fit { AreFrames plain.now frames.now }
     requires function { function < length plain.now.functions }
     requires few { AreFew plain.now }
     requires in_range { IsInRange plain.now (routine_at plain.now function) instruction }
     requires small { instruction_size instruction ≤ MOST_SIZE }
-    ensures value { result ≡ count_of plain.now frames.now function instruction }
+    ensures value { result ≡ count_of plain.now frames.now function index instruction }
     ensures few { result ≤ instruction_size instruction }
 {
-    body_count(plain, frames, function, instruction)
-        + behind_count(plain, frames, function, instruction)
+    let behind = behind_count(plain, frames, function, instruction);
+    if is_idle(frame_in(plain, frames, function), index, instruction) {
+        behind
+    } else {
+        body_count(plain, frames, function, instruction) + behind
+    }
 }
 
 /// The lines of a function's code.
@@ -301,12 +326,12 @@ fn code_count(plain: &Plain, frames: &[Frame], function: usize, code: &[Instruct
     requires few { AreFew plain.now }
     requires in_range { All (IsInRange plain.now (routine_at plain.now function)) code.now }
     requires small { sum_by instruction_size code.now ≤ MOST_SIZE }
-    ensures value { result ≡ sum_by (count_of plain.now frames.now function) code.now }
+    ensures value { result ≡ code_count plain.now frames.now function 0 code.now }
     ensures small { result ≤ sum_by instruction_size code.now }
 {
     let mut lines = 0;
-    for instruction in code {
-        lines += count_of(plain, frames, function, *instruction);
+    for index in 0..code.len() {
+        lines += count_of(plain, frames, function, index, code[index]);
     }
     lines
 }
@@ -340,13 +365,13 @@ pub(crate) fn instruction_lines(
     requires in_range { All (IsInRange plain.now (routine_at plain.now function)) code.now }
     requires small { sum_by instruction_size code.now ≤ MOST_SIZE }
     requires fits { first + sum_by instruction_size code.now ≤ most_lines + 1 }
-    ensures { IfOk result (λ lines. lines.items ≡ instruction_lines plain.now frames.now function first code.now) }
+    ensures { IfOk result (λ lines. lines.items ≡ instruction_lines plain.now frames.now function 0 first code.now) }
 {
     let mut lines = Vec::new(alloc);
     let mut here = first;
-    for instruction in code {
+    for index in 0..code.len() {
         lines.push(here)?;
-        here += count_of(plain, frames, function, *instruction);
+        here += count_of(plain, frames, function, index, code[index]);
     }
     Ok(lines)
 }

@@ -1,6 +1,6 @@
 //! Numbers that stand in an instruction.
 ghost use Rattle.std.specs.Prelude.{◌≡◌};
-ghost use Rattle.cyc_select.specs.Numbers.{fits_signed, half_of, signed_half, negated_half, next_half, low_half, is_word, is_zero_word, is_plain_divisor, shift_amount};
+ghost use Rattle.cyc_select.specs.Numbers.{fits_signed, half_of, signed_half, negated_half, next_half, low_half, is_word, is_zero_word, is_plain_divisor, shift_amount, power_of};
 
 use cyc_plain::Operand;
 use cyc_words::{add, sub};
@@ -105,5 +105,22 @@ pub(crate) fn shift_amount(operand: Operand) -> Option<u8>
     match operand {
         Operand::Slot { .. } => None,
         Operand::Word { word } => Some((word % 32) as u8),
+    }
+}
+
+/// How far a shift to the left goes that multiplies by an operand, where that is a word and a power of two.
+pub(crate) fn power_of(operand: Operand) -> Option<u8>
+    ensures { result ≡ power_of operand }
+{
+    match operand {
+        Operand::Slot { .. } => None,
+        Operand::Word { word } => {
+            let amount = word.trailing_zeros();
+            if 1u64 << amount == u64::from(word) {
+                Some(amount as u8)
+            } else {
+                None
+            }
+        }
     }
 }

@@ -1,10 +1,10 @@
 //! How the machine computes what an operator or a comparison says: by which instructions, and of which operands.
 ghost use Rattle.std.specs.Prelude.{◌≡◌};
 ghost use Rattle.cyc_select.specs.Selection.{far_plan};
-ghost use Rattle.cyc_select.specs.Plans.{arithmetic_plan, immediate_plan, immediate_or, shift_plan, multiply_divide_plan, mirrored, zero_plan, equal_plan, less_plan, less_unsigned_plan, at_most_plan, compared_plan, is_mirrored, comparison_plan, unary_plan, sum_plan, difference_plan, bits_plan, operator_plan, is_swapped, binary_plan, sign_of, order_test, test_of};
+ghost use Rattle.cyc_select.specs.Plans.{arithmetic_plan, immediate_plan, immediate_or, shift_plan, multiply_divide_plan, product_plan, mirrored, zero_plan, equal_plan, less_plan, less_unsigned_plan, at_most_plan, compared_plan, is_mirrored, comparison_plan, unary_plan, sum_plan, difference_plan, bits_plan, operator_plan, is_swapped, binary_plan, sign_of, order_test, test_of};
 
 use crate::numbers::{
-    is_word, is_zero_word, low_half, negated_half, next_half, shift_amount, signed_half,
+    is_word, is_zero_word, low_half, negated_half, next_half, power_of, shift_amount, signed_half,
 };
 use cyc_isa::{
     ArithmeticOp, BranchOp, BranchZeroOp, ImmediateOp, MoveFromOp, MultiplyDivideOp, ShiftOp,
@@ -152,6 +152,24 @@ fn multiply_divide_plan(
         left,
         right,
         outcome: Outcome::AsItIs,
+    }
+}
+
+/// A product: by a power of two it is a shift.
+fn product_plan(left: Operand, right: Operand) -> Plan
+    ensures { result ≡ product_plan left right }
+{
+    match power_of(right) {
+        Some(amount) => Plan {
+            operation: Operation::ShiftBy {
+                op: ShiftOp::Left,
+                amount,
+            },
+            left,
+            right: Operand::Word { word: 0 },
+            outcome: Outcome::AsItIs,
+        },
+        None => multiply_divide_plan(MultiplyDivideOp::Multiply, MoveFromOp::Low, left, right),
     }
 }
 
@@ -351,7 +369,6 @@ fn bits_plan(op: ArithmeticOp, number_op: ImmediateOp, left: Operand, right: Ope
 fn operator_plan(operator: BinaryOperator, left: Operand, right: Operand) -> Plan
     ensures { result ≡ operator_plan operator left right }
 {
-    let product = MultiplyDivideOp::Multiply;
     let quotient = MultiplyDivideOp::Divide;
     match operator {
         BinaryOperator::Add => sum_plan(left, right),
@@ -367,7 +384,7 @@ fn operator_plan(operator: BinaryOperator, left: Operand, right: Operand) -> Pla
         BinaryOperator::LessOrEqual => comparison_plan(Comparison::LessOrEqual, left, right),
         BinaryOperator::Greater => comparison_plan(Comparison::Greater, left, right),
         BinaryOperator::GreaterOrEqual => comparison_plan(Comparison::GreaterOrEqual, left, right),
-        BinaryOperator::Multiply => multiply_divide_plan(product, MoveFromOp::Low, left, right),
+        BinaryOperator::Multiply => product_plan(left, right),
         BinaryOperator::Divide => multiply_divide_plan(quotient, MoveFromOp::Low, left, right),
         BinaryOperator::Remainder => multiply_divide_plan(quotient, MoveFromOp::High, left, right),
     }
@@ -378,8 +395,11 @@ fn is_swapped(operator: BinaryOperator, left: Operand) -> bool
     ensures { result ≡ is_swapped operator left }
 {
     match operator {
-        BinaryOperator::Add | BinaryOperator::And | BinaryOperator::Or | BinaryOperator::Xor =>
-            is_word(left),
+        BinaryOperator::Add
+        | BinaryOperator::Multiply
+        | BinaryOperator::And
+        | BinaryOperator::Or
+        | BinaryOperator::Xor => is_word(left),
         _ => false,
     }
 }

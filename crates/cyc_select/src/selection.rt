@@ -42,10 +42,10 @@ impl Emitter {
     fn code(&mut self, tables: &Tables, code: &[Instruction]) -> Result<(), AllocError>
         requires known { IsKnown tables.now }
         requires code { code.now ≡ (routine_at tables.now.plain.now tables.now.function).code }
-        ensures { AddsLines result self.old self.new (code_lines tables.now.plain.now tables.now.frames.now tables.now.function (function_line tables.now.plain.now tables.now.frames.now tables.now.function + saving_count (frame_at tables.now.frames.now tables.now.function)) code.now) }
+        ensures { AddsLines result self.old self.new (code_lines tables.now.plain.now tables.now.frames.now tables.now.function 0 (function_line tables.now.plain.now tables.now.frames.now tables.now.function + saving_count (frame_at tables.now.frames.now tables.now.function)) code.now) }
     {
         for index in 0..code.len() {
-            self.instruction(tables, tables.line(index), code[index])?;
+            self.instruction(tables, index, code[index])?;
         }
         Ok(())
     }

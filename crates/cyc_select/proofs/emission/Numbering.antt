@@ -1,9 +1,10 @@
 -- Numbers of lines: sums over what stands before.
-use Rattle.std.proofs.Common.{◌≡◌, ℕ, zero, suc, ◌+◌, ◌<◌, ◌≤◌, Bool, true, false, List, [], ◌∷◌, ◌++◌, length, drop, take, refl, sym, ap, subst, ◌∙◌, inl, inr, arith}
+use Rattle.std.proofs.Common.{◌≡◌, ℕ, zero, suc, ◌+◌, ◌<◌, ◌≤◌, Bool, true, false, List, [], ◌∷◌, ◌++◌, length, drop, take, Some, slice_get, refl, sym, ap, subst, ◌∙◌, inl, inr, arith}
 use Rattle.std.specs.Prelude.{sum_by, slice_index_or, if◌then◌else◌, ◌||◌}
 use Rattle.std.proofs.lemmas.Bool.{cases_lt}
 use Rattle.std.proofs.lemmas.List.{drop_more, get_or_past}
-use Rattle.std.proofs.lemmas.List.Sums.{sum_by-cons, sum_by-drop_more, sum_by-take-drop, sum_by-take-le}
+use Rattle.std.proofs.lemmas.Option.{get_or_from_slice_get}
+use Rattle.std.proofs.lemmas.List.Sums.{sum_by-cons, sum_by-drop_more, sum_by-take-drop}
 use Rattle.cyc_plain.specs.declared.instruction.BinaryOperator.{BinaryOperator}
 use Rattle.cyc_plain.specs.declared.instruction.BinaryOperator.TheVariants as binary
 use Rattle.cyc_plain.specs.declared.instruction.Instruction.{Instruction}
@@ -18,13 +19,15 @@ use Rattle.cyc_frame.specs.Homes.{AreHomes}
 use Rattle.cyc_frame.specs.Layout.{IsFrame, AreFrames, frame_at, loses, loses_any}
 use Rattle.cyc_frame.specs.Frame.{Frame}
 use Rattle.cyc_select.specs.declared.constants.TheConstants.{START_LINES}
-use Rattle.cyc_select.specs.Selection.{reload_count, ending_count, count_of, function_count, functions_count, function_line, instruction_line, function_lines, saving_count, routine_lines}
+use Rattle.cyc_select.specs.Selection.{reload_count, ending_count, body_count, behind_count, is_idle, count_of, code_count, function_count, functions_count, function_line, instruction_line, behind, place_lines, code_lines, function_lines, saving_count, routine_lines}
 use Rattle.cyc_select.specs.Plans.{test_of}
 use Rattle.cyc_select.specs.Emission.{AreReached, AreFew, most_lines, instruction_lines, function_starts, AreReady, AreTables}
+use Rattle.cyc_words.proofs.Lists.{slice_get_below}
+use Rattle.cyc_select.proofs.layout.Lines.{line_next}
 use Rattle.cyc_select.proofs.emission.Counts.{move_small, move_words_small, spills_few, copies_few, give_small, keep_few, argument_small, regions_small, gives_small, word_small, load_small, operand_small, address_small, unary_small, test_small, operator_small, reach_few}
 
 abbrev no_frame : Frame
-no_frame = record { return_address = 0; saves = false; first_slot = 0; homes = [] }
+no_frame = record { return_address = 0; saves = false; first_slot = 0; homes = []; idle = [] }
 
 -- ---- an instruction has few lines for each unit of its size
 
@@ -82,31 +85,38 @@ operator_fits operator = omega arith
 abbrev pub ReadsFew : List Frame → (function : ℕ) → Type 0
 ReadsFew frames function = reload_count (frame_at frames function) ≤ 6
 
-pub count_small : (program : Program) (frames : List Frame) (function : ℕ) → ReadsFew frames function → AreFew program → (i : Instruction) → count_of program frames function i + (if loses i then 1 else 0) ≤ instruction_size i
-count_small program frames function fit few (plain.Move destination source) = omega (arith, move_small (frame_at frames function) destination source)
-count_small program frames function fit few (plain.Unary operator destination operand) = omega (arith, unary_small (frame_at frames function) operator operand destination)
-count_small program frames function fit few (plain.Binary operator destination left right) = omega (arith, operator_small (frame_at frames function) operator destination left right, operator_fits operator)
-count_small program frames function fit few (plain.Jump target) = omega arith
-count_small program frames function fit few (plain.Branch comparison left right target) = omega (arith, test_small (frame_at frames function) (test_of comparison left right))
-count_small program frames function fit few (plain.Call f a n r) = omega (arith, few f, fit, spills_few (frame_at frames function) (frame_at frames f) a 0 n, copies_few (frame_at frames function) (frame_at frames f) a 0 n)
-count_small program frames function fit few (plain.Return v) = omega (arith, few function, ending_small program function, saving_small (frame_at frames function))
-count_small program frames function fit few (plain.ReadByte destination) = omega (arith, give_small (frame_at frames function) destination)
-count_small program frames function fit few (plain.WriteByte source) = omega (arith, load_small source)
-count_small program frames function fit few (plain.AddressOf destination slot count) = omega (arith, keep_few (frame_at frames function) destination)
-count_small program frames function fit few (plain.LoadGlobal destination global) = omega (arith, reach_few (frame_at frames function) global, keep_few (frame_at frames function) destination)
-count_small program frames function fit few (plain.StoreGlobal global source) = omega (arith, operand_small (frame_at frames function) source, reach_few (frame_at frames function) global)
-count_small program frames function fit few (plain.MoveWords destination source count) = omega (arith, move_words_small (frame_at frames function) destination source count)
-count_small program frames function fit few (plain.Load destination address offset) = omega (arith, address_small (frame_at frames function) address offset, keep_few (frame_at frames function) destination)
-count_small program frames function fit few (plain.LoadByte destination address offset) = omega (arith, address_small (frame_at frames function) address offset, keep_few (frame_at frames function) destination)
-count_small program frames function fit few (plain.Store address offset source) = omega (arith, address_small (frame_at frames function) address offset, operand_small (frame_at frames function) source)
-count_small program frames function fit few (plain.StoreByte address offset source) = omega (arith, address_small (frame_at frames function) address offset, operand_small (frame_at frames function) source)
-count_small program frames function fit few (plain.Ask request) = omega (arith, regions_small request, argument_small (second_operand request), gives_small (frame_at frames function) (destination_of request) (answer_count request))
-count_small program frames function fit few (plain.CountLexical destination) = omega (arith, give_small (frame_at frames function) destination)
-count_small program frames function fit few (plain.Try first handler) = omega (arith, fit)
-count_small program frames function fit few (plain.Leave first) = omega arith
-count_small program frames function fit few (plain.Throw tag value) = omega (arith, load_small tag, load_small value)
-count_small program frames function fit few (plain.Finish v) = omega (arith, few function, ending_small program function, saving_small (frame_at frames function))
-count_small program frames function fit few (plain.Uncaught tag value) = omega (arith, word_small tag, load_small value)
+body_small : (program : Program) (frames : List Frame) (function : ℕ) → ReadsFew frames function → AreFew program → (i : Instruction) → body_count program frames function i + behind_count program frames function i + (if loses i then 1 else 0) ≤ instruction_size i
+body_small program frames function fit few (plain.Move destination source) = omega (arith, move_small (frame_at frames function) destination source)
+body_small program frames function fit few (plain.Unary operator destination operand) = omega (arith, unary_small (frame_at frames function) operator operand destination)
+body_small program frames function fit few (plain.Binary operator destination left right) = omega (arith, operator_small (frame_at frames function) operator destination left right, operator_fits operator)
+body_small program frames function fit few (plain.Jump target) = omega arith
+body_small program frames function fit few (plain.Branch comparison left right target) = omega (arith, test_small (frame_at frames function) (test_of comparison left right))
+body_small program frames function fit few (plain.Call f a n r) = omega (arith, few f, fit, spills_few (frame_at frames function) (frame_at frames f) a 0 n, copies_few (frame_at frames function) (frame_at frames f) a 0 n)
+body_small program frames function fit few (plain.Return v) = omega (arith, few function, ending_small program function, saving_small (frame_at frames function))
+body_small program frames function fit few (plain.ReadByte destination) = omega (arith, give_small (frame_at frames function) destination)
+body_small program frames function fit few (plain.WriteByte source) = omega (arith, load_small source)
+body_small program frames function fit few (plain.AddressOf destination slot count) = omega (arith, keep_few (frame_at frames function) destination)
+body_small program frames function fit few (plain.LoadGlobal destination global) = omega (arith, reach_few (frame_at frames function) global, keep_few (frame_at frames function) destination)
+body_small program frames function fit few (plain.StoreGlobal global source) = omega (arith, operand_small (frame_at frames function) source, reach_few (frame_at frames function) global)
+body_small program frames function fit few (plain.MoveWords destination source count) = omega (arith, move_words_small (frame_at frames function) destination source count)
+body_small program frames function fit few (plain.Load destination address offset) = omega (arith, address_small (frame_at frames function) address offset, keep_few (frame_at frames function) destination)
+body_small program frames function fit few (plain.LoadByte destination address offset) = omega (arith, address_small (frame_at frames function) address offset, keep_few (frame_at frames function) destination)
+body_small program frames function fit few (plain.Store address offset source) = omega (arith, address_small (frame_at frames function) address offset, operand_small (frame_at frames function) source)
+body_small program frames function fit few (plain.StoreByte address offset source) = omega (arith, address_small (frame_at frames function) address offset, operand_small (frame_at frames function) source)
+body_small program frames function fit few (plain.Ask request) = omega (arith, regions_small request, argument_small (second_operand request), gives_small (frame_at frames function) (destination_of request) (answer_count request))
+body_small program frames function fit few (plain.CountLexical destination) = omega (arith, give_small (frame_at frames function) destination)
+body_small program frames function fit few (plain.Try first handler) = omega (arith, fit)
+body_small program frames function fit few (plain.Leave first) = omega arith
+body_small program frames function fit few (plain.Throw tag value) = omega (arith, load_small tag, load_small value)
+body_small program frames function fit few (plain.Finish v) = omega (arith, few function, ending_small program function, saving_small (frame_at frames function))
+body_small program frames function fit few (plain.Uncaught tag value) = omega (arith, word_small tag, load_small value)
+
+count_small : (program : Program) (frames : List Frame) (function : ℕ) → ReadsFew frames function → AreFew program → (index : ℕ) (i : Instruction) → count_of program frames function index i + (if loses i then 1 else 0) ≤ instruction_size i
+count_small program frames function fit few index i = omega (arith, body_small program frames function fit few i, go (is_idle (frame_at frames function) index i))
+  where
+    go : (b : Bool) → (if b then 0 else body_count program frames function i) ≤ body_count program frames function i
+    go true = omega arith
+    go false = omega arith
 
 -- where there is no function no register is read again
 pub reads_few : (program : Program) (frames : List Frame) → AreFrames program frames → (k : ℕ) → ReadsFew frames k
@@ -116,20 +126,27 @@ reads_few program frames fit k = elim (cases_lt k (length program.functions)) [
       subst (λ (frame : Frame). reload_count frame ≤ 6) (sym (get_or_past frames k no_frame (omega (arith, past, fit.as_many)))) (let e : 0 ≤ 6 = omega arith in e)
 ]
 
-pub count_fits : (program : Program) (frames : List Frame) (function : ℕ) → AreFrames program frames → AreFew program → (i : Instruction) → count_of program frames function i ≤ instruction_size i
-count_fits program frames function fit few i = omega (arith, count_small program frames function (reads_few program frames fit function) few i)
+pub body_fits : (program : Program) (frames : List Frame) (function : ℕ) → AreFrames program frames → AreFew program → (i : Instruction) → body_count program frames function i + behind_count program frames function i ≤ instruction_size i
+body_fits program frames function fit few i = omega (arith, body_small program frames function (reads_few program frames fit function) few i)
 
-code_small : (program : Program) (frames : List Frame) (function : ℕ) → ReadsFew frames function → AreFew program → (code : List Instruction) → sum_by (count_of program frames function) code + losing code ≤ sum_by instruction_size code
-code_small program frames function fit few [] = omega arith
-code_small program frames function fit few (i ∷ code) =
-    omega (arith, sum_by-cons (count_of program frames function) i code, sum_by-cons instruction_size i code, count_small program frames function fit few i, code_small program frames function fit few code, losing_next i code)
+code_small : (program : Program) (frames : List Frame) (function : ℕ) → ReadsFew frames function → AreFew program → (index : ℕ) (code : List Instruction) → code_count program frames function index code + losing code ≤ sum_by instruction_size code
+code_small program frames function fit few index [] = omega arith
+code_small program frames function fit few index (i ∷ code) =
+    omega (arith, sum_by-cons instruction_size i code, count_small program frames function fit few index i, code_small program frames function fit few (suc index) code, losing_next i code)
 
 -- with the line that keeps the way back
 pub routine_small : (program : Program) (frames : List Frame) (function : ℕ) → ReadsFew frames function → AreFew program → (code : List Instruction) → (frame_at frames function).saves ≡ loses_any code
-    → saving_count (frame_at frames function) + sum_by (count_of program frames function) code ≤ sum_by instruction_size code
+    → saving_count (frame_at frames function) + code_count program frames function 0 code ≤ sum_by instruction_size code
 routine_small program frames function fit few code saved =
     let same : saving_count (frame_at frames function) ≡ losing code = ap (λ (b : Bool). if b then 1 else 0) saved in
-    omega (arith, same, code_small program frames function fit few code)
+    omega (arith, same, code_small program frames function fit few 0 code)
+
+-- the first instructions have no more lines than all
+count_take : (program : Program) (frames : List Frame) (function first : ℕ) (code : List Instruction) (k : ℕ) → code_count program frames function first (take k code) ≤ code_count program frames function first code
+count_take program frames function first [] zero = omega arith
+count_take program frames function first [] (suc k) = omega arith
+count_take program frames function first (i ∷ code) zero = omega arith
+count_take program frames function first (i ∷ code) (suc k) = omega (arith, count_take program frames function (suc first) code k)
 
 functions_small : (program : Program) (frames : List Frame) (first : ℕ) → ((k : ℕ) → ReadsFew frames k) → AreFew program → (routines : List Routine) → AreSaved frames first routines
     → (k : ℕ) → functions_count program frames first (take k routines) ≤ sum_by size (take k routines)
@@ -154,7 +171,7 @@ start_fits program frames are fit few k below =
 pub line_fits : (program : Program) (frames : List Frame) → AreFrames program frames → ((k : ℕ) → ReadsFew frames k) → AreFew program → (k : ℕ) → k < length program.functions → (index : ℕ)
     → instruction_line program frames k index ≤ START_LINES + sum_by size program.functions
 line_fits program frames are fit few k below index =
-    omega (arith, start_fits program frames are fit few k below, routine_small program frames k (fit k) few (routine_at program k).code (are.each k below).saved, sum_by-take-le (count_of program frames k) (routine_at program k).code index)
+    omega (arith, start_fits program frames are fit few k below, routine_small program frames k (fit k) few (routine_at program k).code (are.each k below).saved, count_take program frames k 0 (routine_at program k).code index)
 
 -- ---- what a well-formed program says of all its functions
 
@@ -212,16 +229,16 @@ answer_small program frames function fit known request in_range =
 
 -- ---- tables
 
-pub lines_length : (program : Program) (frames : List Frame) (function here : ℕ) (code : List Instruction) → length (instruction_lines program frames function here code) ≡ length code
-lines_length program frames function here [] = refl
-lines_length program frames function here (i ∷ code) = ap suc (lines_length program frames function (here + count_of program frames function i) code)
+pub lines_length : (program : Program) (frames : List Frame) (function index here : ℕ) (code : List Instruction) → length (instruction_lines program frames function index here code) ≡ length code
+lines_length program frames function index here [] = refl
+lines_length program frames function index here (i ∷ code) = ap suc (lines_length program frames function (suc index) (here + count_of program frames function index i) code)
 
-pub lines_at : (program : Program) (frames : List Frame) (function here : ℕ) (code : List Instruction) (k d : ℕ) → k < length code
-    → slice_index_or (instruction_lines program frames function here code) k d ≡ here + sum_by (count_of program frames function) (take k code)
-lines_at program frames function here [] k d below = absurd (omega arith)
-lines_at program frames function here (i ∷ code) zero d below = omega arith
-lines_at program frames function here (i ∷ code) (suc k) d below =
-    omega (arith, lines_at program frames function (here + count_of program frames function i) code k d (omega arith), sum_by-cons (count_of program frames function) i (take k code))
+pub lines_at : (program : Program) (frames : List Frame) (function index here : ℕ) (code : List Instruction) (k d : ℕ) → k < length code
+    → slice_index_or (instruction_lines program frames function index here code) k d ≡ here + code_count program frames function index (take k code)
+lines_at program frames function index here [] k d below = absurd (omega arith)
+lines_at program frames function index here (i ∷ code) zero d below = omega arith
+lines_at program frames function index here (i ∷ code) (suc k) d below =
+    omega (arith, lines_at program frames function (suc index) (here + count_of program frames function index i) code k d (omega arith))
 
 pub starts_length : (program : Program) (frames : List Frame) (function here : ℕ) (routines : List Routine) → length (function_starts program frames function here routines) ≡ length routines
 starts_length program frames function here [] = refl
@@ -250,14 +267,46 @@ module _ {program : Program} {frames : List Frame} {starts : List ℕ} (ready : 
 
 module _ {program : Program} {frames : List Frame} {starts lines : List ℕ} {function : ℕ} (known : AreTables program frames starts lines function) where
   pub known_lines : length lines ≡ length (routine_at program function).code
-  known_lines = ap length known.lines_are ∙ lines_length program frames function (function_line program frames function + saving_count (frame_at frames function)) (routine_at program function).code
+  known_lines = ap length known.lines_are ∙ lines_length program frames function 0 (function_line program frames function + saving_count (frame_at frames function)) (routine_at program function).code
 
   pub known_line : (k : ℕ) → k < length (routine_at program function).code → slice_index_or lines k 0 ≡ instruction_line program frames function k
-  known_line k below = ap (λ (s : List ℕ). slice_index_or s k 0) known.lines_are ∙ lines_at program frames function (function_line program frames function + saving_count (frame_at frames function)) (routine_at program function).code k 0 below
+  known_line k below = ap (λ (s : List ℕ). slice_index_or s k 0) known.lines_are ∙ lines_at program frames function 0 (function_line program frames function + saving_count (frame_at frames function)) (routine_at program function).code k 0 below
 
   pub known_fits : (k : ℕ) → instruction_line program frames function k ≤ most_lines
   known_fits k =
       omega (arith, line_fits program frames known.ready.fit (reads_few program frames known.ready.fit) (are_few program known.ready.well_formed) function known.function_in_range k, known.ready.few)
+
+-- ---- one instruction behind the other
+
+pub counts_next : (program : Program) (frames : List Frame) (function : ℕ) (code : List Instruction) (k : ℕ) (d : Instruction) → k < length code
+    → code_count program frames function k (drop k code) ≡ count_of program frames function k (slice_index_or code k d) + code_count program frames function (k + 1) (drop (k + 1) code)
+counts_next program frames function code k d below =
+    let one : suc k ≡ k + 1 = omega arith in
+    ap (code_count program frames function k) (drop_more code k d below)
+    ∙ ap (λ (n : ℕ). count_of program frames function k (slice_index_or code k d) + code_count program frames function n (drop (k + 1) code)) one
+
+pub numbers_next : (program : Program) (frames : List Frame) (function here : ℕ) (code : List Instruction) (k : ℕ) (d : Instruction) → k < length code
+    → instruction_lines program frames function k here (drop k code) ≡ here ∷ instruction_lines program frames function (k + 1) (here + count_of program frames function k (slice_index_or code k d)) (drop (k + 1) code)
+numbers_next program frames function here code k d below =
+    let one : suc k ≡ k + 1 = omega arith in
+    ap (instruction_lines program frames function k here) (drop_more code k d below)
+    ∙ ap (λ (n : ℕ). here ∷ instruction_lines program frames function n (here + count_of program frames function k (slice_index_or code k d)) (drop (k + 1) code)) one
+
+pub code_next : (program : Program) (frames : List Frame) (function : ℕ) (code : List Instruction) (k : ℕ) (d : Instruction) → code ≡ (routine_at program function).code → k < length code
+    → code_lines program frames function k (instruction_line program frames function k) (drop k code)
+    ≡ place_lines program frames function k (instruction_line program frames function k) (slice_index_or code k d) ++ behind program frames function (slice_index_or code k d)
+    ++ code_lines program frames function (k + 1) (instruction_line program frames function (k + 1)) (drop (k + 1) code)
+code_next program frames function code k d same below =
+    let one : suc k ≡ k + 1 = omega arith in
+    let line = instruction_line program frames function k in
+    let i = slice_index_or code k d in
+    let own = place_lines program frames function k line i ++ behind program frames function i in
+    let (j, at_j) = slice_get_below code k below in
+    let at : slice_get (routine_at program function).code k ≡ Some (slice_index_or code k d) =
+    ap (λ (l : List Instruction). slice_get l k) (sym same) ∙ at_j ∙ ap Some (sym (get_or_from_slice_get code k j d at_j)) in
+    ap (code_lines program frames function k line) (drop_more code k d below)
+    ∙ ap (λ (n : ℕ). own ++ code_lines program frames function n (line + count_of program frames function k i) (drop (k + 1) code)) one
+    ∙ ap (λ (n : ℕ). own ++ code_lines program frames function (k + 1) n (drop (k + 1) code)) (sym (line_next program frames function k i at))
 
 -- ---- one function behind the other
 

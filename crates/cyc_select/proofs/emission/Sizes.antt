@@ -28,7 +28,7 @@ use Rattle.cyc_select.specs.declared.plan.Test.TheVariants as tests
 use Rattle.cyc_select.specs.Plans.{unary_plan, binary_plan, test_of}
 use Rattle.cyc_select.specs.Labelled.{Labelled, words_of, all_words}
 use Rattle.cyc_select.specs.Selected.{words_at}
-use Rattle.cyc_select.specs.Selection.{product_code, quotient_code, operand_count, operand_register, slot_offset, recorded_code, caught_code, reload_count, value_register, move_to, keep_code, give_code, moved_code, reloads, opened_code, made_in, ordinary, argument_code, service_number, answer_code, unwound_code, address_code, at_address, copies, bring_all, word_code, load_code, load_count, operand_code, plan_code, test_code, branch_line, branch_code, divided_code, divide_code, is_tested, part_of, result_registers, ending_code, operator_code, body, behind, count_of, function_count, function_line, instruction_line, code_lines, function_lines, small, syscall, store, add_immediate, push_frame, load, regions_code, load_at, store_at, spills, spills_count, calling_code, global_code, saving_code, restoring_code, saving_count, returning_code, routine_lines}
+use Rattle.cyc_select.specs.Selection.{product_code, quotient_code, operand_count, operand_register, slot_offset, recorded_code, caught_code, reload_count, value_register, move_to, keep_code, give_code, moved_code, reloads, opened_code, made_in, ordinary, argument_code, service_number, answer_code, unwound_code, address_code, at_address, copies, bring_all, word_code, load_code, load_count, operand_code, plan_code, test_code, branch_line, branch_code, divided_code, divide_code, is_tested, part_of, result_registers, ending_code, operator_code, body, behind, place_lines, is_idle, count_of, function_count, function_line, instruction_line, code_lines, function_lines, small, syscall, store, add_immediate, push_frame, load, regions_code, load_at, store_at, spills, spills_count, calling_code, global_code, saving_code, restoring_code, saving_count, returning_code, routine_lines}
 use Rattle.cyc_isa.specs.Decoding.{register_of}
 use Rattle.cyc_isa.specs.declared.instr.BranchOp.TheVariants as branch
 use Rattle.cyc_select.proofs.emission.Counts.{length_keep, length_give, length_move, length_moved, length_spills, spills_few, length_copies, copies_few, move_words_small, keep_few, give_small, move_small, argument_small, regions_small, gives_small, length_argument, length_answer, length_regions, length_results, length_registers, word_small, load_small, operand_small, address_small, plan_small, unary_small, test_small, length_word, length_load, length_operand, length_address, length_plan, length_test, length_divided, reach_few, length_global}
@@ -194,16 +194,23 @@ module _ (program : Program) (frames : List Frame) (reads_few : (function : ℕ)
       let loads : List Instr = load_code (frame_at frames function) SECOND_ARGUMENT value ++ last in
       omega (arith, words_ordinary (word_code ARGUMENT tag ++ loads), length-append (word_code ARGUMENT tag) loads, length_word ARGUMENT tag, length-append (load_code (frame_at frames function) SECOND_ARGUMENT value) last, length_load (frame_at frames function) SECOND_ARGUMENT value, load_small value, word_small tag)
 
+  place_words : (function index here : ℕ) (i : Instruction) → all_words (place_lines program frames function index here i) + all_words (behind program frames function i) + (if loses i then 1 else 0) ≤ instruction_size i
+  place_words function index here i = omega (arith, body_words function here i, go (is_idle (frame_at frames function) index i))
+    where
+      go : (b : Bool) → all_words (if b then [] else body program frames function here i) ≤ all_words (body program frames function here i)
+      go true = omega arith
+      go false = omega arith
+
   -- with the word that keeps the way back, where the code loses it
-  pub code_words : (function here : ℕ) (code : List Instruction) → all_words (code_lines program frames function here code) + losing code ≤ sum_by instruction_size code
-  code_words function here [] = omega arith
-  code_words function here (i ∷ code) =
+  pub code_words : (function index here : ℕ) (code : List Instruction) → all_words (code_lines program frames function index here code) + losing code ≤ sum_by instruction_size code
+  code_words function index here [] = omega arith
+  code_words function index here (i ∷ code) =
       omega (
         arith,
-        body_words function here i,
-        code_words function (here + count_of program frames function i) code,
-        sum_by-append words_of (body program frames function here i ++ behind program frames function i) (code_lines program frames function (here + count_of program frames function i) code),
-        sum_by-append words_of (body program frames function here i) (behind program frames function i),
+        place_words function index here i,
+        code_words function (suc index) (here + count_of program frames function index i) code,
+        sum_by-append words_of (place_lines program frames function index here i ++ behind program frames function i) (code_lines program frames function (suc index) (here + count_of program frames function index i) code),
+        sum_by-append words_of (place_lines program frames function index here i) (behind program frames function i),
         sum_by-cons instruction_size i code,
         losing_next i code,
       )
@@ -211,7 +218,7 @@ module _ (program : Program) (frames : List Frame) (reads_few : (function : ℕ)
   pub routine_words : (function here : ℕ) (r : Routine) → (frame_at frames function).saves ≡ loses_any r.code → all_words (routine_lines program frames function here r) ≤ size r
   routine_words function here r saved =
       let saving : all_words (ordinary (saving_code (frame_at frames function))) ≡ losing r.code = go (frame_at frames function).saves saved in
-      omega (arith, saving, code_words function (here + saving_count (frame_at frames function)) r.code, sum_by-append words_of (ordinary (saving_code (frame_at frames function))) (code_lines program frames function (here + saving_count (frame_at frames function)) r.code))
+      omega (arith, saving, code_words function 0 (here + saving_count (frame_at frames function)) r.code, sum_by-append words_of (ordinary (saving_code (frame_at frames function))) (code_lines program frames function 0 (here + saving_count (frame_at frames function)) r.code))
     where
       go : (b : Bool) → b ≡ loses_any r.code → all_words (ordinary (if b then store RETURN_ADDRESS (4 * (frame_at frames function).return_address) ∷ [] else [])) ≡ (if loses_any r.code then 1 else 0)
       go true is = ap (λ (x : Bool). if x then 1 else 0) is

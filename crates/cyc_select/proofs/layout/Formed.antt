@@ -1,10 +1,9 @@
 -- Each line of the code is formed, and each part has few words.
-use Rattle.std.proofs.Common.{◌≡◌, ℕ, zero, suc, ◌+◌, ◌*◌, ◌/◌, ◌%◌, ◌^◌, ◌<◌, ◌≤◌, Bool, true, false, List, [], ◌∷◌, ◌++◌, length, take, Option, None, Some, slice_get, refl, sym, ap, subst, ◌∙◌, arith, inl, inr, length-append}
-use Rattle.std.specs.Prelude.{All, sum_by, ◌==◌, ◌&&◌, nat_lt, if◌then◌else◌, slice_index_or}
+use Rattle.std.proofs.Common.{◌≡◌, ℕ, zero, suc, ◌+◌, ◌-◌, ◌*◌, ◌/◌, ◌%◌, ◌^◌, ◌<◌, ◌≤◌, Bool, true, false, List, [], ◌∷◌, ◌++◌, length, take, Option, None, Some, slice_get, refl, sym, ap, subst, ◌∙◌, arith, inl, inr}
+use Rattle.std.specs.Prelude.{All, ◌==◌, ◌&&◌, nat_lt, if◌then◌else◌, slice_index_or}
 use Rattle.std.specs.List.{AllByRecursion}
-use Rattle.std.proofs.lemmas.Bool.{cases_lt, eqb-true, ltb-true}
+use Rattle.std.proofs.lemmas.Bool.{cases_Bool, cases_lt, eqb-true, ltb-true}
 use Rattle.std.proofs.lemmas.List.{get_or_past}
-use Rattle.std.proofs.lemmas.List.Sums.{sum_by-cons}
 use Rattle.cyc_words.specs.Word.{IsWord}
 use Rattle.cyc_words.proofs.Lists.{slice_get_below, all_append}
 use Rattle.cyc_isa.specs.declared.instr.Instr.{Instr}
@@ -28,8 +27,8 @@ use Rattle.cyc_plain.specs.Step.{instruction_at}
 use Rattle.cyc_plain.specs.declared.instruction.Request.{Request}
 use Rattle.cyc_plain.specs.declared.instruction.Request.TheVariants as requests
 use Rattle.cyc_plain.specs.Requests.{first_operand, second_operand, answer_count, destination_of}
-use Rattle.cyc_plain.specs.WellFormed.{IsOperand, IsArgument, IsInRange, IsWellFormed, HasWords, IsOfWord, IsArgumentOfWord, HasWord}
-use Rattle.cyc_plain.proofs.Placed.{holds_at, routine_in, below_of_get, has_code}
+use Rattle.cyc_plain.specs.WellFormed.{IsOperand, IsArgument, IsInRange, IsWellFormed, HasWords, IsOfWord, IsArgumentOfWord, HasWord, leaves}
+use Rattle.cyc_plain.proofs.Placed.{holds_at, routine_in, below_of_get, goes_behind, has_code}
 use Rattle.cyc_plain.proofs.Steps.{function_known}
 use Rattle.cyc_frame.specs.Layout.{AreFrames, frame_at, slot_word}
 use Rattle.cyc_frame.specs.Uses.{is_crossing}
@@ -51,13 +50,13 @@ use Rattle.cyc_select.specs.declared.plan.Test.TheVariants as tests
 use Rattle.cyc_select.specs.Plans.{unary_plan, binary_plan, test_of}
 use Rattle.cyc_select.specs.Labelled.{Labelled, IsFormed, IsFormedLine}
 use Rattle.cyc_select.specs.Numbers.{fits_signed, is_zero_word}
-use Rattle.cyc_select.specs.Selection.{value_register, product_code, quotient_code, passed_from, spill_from, pass_from, pass, is_kept, load_from, fetch_from, move_to, keep_code, give_to, give_code, bring_code, bring_all, load_words, reloads_from, reloads, opened_code, made_in, slot_offset, ordinary, result_registers, argument_code, service_number, answer_code, unwound_code, far_plan, address_code, near_half, at_address, copies, load_all, store_all, moves, all_moved, store_slot, pop_frame, load_upper, constant, or_immediate, is_tested, part_of, plan_count, small, syscall, add_immediate, minus, upper_of_global, word_code, load_code, load_count, operand_code, operand_register, operands_code, operation_code, outcome_code, operation_of, computed_code, plan_code, test_code, branch_line, divided_code, divide_code, divide_count, ending_code, ending_count, operator_code, operator_count, body, behind, body_count, count_of, function_count, functions_count, function_line, instruction_line, code_lines, function_lines, start_lines, select_of, regions_code, load_at, store_at, spill, spills, spills_count, calling_code, operand_count, global_code, is_near, global_address, load, store, saving_code, restoring_code, saving_count, returning_code, routine_lines}
-use Rattle.cyc_select.proofs.layout.Lines.{line_first}
+use Rattle.cyc_select.specs.Selection.{value_register, product_code, quotient_code, passed_from, spill_from, pass_from, pass, is_kept, load_from, fetch_from, move_to, keep_code, give_to, give_code, bring_code, bring_all, load_words, reloads_from, reloads, opened_code, made_in, slot_offset, ordinary, result_registers, argument_code, service_number, answer_code, unwound_code, far_plan, address_code, near_half, at_address, copies, load_all, store_all, moves, all_moved, store_slot, pop_frame, load_upper, constant, or_immediate, is_tested, part_of, plan_count, small, syscall, add_immediate, minus, upper_of_global, word_code, load_code, load_count, operand_code, operand_register, operands_code, operation_code, outcome_code, operation_of, computed_code, plan_code, test_code, branch_line, divided_code, divide_code, divide_count, ending_code, ending_count, operator_code, operator_count, body, behind, place_lines, is_idle, body_count, count_of, code_count, function_count, functions_count, function_line, instruction_line, code_lines, function_lines, start_lines, select_of, regions_code, load_at, store_at, spill, spills, spills_count, calling_code, operand_count, global_code, is_near, global_address, load, store, saving_code, restoring_code, saving_count, returning_code, routine_lines}
+use Rattle.cyc_select.proofs.layout.Lines.{line_first, line_next}
 use Rattle.cyc_select.proofs.values.Plans.{AllOfTest, all_unary, all_binary, all_test}
 use Rattle.cyc_select.proofs.emission.Counts.{operation_some, move_some, move_words_some, give_some, length_registers, answer_few, service_small}
 use Rattle.cyc_select.proofs.steps.Returns.{loaded}
 use Rattle.cyc_select.proofs.layout.Structure.{length_body, stand}
-use Rattle.cyc_select.proofs.effects.Walks.{Stands}
+use Rattle.cyc_select.proofs.effects.Walks.{Stands, stands_front}
 
 -- ---- lists
 
@@ -75,15 +74,15 @@ within_code code n (l ∷ m ∷ ls) some (first, rest) = omega (arith, within_co
 -- ---- over all parts of the code
 
 module _ (program : Program) (frames : List Frame) (P : Line → Type 0) where
-  code_all : (function here : ℕ) (code : List Instruction)
-      → ((index n : ℕ) (i : Instruction) → slice_get code index ≡ Some i → n ≡ here + sum_by (count_of program frames function) (take index code) → AllByRecursion P (body program frames function n i ++ behind program frames function i))
-      → AllByRecursion P (code_lines program frames function here code)
-  code_all function here [] each = tt
-  code_all function here (i ∷ code) each =
-      all_append P (body program frames function here i ++ behind program frames function i) (code_lines program frames function (here + count_of program frames function i) code)
-      (each 0 here i refl (omega arith))
-      (code_all function (here + count_of program frames function i) code
-      (λ index n j at is. each (suc index) n j at (omega (arith, is, sum_by-cons (count_of program frames function) i (take index code)))))
+  code_all : (function first here : ℕ) (code : List Instruction)
+      → ((k index n : ℕ) (i : Instruction) → slice_get code k ≡ Some i → index ≡ first + k → n ≡ here + code_count program frames function first (take k code) → AllByRecursion P (place_lines program frames function index n i ++ behind program frames function i))
+      → AllByRecursion P (code_lines program frames function first here code)
+  code_all function first here [] each = tt
+  code_all function first here (i ∷ code) each =
+      all_append P (place_lines program frames function first here i ++ behind program frames function i) (code_lines program frames function (suc first) (here + count_of program frames function first i) code)
+      (each 0 first here i refl (omega arith) (omega arith))
+      (code_all function (suc first) (here + count_of program frames function first i) code
+      (λ k index n j at index_is is. each (suc k) index n j at (omega (arith, index_is)) (omega (arith, is))))
 
   functions_all : (first here : ℕ) (routines : List Routine)
       → ((k n : ℕ) → k < length routines → n ≡ here + functions_count program frames first (take k routines) → AllByRecursion P (routine_lines program frames (first + k) n (slice_index_or routines k no_routine)))
@@ -140,6 +139,75 @@ count_some program frames function (plain.Throw tag value) in_range = omega arit
 count_some program frames function (plain.Finish value) in_range = omega arith
 count_some program frames function (plain.Uncaught tag value) in_range = omega arith
 
+-- ---- each place lies within the code
+
+module _ (program : Program) (well : IsWellFormed program) (frames : List Frame) (fit : AreFrames program frames) (code : Labelled)
+    (stand : (function index : ℕ) (i : Instruction) → instruction_at program (record { function = function; index = index }) ≡ Some i
+    → Stands code (instruction_line program frames function index) (place_lines program frames function index (instruction_line program frames function index) i ++ behind program frames function i))
+    (long : (function line : ℕ) (i : Instruction) → length (body program frames function line i) ≡ body_count program frames function i) where
+  -- the lines of an instruction that is not idle
+  pub body_stands : (function index : ℕ) (i : Instruction) → instruction_at program (record { function = function; index = index }) ≡ Some i → is_idle (frame_at frames function) index i ≡ false
+      → Stands code (instruction_line program frames function index) (body program frames function (instruction_line program frames function index) i ++ behind program frames function i)
+  body_stands function index i at busy =
+      subst (λ (b : Bool). Stands code (instruction_line program frames function index) ((if b then [] else body program frames function (instruction_line program frames function index) i) ++ behind program frames function i)) busy
+      (stand function index i at)
+
+  pub body_inside : (function index : ℕ) (i : Instruction) → instruction_at program (record { function = function; index = index }) ≡ Some i → is_idle (frame_at frames function) index i ≡ false
+      → instruction_line program frames function index + body_count program frames function i ≤ length code.lines
+  body_inside function index i at busy =
+      let line : ℕ = instruction_line program frames function index in
+      let some = count_some program frames function i (range_at program well (record { function = function; index = index }) i at) in
+      omega (
+        arith,
+        long function line i,
+        within_code code line (body program frames function line i) (omega (arith, long function line i, some))
+            (stands_front code line (body program frames function line i) (behind program frames function i) (body_stands function index i at busy)),
+      )
+
+  -- behind an idle place stands another
+  idle_before : (function index : ℕ) (i : Instruction) → instruction_at program (record { function = function; index = index }) ≡ Some i → is_idle (frame_at frames function) index i ≡ true
+      → index + 1 < length (routine_at program function).code
+  idle_before function index i at idle = go i at idle
+    where
+      known : function < length program.functions
+      known = function_known program (record { function = function; index = index }) i at
+
+      stays : (j : Instruction) → slice_get (routine_at program function).code index ≡ Some j → leaves j ≡ false → index + 1 < length (routine_at program function).code
+      stays j there other = goes_behind program (routine_at program function) index j (routine_in program function well known) there other
+
+      go : (j : Instruction) → instruction_at program (record { function = function; index = index }) ≡ Some j → is_idle (frame_at frames function) index j ≡ true → index + 1 < length (routine_at program function).code
+      go (plain.Move destination source) there is = stays (plain.Move destination source) there refl
+      go (plain.Unary operator destination operand) there is = stays (plain.Unary operator destination operand) there refl
+      go (plain.Binary operator destination left right) there is = stays (plain.Binary operator destination left right) there refl
+      go (plain.Branch comparison left right target) there is = stays (plain.Branch comparison left right target) there refl
+      go (plain.Jump target) there is =
+          let next : target ≡ suc index = fit.idle function known index (plain.Jump target) there is in
+          let below : target < length (routine_at program function).code = range_at program well (record { function = function; index = index }) (plain.Jump target) there in
+          omega (arith, next, below)
+      go j there is = absurd (let e : false ≡ true = is in cc)
+
+  -- the line of each place is there: it is the place's own, or that of one behind it
+  pub place_inside : (function index : ℕ) → index < length (routine_at program function).code → instruction_line program frames function index < length code.lines
+  place_inside function index below = go (length (routine_at program function).code - suc index) index (omega (arith, below))
+    where
+      own : (k : ℕ) (i : Instruction) → slice_get (routine_at program function).code k ≡ Some i → is_idle (frame_at frames function) k i ≡ false → instruction_line program frames function k < length code.lines
+      own k i at busy =
+          omega (arith, body_inside function k i at busy, count_some program frames function i (range_at program well (record { function = function; index = k }) i at))
+
+      go : (n k : ℕ) → k + suc n ≡ length (routine_at program function).code → instruction_line program frames function k < length code.lines
+      go zero k is =
+          let (i, at) = slice_get_below (routine_at program function).code k (omega (arith, is)) in
+          elim (cases_Bool (is_idle (frame_at frames function) k i)) [
+            | inl idle ↦ absurd (omega (arith, is, idle_before function k i at idle))
+            | inr busy ↦ own k i at busy
+          ]
+      go (suc n) k is =
+          let (i, at) = slice_get_below (routine_at program function).code k (omega (arith, is)) in
+          elim (cases_Bool (is_idle (frame_at frames function) k i)) [
+            | inl idle ↦ omega (arith, line_next program frames function k i at, go n (k + 1) (omega (arith, is)))
+            | inr busy ↦ own k i at busy
+          ]
+
 module _ (program : Program) (well : IsWellFormed program) (words : HasWords program) (frames : List Frame) (fit : AreFrames program frames) where
   total : ℕ
   total = length (select_of program frames).lines
@@ -148,23 +216,14 @@ module _ (program : Program) (well : IsWellFormed program) (words : HasWords pro
   Formed ls = AllByRecursion (IsFormedLine (length (select_of program frames).lines)) ls
 
   -- the lines of an instruction are in the code
-  line_known : (function index : ℕ) (i : Instruction) → instruction_at program (record { function = function; index = index }) ≡ Some i
+  line_known : (function index : ℕ) (i : Instruction) → instruction_at program (record { function = function; index = index }) ≡ Some i → is_idle (frame_at frames function) index i ≡ false
       → instruction_line program frames function index + body_count program frames function i ≤ length (select_of program frames).lines
-  line_known function index i at =
-      let n : ℕ = instruction_line program frames function index in
-      let long = length_body program frames (few_results program well) function (instruction_line program frames function index) i in
-      let both = length-append (body program frames function (instruction_line program frames function index) i) (behind program frames function i) in
-      omega (
-        arith,
-        long,
-        both,
-        within_code (select_of program frames) (instruction_line program frames function index) (body program frames function (instruction_line program frames function index) i ++ behind program frames function i) (omega (arith, long, both, count_some program frames function i (range_at program well (record { function = function; index = index }) i at))) (stand program frames (few_results program well) function index i at),
-      )
+  line_known function index i at busy =
+      body_inside program well frames fit (select_of program frames) (stand program frames (few_results program well)) (length_body program frames (few_results program well)) function index i at busy
 
   target_known : (function target : ℕ) → target < length (routine_at program function).code → instruction_line program frames function target < length (select_of program frames).lines
   target_known function target below =
-      let (i, at) = slice_get_below (routine_at program function).code target below in
-      omega (arith, line_known function target i at, count_some program frames function i (range_at program well (record { function = function; index = target }) i at))
+      place_inside program well frames fit (select_of program frames) (stand program frames (few_results program well)) (length_body program frames (few_results program well)) function target below
 
   function_known_line : (function : ℕ) → function < length program.functions → function_line program frames function < length (select_of program frames).lines
   function_known_line function below =
@@ -619,19 +678,28 @@ module _ (program : Program) (well : IsWellFormed program) (words : HasWords pro
     behind_formed (plain.Finish value) in_range = tt
     behind_formed (plain.Uncaught tag value) in_range = tt
 
+  place_formed : (function index n : ℕ) (i : Instruction) → function < length program.functions → instruction_at program (record { function = function; index = index }) ≡ Some i → n ≡ instruction_line program frames function index
+      → Formed (place_lines program frames function index n i)
+  place_formed function index n i known at here = go (is_idle (frame_at frames function) index i) refl
+    where
+      go : (b : Bool) → is_idle (frame_at frames function) index i ≡ b → Formed (if b then [] else body program frames function n i)
+      go true idle = tt
+      go false busy =
+          body_formed function known i n (range_at program well (record { function = function; index = index }) i at) (holds_at HasWord (routine_at program function).code index i (words.functions function no_routine known) at)
+          (omega (arith, here, line_known function index i at busy))
+
   function_formed : (function n : ℕ) → function < length program.functions → n ≡ function_line program frames function → Formed (routine_lines program frames function n (routine_at program function))
   function_formed function n known is =
-      all_append (IsFormedLine (length (select_of program frames).lines)) (ordinary (saving_code (frame_at frames function))) (code_lines program frames function (n + saving_count (frame_at frames function)) (routine_at program function).code)
+      all_append (IsFormedLine (length (select_of program frames).lines)) (ordinary (saving_code (frame_at frames function))) (code_lines program frames function 0 (n + saving_count (frame_at frames function)) (routine_at program function).code)
       (saving_formed function known)
-      (code_all program frames (IsFormedLine (length (select_of program frames).lines)) function (n + saving_count (frame_at frames function)) (routine_at program function).code
-      (λ index m i at m_is.
-      let routine = routine_in program function well known in
-      let in_range = holds_at (IsInRange program (routine_at program function)) (routine_at program function).code index i routine.instructions at in
-      let has_word = holds_at HasWord (routine_at program function).code index i (words.functions function no_routine known) at in
-      let here : m ≡ instruction_line program frames function index = omega (arith, m_is, is) in
-      all_append (IsFormedLine (length (select_of program frames).lines)) (body program frames function m i) (behind program frames function i)
-      (body_formed function known i m in_range has_word (omega (arith, here, line_known function index i at)))
-      (behind_formed function known i in_range)))
+      (code_all program frames (IsFormedLine (length (select_of program frames).lines)) function 0 (n + saving_count (frame_at frames function)) (routine_at program function).code
+      (λ k index m i at index_is m_is.
+      let same : index ≡ k = omega (arith, index_is) in
+      let there : slice_get (routine_at program function).code index ≡ Some i = ap (slice_get (routine_at program function).code) same ∙ at in
+      let here : m ≡ instruction_line program frames function index = omega (arith, m_is, is, ap (instruction_line program frames function) same) in
+      all_append (IsFormedLine (length (select_of program frames).lines)) (place_lines program frames function index m i) (behind program frames function i)
+      (place_formed function index m i known there here)
+      (behind_formed function known i (range_at program well (record { function = function; index = index }) i there))))
 
   pub formed : IsFormed (select_of program frames)
   formed =

@@ -1,10 +1,8 @@
 -- Each line belongs to the start or to one place.
-use Rattle.std.proofs.Common.{◌≡◌, ℕ, zero, suc, ◌+◌, ◌-◌, ◌<◌, ◌≤◌, true, false, List, [], ◌∷◌, ◌++◌, length, map, take, Option, Some, slice_get, refl, sym, ap, subst, ◌∙◌, arith, inl, inr, length-append}
-use Rattle.std.specs.Prelude.{sum_by, slice_index_or, flat_map, Contains, IsSomeAnd}
+use Rattle.std.proofs.Common.{◌≡◌, ℕ, zero, suc, ◌+◌, ◌-◌, ◌<◌, ◌≤◌, true, false, List, [], ◌∷◌, ◌++◌, length, map, take, Option, Some, slice_get, refl, sym, ap, subst, ◌∙◌, arith, length-append}
+use Rattle.std.specs.Prelude.{slice_index_or, flat_map, IsSomeAnd}
 use Rattle.std.specs.List.{range_with_len}
 use Rattle.std.proofs.lemmas.Grind.{flat_map-append}
-use Rattle.std.proofs.lemmas.List.FromFn.{get_or-map-range_with_len, length-map-range_with_len, length-range_with_len}
-use Rattle.std.proofs.lemmas.List.Elements.{Contains-append_cases}
 use Rattle.cyc_words.proofs.Lists.{slice_get_below}
 use Rattle.cyc_plain.specs.declared.instruction.Instruction.{Instruction}
 use Rattle.cyc_plain.specs.declared.instruction.Instruction.TheVariants as plain
@@ -13,8 +11,8 @@ use Rattle.cyc_plain.specs.WellFormed.{IsWellFormed, leaves}
 use Rattle.cyc_plain.proofs.Placed.{routine_in, has_code}
 use Rattle.cyc_frame.specs.Frame.{Frame}
 use Rattle.cyc_select.specs.declared.constants.TheConstants.{START_LINES}
-use Rattle.cyc_select.specs.Selection.{body_count, behind_count, count_of, function_count, functions_count, function_line, instruction_line, start_lines, function_lines, select_of}
-use Rattle.cyc_select.proofs.layout.Formed.{few_results, range_at, count_some}
+use Rattle.cyc_select.specs.Selection.{behind_count, place_count, code_count, function_count, functions_count, function_line, instruction_line, start_lines, function_lines, select_of}
+use Rattle.cyc_select.proofs.layout.Formed.{few_results}
 use Rattle.cyc_select.proofs.layout.Lines.{line_next, line_first}
 use Rattle.cyc_select.proofs.runs.Runs.{behind_of, previous_count, body_of, own_of, previous_fits}
 use Rattle.cyc_select.proofs.layout.Structure.{length_functions}
@@ -86,7 +84,7 @@ module _ (program : Program) (well : IsWellFormed program) (frames : List Frame)
   first_of function index = instruction_line program frames function index - previous_count program frames function (routine_at program function).code index
 
   last_line : (function : ℕ) → instruction_line program frames function (length (routine_at program function).code) ≡ end_of function
-  last_line function = omega (arith, ap (sum_by (count_of program frames function)) (take_all (routine_at program function).code))
+  last_line function = omega (arith, ap (code_count program frames function 0) (take_all (routine_at program function).code))
 
   last_previous : (function : ℕ) → function < length program.functions → (k : ℕ) → k ≡ length (routine_at program function).code → previous_count program frames function (routine_at program function).code k ≡ 0
   last_previous function known zero is = absurd (omega (arith, is, has_code program (routine_at program function) (routine_in program function well known)))
@@ -110,13 +108,13 @@ module _ (program : Program) (well : IsWellFormed program) (frames : List Frame)
       let fits = previous_fits program frames function k in
       let one : k + 1 ≡ suc k = omega arith in
       let previous : previous_count program frames function (routine_at program function).code (k + 1) ≡ behind_count program frames function i = ap (previous_count program frames function (routine_at program function).code) one ∙ ap (behind_of program frames function) at in
-      let own_body : body_of program frames function (slice_get (routine_at program function).code k) ≡ body_count program frames function i = ap (body_of program frames function) at in
-      let from : first_of function (k + 1) ≡ first_of function k + (previous_count program frames function (routine_at program function).code k + body_of program frames function (slice_get (routine_at program function).code k)) = omega (arith, next, fits, previous, own_body) in
+      let own_body : body_of program frames function k (slice_get (routine_at program function).code k) ≡ place_count program frames function k i = ap (body_of program frames function k) at in
+      let from : first_of function (k + 1) ≡ first_of function k + (previous_count program frames function (routine_at program function).code k + body_of program frames function k (slice_get (routine_at program function).code k)) = omega (arith, next, fits, previous, own_body) in
       let end = first_before function known (k + 1) n (omega (arith, long)) in
-      let whole : (previous_count program frames function (routine_at program function).code k + body_of program frames function (slice_get (routine_at program function).code k)) + (end_of function - first_of function (k + 1)) ≡ end_of function - first_of function k = omega (arith, from, end) in
+      let whole : (previous_count program frames function (routine_at program function).code k + body_of program frames function k (slice_get (routine_at program function).code k)) + (end_of function - first_of function (k + 1)) ≡ end_of function - first_of function k = omega (arith, from, end) in
       ap (λ (l : List ℕ). own_of program frames (place_in function k) ++ l) (own_from function known (k + 1) n (omega (arith, long)))
       ∙ (ap (λ (x : ℕ). own_of program frames (place_in function k) ++ range_with_len x (end_of function - first_of function (k + 1))) from
-      ∙ (range_append (first_of function k) (previous_count program frames function (routine_at program function).code k + body_of program frames function (slice_get (routine_at program function).code k)) (end_of function - first_of function (k + 1))
+      ∙ (range_append (first_of function k) (previous_count program frames function (routine_at program function).code k + body_of program frames function k (slice_get (routine_at program function).code k)) (end_of function - first_of function (k + 1))
       ∙ ap (range_with_len (first_of function k)) whole))
     where
       first_before : (function : ℕ) → function < length program.functions → (k n : ℕ) → k + n ≡ length (routine_at program function).code → first_of function k ≤ end_of function
@@ -170,40 +168,3 @@ module _ (program : Program) (well : IsWellFormed program) (frames : List Frame)
       ap (λ (l : List ℕ). range_with_len 0 START_LINES ++ l) (own_functions 0 program.functions (omega arith) same)
       ∙ (ap (λ (x : ℕ). range_with_len 0 START_LINES ++ range_with_len x (functions_count program frames 0 program.functions)) none
       ∙ (range_append 0 START_LINES (functions_count program frames 0 program.functions) ∙ ap (range_with_len 0) all))
-
--- ---- each place has a line
-
-index_below : (function n : ℕ) (place : CodePlace) → Contains (map (place_in function) (range_with_len 0 n)) place → (place.function ≡ function) × (place.index < n)
-index_below function n place (k, below, at) =
-    let long = length-map-range_with_len (place_in function) 0 n in
-    let inside : k < n = omega (arith, below, long) in
-    let start : 0 + k ≡ k = omega arith in
-    let is : place_in function k ≡ place = sym (get_or-map-range_with_len (place_in function) 0 n k k place inside start) ∙ at in
-    (sym (ap (λ (p : CodePlace). p.function) is), subst (λ (i : ℕ). i < n) (ap (λ (p : CodePlace). p.index) is) inside)
-
-module _ (program : Program) (well : IsWellFormed program) (frames : List Frame) where
-  places_index : (first : ℕ) (routines : List Routine) → ((k : ℕ) → k < length routines → slice_index_or routines k no_routine ≡ routine_at program (first + k)) → (place : CodePlace) → Contains (places_from first routines) place
-      → place.index < length (routine_at program place.function).code
-  places_index first [] same place (k, below, at) = absurd (omega (arith, below))
-  places_index first (r ∷ routines) same place inside = elim (Contains-append_cases (map (place_in first) (range_with_len 0 (length r.code))) (places_from (suc first) routines) place inside) [
-    | inl here ↦
-        let (function, below) = index_below first (length r.code) place here in
-        let zero_first : first + 0 ≡ first = omega arith in
-        let is : r ≡ routine_at program place.function = same 0 (omega arith) ∙ (ap (routine_at program) zero_first ∙ sym (ap (routine_at program) function)) in
-        subst (λ (s : Routine). place.index < length s.code) is below
-    | inr later ↦
-        places_index (suc first) routines (λ k below. let e : first + suc k ≡ suc first + k = omega arith in same (suc k) (omega (arith, below)) ∙ ap (routine_at program) e) place later
-  ]
-
-  pub own_some : (place : CodePlace) → Contains (places_of program) place → 0 < length (own_of program frames place)
-  own_some place inside =
-      let same : (k : ℕ) → k < length program.functions → slice_index_or program.functions k no_routine ≡ routine_at program (0 + k) =
-      λ k below. let e : k ≡ 0 + k = omega arith in ap (routine_at program) e in
-      let (i, at) = slice_get_below (routine_at program place.function).code place.index (places_index 0 program.functions same place inside) in
-      let here : body_of program frames place.function (slice_get (routine_at program place.function).code place.index) ≡ body_count program frames place.function i = ap (body_of program frames place.function) at in
-      omega (
-        arith,
-        here,
-        count_some program frames place.function i (range_at program well place i at),
-        length-range_with_len (instruction_line program frames place.function place.index - previous_count program frames place.function (routine_at program place.function).code place.index) (previous_count program frames place.function (routine_at program place.function).code place.index + body_of program frames place.function (slice_get (routine_at program place.function).code place.index)),
-      )

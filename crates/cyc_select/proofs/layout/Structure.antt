@@ -1,7 +1,6 @@
 -- The code of a program, put together: how long its parts are, and where each stands.
 use Rattle.std.proofs.Common.{◌≡◌, ℕ, zero, suc, ◌+◌, ◌<◌, ◌≤◌, Bool, true, false, List, [], ◌∷◌, ◌++◌, length, take, Some, None, slice_get, refl, subst, ◌∙◌, arith, length-append, append_assoc, ◌*◌}
-use Rattle.std.specs.Prelude.{sum_by, ◌==◌, if◌then◌else◌, slice_index_or}
-use Rattle.std.proofs.lemmas.List.Sums.{sum_by-cons}
+use Rattle.std.specs.Prelude.{◌==◌, if◌then◌else◌, slice_index_or}
 use Rattle.cyc_plain.specs.declared.instruction.Instruction.{Instruction}
 use Rattle.cyc_plain.specs.declared.instruction.Instruction.TheVariants as plain
 use Rattle.cyc_plain.specs.declared.instruction.BinaryOperator.{BinaryOperator}
@@ -26,7 +25,7 @@ use Rattle.cyc_select.specs.declared.code.Line.TheVariants as lines
 use Rattle.cyc_select.specs.declared.plan.Plan.{Plan}
 use Rattle.cyc_select.specs.Labelled.{Labelled}
 use Rattle.cyc_select.specs.Plans.{unary_plan, binary_plan, test_of}
-use Rattle.cyc_select.specs.Selection.{value_register, product_code, quotient_code, copies_count, move_to, keep_code, keep_count, give_code, give_count, moved_code, reloads, reload_count, opened_code, made_in, ordinary, argument_code, service_number, answer_code, unwound_code, address_code, at_address, copies, bring_all, small, syscall, word_code, load_code, load_count, operand_code, operand_register, plan_code, plan_count, test_code, branch_line, divided_code, divide_code, divide_count, is_tested, part_of, result_registers, ending_code, ending_count, operator_code, operator_count, body, behind, body_count, behind_count, count_of, function_count, functions_count, function_line, instruction_line, code_lines, function_lines, start_lines, select_of, regions_code, load_at, store_at, address_count, operand_count, spills, spills_count, calling_code, global_code, load, store, saving_code, restoring_code, saving_count, returning_code, routine_lines}
+use Rattle.cyc_select.specs.Selection.{value_register, product_code, quotient_code, copies_count, move_to, keep_code, keep_count, give_code, give_count, moved_code, reloads, reload_count, opened_code, made_in, ordinary, argument_code, service_number, answer_code, unwound_code, address_code, at_address, copies, bring_all, small, syscall, word_code, load_code, load_count, operand_code, operand_register, plan_code, plan_count, test_code, branch_line, divided_code, divide_code, divide_count, is_tested, part_of, result_registers, ending_code, ending_count, operator_code, operator_count, body, behind, place_lines, is_idle, body_count, behind_count, place_count, count_of, code_count, function_count, functions_count, function_line, instruction_line, code_lines, function_lines, start_lines, select_of, regions_code, load_at, store_at, address_count, operand_count, spills, spills_count, calling_code, global_code, load, store, saving_code, restoring_code, saving_count, returning_code, routine_lines}
 use Rattle.cyc_select.proofs.steps.Calls.{length_ordinary}
 use Rattle.cyc_select.proofs.emission.Counts.{length_keep, length_give, length_move, length_moved, length_spills, length_copies, length_argument, length_answer, length_regions, length_results, length_registers, length_word, length_load, length_operand, length_address, length_plan, length_test, length_divided, length_global}
 use Rattle.cyc_select.proofs.steps.Returns.{loaded, length_loaded}
@@ -186,14 +185,26 @@ module _ (program : Program) (frames : List Frame) (few_results : (function : �
   length_behind function (plain.Finish value) = refl
   length_behind function (plain.Uncaught tag value) = refl
 
-  length_both : (function here : ℕ) (i : Instruction) → length (body program frames function here i ++ behind program frames function i) ≡ count_of program frames function i
-  length_both function here i =
-      omega (arith, length-append (body program frames function here i) (behind program frames function i), length_body function here i, length_behind function i)
+  pub length_place : (function index here : ℕ) (i : Instruction) → length (place_lines program frames function index here i) ≡ place_count program frames function index i
+  length_place function index here i = go (is_idle (frame_at frames function) index i)
+    where
+      go : (b : Bool) → length (if b then [] else body program frames function here i) ≡ (if b then 0 else body_count program frames function i)
+      go true = refl
+      go false = length_body function here i
 
-  pub length_code : (function here : ℕ) (code : List Instruction) → length (code_lines program frames function here code) ≡ sum_by (count_of program frames function) code
-  length_code function here [] = refl
-  length_code function here (i ∷ code) =
-      omega (arith, length-append (body program frames function here i ++ behind program frames function i) (code_lines program frames function (here + count_of program frames function i) code), length_both function here i, length_code function (here + count_of program frames function i) code, sum_by-cons (count_of program frames function) i code)
+  length_both : (function index here : ℕ) (i : Instruction) → length (place_lines program frames function index here i ++ behind program frames function i) ≡ count_of program frames function index i
+  length_both function index here i =
+      omega (arith, length-append (place_lines program frames function index here i) (behind program frames function i), length_place function index here i, length_behind function i)
+
+  pub length_code : (function index here : ℕ) (code : List Instruction) → length (code_lines program frames function index here code) ≡ code_count program frames function index code
+  length_code function index here [] = refl
+  length_code function index here (i ∷ code) =
+      omega (
+        arith,
+        length-append (place_lines program frames function index here i ++ behind program frames function i) (code_lines program frames function (suc index) (here + count_of program frames function index i) code),
+        length_both function index here i,
+        length_code function (suc index) (here + count_of program frames function index i) code,
+      )
 
   pub length_saving : (function : ℕ) → length (ordinary (saving_code (frame_at frames function))) ≡ saving_count (frame_at frames function)
   length_saving function = go (frame_at frames function).saves
@@ -204,7 +215,7 @@ module _ (program : Program) (frames : List Frame) (few_results : (function : �
 
   pub length_routine : (function here : ℕ) (r : Routine) → length (routine_lines program frames function here r) ≡ function_count program frames function r
   length_routine function here r =
-      omega (arith, length-append (ordinary (saving_code (frame_at frames function))) (code_lines program frames function (here + saving_count (frame_at frames function)) r.code), length_saving function, length_code function (here + saving_count (frame_at frames function)) r.code)
+      omega (arith, length-append (ordinary (saving_code (frame_at frames function))) (code_lines program frames function 0 (here + saving_count (frame_at frames function)) r.code), length_saving function, length_code function 0 (here + saving_count (frame_at frames function)) r.code)
 
   pub length_functions : (function here : ℕ) (routines : List Routine) → length (function_lines program frames function here routines) ≡ functions_count program frames function routines
   length_functions function here [] = refl
@@ -212,20 +223,22 @@ module _ (program : Program) (frames : List Frame) (few_results : (function : �
       omega (arith, length-append (routine_lines program frames function here r) (function_lines program frames (suc function) (here + function_count program frames function r) routines), length_routine function here r, length_functions (suc function) (here + function_count program frames function r) routines)
 
   module _ (all : Labelled) where
-    code_stands : (function here : ℕ) (code : List Instruction) (index n : ℕ) (i : Instruction) → slice_get code index ≡ Some i → n ≡ here + sum_by (count_of program frames function) (take index code)
-        → Stands all here (code_lines program frames function here code) → Stands all n (body program frames function n i ++ behind program frames function i)
-    code_stands function here [] index n i at is stands = absurd (let e : None ≡ Some i = at in cc)
-    code_stands function here (x ∷ code) zero n i at is stands =
+    code_stands : (function first here : ℕ) (code : List Instruction) (k index n : ℕ) (i : Instruction) → slice_get code k ≡ Some i → index ≡ first + k → n ≡ here + code_count program frames function first (take k code)
+        → Stands all here (code_lines program frames function first here code) → Stands all n (place_lines program frames function index n i ++ behind program frames function i)
+    code_stands function first here [] k index n i at index_is is stands = absurd (let e : None ≡ Some i = at in cc)
+    code_stands function first here (x ∷ code) zero index n i at index_is is stands =
         let same : x ≡ i = (let e : Some x ≡ Some i = at in cc) in
         let there : here ≡ n = omega (arith, is) in
-        subst (λ (k : ℕ). Stands all k (body program frames function k i ++ behind program frames function i)) there
-        (subst (λ (y : Instruction). Stands all here (body program frames function here y ++ behind program frames function y)) same
-        (stands_front all here (body program frames function here x ++ behind program frames function x) (code_lines program frames function (here + count_of program frames function x) code) stands))
-    code_stands function here (x ∷ code) (suc index) n i at is stands =
-        let long = length_both function here x in
-        code_stands function (here + count_of program frames function x) code index n i at (omega (arith, is, sum_by-cons (count_of program frames function) x (take index code)))
-        (subst (λ (k : ℕ). Stands all (here + k) (code_lines program frames function (here + count_of program frames function x) code)) long
-        (stands_back all here (body program frames function here x ++ behind program frames function x) (code_lines program frames function (here + count_of program frames function x) code) stands))
+        let number : first ≡ index = omega (arith, index_is) in
+        subst (λ (k : ℕ). Stands all k (place_lines program frames function index k i ++ behind program frames function i)) there
+        (subst (λ (k : ℕ). Stands all here (place_lines program frames function k here i ++ behind program frames function i)) number
+        (subst (λ (y : Instruction). Stands all here (place_lines program frames function first here y ++ behind program frames function y)) same
+        (stands_front all here (place_lines program frames function first here x ++ behind program frames function x) (code_lines program frames function (suc first) (here + count_of program frames function first x) code) stands)))
+    code_stands function first here (x ∷ code) (suc k) index n i at index_is is stands =
+        let long = length_both function first here x in
+        code_stands function (suc first) (here + count_of program frames function first x) code k index n i at (omega (arith, index_is)) (omega (arith, is))
+        (subst (λ (m : ℕ). Stands all (here + m) (code_lines program frames function (suc first) (here + count_of program frames function first x) code)) long
+        (stands_back all here (place_lines program frames function first here x ++ behind program frames function x) (code_lines program frames function (suc first) (here + count_of program frames function first x) code) stands))
 
     functions_stand : (first here : ℕ) (routines : List Routine) (k n : ℕ) → k < length routines → n ≡ here + functions_count program frames first (take k routines)
         → Stands all here (function_lines program frames first here routines) → Stands all n (routine_lines program frames (first + k) n (slice_index_or routines k no_routine))
@@ -269,17 +282,17 @@ module _ (program : Program) (frames : List Frame) (few_results : (function : �
   pub stand_saving : (function : ℕ) → function < length program.functions → Stands (select_of program frames) (function_line program frames function) (ordinary (saving_code (frame_at frames function)))
   stand_saving function known =
       stands_front (select_of program frames) (function_line program frames function) (ordinary (saving_code (frame_at frames function)))
-      (code_lines program frames function (function_line program frames function + saving_count (frame_at frames function)) (routine_at program function).code) (stand_function function known)
+      (code_lines program frames function 0 (function_line program frames function + saving_count (frame_at frames function)) (routine_at program function).code) (stand_function function known)
 
   stand_code : (function : ℕ) → function < length program.functions
-      → Stands (select_of program frames) (function_line program frames function + saving_count (frame_at frames function)) (code_lines program frames function (function_line program frames function + saving_count (frame_at frames function)) (routine_at program function).code)
+      → Stands (select_of program frames) (function_line program frames function + saving_count (frame_at frames function)) (code_lines program frames function 0 (function_line program frames function + saving_count (frame_at frames function)) (routine_at program function).code)
   stand_code function known =
       let here : ℕ = function_line program frames function + saving_count (frame_at frames function) in
-      subst (λ (n : ℕ). Stands (select_of program frames) (function_line program frames function + n) (code_lines program frames function here (routine_at program function).code)) (length_saving function)
-      (stands_back (select_of program frames) (function_line program frames function) (ordinary (saving_code (frame_at frames function))) (code_lines program frames function here (routine_at program function).code) (stand_function function known))
+      subst (λ (n : ℕ). Stands (select_of program frames) (function_line program frames function + n) (code_lines program frames function 0 here (routine_at program function).code)) (length_saving function)
+      (stands_back (select_of program frames) (function_line program frames function) (ordinary (saving_code (frame_at frames function))) (code_lines program frames function 0 here (routine_at program function).code) (stand_function function known))
 
   pub stand : (function index : ℕ) (i : Instruction) → instruction_at program (record { function = function; index = index }) ≡ Some i
-      → Stands (select_of program frames) (instruction_line program frames function index) (body program frames function (instruction_line program frames function index) i ++ behind program frames function i)
+      → Stands (select_of program frames) (instruction_line program frames function index) (place_lines program frames function index (instruction_line program frames function index) i ++ behind program frames function i)
   stand function index i at =
-      code_stands (select_of program frames) function (function_line program frames function + saving_count (frame_at frames function)) (routine_at program function).code index (instruction_line program frames function index) i at refl
+      code_stands (select_of program frames) function 0 (function_line program frames function + saving_count (frame_at frames function)) (routine_at program function).code index index (instruction_line program frames function index) i at (omega arith) refl
       (stand_code function (function_known program (record { function = function; index = index }) i at))

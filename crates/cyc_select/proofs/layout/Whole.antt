@@ -14,7 +14,7 @@ use Rattle.cyc_select.specs.Selected.{IsCodeOf, words_at}
 use Rattle.cyc_select.specs.Selection.{function_count, function_line, routine_lines, function_lines, start_lines, select_of}
 use Rattle.cyc_select.proofs.layout.Formed.{few_results, formed}
 use Rattle.cyc_select.proofs.emission.Numbering.{reads_few, are_saved}
-use Rattle.cyc_select.proofs.layout.Parts.{place_in, own_function, own_some, parts}
+use Rattle.cyc_select.proofs.layout.Parts.{place_in, own_function, parts}
 use Rattle.cyc_select.proofs.runs.Runs.{own_of}
 use Rattle.cyc_select.proofs.emission.Sizes.{words_range, routine_words, functions_words}
 use Rattle.cyc_select.proofs.runs.Start.{follows, main_place, main_below}
@@ -53,7 +53,6 @@ module _ (program : Program) (well : IsWellFormed program) (words : HasWords pro
     before = range_with_len 0 START_LINES;
     own = own_of program frames;
     parts = parts program well frames;
-    some = own_some program well frames;
     few_before = few_before;
     few_own = few_own;
     few_words = few_words;

@@ -1,5 +1,5 @@
 -- When a state of the labelled machine matches one of the plain machine.
-use Rattle.std.proofs.Common.{◌≡◌, ◌≢◌, ℕ, suc, ◌+◌, ◌*◌, ◌<◌, ◌≤◌, Bool, true, false, List, [], ◌∷◌, length, Some, refl, sym, ap, subst, ◌∙◌, inl}
+use Rattle.std.proofs.Common.{◌≡◌, ◌≢◌, ℕ, suc, ◌+◌, ◌-◌, ◌*◌, ◌<◌, ◌≤◌, Bool, true, false, List, [], ◌∷◌, length, Some, refl, sym, ap, subst, ◌∙◌, inl}
 use Rattle.std.specs.Prelude.{◌⊎◌, slice_index, if◌then◌else◌}
 use Rattle.std.specs.List.{AllByRecursion}
 use Rattle.std.proofs.lemmas.Bool.{and_from, le-leb}
@@ -112,16 +112,31 @@ module _ (program : Program) (well : IsWellFormed program) (frames : List Frame)
   abbrev pub Reached : Configuration → State → Type 0
   Reached c t = (next : states.State) × Step program pages calls (states.Running c) next × Matches next t
 
+  -- how many places of the function's code are still to come
+  abbrev pub weight : states.State → ℕ
+  weight (states.Running c) = length (routine_at program c.active.function).code - c.active.next
+  weight (states.Ended ending out input) = 0
+  weight (states.Stuck out input) = 0
+
+  -- a step to the next place, for which nothing is done below
+  abbrev pub Passed : Configuration → State → Type 0
+  Passed c t =
+      (next : states.State) × Step program pages calls (states.Running c) next × Matches next t × (weight next < weight (states.Running c))
+
   pub within : (d : Configuration) → demand d.store ≤ pages → suc (length d.frames) ≤ calls → is_within pages calls (states.Running d) ≡ true
   within d paged deep = and_from _ _ (le-leb (demand d.store) pages paged) (le-leb (suc (length d.frames)) calls deep)
 
   -- by an instruction that stays within the limits
-  pub reached : (c : Configuration) (choice : Choice) (i : Instruction) (next : states.State) (t : State) → IsAllowed program (states.Running c) choice
-      → instruction_at program (states.place_of (states.Running c)) ≡ Some i → performed program choice c i ≡ next → is_within pages calls next ≡ true → Matches next t → Reached c t
-  reached c choice i next t allowed at does keeps matches =
+  pub steps_to : (c : Configuration) (choice : Choice) (i : Instruction) (next : states.State) → IsAllowed program (states.Running c) choice
+      → instruction_at program (states.place_of (states.Running c)) ≡ Some i → performed program choice c i ≡ next → is_within pages calls next ≡ true → Step program pages calls (states.Running c) next
+  steps_to c choice i next allowed at does keeps =
       let is : step program choice (states.Running c) ≡ next = ap (executed program choice c) at ∙ does in
       let keeps_step : is_within pages calls (step program choice (states.Running c)) ≡ true = ap (is_within pages calls) is ∙ keeps in
-      (next, (choice, allowed, sym (limited-within pages calls (states.Running c) (step program choice (states.Running c)) keeps_step ∙ is)), matches)
+      (choice, allowed, sym (limited-within pages calls (states.Running c) (step program choice (states.Running c)) keeps_step ∙ is))
+
+  pub reached : (c : Configuration) (choice : Choice) (i : Instruction) (next : states.State) (t : State) → IsAllowed program (states.Running c) choice
+      → instruction_at program (states.place_of (states.Running c)) ≡ Some i → performed program choice c i ≡ next → is_within pages calls next ≡ true → Matches next t → Reached c t
+  reached c choice i next t allowed at does keeps matches = (next, steps_to c choice i next allowed at does keeps, matches)
 
   module _ (c : Configuration) (i : Instruction) (at : instruction_at program (states.place_of (states.Running c)) ≡ Some i) (free : calls_nothing i ≡ true) (r : Words) (w : Contents) (base back : ℕ)
       (s : Standing program frames addresses pages calls c r w base back (keeps_back frames c) c.active.slots) (caches : Caches program frames c.active.function c.active.next r c.active.slots) where
@@ -137,7 +152,7 @@ module _ (program : Program) (well : IsWellFormed program) (frames : List Frame)
         → ((slot : ℕ) → slot ≢ destination → writes program i slot ≡ false) → writes program i destination ≡ true → leads i c.active.next (c.active.next + 1) ≡ true
         → performed program zeros c i ≡ gives (record c { input = input }) destination word
         → AllByRecursion IsWord input
-        → line ≡ instruction_line program frames c.active.function c.active.next + count_of program frames c.active.function i
+        → line ≡ instruction_line program frames c.active.function c.active.next + count_of program frames c.active.function c.active.next i
         → r' 0 ≡ r 0 → r' FRAME ≡ r FRAME → r' LOWEST ≡ r LOWEST → r' RETURN_ADDRESS ≡ r RETURN_ADDRESS → lasting r' ≡ lasting r
         → ((k : ℕ) → value_register (frame_at frames c.active.function) destination ≡ Some k → r' k ≡ word)
         → ((n : ℕ) → 6 ≤ n → n < 24 → (value_register (frame_at frames c.active.function) destination ≡ Some n → ⊥) → r' n ≡ r n)

@@ -37,7 +37,7 @@ use Rattle.cyc_select.specs.Machine.{State, Running, Ended, IsReturnPoint, machi
 use Rattle.cyc_select.specs.declared.constants.TheConstants.{HANDLERS}
 use Rattle.cyc_select.specs.declared.code.Line.{Line}
 use Rattle.cyc_select.specs.declared.code.Line.TheVariants as lines
-use Rattle.cyc_select.specs.Selection.{reload_count, recorded_code, caught_code, opened_code, body, behind, body_count, behind_count, ordinary, spills, spills_count, copies_count, calling_code, function_line, divide_code, divide_count, plan_code, plan_count, is_tested, part_of, count_of, operator_count, instruction_line, saving_code, saving_count}
+use Rattle.cyc_select.specs.Selection.{reload_count, recorded_code, caught_code, opened_code, body, behind, place_lines, is_idle, body_count, behind_count, place_count, ordinary, spills, spills_count, copies_count, calling_code, function_line, divide_code, divide_count, plan_code, plan_count, is_tested, part_of, count_of, operator_count, instruction_line, saving_code, saving_count}
 use Rattle.cyc_select.proofs.emission.Counts.{length_spills}
 use Rattle.cyc_select.proofs.layout.Lines.{line_next, line_first}
 use Rattle.cyc_select.specs.Numbers.{is_plain_divisor}
@@ -47,21 +47,21 @@ use Rattle.cyc_select.proofs.values.Operations.{product_quotient, product_remain
 use Rattle.cyc_select.proofs.values.Plans.{multiply_divide_result, if_low}
 use Rattle.cyc_select.proofs.relation.Values.{Caches}
 use Rattle.cyc_select.proofs.effects.Views.{Contents}
-use Rattle.cyc_select.proofs.effects.Walks.{Stands, stands_front, stands_back, stands_until, Rises, rising_distinct, rising_inside, comes_map, Quiet, Walk}
+use Rattle.cyc_select.proofs.effects.Walks.{Stands, stands_front, stands_back, stands_until, Rises, rising_distinct, rising_inside, comes_map, Quiet, Walk, walk_end}
 use Rattle.cyc_select.proofs.relation.Standing.{IsNewest, keeps_back, Standing, behind_line}
-use Rattle.cyc_select.proofs.relation.Matches.{At, Ready, Matches, Reached}
+use Rattle.cyc_select.proofs.relation.Matches.{At, Ready, Matches, Reached, Passed, weight}
 use Rattle.cyc_select.proofs.steps.Simple.{address_goes, move_goes, unary_goes, binary_goes, divide_goes, jump_goes, branch_goes, read_goes, write_goes, load_global_goes, count_lexical_goes, store_global_goes, uncaught_goes}
 use Rattle.cyc_select.proofs.steps.Accesses.{move_words_goes, load_goes, store_goes, load_byte_goes, store_byte_goes}
 use Rattle.cyc_select.proofs.steps.Requests.{ask_goes}
 use Rattle.cyc_select.proofs.steps.Handlers.{catch_goes, leave_goes, try_goes}
 use Rattle.cyc_select.proofs.steps.Throws.{throw_goes}
+use Rattle.cyc_select.proofs.steps.Idle.{passes}
 use Rattle.cyc_select.proofs.steps.Entries.{entered_goes}
 use Rattle.cyc_select.proofs.steps.Calls.{length_ordinary, call_last}
 use Rattle.cyc_select.proofs.steps.Passing.{call_goes}
 use Rattle.cyc_select.proofs.steps.Returns.{behind_goes}
 use Rattle.cyc_select.proofs.steps.Leaving.{return_goes}
-use Rattle.cyc_words.proofs.Lists.{slice_get_below}
-use Rattle.cyc_select.proofs.layout.Formed.{within_code, count_some, range_at}
+use Rattle.cyc_select.proofs.layout.Formed.{body_stands, place_inside}
 
 -- ---- the lines of each place
 
@@ -74,16 +74,16 @@ abbrev pub previous_count : Program → List Frame → (function : ℕ) → List
 previous_count program frames function code zero = saving_count (frame_at frames function)
 previous_count program frames function code (suc index) = behind_of program frames function (slice_get code index)
 
-abbrev pub body_of : Program → List Frame → (function : ℕ) → Option Instruction → ℕ
-body_of program frames function (Some i) = body_count program frames function i
-body_of program frames function None = 0
+abbrev pub body_of : Program → List Frame → (function index : ℕ) → Option Instruction → ℕ
+body_of program frames function index (Some i) = place_count program frames function index i
+body_of program frames function index None = 0
 
 abbrev pub own_of : Program → List Frame → CodePlace → List ℕ
 own_of program frames place =
     let code = (routine_at program place.function).code in
     range_with_len
     (instruction_line program frames place.function place.index - previous_count program frames place.function code place.index)
-    (previous_count program frames place.function code place.index + body_of program frames place.function (slice_get code place.index))
+    (previous_count program frames place.function code place.index + body_of program frames place.function place.index (slice_get code place.index))
 
 -- the lines before a place are there
 pub previous_fits : (program : Program) (frames : List Frame) (function index : ℕ) → previous_count program frames function (routine_at program function).code index ≤ instruction_line program frames function index
@@ -100,7 +100,7 @@ previous_fits program frames function (suc index) = go (slice_get (routine_at pr
 module _ (program : Program) (well : IsWellFormed program) (words : HasWords program) (frames : List Frame) (fit : AreFrames program frames) (code : Labelled) (formed : IsFormed code) (addresses : ℕ → ℕ) (lie : AreAddresses code addresses)
     (pages calls : ℕ) (few : calls ≤ 4096)
     (stand : (function index : ℕ) (i : Instruction) → instruction_at program (record { function = function; index = index }) ≡ Some i
-    → Stands code (instruction_line program frames function index) (body program frames function (instruction_line program frames function index) i ++ behind program frames function i))
+    → Stands code (instruction_line program frames function index) (place_lines program frames function index (instruction_line program frames function index) i ++ behind program frames function i))
     (stand_saving : (function : ℕ) → function < length program.functions → Stands code (function_line program frames function) (ordinary (saving_code (frame_at frames function))))
     (long : (function line : ℕ) (i : Instruction) → length (body program frames function line i) ≡ body_count program frames function i) where
   -- the lines behind a call stand where it returns to
@@ -119,12 +119,7 @@ module _ (program : Program) (well : IsWellFormed program) (words : HasWords pro
       let i : Instruction = plain.Call callee arguments count result in
       let known = function_known program (record { function = function; index = index }) i at in
       let further = goes_behind program (routine_at program function) index i (routine_in program function well known) at refl in
-      let (j, at_next) = slice_get_below (routine_at program function).code (index + 1) further in
-      let line : ℕ = instruction_line program frames function (index + 1) in
-      let some = count_some program frames function j (range_at program well (record { function = function; index = index + 1 }) j at_next) in
-      let fits = within_code code line (body program frames function line j) (omega (arith, long function line j, some))
-      (stands_front code line (body program frames function line j) (behind program frames function j) (stand function (index + 1) j at_next)) in
-      omega (arith, line_next program frames function index i at, fits, long function line j, some)
+      omega (arith, line_next program frames function index i at, place_inside program well frames fit code stand long function (index + 1) further)
 
   returns_to : (function index callee arguments count result : ℕ) → instruction_at program (record { function = function; index = index }) ≡ Some (plain.Call callee arguments count result)
       → IsReturnPoint code (behind_line program frames function index callee arguments count result)
@@ -238,7 +233,7 @@ module _ (program : Program) (well : IsWellFormed program) (words : HasWords pro
     quotient_goes : (operator : BinaryOperator) (which : MoveFromOp) (destination : ℕ) (left right : Operand) → IsAt (plain.Binary operator destination left right) → destination < slots → IsThere left → IsThere right
         → ((b : ℕ) → b ≡ 0 → has_no_result operator b ≡ true) → ((b : ℕ) → b ≢ 0 → has_no_result operator b ≡ false)
         → ((a b : ℕ) → binary_result operator a b ≡ multiply_divide_result Divide which a b) → ((a : ℕ) → IsWord a → multiply_divide_result Multiply which (if_low which a 0) (if_low which (2 ^ 32 - 1) 0) ≡ multiply_divide_result Divide which a (2 ^ 32 - 1))
-        → count_of program frames c.active.function (plain.Binary operator destination left right) ≡ divide_count (frame_at frames c.active.function) destination left right
+        → count_of program frames c.active.function c.active.next (plain.Binary operator destination left right) ≡ divide_count (frame_at frames c.active.function) destination left right
         → Stands code here (divide_code (frame_at frames c.active.function) here which destination left right) → Goes (divide_count (frame_at frames c.active.function) destination left right)
     quotient_goes operator which destination left right at below l t none some result negated counted stands =
         let nonzero = divides c never operator destination left right at none in
@@ -248,7 +243,7 @@ module _ (program : Program) (well : IsWellFormed program) (words : HasWords pro
         nonzero counted negated stands
 
     tested_goes : (operator : BinaryOperator) (destination : ℕ) (left right : Operand) → IsAt (plain.Binary operator destination left right) → destination < slots → IsThere left → IsThere right → is_tested operator right ≡ true
-        → count_of program frames c.active.function (plain.Binary operator destination left right) ≡ divide_count (frame_at frames c.active.function) destination left right
+        → count_of program frames c.active.function c.active.next (plain.Binary operator destination left right) ≡ divide_count (frame_at frames c.active.function) destination left right
         → Stands code here (divide_code (frame_at frames c.active.function) here (part_of operator) destination left right) → Goes (divide_count (frame_at frames c.active.function) destination left right)
     tested_goes binary.Divide d l t at a b e tested counted stands =
         quotient_goes binary.Divide Low d l t at a b e (λ n is_zero. eq-eqb n 0 is_zero) (λ n other. ne_eqb n 0 other) (λ x y. refl) product_quotient counted stands
@@ -266,13 +261,17 @@ module _ (program : Program) (well : IsWellFormed program) (words : HasWords pro
     has_result binary.Remainder right fine = ne_eqb (operand_word c.active.slots right) 0 (divisor_is c.active.slots right (not_true (is_plain_divisor right) fine)).0
     has_result operator right fine = refl
 
-    operator_goes : (operator : BinaryOperator) (destination : ℕ) (left right : Operand) → IsAt (plain.Binary operator destination left right) → destination < slots → IsThere left → IsThere right
+    counted : (i : Instruction) → is_idle (frame_at frames c.active.function) c.active.next i ≡ false
+        → count_of program frames c.active.function c.active.next i ≡ body_count program frames c.active.function i + behind_count program frames c.active.function i
+    counted i busy = ap (λ (b : Bool). (if b then 0 else body_count program frames c.active.function i) + behind_count program frames c.active.function i) busy
+
+    operator_goes : (operator : BinaryOperator) (destination : ℕ) (left right : Operand) → IsAt (plain.Binary operator destination left right) → is_idle (frame_at frames c.active.function) c.active.next (plain.Binary operator destination left right) ≡ false → destination < slots → IsThere left → IsThere right
         → StandsHere (plain.Binary operator destination left right) → Goes (operator_count (frame_at frames c.active.function) operator destination left right)
-    operator_goes operator d l t at a b e stands = go (is_tested operator t) refl stands (omega arith)
+    operator_goes operator d l t at busy a b e stands = go (is_tested operator t) refl stands (omega (arith, counted (plain.Binary operator d l t) busy))
       where
         go : (tested : Bool) → is_tested operator t ≡ tested
             → Stands code here (if tested then divide_code (frame_at frames c.active.function) here (part_of operator) d l t else ordinary (plan_code (frame_at frames c.active.function) (binary_plan operator l t) d))
-            → count_of program frames c.active.function (plain.Binary operator d l t) ≡ (if is_tested operator t then divide_count (frame_at frames c.active.function) d l t else plan_count (frame_at frames c.active.function) (binary_plan operator l t) d)
+            → count_of program frames c.active.function c.active.next (plain.Binary operator d l t) ≡ (if is_tested operator t then divide_count (frame_at frames c.active.function) d l t else plan_count (frame_at frames c.active.function) (binary_plan operator l t) d)
             → Goes (if tested then divide_count (frame_at frames c.active.function) d l t else plan_count (frame_at frames c.active.function) (binary_plan operator l t) d)
         go true tested stands counted =
             tested_goes operator d l t at a b e tested (counted ∙ ap (λ (x : Bool). if x then divide_count (frame_at frames c.active.function) d l t else plan_count (frame_at frames c.active.function) (binary_plan operator l t) d) tested) stands
@@ -303,42 +302,42 @@ module _ (program : Program) (well : IsWellFormed program) (words : HasWords pro
     finish_goes value at in_range stands (h ∷ handlers) some =
         absurd (stops_not (plain.Finish value) at (zeros_at program c (plain.Finish value) at refl) (ap (finishes c value (routine_at program c.active.function).results) some))
 
-    instruction_goes : (i : Instruction) → IsAt i → IsInRange program (routine_at program c.active.function) i → HasWord i → StandsHere i → Goes (body_count program frames c.active.function i)
-    instruction_goes (plain.Move destination source) at (a, b) fits stands = move_goes program well frames fit code formed addresses pages calls few c run r w base back now s caches destination source at a (b, fits) stands
-    instruction_goes (plain.Unary operator destination operand) at (a, b) fits stands = unary_goes program well frames fit code formed addresses pages calls few c run r w base back now s caches operator destination operand at a (b, fits) stands
-    instruction_goes (plain.Binary operator destination left right) at (a, b, e) (fits, also) stands = operator_goes operator destination left right at a (b, fits) (e, also) stands
-    instruction_goes (plain.Jump target) at below fits stands = jump_goes program well frames fit code formed addresses pages calls few c run r w base back now s caches target at stands
-    instruction_goes (plain.Branch comparison left right target) at (a, b, below) (fits, also) stands = branch_goes program well frames fit code formed addresses pages calls few c run r w base back now s caches comparison left right target at (a, fits) (b, also) stands
-    instruction_goes (plain.Call callee arguments count result) at in_range fits stands =
+    instruction_goes : (i : Instruction) → IsAt i → is_idle (frame_at frames c.active.function) c.active.next i ≡ false → IsInRange program (routine_at program c.active.function) i → HasWord i → StandsHere i → Goes (body_count program frames c.active.function i)
+    instruction_goes (plain.Move destination source) at busy (a, b) fits stands = move_goes program well frames fit code formed addresses pages calls few c run r w base back now s caches destination source at a (b, fits) (omega (arith, counted (plain.Move destination source) busy)) stands
+    instruction_goes (plain.Unary operator destination operand) at busy (a, b) fits stands = unary_goes program well frames fit code formed addresses pages calls few c run r w base back now s caches operator destination operand at a (b, fits) (omega (arith, counted (plain.Unary operator destination operand) busy)) stands
+    instruction_goes (plain.Binary operator destination left right) at busy (a, b, e) (fits, also) stands = operator_goes operator destination left right at busy a (b, fits) (e, also) stands
+    instruction_goes (plain.Jump target) at busy below fits stands = jump_goes program well frames fit code formed addresses pages calls few c run r w base back now s caches target at stands
+    instruction_goes (plain.Branch comparison left right target) at busy (a, b, below) (fits, also) stands = branch_goes program well frames fit code formed addresses pages calls few c run r w base back now s caches comparison left right target at (a, fits) (b, also) (omega (arith, counted (plain.Branch comparison left right target) busy)) stands
+    instruction_goes (plain.Call callee arguments count result) at busy in_range fits stands =
         call_goes program well frames fit code formed addresses pages calls few lie c run r w base back now s caches callee arguments count result at in_range (returns_to c.active.function c.active.next callee arguments count result at).inside stands
-    instruction_goes (plain.Return value) at in_range fits stands =
+    instruction_goes (plain.Return value) at busy in_range fits stands =
         return_goes program well frames fit code formed addresses pages calls few lie c run r w base back now s caches (plain.Return value) value at refl (λ slot is. is) refl (none_open at) in_range returns_to stands
-    instruction_goes (plain.ReadByte destination) at below fits stands = read_goes program well frames fit code formed addresses pages calls few c run r w base back now s caches destination at below stands
-    instruction_goes (plain.WriteByte source) at below fits stands = write_goes program well frames fit code formed addresses pages calls few c run r w base back now s caches source at (below, fits) stands
-    instruction_goes (plain.AddressOf destination slot count) at (a, some, named) fits stands =
+    instruction_goes (plain.ReadByte destination) at busy below fits stands = read_goes program well frames fit code formed addresses pages calls few c run r w base back now s caches destination at below stands
+    instruction_goes (plain.WriteByte source) at busy below fits stands = write_goes program well frames fit code formed addresses pages calls few c run r w base back now s caches source at (below, fits) stands
+    instruction_goes (plain.AddressOf destination slot count) at busy (a, some, named) fits stands =
         address_goes program well frames fit code formed addresses pages calls few c run r w base back now s caches destination slot count at a (omega (arith, some, named)) stands
-    instruction_goes (plain.LoadGlobal destination global) at (a, b) fits stands = load_global_goes program well frames fit code formed addresses pages calls few c run r w base back now s caches destination global at a b stands
-    instruction_goes (plain.StoreGlobal global source) at (a, b) fits stands = store_global_goes program well frames fit code formed addresses pages calls few c run r w base back now s caches global source at a (b, fits) stands
-    instruction_goes (plain.MoveWords destination source count) at in_range fits stands = move_words_goes program well frames fit code formed addresses pages calls few c run r w base back now s caches destination source count at in_range stands
-    instruction_goes (plain.Load destination address offset) at (a, b) (fits, near) stands =
+    instruction_goes (plain.LoadGlobal destination global) at busy (a, b) fits stands = load_global_goes program well frames fit code formed addresses pages calls few c run r w base back now s caches destination global at a b stands
+    instruction_goes (plain.StoreGlobal global source) at busy (a, b) fits stands = store_global_goes program well frames fit code formed addresses pages calls few c run r w base back now s caches global source at a (b, fits) stands
+    instruction_goes (plain.MoveWords destination source count) at busy in_range fits stands = move_words_goes program well frames fit code formed addresses pages calls few c run r w base back now s caches destination source count at in_range stands
+    instruction_goes (plain.Load destination address offset) at busy (a, b) (fits, near) stands =
         load_goes program well frames fit code formed addresses pages calls few c run r w base back now s caches destination address offset at a (b, fits) near (stops_not (plain.Load destination address offset) at (zeros_at program c (plain.Load destination address offset) at refl)) stands
-    instruction_goes (plain.LoadByte destination address offset) at (a, b) (fits, near) stands =
+    instruction_goes (plain.LoadByte destination address offset) at busy (a, b) (fits, near) stands =
         load_byte_goes program well frames fit code formed addresses pages calls few c run r w base back now s caches destination address offset at a (b, fits) near (stops_not (plain.LoadByte destination address offset) at (zeros_at program c (plain.LoadByte destination address offset) at refl)) stands
-    instruction_goes (plain.Store address offset source) at (a, b) (fits, near, also) stands =
+    instruction_goes (plain.Store address offset source) at busy (a, b) (fits, near, also) stands =
         store_goes program well frames fit code formed addresses pages calls few c run r w base back now s caches address offset source at (a, fits) near (b, also) (stops_not (plain.Store address offset source) at (zeros_at program c (plain.Store address offset source) at refl)) stands
-    instruction_goes (plain.StoreByte address offset source) at (a, b) (fits, near, also) stands =
+    instruction_goes (plain.StoreByte address offset source) at busy (a, b) (fits, near, also) stands =
         store_byte_goes program well frames fit code formed addresses pages calls few c run r w base back now s caches address offset source at (a, fits) near (b, also) (stops_not (plain.StoreByte address offset source) at (zeros_at program c (plain.StoreByte address offset source) at refl)) stands
-    instruction_goes (plain.Ask request) at in_range fits stands =
+    instruction_goes (plain.Ask request) at busy in_range fits stands =
         ask_goes program well frames fit code formed addresses pages calls few c run r w base back now s caches request at in_range fits stands
         (λ stops allowed. stops_not (plain.Ask request) at allowed stops)
-    instruction_goes (plain.CountLexical destination) at below fits stands = count_lexical_goes program well frames fit code formed addresses pages calls few c run r w base back now s caches destination at below stands
-    instruction_goes (plain.Try first handler) at in_range fits stands = try_goes program well frames fit code formed addresses pages calls few lie c range_of lands_at run r w base back now s caches first handler at in_range stands
-    instruction_goes (plain.Leave first) at in_range fits stands =
+    instruction_goes (plain.CountLexical destination) at busy below fits stands = count_lexical_goes program well frames fit code formed addresses pages calls few c run r w base back now s caches destination at below stands
+    instruction_goes (plain.Try first handler) at busy in_range fits stands = try_goes program well frames fit code formed addresses pages calls few lie c range_of lands_at run r w base back now s caches first handler at in_range stands
+    instruction_goes (plain.Leave first) at busy in_range fits stands =
         leave_goes program well frames fit code formed addresses pages calls few lie c range_of lands_at run r w base back now s caches first at in_range (stops_not (plain.Leave first) at (zeros_at program c (plain.Leave first) at refl)) stands
-    instruction_goes (plain.Throw tag value) at (a, b) (fits, also) stands =
+    instruction_goes (plain.Throw tag value) at busy (a, b) (fits, also) stands =
         throw_goes program well frames fit code formed addresses pages calls few lie c range_of lands_at run r w base back now s caches tag value at (a, fits) (b, also) (stops_not (plain.Throw tag value) at (zeros_at program c (plain.Throw tag value) at refl)) stands
-    instruction_goes (plain.Finish value) at in_range fits stands = finish_goes value at in_range stands c.active.handlers refl
-    instruction_goes (plain.Uncaught tag value) at below (tag_fits, value_fits) stands = uncaught_goes program well frames fit code formed addresses pages calls few c run r w base back now s caches tag value at (below, value_fits) tag_fits stands
+    instruction_goes (plain.Finish value) at busy in_range fits stands = finish_goes value at in_range stands c.active.handlers refl
+    instruction_goes (plain.Uncaught tag value) at busy below (tag_fits, value_fits) stands = uncaught_goes program well frames fit code formed addresses pages calls few c run r w base back now s caches tag value at (below, value_fits) tag_fits stands
 
   -- ---- a step from a state that matches
 
@@ -364,44 +363,69 @@ module _ (program : Program) (well : IsWellFormed program) (words : HasWords pro
   abbrev pub matching : Matching above below_machine
   matching = record {
     Matches = Matches program well frames fit code formed addresses pages calls few;
-    weight = λ (s : states.State). 0;
+    weight = weight program well frames fit code formed addresses pages calls few;
     own = own_of program frames;
     outputs = outputs_same;
     endings = endings_same;
   }
 
+  -- where the instruction's own lines end
+  abbrev end_of : Configuration → Instruction → ℕ
+  end_of c i = instruction_line program frames c.active.function c.active.next + place_count program frames c.active.function c.active.next i
+
+  -- a place that is not idle has lines; what a walk through a place's own lines comes to
+  abbrev least_of : (idle : Bool) → ℕ
+  least_of true = 0
+  least_of false = 1
+
+  abbrev Comes_to : (idle : Bool) → Configuration → State → Type 0
+  Comes_to true c t = Passed program well frames fit code formed addresses pages calls few c t
+  Comes_to false c t = Reached program well frames fit code formed addresses pages calls few c t
+
+  made : (idle : Bool) (c : Configuration) (places : List ℕ) (u : State) → least_of idle ≤ length places → Comes_to idle c u → IsMatchedStep above below_machine matching (states.Running c) places u
+  made true c places u enough (next, goes, matches, lighter) = record { next = next; step = goes; matches = matches; lighter = λ none. lighter }
+  made false c places u enough (next, goes, matches) = record { next = next; step = goes; matches = matches; lighter = λ none. absurd (omega (arith, none, enough)) }
+
   -- a walk through own lines is a matched step
-  stepped : (c : Configuration) (t : State) (run : labelled.Configuration) (lo count : ℕ) (i : Instruction) → instruction_at program (states.place_of (states.Running c)) ≡ Some i → count ≡ body_count program frames c.active.function i
+  stepped : (idle : Bool) (c : Configuration) (t : State) (run : labelled.Configuration) (lo : ℕ) (i : Instruction) → instruction_at program (states.place_of (states.Running c)) ≡ Some i
       → instruction_line program frames c.active.function c.active.next - previous_count program frames c.active.function (routine_at program c.active.function).code c.active.next ≤ lo → t ≡ Running run
-      → Walk code formed addresses globals_length (words_per_call * calls) 1 lo (instruction_line program frames c.active.function c.active.next + count) c.output (Reached program well frames fit code formed addresses pages calls few c) (Running run)
+      → Walk code formed addresses globals_length (words_per_call * calls) (least_of idle) lo (end_of c i) c.output (Comes_to idle c) (Running run)
       → IsStepped above below_machine matching (states.Running c) t
-  stepped c t run lo count i at count_is from is walk =
+  stepped idle c t run lo i at from is walk =
       let function : ℕ = c.active.function in
       let index : ℕ = c.active.next in
+      let count : ℕ = place_count program frames c.active.function c.active.next i in
       let previous : ℕ = previous_count program frames c.active.function (routine_at program c.active.function).code c.active.next in
       let here : ℕ = instruction_line program frames c.active.function c.active.next in
       let fits = previous_fits program frames c.active.function c.active.next in
-      let body_is : body_of program frames c.active.function (slice_get (routine_at program c.active.function).code c.active.next) ≡ count = ap (body_of program frames c.active.function) at ∙ sym count_is in
+      let body_is : body_of program frames c.active.function c.active.next (slice_get (routine_at program c.active.function).code c.active.next) ≡ count = ap (body_of program frames c.active.function c.active.next) at in
       let top : instruction_line program frames c.active.function c.active.next + count
-      ≡ instruction_line program frames c.active.function c.active.next - previous_count program frames c.active.function (routine_at program c.active.function).code c.active.next + (previous_count program frames c.active.function (routine_at program c.active.function).code c.active.next + body_of program frames c.active.function (slice_get (routine_at program c.active.function).code c.active.next)) = omega (arith, fits, body_is) in
+      ≡ instruction_line program frames c.active.function c.active.next - previous_count program frames c.active.function (routine_at program c.active.function).code c.active.next + (previous_count program frames c.active.function (routine_at program c.active.function).code c.active.next + body_of program frames c.active.function c.active.next (slice_get (routine_at program c.active.function).code c.active.next)) = omega (arith, fits, body_is) in
       subst (IsStepped above below_machine matching (states.Running c)) (sym is)
       (record {
         places = walk.places;
         distinct = rising_distinct lo (instruction_line program frames c.active.function c.active.next + count) walk.places walk.rises;
         inside = rising_inside _ _ lo walk.places from (subst (λ (n : ℕ). Rises lo n walk.places) top walk.rises);
-        comes = comes_map below_machine (Quiet code formed addresses globals_length (words_per_call * calls) c.output) (Reached program well frames fit code formed addresses pages calls few c)
+        comes = comes_map below_machine (Quiet code formed addresses globals_length (words_per_call * calls) c.output) (Comes_to idle c)
             (IsOnTheWay above below_machine (states.Running c)) (IsMatchedStep above below_machine matching (states.Running c) walk.places) walk.places (Running run)
             (λ u quiet. way_before above below_machine matching (states.Running c) u quiet.0 quiet.1)
-            (λ u (next, goes, matches). record { next = next; step = goes; matches = matches; lighter = λ none. absurd (omega (arith, none, walk.enough)) })
+            (λ u comes. made idle c walk.places u walk.enough comes)
             walk.comes;
       })
 
-  ready_goes : (c : Configuration) (t : State) → Never c → (ready : Ready program well frames fit code formed addresses pages calls few c t) (i : Instruction) → instruction_at program (states.place_of (states.Running c)) ≡ Some i
-      → Walk code formed addresses globals_length (words_per_call * calls) 1 (instruction_line program frames c.active.function c.active.next) (instruction_line program frames c.active.function c.active.next + body_count program frames c.active.function i) c.output (Reached program well frames fit code formed addresses pages calls few c) (Running ready.run)
-  ready_goes c t never ready i at =
-      instruction_goes c never ready.run ready.r ready.w ready.base ready.back ready.now ready.standing ready.caches i at
+  -- from the first of its lines, or from where it would have some
+  ready_goes : (idle : Bool) (c : Configuration) (t : State) → Never c → (ready : Ready program well frames fit code formed addresses pages calls few c t) (i : Instruction) → instruction_at program (states.place_of (states.Running c)) ≡ Some i
+      → is_idle (frame_at frames c.active.function) c.active.next i ≡ idle
+      → Walk code formed addresses globals_length (words_per_call * calls) (least_of idle) (instruction_line program frames c.active.function c.active.next) (end_of c i) c.output (Comes_to idle c) (Running ready.run)
+  ready_goes true c t never ready i at idle =
+      walk_end code formed addresses globals_length (words_per_call * calls) (instruction_line program frames c.active.function c.active.next) (end_of c i) c.output (Comes_to true c) (Running ready.run) (omega arith)
+      (subst (Comes_to true c) ready.is (passes program well frames fit code formed addresses pages calls few c t ready i at idle))
+  ready_goes false c t never ready i at busy =
+      let line : ℕ = instruction_line program frames c.active.function c.active.next in
+      subst (λ (b : Bool). Walk code formed addresses globals_length (words_per_call * calls) 1 line (line + (if b then 0 else body_count program frames c.active.function i)) c.output (Comes_to false c) (Running ready.run)) (sym busy)
+      (instruction_goes c never ready.run ready.r ready.w ready.base ready.back ready.now ready.standing ready.caches i at busy
       (in_range_of c.active.function c.active.next i at) (word_of_it c.active.function c.active.next i at)
-      (stands_front code (instruction_line program frames c.active.function c.active.next) (body program frames c.active.function (instruction_line program frames c.active.function c.active.next) i) (behind program frames c.active.function i) (stand c.active.function c.active.next i at))
+      (stands_front code line (body program frames c.active.function line i) (behind program frames c.active.function i) (body_stands program well frames fit code stand long c.active.function c.active.next i at busy)))
 
   -- where the lines behind the call before it begin
   before_it : (function index callee arguments count result next : ℕ) → next ≡ index + 1 → instruction_at program (record { function = function; index = index }) ≡ Some (plain.Call callee arguments count result)
@@ -424,27 +448,31 @@ module _ (program : Program) (well : IsWellFormed program) (words : HasWords pro
 
   known_goes : (c : Configuration) (t : State) → Matches program well frames fit code formed addresses pages calls few (states.Running c) t → Never c → (i : Instruction) → instruction_at program (states.place_of (states.Running c)) ≡ Some i
       → IsStepped above below_machine matching (states.Running c) t
-  known_goes c t (inl ready) never i at =
-      stepped c t ready.run (instruction_line program frames c.active.function c.active.next) (body_count program frames c.active.function i) i at refl (omega arith) ready.is (ready_goes c t never ready i at)
-  known_goes c t (inr (inr (inr entered))) never i at =
-      stepped c t entered.run (function_line program frames c.active.function) (body_count program frames c.active.function i) i at refl
-      (entry_before c.active.function c.active.next entered.first) entered.is
-      (entered_goes program well frames fit code formed addresses pages calls few c t entered (stand_saving c.active.function entered.standing.known)
-      1 (instruction_line program frames c.active.function c.active.next + body_count program frames c.active.function i) (Reached program well frames fit code formed addresses pages calls few c)
-      (λ u ready. subst (Walk code formed addresses globals_length (words_per_call * calls) 1 (instruction_line program frames c.active.function c.active.next) (instruction_line program frames c.active.function c.active.next + body_count program frames c.active.function i) c.output (Reached program well frames fit code formed addresses pages calls few c)) (sym ready.is)
-      (ready_goes c u never ready i at)))
-  known_goes c t (inr (inr (inl landed))) never i at =
-      let place : instruction_at program (states.place_of (states.Running c)) ≡ Some (plain.Try landed.first landed.handler) = landed.opened in
-      stepped c t landed.run (instruction_line program frames c.active.function c.active.next + 3) (8 + reload_count (frame_at frames c.active.function)) (plain.Try landed.first landed.handler) place refl (omega arith) landed.is
-      (catch_goes program well frames fit code formed addresses pages calls few lie c range_of lands_at t landed (caught_stands c.active.function c.active.next landed.first landed.handler landed.opened))
-  known_goes c t (inr (inl back)) never i at =
-      let in_range = in_range_of c.active.function back.index (plain.Call back.callee back.arguments back.count back.result) back.call in
-      stepped c t back.run (behind_line program frames c.active.function back.index back.callee back.arguments back.count back.result) (body_count program frames c.active.function i) i at refl
-      (before_it c.active.function back.index back.callee back.arguments back.count back.result c.active.next back.next back.call) back.is
-      (behind_goes program well frames fit code formed addresses pages calls few c t back (behind_stands c.active.function back.index back.callee back.arguments back.count back.result back.call) in_range.result_in_range (few_results back.callee)
-      1 (instruction_line program frames c.active.function c.active.next + body_count program frames c.active.function i) (Reached program well frames fit code formed addresses pages calls few c)
-      (λ u ready. subst (Walk code formed addresses globals_length (words_per_call * calls) 1 (instruction_line program frames c.active.function c.active.next) (instruction_line program frames c.active.function c.active.next + body_count program frames c.active.function i) c.output (Reached program well frames fit code formed addresses pages calls few c)) (sym ready.is)
-      (ready_goes c u never ready i at)))
+  known_goes c t matches never i at = go (is_idle (frame_at frames c.active.function) c.active.next i) refl matches
+    where
+      -- where its own lines are next
+      then_goes : (idle : Bool) → is_idle (frame_at frames c.active.function) c.active.next i ≡ idle → (u : State) → Ready program well frames fit code formed addresses pages calls few c u
+          → Walk code formed addresses globals_length (words_per_call * calls) (least_of idle) (instruction_line program frames c.active.function c.active.next) (end_of c i) c.output (Comes_to idle c) u
+      then_goes idle is u ready =
+          subst (Walk code formed addresses globals_length (words_per_call * calls) (least_of idle) (instruction_line program frames c.active.function c.active.next) (end_of c i) c.output (Comes_to idle c)) (sym ready.is)
+          (ready_goes idle c u never ready i at is)
+
+      go : (idle : Bool) → is_idle (frame_at frames c.active.function) c.active.next i ≡ idle → Matches program well frames fit code formed addresses pages calls few (states.Running c) t → IsStepped above below_machine matching (states.Running c) t
+      go idle is (inl ready) = stepped idle c t ready.run (instruction_line program frames c.active.function c.active.next) i at (omega arith) ready.is (ready_goes idle c t never ready i at is)
+      go idle is (inr (inr (inr entered))) =
+          stepped idle c t entered.run (function_line program frames c.active.function) i at
+          (entry_before c.active.function c.active.next entered.first) entered.is
+          (entered_goes program well frames fit code formed addresses pages calls few c t entered (stand_saving c.active.function entered.standing.known) (least_of idle) (end_of c i) (Comes_to idle c) (then_goes idle is))
+      go idle is (inr (inr (inl landed))) =
+          let place : instruction_at program (states.place_of (states.Running c)) ≡ Some (plain.Try landed.first landed.handler) = landed.opened in
+          stepped false c t landed.run (instruction_line program frames c.active.function c.active.next + 3) (plain.Try landed.first landed.handler) place (omega arith) landed.is
+          (catch_goes program well frames fit code formed addresses pages calls few lie c range_of lands_at t landed (caught_stands c.active.function c.active.next landed.first landed.handler landed.opened))
+      go idle is (inr (inl back)) =
+          let in_range = in_range_of c.active.function back.index (plain.Call back.callee back.arguments back.count back.result) back.call in
+          stepped idle c t back.run (behind_line program frames c.active.function back.index back.callee back.arguments back.count back.result) i at
+          (before_it c.active.function back.index back.callee back.arguments back.count back.result c.active.next back.next back.call) back.is
+          (behind_goes program well frames fit code formed addresses pages calls few c t back (behind_stands c.active.function back.index back.callee back.arguments back.count back.result back.call) in_range.result_in_range (few_results back.callee)
+          (least_of idle) (end_of c i) (Comes_to idle c) (then_goes idle is))
 
   pub all_steps : Steps above below_machine matching
   all_steps (states.Running c) t matches running never = go (instruction_at program (states.place_of (states.Running c))) refl

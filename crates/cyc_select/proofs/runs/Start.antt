@@ -33,7 +33,7 @@ use Rattle.cyc_select.specs.declared.code.Line.TheVariants as lines
 use Rattle.cyc_select.specs.Labelled.{Labelled, IsFormed, AreAddresses}
 use Rattle.cyc_select.specs.Machine as labelled
 use Rattle.cyc_select.specs.Machine.{State, Running, machine, memory_of, word_in, globals_of, start}
-use Rattle.cyc_select.specs.Selection.{slot_offset, body, behind, body_count, arithmetic_of, shift_by_of, push_frame, ordinary, start_lines, function_line, instruction_line, load_upper, or_lower, saving_code}
+use Rattle.cyc_select.specs.Selection.{slot_offset, body, behind, place_lines, body_count, arithmetic_of, shift_by_of, push_frame, ordinary, start_lines, function_line, instruction_line, load_upper, or_lower, saving_code}
 use Rattle.cyc_select.proofs.relation.Cells.{cell, place_of-data, place_of-stack}
 use Rattle.cyc_select.proofs.Laws.{lawful}
 use Rattle.cyc_select.proofs.values.Operations.{take_small}
@@ -125,7 +125,7 @@ main_below program well frames fit =
 module _ (program : Program) (well : IsWellFormed program) (words : HasWords program) (frames : List Frame) (fit : AreFrames program frames) (code : Labelled) (formed : IsFormed code) (addresses : ℕ → ℕ) (lie : AreAddresses code addresses)
     (pages calls : ℕ) (allowed : AreAllowed pages calls)
     (stand : (function index : ℕ) (i : Instruction) → instruction_at program (record { function = function; index = index }) ≡ Some i
-    → Stands code (instruction_line program frames function index) (body program frames function (instruction_line program frames function index) i ++ behind program frames function i))
+    → Stands code (instruction_line program frames function index) (place_lines program frames function index (instruction_line program frames function index) i ++ behind program frames function i))
     (stand_saving : (function : ℕ) → function < length program.functions → Stands code (function_line program frames function) (ordinary (saving_code (frame_at frames function))))
     (long : (function line : ℕ) (i : Instruction) → length (body program frames function line i) ≡ body_count program frames function i)
     (starts : Stands code 0 (start_lines program frames)) (same_globals : code.globals ≡ program.globals)

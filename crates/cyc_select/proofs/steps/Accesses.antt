@@ -345,7 +345,7 @@ module _ (program : Program) (well : IsWellFormed program) (frames : List Frame)
     pub needs : (slot : ℕ) → is_slot address slot ≡ true → reads (routine_at program c.active.function).results i slot ≡ true
     pub given : ((slot : ℕ) → slot ≢ destination → writes program i slot ≡ false) × (writes program i destination ≡ true) × (leads i c.active.next (c.active.next + 1) ≡ true)
     pub does : (word : ℕ) → memory_at program c (word_place width (add_of (word_in address) offset)) ≡ Some word → performed program zeros c i ≡ gives c destination (loaded_part width (add_of (word_in address) offset) word)
-    pub count : count_of program frames c.active.function i ≡ address_count frame address offset + 1 + keep_count frame destination
+    pub count : count_of program frames c.active.function c.active.next i ≡ address_count frame address offset + 1 + keep_count frame destination
 
   -- of a word that is there
   loaded_goes : (width : Width) (i : Instruction) (destination : ℕ) (address : Operand) (offset word : ℕ) → IsLoad width i destination address offset → destination < slots → IsThere address → IsWord offset
@@ -444,7 +444,7 @@ module _ (program : Program) (well : IsWellFormed program) (frames : List Frame)
     pub led : leads i c.active.next (c.active.next + 1) ≡ true
     pub does : (old : ℕ) → memory_at program c (word_place width (add_of (word_in address) offset)) ≡ Some old
         → performed program zeros c i ≡ states.Running (advanced (with_memory program c (word_place width (add_of (word_in address) offset)) (stored_word width (add_of (word_in address) offset) old (word_in source))))
-    pub count : count_of program frames c.active.function i ≡ address_count frame address offset + operand_count frame source + 1
+    pub count : count_of program frames c.active.function c.active.next i ≡ address_count frame address offset + operand_count frame source + 1
 
   -- what memory has is a word
   word_at_is : (sort : Sort) (a word : ℕ) → IsWordAt sort globals_length (words_per_call * calls) w a word → IsWord word

@@ -135,6 +135,10 @@ module _ (program : Program) (well : IsWellFormed program) (frames : List Frame)
   abbrev IsFree : Instruction → Type 0
   IsFree i = calls_nothing i ≡ true
 
+  -- it has all its lines
+  abbrev pub IsCounted : Instruction → Type 0
+  IsCounted i = count_of program frames c.active.function c.active.next i ≡ body_count program frames c.active.function i
+
   -- it gives this slot a word, and leads to the next instruction
   abbrev Gets : Instruction → (destination : ℕ) → Type 0
   Gets i destination =
@@ -204,7 +208,7 @@ module _ (program : Program) (well : IsWellFormed program) (frames : List Frame)
       → (is : List Instr) (register but : ℕ) → Agrees but q → Keeps globals_length (words_per_call * calls) is q w but → after_r is q w (register % 32) ≡ word
       → ((k : ℕ) → value_register frame destination ≡ Some k → after_r is q w k ≡ word)
       → ((n : ℕ) → 6 ≤ n → n < 24 → (value_register frame destination ≡ Some n → ⊥) → n ≢ but)
-      → line + (length is + keep_count frame destination) ≡ here + count → count_of program frames c.active.function i ≡ count
+      → line + (length is + keep_count frame destination) ≡ here + count → count_of program frames c.active.function c.active.next i ≡ count
       → Stands code line (ordinary (is ++ stored (is_kept frame destination) register destination))
       → Goes (length is + keep_count frame destination) line (here + count) (Running d)
   gives_from i at_i free destination word input (unwritten, written_there, led) below does fine line count q d now_d is register but agrees keeps result cached aside long counted stands =
@@ -244,7 +248,7 @@ module _ (program : Program) (well : IsWellFormed program) (frames : List Frame)
   pub gives_made : (i : Instruction) → IsAt i → IsFree i → (destination word : ℕ) (input : List ℕ) → Gets i destination → destination < slots → performed program zeros c i ≡ gives (record c { input = input }) destination word
       → AllByRecursion IsWord input → (line count : ℕ) (q : Words) (d : labelled.Configuration) → At program well frames fit code formed addresses pages calls few line c.output input q w d
       → (is : List Instr) → Agrees (made_in frame destination % 32) q → Keeps globals_length (words_per_call * calls) is q w (made_in frame destination % 32) → after_r is q w (made_in frame destination % 32) ≡ word
-      → line + (length is + keep_count frame destination) ≡ here + count → count_of program frames c.active.function i ≡ count
+      → line + (length is + keep_count frame destination) ≡ here + count → count_of program frames c.active.function c.active.next i ≡ count
       → Stands code line (ordinary (is ++ keep_code frame destination))
       → Goes (length is + keep_count frame destination) line (here + count) (Running d)
   gives_made i at_i free destination word input given below does fine line count q d now_d is agrees keeps result long counted stands =
@@ -253,7 +257,7 @@ module _ (program : Program) (well : IsWellFormed program) (frames : List Frame)
 
   -- from the instruction's own first line on
   pub gives_by : (i : Instruction) → IsAt i → IsFree i → (is : List Instr) (destination word count : ℕ) → 0 < length is → Keeps globals_length (words_per_call * calls) is r w (made_in frame destination % 32) → after_r is r w (made_in frame destination % 32) ≡ word
-      → Gets i destination → destination < slots → performed program zeros c i ≡ gives c destination word → length is + keep_count frame destination ≡ count → count_of program frames c.active.function i ≡ count
+      → Gets i destination → destination < slots → performed program zeros c i ≡ gives c destination word → length is + keep_count frame destination ≡ count → count_of program frames c.active.function c.active.next i ≡ count
       → Stands code here (ordinary (is ++ keep_code frame destination)) → Goes 1 here (here + count) (Running run)
   gives_by i at_i free is destination word count some keeps result given below does long counted stands =
       walk_few code formed addresses globals_length (words_per_call * calls) 1 (length is + keep_count frame destination) here (here + count) c.output _ (Running run) (omega (arith, some))
@@ -263,7 +267,7 @@ module _ (program : Program) (well : IsWellFormed program) (frames : List Frame)
   gives_register : (i : Instruction) → IsAt i → IsFree i → (destination word : ℕ) (input : List ℕ) → Gets i destination → destination < slots → performed program zeros c i ≡ gives (record c { input = input }) destination word
       → AllByRecursion IsWord input → (line count source : ℕ) (q : Words) (d : labelled.Configuration) → At program well frames fit code formed addresses pages calls few line c.output input q w d → Agrees FIRST q
       → q (source % 32) ≡ word → IsWord word
-      → line + give_count frame destination ≡ here + count → count_of program frames c.active.function i ≡ count
+      → line + give_count frame destination ≡ here + count → count_of program frames c.active.function c.active.next i ≡ count
       → Stands code line (ordinary (give_code frame source destination))
       → Goes 1 line (here + count) (Running d)
   gives_register i at_i free destination word input given below does fine line count source q d now_d agrees is fits long counted stands = go (value_register frame destination) refl long stands
@@ -307,9 +311,9 @@ module _ (program : Program) (well : IsWellFormed program) (frames : List Frame)
 
   -- ---- copies and operators
 
-  pub move_goes : (destination : ℕ) (source : Operand) → IsAt (plain.Move destination source) → destination < slots → IsThere source
+  pub move_goes : (destination : ℕ) (source : Operand) → IsAt (plain.Move destination source) → destination < slots → IsThere source → IsCounted (plain.Move destination source)
       → Stands code here (body program frames c.active.function here (plain.Move destination source)) → Goes 1 here (here + body_count program frames c.active.function (plain.Move destination source)) (Running run)
-  move_goes destination source at_i below there stands = go (value_register frame destination) refl stands
+  move_goes destination source at_i below there all_counted stands = go (value_register frame destination) refl stands
     where
       source_held : Held source
       source_held = held (plain.Move destination source) at_i source (λ slot is. is) there
@@ -326,7 +330,7 @@ module _ (program : Program) (well : IsWellFormed program) (frames : List Frame)
           is (operand_register frame FIRST source) FIRST (agrees_itself FIRST)
           (puts_keeps globals_length (words_per_call * calls) is r w FIRST _ _ FIRST (first_scratch globals_length (words_per_call * calls)) (first_aside globals_length (words_per_call * calls) FIRST) puts) puts.result
           (λ k has. absurd (let e : None ≡ Some k = sym none ∙ has in cc)) (λ n low high other e. absurd (omega (arith, e, high)))
-          (omega (arith, length_operand frame FIRST source, one, counted)) (omega arith)
+          (omega (arith, length_operand frame FIRST source, one, counted)) all_counted
           (subst (λ (b : Bool). Stands code here (ordinary (operand_code frame FIRST source ++ stored b (operand_register frame FIRST source) destination))) (sym kept) stands_here))
       go (Some k) has stands_here =
           let is : List Instr = load_code frame k source in
@@ -338,11 +342,11 @@ module _ (program : Program) (well : IsWellFormed program) (frames : List Frame)
           let counted : move_count frame destination source ≡ load_count source + keep_count frame destination = ap (λ (o : Option ℕ). move_count_to o frame destination source) has in
           gives_by (plain.Move destination source) at_i refl is destination (word_of source) (move_count frame destination source) (omega (arith, length_load frame k source, load_some source))
           (puts_keeps globals_length (words_per_call * calls) is r w (made_in frame destination % 32) _ _ (made_in frame destination % 32) (made_in_scratch destination) (λ n n_low n_high other. other) puts) puts.result
-          (gets destination) below refl (omega (arith, length_load frame k source, counted)) (omega arith) stands_here
+          (gets destination) below refl (omega (arith, length_load frame k source, counted)) all_counted stands_here
 
   -- a word that is computed goes to a slot
   plan_goes : (i : Instruction) → IsAt i → IsFree i → (plan : Plan) (destination word : ℕ) → Held plan.left × Held plan.right × IsComputable globals_length (words_per_call * calls) plan.operation (word_of plan.left) (word_of plan.right)
-      → plan_word c.active.slots plan ≡ word → Gets i destination → destination < slots → performed program zeros c i ≡ gives c destination word → count_of program frames c.active.function i ≡ plan_count frame plan destination
+      → plan_word c.active.slots plan ≡ word → Gets i destination → destination < slots → performed program zeros c i ≡ gives c destination word → count_of program frames c.active.function c.active.next i ≡ plan_count frame plan destination
       → Stands code here (ordinary (plan_code frame plan destination)) → Goes 1 here (here + plan_count frame plan destination) (Running run)
   plan_goes i at_i free plan destination word (l, t, fine) is given below does counted stands =
       let target : ℕ = made_in frame destination in
@@ -369,18 +373,18 @@ module _ (program : Program) (well : IsWellFormed program) (frames : List Frame)
       let is = divisor_is c.active.slots right plain_divisor in
       (l, t, (is.0, λ least minus_one. is.1 minus_one)))
 
-  pub unary_goes : (operator : UnaryOperator) (destination : ℕ) (operand : Operand) → IsAt (plain.Unary operator destination operand) → destination < slots → IsThere operand
+  pub unary_goes : (operator : UnaryOperator) (destination : ℕ) (operand : Operand) → IsAt (plain.Unary operator destination operand) → destination < slots → IsThere operand → IsCounted (plain.Unary operator destination operand)
       → Stands code here (body program frames c.active.function here (plain.Unary operator destination operand)) → Goes 1 here (here + body_count program frames c.active.function (plain.Unary operator destination operand)) (Running run)
-  unary_goes operator destination operand at_i below there stands =
+  unary_goes operator destination operand at_i below there counted stands =
       let operand_there = held (plain.Unary operator destination operand) at_i operand (λ slot is. is) there in
       plan_goes (plain.Unary operator destination operand) at_i refl (unary_plan operator operand) destination (unary_result operator (word_of operand))
-      (unary_there operator operand operand_there) (unary_word c.active.slots operand (is_word operand operand_there) operator) (gets destination) below refl (omega arith) stands
+      (unary_there operator operand operand_there) (unary_word c.active.slots operand (is_word operand operand_there) operator) (gets destination) below refl counted stands
 
   -- an operator that has a plan
   pub binary_goes : (operator : BinaryOperator) (destination : ℕ) (left right : Operand) → IsAt (plain.Binary operator destination left right) → destination < slots → IsThere left → IsThere right
       → is_tested operator right ≡ false
       → performed program zeros c (plain.Binary operator destination left right) ≡ gives c destination (binary_result operator (word_of left) (word_of right))
-      → count_of program frames c.active.function (plain.Binary operator destination left right) ≡ plan_count frame (binary_plan operator left right) destination
+      → count_of program frames c.active.function c.active.next (plain.Binary operator destination left right) ≡ plan_count frame (binary_plan operator left right) destination
       → Stands code here (ordinary (plan_code frame (binary_plan operator left right) destination)) → Goes 1 here (here + plan_count frame (binary_plan operator left right) destination) (Running run)
   binary_goes operator destination left right at_i below l t has_plan does counted stands =
       let left_held = held (plain.Binary operator destination left right) at_i left (left_used left right) l in
@@ -434,7 +438,7 @@ module _ (program : Program) (well : IsWellFormed program) (frames : List Frame)
 
   module _ (operator : BinaryOperator) (which : MoveFromOp) (destination : ℕ) (left right : Operand) (at_i : IsAt (plain.Binary operator destination left right)) (below : destination < slots) (left_there : IsThere left) (right_there : IsThere right)
       (does : performed program zeros c (plain.Binary operator destination left right) ≡ gives c destination (result_of which (word_of left) (word_of right)))
-      (nonzero : word_of right ≢ 0) (counted : count_of program frames c.active.function (plain.Binary operator destination left right) ≡ divide_count frame destination left right)
+      (nonzero : word_of right ≢ 0) (counted : count_of program frames c.active.function c.active.next (plain.Binary operator destination left right) ≡ divide_count frame destination left right)
       (by_minus : (a : ℕ) → IsWord a → multiply_divide_result Multiply which (if_low which a 0) (if_low which (2 ^ 32 - 1) 0) ≡ result_of which a (2 ^ 32 - 1)) where
     -- the lines of the operands
     abbrev loads : ℕ
@@ -600,7 +604,7 @@ module _ (program : Program) (well : IsWellFormed program) (frames : List Frame)
   branch_by : (i : Instruction) → IsAt i → IsFree i → (is : List Instr) (condition : Condition) (target count : ℕ) (taken : Bool) → KeepsHere is
       → holds_of (after_r is r w) condition ≡ taken → performed program zeros c i ≡ states.Running (at c (if taken then target else c.active.next + 1))
       → ((slot : ℕ) → writes program i slot ≡ false) → leads i c.active.next (if taken then target else c.active.next + 1) ≡ true
-      → length is + 1 ≡ count → count_of program frames c.active.function i ≡ count
+      → length is + 1 ≡ count → count_of program frames c.active.function c.active.next i ≡ count
       → Stands code here (ordinary is ++ lines.Branch condition (instruction_line program frames c.active.function target) ∷ []) → Goes 1 here (here + count) (Running run)
   branch_by i at_i free is condition target count taken keeps takes does unwritten led long counted stands =
       let line : ℕ → ℕ = instruction_line program frames c.active.function in
@@ -628,7 +632,7 @@ module _ (program : Program) (well : IsWellFormed program) (frames : List Frame)
 
   test_goes_by : (i : Instruction) → IsAt i → IsFree i → (test : Test) (target : ℕ) (taken : Bool) → IsTestThere test → test_taken c.active.slots test ≡ taken
       → performed program zeros c i ≡ states.Running (at c (if taken then target else c.active.next + 1))
-      → ((slot : ℕ) → writes program i slot ≡ false) → leads i c.active.next (if taken then target else c.active.next + 1) ≡ true → count_of program frames c.active.function i ≡ test_count frame test + 1
+      → ((slot : ℕ) → writes program i slot ≡ false) → leads i c.active.next (if taken then target else c.active.next + 1) ≡ true → count_of program frames c.active.function c.active.next i ≡ test_count frame test + 1
       → Stands code here (branch_code frame test (instruction_line program frames c.active.function target)) → Goes 1 here (here + (test_count frame test + 1)) (Running run)
   test_goes_by i at_i free (tests.Operands op left right) target taken (l, t) is does unwritten led counted stands =
       let loaded = operands_put globals_length (words_per_call * calls) frame (r FRAME) w r c.active.slots r w s.zero_is refl refl (λ n low high. refl) FIRST left right l t in
@@ -648,15 +652,15 @@ module _ (program : Program) (well : IsWellFormed program) (frames : List Frame)
       ∙ (ap (branch_taken (branch_on plan.outcome) (operation_word c.active.slots plan)) (leaves.keeps.zero ∙ s.zero_is) ∙ is))
       does unwritten led (omega (arith, length_test frame (tests.Computed plan))) counted stands
 
-  pub branch_goes : (comparison : Comparison) (left right : Operand) (target : ℕ) → IsAt (plain.Branch comparison left right target) → IsThere left → IsThere right
+  pub branch_goes : (comparison : Comparison) (left right : Operand) (target : ℕ) → IsAt (plain.Branch comparison left right target) → IsThere left → IsThere right → IsCounted (plain.Branch comparison left right target)
       → Stands code here (body program frames c.active.function here (plain.Branch comparison left right target)) → Goes 1 here (here + body_count program frames c.active.function (plain.Branch comparison left right target)) (Running run)
-  branch_goes comparison left right target at_i l t stands =
+  branch_goes comparison left right target at_i l t counted stands =
       let left_held = held (plain.Branch comparison left right target) at_i left (left_used left right) l in
       let right_held = held (plain.Branch comparison left right target) at_i right (right_used left right) t in
       test_goes_by (plain.Branch comparison left right target) at_i refl (test_of comparison left right) target (compares comparison (word_of left) (word_of right))
       (test_there comparison left right left_held right_held)
       (test_goes c.active.slots left right (is_word left left_held) (is_word right right_held) comparison) refl
-      (λ slot. refl) (either_led (compares comparison (word_of left) (word_of right))) (omega arith) stands
+      (λ slot. refl) (either_led (compares comparison (word_of left) (word_of right))) counted stands
     where
       either_led : (taken : Bool) → (suc c.active.next == (if taken then target else c.active.next + 1) || target == (if taken then target else c.active.next + 1)) ≡ true
       either_led true = or_right (suc c.active.next == target) (target == target) (itself target)

@@ -1,8 +1,10 @@
 -- The numbers that stand in an instruction are the words that they are for.
 use Rattle.std.proofs.Common.{◌≡◌, ◌≢◌, ℕ, ◌+◌, ◌-◌, ◌%◌, ◌^◌, ◌<◌, ◌≤◌, ℤ, pos, ◌+ℤ◌, ◌-ℤ◌, Bool, true, false, not, ◌&&◌, Some, None, refl, sym, ap, subst, ◌∙◌, inl, inr, arith}
 use Rattle.std.specs.Prelude.{◌==◌, nat_le, nat_lt, if◌then◌else◌}
-use Rattle.std.proofs.lemmas.Bool.{cases_lt, eqb-true, ltb-true, leb-true, eq-eqb}
+use Rattle.std.proofs.lemmas.Bool.{cases_eq, cases_lt, eqb-true, ltb-true, leb-true, eq-eqb}
 use Rattle.std.proofs.lemmas.Int.{ints}
+use Rattle.std.proofs.lemmas.Nat.{trailing_le}
+use Rattle.std.specs.Int.Count.{count_trailing_zeros}
 use Rattle.cyc_words.specs.Word.{IsWord, signed, sign_extended, add_of, sub_of}
 use Rattle.cyc_words.proofs.WordLemmas.{sign_extended_low, sign_extended_high, signed_low, signed_high, IsWord-add_of, IsWord-sub_of}
 use Rattle.cyc_plain.specs.declared.instruction.Operand.{Operand}
@@ -10,7 +12,7 @@ use Rattle.cyc_plain.specs.declared.instruction.Operand.TheVariants as operands
 use Rattle.cyc_plain.specs.State.{Words}
 use Rattle.cyc_plain.specs.Step.{operand_word}
 use Rattle.cyc_plain.proofs.MemoryLaws.{or_either}
-use Rattle.cyc_select.specs.Numbers.{fits_signed, half_of, signed_half, negated_half, next_half, low_half, is_zero_word, is_plain_divisor, shift_amount}
+use Rattle.cyc_select.specs.Numbers.{fits_signed, half_of, signed_half, negated_half, next_half, low_half, is_zero_word, is_plain_divisor, shift_amount, power_of}
 
 and_both : (a b : Bool) → (a && b) ≡ true → (a ≡ true) × (b ≡ true)
 and_both true b holds = (refl, holds)
@@ -82,6 +84,23 @@ module _ (slots : Words) where
   pub amount_is : (o : Operand) (amount : ℕ) → shift_amount o ≡ Some amount → amount ≡ operand_word slots o % 32
   amount_is (operands.Slot number) amount is = absurd (let e : None ≡ Some amount = is in cc)
   amount_is (operands.Word word) amount is = let e : Some (word % 32) ≡ Some amount = is in let it : amount ≡ word % 32 = cc in it
+
+  pub power_is : (o : Operand) (amount : ℕ) → IsWord (operand_word slots o) → power_of o ≡ Some amount → (2 ^ amount ≡ operand_word slots o) × (amount < 32)
+  power_is (operands.Slot number) amount fits is = absurd (let e : None ≡ Some amount = is in cc)
+  power_is (operands.Word word) amount fits is = go (2 ^ count_trailing_zeros 32 word == word) refl is
+    where
+      few : 2 ^ count_trailing_zeros 32 word ≡ word → count_trailing_zeros 32 word < 32
+      few same = elim (cases_eq (count_trailing_zeros 32 word) 32) [
+        | inl all ↦ absurd (let e : 2 ^ 32 ≡ word = ap (λ (n : ℕ). 2 ^ n) (sym all) ∙ same in omega (arith, e, fits))
+        | inr fewer ↦ omega (arith, fewer, trailing_le 32 word)
+      ]
+
+      go : (b : Bool) → (2 ^ count_trailing_zeros 32 word == word) ≡ b → (if b then Some (count_trailing_zeros 32 word) else None) ≡ Some amount → (2 ^ amount ≡ word) × (amount < 32)
+      go true same given =
+          let here : count_trailing_zeros 32 word ≡ amount = (let e : Some (count_trailing_zeros 32 word) ≡ Some amount = given in cc) in
+          let power : 2 ^ count_trailing_zeros 32 word ≡ word = eqb-true (2 ^ count_trailing_zeros 32 word) word same in
+          (ap (λ (n : ℕ). 2 ^ n) (sym here) ∙ power, subst (λ (n : ℕ). n < 32) here (few power))
+      go false other given = absurd (let e : None ≡ Some amount = given in cc)
 
   pub divisor_is : (o : Operand) → is_plain_divisor o ≡ true → (operand_word slots o ≢ 0) × (operand_word slots o ≢ 2 ^ 32 - 1)
   divisor_is (operands.Slot number) is = absurd (let e : false ≡ true = is in cc)

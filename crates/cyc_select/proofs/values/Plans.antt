@@ -4,8 +4,9 @@ use Rattle.std.specs.Prelude.{◌==◌, nat_le, int_le, int_lt, if◌then◌else
 use Rattle.std.specs.Int.{w32, bit_not}
 use Rattle.std.proofs.lemmas.Bool.{cases_eq, eq-eqb, ne_eqb, le-leb}
 use Rattle.std.proofs.lemmas.Nat.{and_comm, or_comm, xor_comm}
+use Rattle.std.proofs.Math.Nat.{mul_comm}
 use Rattle.std.proofs.lemmas.Int.{ints}
-use Rattle.cyc_words.specs.Word.{IsWord, signed, unsigned, sign_extended, floor_div, add_of, sub_of, sar_of, slt_of, sltu_of}
+use Rattle.cyc_words.specs.Word.{IsWord, signed, unsigned, sign_extended, floor_div, add_of, sub_of, mul_of, sar_of, slt_of, sltu_of}
 use Rattle.cyc_words.proofs.WordLemmas.{slt_of_cases, sltu_of_cases}
 use Rattle.cyc_isa.specs.Effect.{immediate_result, arithmetic_result, shift_result, high_result, low_result, branch_taken, branch_zero_taken}
 use Rattle.cyc_isa.specs.declared.instr.BranchZeroOp.{BranchZeroOp}
@@ -38,10 +39,10 @@ use Rattle.cyc_select.specs.declared.plan.Outcome.TheVariants as outcomes
 use Rattle.cyc_select.specs.declared.plan.Plan.{Plan}
 use Rattle.cyc_select.specs.declared.plan.Test.{Test}
 use Rattle.cyc_select.specs.declared.plan.Test.TheVariants as tests
-use Rattle.cyc_select.specs.Numbers.{signed_half, negated_half, next_half, low_half, is_zero_word, is_plain_divisor, shift_amount}
-use Rattle.cyc_select.specs.Plans.{arithmetic_plan, immediate_plan, immediate_or, shift_by, multiply_divide_plan, mirrored, zero_plan, differs_plan, equal_plan, less_plan, less_unsigned_plan, at_most_plan, compared_plan, is_mirrored, comparison_plan, unary_plan, sum_plan, difference_plan, bits_plan, operator_plan, is_swapped, binary_plan, sign_of, sign_or, order_test, test_of}
+use Rattle.cyc_select.specs.Numbers.{signed_half, negated_half, next_half, low_half, is_zero_word, is_plain_divisor, shift_amount, power_of}
+use Rattle.cyc_select.specs.Plans.{arithmetic_plan, immediate_plan, immediate_or, shift_by, multiply_divide_plan, product_or, mirrored, zero_plan, differs_plan, equal_plan, less_plan, less_unsigned_plan, at_most_plan, compared_plan, is_mirrored, comparison_plan, unary_plan, sum_plan, difference_plan, bits_plan, operator_plan, is_swapped, binary_plan, sign_of, sign_or, order_test, test_of}
 use Rattle.cyc_select.specs.Selection.{branch_on, is_tested}
-use Rattle.cyc_select.proofs.values.Halves.{signed_is, negated_is, next_is, next_not_greatest, low_is, zero_is, amount_is, signed_fits, negated_fits, next_fits, low_fits, next_signed}
+use Rattle.cyc_select.proofs.values.Halves.{signed_is, negated_is, next_is, next_not_greatest, low_is, zero_is, amount_is, power_is, signed_fits, negated_fits, next_fits, low_fits, next_signed}
 use Rattle.cyc_select.proofs.values.Operations.{zero_test, not_zero_test, difference_zero, low_product}
 
 -- of two words, the one for a quotient, and that for a remainder
@@ -262,10 +263,17 @@ module _ (slots : Words) (left right : Operand) (left_fits : IsWord (operand_wor
   shift_word op (Some amount) is = shifted op first second amount (amount_is slots right amount is)
   shift_word op None is = refl
 
+  product_word : (amount : Option ℕ) → power_of right ≡ amount → plan_word slots (product_or amount left right) ≡ mul_of first second
+  product_word (Some amount) is =
+      let (power, few) = power_is slots right amount right_fits is in
+      let whole : amount % 32 % 32 ≡ amount = omega (arith, few) in
+      ap (λ (n : ℕ). first * 2 ^ n % 2 ^ 32) whole ∙ ap (λ (n : ℕ). first * n % 2 ^ 32) power
+  product_word None is = low_product first second left_fits right_fits
+
   pub operator_word : (operator : BinaryOperator) → plan_word slots (operator_plan operator left right) ≡ binary_result operator first second
   operator_word binary.Add = sum_word
   operator_word binary.Subtract = difference_word
-  operator_word binary.Multiply = low_product first second left_fits right_fits
+  operator_word binary.Multiply = product_word (power_of right) refl
   operator_word binary.Divide = refl
   operator_word binary.Remainder = refl
   operator_word binary.And = and_word
@@ -282,6 +290,7 @@ module _ (slots : Words) (left right : Operand) (left_fits : IsWord (operand_wor
 
 swapped_same : (operator : BinaryOperator) (left : Operand) (a b : ℕ) → is_swapped operator left ≡ true → binary_result operator b a ≡ binary_result operator a b
 swapped_same binary.Add left a b is = let e : add_of b a ≡ add_of a b = omega arith in e
+swapped_same binary.Multiply left a b is = ap (λ (n : ℕ). n % 2 ^ 32) (mul_comm b a)
 swapped_same binary.And left a b is = and_comm b a
 swapped_same binary.Or left a b is = or_comm b a
 swapped_same binary.Xor left a b is = xor_comm b a
@@ -461,12 +470,16 @@ module _ (P : Operand → Type 0) (zero : P (operands.Word 0)) (Q : Plan → Typ
     not_false true is = refl
     not_false false is = absurd (let e : true ≡ false = is in cc)
 
+    all_product : (left right : Operand) (amount : Option ℕ) → P left → P right → Q (product_or amount left right)
+    all_product left right (Some amount) l r = of_shift_by shift.Left left right amount l
+    all_product left right None l r = of_product left right l r
+
     all_operator : (operator : BinaryOperator) (left right : Operand) → is_tested operator right ≡ false → P left → P right → Q (operator_plan operator left right)
     all_operator binary.Add left right fine l r =
         all_number (signed_half right) immediate.AddUnsigned left outcomes.AsItIs (arithmetic_plan arithmetic.AddUnsigned left right outcomes.AsItIs) (signed_fits right) l (of_arithmetic arithmetic.AddUnsigned left right outcomes.AsItIs l r)
     all_operator binary.Subtract left right fine l r =
         all_number (negated_half right) immediate.AddUnsigned left outcomes.AsItIs (arithmetic_plan arithmetic.SubtractUnsigned left right outcomes.AsItIs) (negated_fits right) l (of_arithmetic arithmetic.SubtractUnsigned left right outcomes.AsItIs l r)
-    all_operator binary.Multiply left right fine l r = of_product left right l r
+    all_operator binary.Multiply left right fine l r = all_product left right (power_of right) l r
     all_operator binary.Divide left right fine l r = of_quotient Low left right (not_false (is_plain_divisor right) fine) l r
     all_operator binary.Remainder left right fine l r = of_quotient High left right (not_false (is_plain_divisor right) fine) l r
     all_operator binary.And left right fine l r = all_bits arithmetic.And immediate.And left right l r
@@ -484,6 +497,7 @@ module _ (P : Operand → Type 0) (zero : P (operands.Word 0)) (Q : Plan → Typ
     -- an operator that commutes is no division
     all_swapped : (operator : BinaryOperator) (left right : Operand) → is_swapped operator left ≡ true → P left → P right → Q (operator_plan operator right left)
     all_swapped binary.Add left right is l r = all_operator binary.Add right left refl r l
+    all_swapped binary.Multiply left right is l r = all_operator binary.Multiply right left refl r l
     all_swapped binary.And left right is l r = all_operator binary.And right left refl r l
     all_swapped binary.Or left right is l r = all_operator binary.Or right left refl r l
     all_swapped binary.Xor left right is l r = all_operator binary.Xor right left refl r l

@@ -1,7 +1,6 @@
 use Rattle.std.proofs.Common.{ap, ◌∙◌, arith}
-use Rattle.std.specs.Prelude.{sum_by}
 use Rattle.cyc_plain.specs.Program.{routine_at}
-use Rattle.cyc_select.specs.Selection.{saving_count, count_of}
+use Rattle.cyc_select.specs.Selection.{saving_count, code_count}
 use Rattle.cyc_select.proofs.emission.Numbering.{reads_few, routine_small}
 use Rattle.cyc_select.proofs.counting.function_count.Goals as goal
 
@@ -10,7 +9,7 @@ returns-clause-value c =
     let program = c.args.plain.now in
     let frames = c.args.frames.now in
     let saving = c.saving_count.ensures.value ∙ ap saving_count c.frame_in.ensures.value in
-    let lines = c.code_count.ensures.value ∙ ap (sum_by (count_of program frames c.args.function)) c.requires.code in
+    let lines = c.code_count.ensures.value ∙ ap (code_count program frames c.args.function 0) c.requires.code in
     omega (arith, saving, lines)
 
 pub returns-clause-small : goal.returns-clause-small
@@ -19,7 +18,7 @@ returns-clause-small c =
     let frames = c.args.frames.now in
     let function = c.args.function in
     let saving = c.saving_count.ensures.value ∙ ap saving_count c.frame_in.ensures.value in
-    let lines = c.code_count.ensures.value ∙ ap (sum_by (count_of program frames function)) c.requires.code in
+    let lines = c.code_count.ensures.value ∙ ap (code_count program frames function 0) c.requires.code in
     omega (
       arith,
       saving,

@@ -7,6 +7,6 @@ use Rattle.cyc_select.proofs.emitter.Emitter.code.Given as goal
 abbrev pub invariant-loop-index : goal.invariant-loop-index
 invariant-loop-index l =
     l.self.lines.items
-    ++ code_lines l.tables.plain.now l.tables.frames.now l.tables.function (instruction_line l.tables.plain.now l.tables.frames.now l.tables.function l.index) (drop l.index l.code)
+    ++ code_lines l.tables.plain.now l.tables.frames.now l.tables.function l.index (instruction_line l.tables.plain.now l.tables.frames.now l.tables.function l.index) (drop l.index l.code)
     ≡ l.fn.self.lines.items
-    ++ code_lines l.tables.plain.now l.tables.frames.now l.tables.function (function_line l.tables.plain.now l.tables.frames.now l.tables.function + saving_count (frame_at l.tables.frames.now l.tables.function)) l.code
+    ++ code_lines l.tables.plain.now l.tables.frames.now l.tables.function 0 (function_line l.tables.plain.now l.tables.frames.now l.tables.function + saving_count (frame_at l.tables.frames.now l.tables.function)) l.code

@@ -51,7 +51,7 @@ code-requires-clause-known c =
       lines_are =
           c.deref-2.ensures.value
           ∙ c.in_ok-lines.ensures
-          ∙ ap (λ (n : ℕ). instruction_lines program frames c.args.function (n + c.saving_count.result) c.deref.result.now) (ready_start c.requires.ready c.args.function c.requires.function)
-          ∙ ap (λ (n : ℕ). instruction_lines program frames c.args.function (function_line program frames c.args.function + n) c.deref.result.now) saving
-          ∙ ap (λ (code : List Instruction). instruction_lines program frames c.args.function (function_line program frames c.args.function + saving_count (frame_at frames c.args.function)) code) same;
+          ∙ ap (λ (n : ℕ). instruction_lines program frames c.args.function 0 (n + c.saving_count.result) c.deref.result.now) (ready_start c.requires.ready c.args.function c.requires.function)
+          ∙ ap (λ (n : ℕ). instruction_lines program frames c.args.function 0 (function_line program frames c.args.function + n) c.deref.result.now) saving
+          ∙ ap (λ (code : List Instruction). instruction_lines program frames c.args.function 0 (function_line program frames c.args.function + saving_count (frame_at frames c.args.function)) code) same;
     }

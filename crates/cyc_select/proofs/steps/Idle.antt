@@ -1,0 +1,201 @@
+-- An idle instruction: the run below stays where it is, which matches the state behind it.
+use Rattle.std.proofs.Common.{◌≡◌, ◌≢◌, ℕ, suc, ◌+◌, ◌*◌, ◌≤◌, Bool, true, false, List, Some, refl, sym, ap, subst, ◌∙◌, arith, inl, inr}
+use Rattle.std.specs.Prelude.{◌⊎◌, ◌==◌, if◌then◌else◌}
+use Rattle.std.proofs.lemmas.Bool.{cases_eq, eq-eqb, false≢true, or_left}
+use Rattle.cyc_machine.specs.State.{globals_length, words_per_call}
+use Rattle.cyc_plain.specs.declared.instruction.Instruction.{Instruction}
+use Rattle.cyc_plain.specs.declared.instruction.Instruction.TheVariants as plain
+use Rattle.cyc_plain.specs.declared.instruction.BinaryOperator.{BinaryOperator}
+use Rattle.cyc_plain.specs.declared.instruction.BinaryOperator.TheVariants as binary
+use Rattle.cyc_plain.specs.declared.instruction.Comparison.{Comparison}
+use Rattle.cyc_plain.specs.declared.instruction.Operand.{Operand}
+use Rattle.cyc_plain.specs.declared.instruction.Operand.TheVariants as operands
+use Rattle.cyc_plain.specs.Operators.{unary_result, binary_result, has_no_result, compares}
+use Rattle.cyc_plain.specs.Program.{Program, routine_at}
+use Rattle.cyc_plain.specs.State as states
+use Rattle.cyc_plain.specs.State.{Words, put, Configuration}
+use Rattle.cyc_plain.specs.Step.{at, with_slots, gives, instruction_at, operand_word, performed}
+use Rattle.cyc_plain.specs.WellFormed.{IsWellFormed}
+use Rattle.cyc_plain.proofs.Placed.{below_of_get}
+use Rattle.cyc_plain.proofs.RunLaws.{zeros, calls_nothing, zeros_at}
+use Rattle.cyc_plain.proofs.SlotLaws.{put-same, put-other}
+use Rattle.cyc_frame.specs.Frame.{Frame}
+use Rattle.cyc_frame.specs.declared.home.Home.TheVariants as homes
+use Rattle.cyc_frame.specs.Homes as homing
+use Rattle.cyc_frame.specs.Homes.{AreHomes, Wanted}
+use Rattle.cyc_frame.specs.Idle.{IsIdle, IsThere, IsUnused, NeverHolds, always_has_result, idle_at}
+use Rattle.cyc_frame.specs.Layout.{AreFrames, frame_at}
+use Rattle.cyc_frame.specs.Uses.{writes, leads}
+use Rattle.cyc_select.specs.Labelled.{Labelled, IsFormed}
+use Rattle.cyc_select.specs.Machine.{State}
+use Rattle.cyc_select.specs.Selection.{value_register, instruction_line, behind_count, body_count, is_idle}
+use Rattle.cyc_select.proofs.effects.Walks.{now_at}
+use Rattle.cyc_select.proofs.layout.Lines.{line_next}
+use Rattle.cyc_select.proofs.relation.Matches.{Ready, Passed, steps_to, within}
+use Rattle.cyc_select.proofs.relation.Standing.{Standing, keeps_back, standing_at, standing_unkept}
+use Rattle.cyc_select.proofs.relation.Values.{Caches, caches_past, wanted_before, apart_from, itself, next_led}
+
+module _ (program : Program) (well : IsWellFormed program) (frames : List Frame) (fit : AreFrames program frames) (code : Labelled) (formed : IsFormed code) (addresses : ℕ → ℕ) (pages calls : ℕ) (few : calls ≤ 4096)
+    (c : Configuration) (t : State) (ready : Ready program well frames fit code formed addresses pages calls few c t) where
+  abbrev IsAt : Instruction → Type 0
+  IsAt i = instruction_at program (states.place_of (states.Running c)) ≡ Some i
+
+  abbrev Passes : Type 0
+  Passes = Passed program well frames fit code formed addresses pages calls few c t
+
+  right : AreHomes program (routine_at program c.active.function) (frame_at frames c.active.function).homes
+  right = fit.homes c.active.function ready.standing.known
+
+  -- the same call at the next instruction, with such slots
+  abbrev behind_it : Words → Configuration
+  behind_it slots' = at (with_slots c slots') (c.active.next + 1)
+
+  passes_with : (i : Instruction) → IsAt i → calls_nothing i ≡ true → is_idle (frame_at frames c.active.function) c.active.next i ≡ true → behind_count program frames c.active.function i ≡ 0
+      → (slots' : Words) → performed program zeros c i ≡ states.Running (behind_it slots')
+      → Standing program frames addresses pages calls c ready.r ready.w ready.base ready.back (keeps_back frames c) slots'
+      → Caches program frames c.active.function (c.active.next + 1) ready.r slots'
+      → Passes
+  passes_with i at_i free idle none slots' does standing caches =
+      let d : Configuration = behind_it slots' in
+      let counted = ap (λ (b : Bool). (if b then 0 else body_count program frames c.active.function i) + behind_count program frames c.active.function i) idle in
+      let line : instruction_line program frames c.active.function c.active.next ≡ instruction_line program frames c.active.function (c.active.next + 1) =
+      omega (arith, line_next program frames c.active.function c.active.next i at_i, counted, none) in
+      let there = standing_at program well frames fit addresses pages calls few c ready.r ready.w ready.base ready.back (keeps_back frames c) slots' standing d refl refl refl refl refl refl ready.standing.input in (
+        states.Running d,
+        steps_to program well frames fit code formed addresses pages calls few c zeros i (states.Running d) (zeros_at program c i at_i free) at_i does
+            (within program well frames fit code formed addresses pages calls few d ready.standing.laid.paged ready.standing.deep),
+        inl (record {
+          run = ready.run;
+          r = ready.r;
+          w = ready.w;
+          base = ready.base;
+          back = ready.back;
+          is = ready.is;
+          now = now_at code formed addresses globals_length (words_per_call * calls) (instruction_line program frames c.active.function c.active.next) (instruction_line program frames c.active.function (c.active.next + 1)) c.output c.input ready.r ready.w ready.run line ready.now;
+          standing = there;
+          caches = caches;
+        }),
+        omega (arith, below_of_get (routine_at program c.active.function).code c.active.next i at_i),
+      )
+
+  -- a slot that nothing asks for gets a word
+  passes_unused : (i : Instruction) → IsAt i → calls_nothing i ≡ true → is_idle (frame_at frames c.active.function) c.active.next i ≡ true → behind_count program frames c.active.function i ≡ 0
+      → (destination word : ℕ) → IsUnused program (routine_at program c.active.function) (frame_at frames c.active.function).homes c.active.next destination
+      → ((slot : ℕ) → slot ≢ destination → writes program i slot ≡ false) → leads i c.active.next (c.active.next + 1) ≡ true
+      → performed program zeros c i ≡ gives c destination word
+      → Passes
+  passes_unused i at_i free idle none destination word (unkept, unwanted) unwritten led does =
+      passes_with i at_i free idle none (put c.active.slots destination word) does
+      (standing_unkept program well frames fit addresses pages calls few c ready.r ready.w ready.base ready.back (keeps_back frames c) c.active.slots ready.standing destination word unkept)
+      (λ slot k has wanted. elim (cases_eq slot destination) [
+        | inl same ↦
+            absurd (unwanted (subst (λ (n : ℕ). Wanted program (routine_at program c.active.function) n (suc c.active.next)) same
+            (subst (Wanted program (routine_at program c.active.function) slot) (let e : c.active.next + 1 ≡ suc c.active.next = omega arith in e) wanted)))
+        | inr other ↦
+            ready.caches slot k has (wanted_before program frames c.active.function right c.active.next (c.active.next + 1) slot i at_i led (unwritten slot other) wanted)
+            ∙ sym (put-other c.active.slots destination slot word other)
+      ])
+
+  -- no slot changes
+  passes_same : (i : Instruction) → IsAt i → calls_nothing i ≡ true → is_idle (frame_at frames c.active.function) c.active.next i ≡ true → behind_count program frames c.active.function i ≡ 0
+      → ((slot : ℕ) → writes program i slot ≡ false) → leads i c.active.next (c.active.next + 1) ≡ true
+      → performed program zeros c i ≡ states.Running (at c (c.active.next + 1))
+      → Passes
+  passes_same i at_i free idle none unwritten led does =
+      passes_with i at_i free idle none c.active.slots does ready.standing
+      (caches_past program frames c.active.function right c.active.next (c.active.next + 1) ready.r ready.r c.active.slots c.active.slots i at_i led
+      (λ slot k has. unwritten slot) (λ slot k has. refl) (λ n low high. refl) ready.caches)
+
+  -- a slot gets its own word
+  own_word : (destination slot : ℕ) → put c.active.slots destination (c.active.slots destination) slot ≡ c.active.slots slot
+  own_word destination slot = elim (cases_eq slot destination) [
+    | inl same ↦ ap (put c.active.slots destination (c.active.slots destination)) same ∙ (put-same c.active.slots destination (c.active.slots destination) ∙ ap c.active.slots (sym same))
+    | inr other ↦ put-other c.active.slots destination slot (c.active.slots destination) other
+  ]
+
+  own_words : (destination : ℕ) → put c.active.slots destination (c.active.slots destination) ≡ c.active.slots
+  own_words destination = λ i slot. own_word destination slot i
+
+  passes_itself : (destination : ℕ) → IsAt (plain.Move destination (operands.Slot destination)) → is_idle (frame_at frames c.active.function) c.active.next (plain.Move destination (operands.Slot destination)) ≡ true → Passes
+  passes_itself destination at_i idle =
+      passes_with (plain.Move destination (operands.Slot destination)) at_i refl idle refl c.active.slots
+      (ap (λ (x : Words). states.Running (behind_it x)) (own_words destination)) ready.standing
+      (λ slot k has wanted. elim (cases_eq slot destination) [
+        | inl same ↦ ready.caches slot k has (0, (plain.Move destination (operands.Slot destination), at_i, eq-eqb destination slot (sym same)))
+        | inr other ↦
+            ready.caches slot k has
+            (wanted_before program frames c.active.function right c.active.next (c.active.next + 1) slot (plain.Move destination (operands.Slot destination)) at_i (next_led c.active.next) (apart_from destination slot other) wanted)
+      ])
+
+  -- a slot gets a word that its register has already
+  passes_there : (destination number register : ℕ) → IsAt (plain.Move destination (operands.Slot number)) → is_idle (frame_at frames c.active.function) c.active.next (plain.Move destination (operands.Slot number)) ≡ true
+      → homing.home_of (frame_at frames c.active.function).homes destination ≡ homes.Register register → value_register (frame_at frames c.active.function) number ≡ Some register → Passes
+  passes_there destination number register at_i idle home has =
+      passes_with (plain.Move destination (operands.Slot number)) at_i refl idle refl (put c.active.slots destination (c.active.slots number)) refl
+      (standing_unkept program well frames fit addresses pages calls few c ready.r ready.w ready.base ready.back (keeps_back frames c) c.active.slots ready.standing destination (c.active.slots number) (ap homing.is_kept home))
+      (λ slot k slot_has wanted. elim (cases_eq slot destination) [
+        | inl same ↦
+            let own : Some register ≡ Some k = sym (ap homing.register_of home) ∙ (ap (value_register (frame_at frames c.active.function)) (sym same) ∙ slot_has) in
+            ready.caches number k (has ∙ own) (0, (plain.Move destination (operands.Slot number), at_i, itself number))
+            ∙ sym (ap (put c.active.slots destination (c.active.slots number)) same ∙ put-same c.active.slots destination (c.active.slots number))
+        | inr other ↦
+            ready.caches slot k slot_has
+            (wanted_before program frames c.active.function right c.active.next (c.active.next + 1) slot (plain.Move destination (operands.Slot number)) at_i (next_led c.active.next) (apart_from destination slot other) wanted)
+            ∙ sym (put-other c.active.slots destination slot (c.active.slots number) other)
+      ])
+
+  has_result : (operator : BinaryOperator) (b : ℕ) → always_has_result operator ≡ true → has_no_result operator b ≡ false
+  has_result binary.Divide b always = absurd (false≢true always)
+  has_result binary.Remainder b always = absurd (false≢true always)
+  has_result operator b always = refl
+
+  never_holds : (comparison : Comparison) (left right_operand : Operand) → NeverHolds comparison left right_operand → compares comparison (operand_word c.active.slots left) (operand_word c.active.slots right_operand) ≡ false
+  never_holds comparison (operands.Word left) (operands.Word other) never = never
+  never_holds comparison (operands.Slot left) other never = absurd never
+  never_holds comparison (operands.Word left) (operands.Slot other) never = absurd never
+
+  either_next : (b : Bool) (target : ℕ) → target ≡ suc c.active.next → (if b then target else c.active.next + 1) ≡ c.active.next + 1
+  either_next true target is = omega (arith, is)
+  either_next false target is = refl
+
+  pub passes : (i : Instruction) → IsAt i → is_idle (frame_at frames c.active.function) c.active.next i ≡ true → Passes
+  passes i at_i idle = go i at_i idle
+    where
+      idle_is : (j : Instruction) → IsAt j → idle_at (frame_at frames c.active.function).idle c.active.next ≡ true → IsIdle program (routine_at program c.active.function) (frame_at frames c.active.function).homes c.active.next j
+      idle_is j there is = fit.idle c.active.function ready.standing.known c.active.next j there is
+
+      moves : (destination : ℕ) (source : Operand) → IsAt (plain.Move destination source) → is_idle (frame_at frames c.active.function) c.active.next (plain.Move destination source) ≡ true
+          → (source ≡ operands.Slot destination) ⊎ (IsUnused program (routine_at program c.active.function) (frame_at frames c.active.function).homes c.active.next destination ⊎ IsThere (frame_at frames c.active.function).homes destination source) → Passes
+      moves destination source there is (inl itself_moved) =
+          passes_itself destination (subst (λ (o : Operand). IsAt (plain.Move destination o)) itself_moved there) is
+      moves destination (operands.Slot number) there is (inr (inr (register, home, has))) = passes_there destination number register there is home has
+      moves destination (operands.Word word) there is (inr (inr found)) = absurd found
+      moves destination source there is (inr (inl unused)) =
+          passes_unused (plain.Move destination source) there refl is refl destination (operand_word c.active.slots source) unused (λ slot other. apart_from destination slot other) (next_led c.active.next) refl
+
+      branches : (comparison : Comparison) (left other : Operand) (target : ℕ) → IsAt (plain.Branch comparison left other target) → is_idle (frame_at frames c.active.function) c.active.next (plain.Branch comparison left other target) ≡ true
+          → (target ≡ suc c.active.next) ⊎ NeverHolds comparison left other → Passes
+      branches comparison left other target there is (inl next) =
+          passes_same (plain.Branch comparison left other target) there refl is refl (λ slot. refl) (or_left (suc c.active.next == c.active.next + 1) (target == c.active.next + 1) (next_led c.active.next))
+          (ap (λ (n : ℕ). states.Running (at c n)) (either_next (compares comparison (operand_word c.active.slots left) (operand_word c.active.slots other)) target next))
+      branches comparison left other target there is (inr never) =
+          passes_same (plain.Branch comparison left other target) there refl is refl (λ slot. refl) (or_left (suc c.active.next == c.active.next + 1) (target == c.active.next + 1) (next_led c.active.next))
+          (ap (λ (b : Bool). states.Running (at c (if b then target else c.active.next + 1))) (never_holds comparison left other never))
+
+      go : (j : Instruction) → IsAt j → is_idle (frame_at frames c.active.function) c.active.next j ≡ true → Passes
+      go (plain.Move destination source) there is = moves destination source there is (idle_is (plain.Move destination source) there is)
+      go (plain.Unary operator destination operand) there is =
+          passes_unused (plain.Unary operator destination operand) there refl is refl destination (unary_result operator (operand_word c.active.slots operand)) (idle_is (plain.Unary operator destination operand) there is)
+          (λ slot other. apart_from destination slot other) (next_led c.active.next) refl
+      go (plain.Binary operator destination left other) there is =
+          let (always, unused) = idle_is (plain.Binary operator destination left other) there is in
+          passes_unused (plain.Binary operator destination left other) there refl is refl destination (binary_result operator (operand_word c.active.slots left) (operand_word c.active.slots other)) unused
+          (λ slot apart. apart_from destination slot apart) (next_led c.active.next)
+          (ap (λ (b : Bool). if b then states.Stuck c.output c.input else gives c destination (binary_result operator (operand_word c.active.slots left) (operand_word c.active.slots other)))
+          (has_result operator (operand_word c.active.slots other) always))
+      go (plain.Jump target) there is =
+          let next : target ≡ suc c.active.next = idle_is (plain.Jump target) there is in
+          let here : target ≡ c.active.next + 1 = omega (arith, next) in
+          passes_same (plain.Jump target) there refl is refl (λ slot. refl) (eq-eqb target (c.active.next + 1) here) (ap (λ (n : ℕ). states.Running (at c n)) here)
+      go (plain.Branch comparison left other target) there is = branches comparison left other target there is (idle_is (plain.Branch comparison left other target) there is)
+      go j there is = absurd (false≢true is)
