@@ -21,7 +21,6 @@ use Rattle.cyc_plain.specs.State.{status_of}
 use Rattle.cyc_plain.specs.Step.{Choice, run, start}
 use Rattle.cyc_plain.proofs.RunLaws.{zeros}
 use Rattle.cyc_lower.specs.Slots.{starts_from, global_types}
-use Rattle.cyc_lower.specs.ValueCode.{blocks}
 use Rattle.cyc_lower.specs.Lowering.{function_code, lower_program, lower_globals}
 use Rattle.cyc_lower.proofs.Examples.{nowhere, int, local, two, all, returns, function, ends, fat_global}
 
@@ -62,35 +61,35 @@ program structs locals body others =
 -- an int becomes a char as it comes to its slot, and keeps its own word
 char_is_masked : function_code [] [] None (function [] (Int ∷ Char ∷ []) (all (Evaluate (Assign (Local nowhere 1) (low (local 0)) (Value Char)) ∷ []))) ≡
     instructions.Binary plain_binary.And 1 (Slot 0) (Constant 255)
-    ∷ instructions.Finish 2 ∷ blocks
+    ∷ instructions.Finish 2 ∷ []
 char_is_masked = refl
 
 -- to a cell it comes by a temporary, behind that of the address
 char_is_stored : function_code [] [] None (function [] (Int ∷ star ∷ []) (all (puts 1 (local 0) ∷ []))) ≡
     instructions.Branch comparisons.Equal (Slot 1) (Constant 0) 5 ∷ Move 2 (Slot 1)
     ∷ instructions.Binary plain_binary.And 3 (Slot 0) (Constant 255) ∷ instructions.StoreByte (Slot 2) 0 (Slot 3)
-    ∷ instructions.Finish 2 ∷ blocks
+    ∷ instructions.Finish 2 ∷ instructions.Throw (Constant 1) (Constant 0) ∷ []
 char_is_stored = refl
 
 -- a char is an operand, as an int is
 char_is_operand : function_code [] [] None (function [] (Int ∷ Char ∷ []) (all (Evaluate (Assign (Local nowhere 0) (int (sum (wide (char 1)) (Number 1))) (Value Int)) ∷ []))) ≡
     instructions.Binary plain_binary.Add 0 (Slot 1) (Constant 1)
-    ∷ instructions.Finish 2 ∷ blocks
+    ∷ instructions.Finish 2 ∷ []
 char_is_operand = refl
 
 -- its word is below 256 from its declaration on
 char_without_value : function_code [] [] None (function [] (Char ∷ []) (MoreItems (Declare 0 Char None) NoItems)) ≡
-    Move 0 (Constant 0) ∷ instructions.Finish 1 ∷ blocks
+    Move 0 (Constant 0) ∷ instructions.Finish 1 ∷ []
 char_without_value = refl
 
 -- its address is that of the last byte of its word
 address_of_local : function_code [] [] None (function [] (Pointer Fat Int Heap ∷ Char ∷ star ∷ []) (MoreItems (Declare 2 star (Some (address (Local nowhere 1)))) NoItems)) ≡
     instructions.AddressOf 4 3 1 ∷ instructions.Binary plain_binary.Add 4 (Slot 4) (Constant 3)
-    ∷ instructions.Finish 5 ∷ blocks
+    ∷ instructions.Finish 5 ∷ []
 address_of_local = refl
 
 address_of_global : function_code [] (starts_from 0 (global_types (fat_global ∷ char_global ∷ []))) None (function [] (star ∷ []) (MoreItems (Declare 0 star (Some (address (Global 1)))) NoItems)) ≡
-    Move 0 (Constant 0x1000000f) ∷ instructions.Finish 1 ∷ blocks
+    Move 0 (Constant 0x1000000f) ∷ instructions.Finish 1 ∷ []
 address_of_global = refl
 
 word_of_global : lower_globals (char_global ∷ []) ≡ 200 ∷ []

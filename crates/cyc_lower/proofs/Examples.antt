@@ -320,72 +320,69 @@ code_of_body body = function_code [] [] None (function [] ints body)
 loop_code : code_of_body (all (While nowhere (local 0) Break ∷ returns (local 1) ∷ [])) ≡
     jump_if_nonzero (Slot 0) 2 ∷ Jump 4 ∷ Jump 1 ∷ jump_if_nonzero (Slot 0) 2
     ∷ instructions.Finish 1
-    ∷ instructions.Finish 2 ∷ blocks
+    ∷ instructions.Finish 2 ∷ []
 loop_code = refl
 
 -- each operand of `||` in the condition of a branch has a jump of its own, and nothing is computed
 alternatives_code : code_of_body (all (If (two (local 0) (ThenTest OrElse (two (local 1) (ThenCompute Less (Number 3) NoOperations)) NoOperations)) (returns (local 1)) Empty ∷ returns (local 0) ∷ [])) ≡
-    jump_if_nonzero (Slot 0) 2 ∷ instructions.Branch comparisons.GreaterOrEqual (Slot 1) (Constant 3) 4
-    ∷ instructions.Finish 1 ∷ Jump 4
+    jump_if_nonzero (Slot 0) 2 ∷ instructions.Branch comparisons.GreaterOrEqual (Slot 1) (Constant 3) 3
+    ∷ instructions.Finish 1
     ∷ instructions.Finish 0
-    ∷ instructions.Finish 2 ∷ blocks
+    ∷ instructions.Finish 2 ∷ []
 alternatives_code = refl
 
--- a condition that is not simple stands behind the body alone
+-- a condition that may have much code stands behind the body alone
 jumped_code : code_of_body (all (While nowhere (sets 0 (local 1)) Empty ∷ [])) ≡
     Jump 2 ∷ Jump 4 ∷ Move 0 (Slot 1) ∷ jump_if_nonzero (Slot 0) 2
-    ∷ instructions.Finish 2 ∷ blocks
+    ∷ instructions.Finish 2 ∷ []
 jumped_code = refl
 
 -- `continue` goes to the first condition, and a turn is one jump by what the condition compares
 continued_code : code_of_body (all (While nowhere (two (local 0) (ThenCompute LessOrEqual (local 1) NoOperations)) (If (local 1) Continue Empty) ∷ [])) ≡
-    instructions.Branch comparisons.LessOrEqual (Slot 0) (Slot 1) 2 ∷ Jump 6
-    ∷ jump_if_zero (Slot 1) 5 ∷ Jump 0 ∷ Jump 5
+    instructions.Branch comparisons.LessOrEqual (Slot 0) (Slot 1) 2 ∷ Jump 5
+    ∷ jump_if_zero (Slot 1) 4 ∷ Jump 0
     ∷ instructions.Branch comparisons.LessOrEqual (Slot 0) (Slot 1) 2
-    ∷ instructions.Finish 2 ∷ blocks
+    ∷ instructions.Finish 2 ∷ []
 continued_code = refl
 
 -- a branch, and a division with its test, which leads to the last block where it fails
 branch_code : code_of_body (all (If (local 0) (Evaluate (two (local 0) (ThenCompute Divide (local 1) NoOperations))) Empty ∷ [])) ≡
-    jump_if_zero (Slot 0) 4
-    ∷ jump_if_zero (Slot 1) 8 ∷ instructions.Binary plain_binary.Divide 2 (Slot 0) (Slot 1)
-    ∷ Jump 4
+    jump_if_zero (Slot 0) 3
+    ∷ jump_if_zero (Slot 1) 7 ∷ instructions.Binary plain_binary.Divide 2 (Slot 0) (Slot 1)
     ∷ instructions.Finish 2 ∷ blocks
 branch_code = refl
 
 -- a condition that compares is one jump, and so is one that negates
 compared_code : code_of_body (all (If (two (local 0) (ThenCompute Less (local 1) NoOperations)) (returns (local 0)) Empty ∷ [])) ≡
-    instructions.Branch comparisons.GreaterOrEqual (Slot 0) (Slot 1) 3
+    instructions.Branch comparisons.GreaterOrEqual (Slot 0) (Slot 1) 2
     ∷ instructions.Finish 0
-    ∷ Jump 3
-    ∷ instructions.Finish 2 ∷ blocks
+    ∷ instructions.Finish 2 ∷ []
 compared_code = refl
 
 negated_code : code_of_body (all (While nowhere (Unary unary.Not (local 0)) Break ∷ [])) ≡
     jump_if_zero (Slot 0) 2 ∷ Jump 4 ∷ Jump 1 ∷ jump_if_zero (Slot 0) 2
-    ∷ instructions.Finish 2 ∷ blocks
+    ∷ instructions.Finish 2 ∷ []
 negated_code = refl
 
 -- each operand of the condition of a loop leaves it where it fails
 both_code : code_of_body (all (While nowhere (two (local 0) (ThenTest AndThen (two (local 1) (ThenCompute Less (Number 3) NoOperations)) NoOperations)) Break ∷ [])) ≡
     Jump 3 ∷ Jump 5 ∷ Jump 1 ∷ jump_if_zero (Slot 0) 5
     ∷ instructions.Branch comparisons.Less (Slot 1) (Constant 3) 2
-    ∷ instructions.Finish 2 ∷ blocks
+    ∷ instructions.Finish 2 ∷ []
 both_code = refl
 
 -- where what it negates compares, the comparison is turned round
 turned_code : code_of_body (all (If (Unary unary.Not (two (local 0) (ThenCompute Equal (local 1) NoOperations))) (returns (local 0)) Empty ∷ [])) ≡
-    instructions.Branch comparisons.Equal (Slot 0) (Slot 1) 3
+    instructions.Branch comparisons.Equal (Slot 0) (Slot 1) 2
     ∷ instructions.Finish 0
-    ∷ Jump 3
-    ∷ instructions.Finish 2 ∷ blocks
+    ∷ instructions.Finish 2 ∷ []
 turned_code = refl
 
 -- a local gets a sum by one instruction, and a byte is printed by one
 direct_code : code_of_body (all (Evaluate (sets 0 (two (local 0) (ThenCompute Add (Number 1) NoOperations))) ∷ Evaluate (call Putchar (local 1 ∷ [])) ∷ [])) ≡
     instructions.Binary plain_binary.Add 0 (Slot 0) (Constant 1)
     ∷ instructions.WriteByte (Slot 1)
-    ∷ instructions.Finish 2 ∷ blocks
+    ∷ instructions.Finish 2 ∷ []
 direct_code = refl
 
 -- a chain that ends in the local that it reads has its values before in a temporary
@@ -399,7 +396,7 @@ chain_code = refl
 -- a local behind a fat pointer has the slot behind its three words, and temporaries stand behind both
 wide_code : function_code [] [] None (function [] (Pointer Fat Int Heap ∷ Int ∷ []) (all (Evaluate (sets 1 (two (local 1) (ThenCompute Add (Number 1) NoOperations))) ∷ []))) ≡
     instructions.Binary plain_binary.Add 3 (Slot 3) (Constant 1)
-    ∷ instructions.Finish 4 ∷ blocks
+    ∷ instructions.Finish 4 ∷ []
 wide_code = refl
 
 -- a fat global has three words, which come and go one by one, and the global behind it begins behind them
@@ -419,7 +416,7 @@ wide_globals : function_code [] (starts_from 0 (global_types (fat_global ∷ int
     instructions.LoadGlobal 0 0 ∷ instructions.LoadGlobal 1 1 ∷ instructions.LoadGlobal 2 2
     ∷ instructions.StoreGlobal 0 (Slot 0) ∷ instructions.StoreGlobal 1 (Slot 1) ∷ instructions.StoreGlobal 2 (Slot 2)
     ∷ instructions.LoadGlobal 3 3
-    ∷ instructions.Finish 4 ∷ blocks
+    ∷ instructions.Finish 4 ∷ []
 wide_globals = refl
 
 -- ---- lexical regions
@@ -489,7 +486,7 @@ region_code : function_code [] [] (Some 4) (function [] (Int ∷ Handle Heap ∷
     instructions.Ask (requests.OpenLexical 3) ∷ Move 2 (Slot 4)
     ∷ Move 1 (Slot 3)
     ∷ instructions.Ask (requests.CloseTo (Slot 2))
-    ∷ instructions.Finish 2 ∷ blocks
+    ∷ instructions.Finish 2 ∷ []
 region_code = refl
 
 -- ---- addresses of variables
@@ -534,11 +531,11 @@ source_stores_to_variable = refl
 
 -- a local keeps its slots, and the address of a global is a number
 address_of_local : function_code [] [] None (function [] (Pointer Fat Int Heap ∷ Int ∷ star ∷ []) (MoreItems (Declare 2 star (Some (address (Local nowhere 1)))) NoItems)) ≡
-    instructions.AddressOf 4 3 1 ∷ instructions.Finish 5 ∷ blocks
+    instructions.AddressOf 4 3 1 ∷ instructions.Finish 5 ∷ []
 address_of_local = refl
 
 address_of_global : function_code [] (starts_from 0 (global_types (fat_global ∷ int_global ∷ []))) None (function [] (star ∷ []) (MoreItems (Declare 0 star (Some (address (Global 1)))) NoItems)) ≡
-    Move 0 (Constant 0x1000000c) ∷ instructions.Finish 1 ∷ blocks
+    Move 0 (Constant 0x1000000c) ∷ instructions.Finish 1 ∷ []
 address_of_global = refl
 
 -- ---- frame counts

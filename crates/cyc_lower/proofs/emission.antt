@@ -6,6 +6,7 @@ pub mod Loops
 pub mod Conditions
 pub mod Handlers
 pub mod Lengths
+pub mod Blocks
 pub mod OperandBridge
 pub mod ExpressionBridge
 pub mod StatementBridge

@@ -3,7 +3,7 @@ use Rattle.std.specs.Prelude.{ℕ, ◌+◌, Bool, true, false, ◌&&◌, List, [
 use Rattle.cyc_types.specs.declared.typed.UnaryOperator.TheVariants as unary
 use Rattle.cyc_types.specs.declared.typed.LogicalOperator.{LogicalOperator}
 use Rattle.cyc_types.specs.declared.typed.LogicalOperator.TheVariants as logical
-use Rattle.cyc_types.specs.TypedTrees.{Expression, Number, Unary, Binary, Operations, NoOperations, ThenCompute, ThenTest}
+use Rattle.cyc_types.specs.TypedTrees.{Expression, Number, Unary, Binary, Statement, Empty, Operations, NoOperations, ThenCompute, ThenTest}
 use Rattle.cyc_plain.specs.declared.instruction.Comparison.{Comparison}
 use Rattle.cyc_plain.specs.declared.instruction.Comparison.TheVariants as comparisons
 use Rattle.cyc_plain.specs.declared.instruction.Operand.{Operand}
@@ -85,15 +85,25 @@ abbrev pub are_tests : LogicalOperator → Operations → Bool
 are_tests u NoOperations = false
 are_tests u os = all_test u os
 
+-- The jump over what stands behind `else`. Where nothing does, it is left out.
+abbrev pub is_nothing : Statement → Bool
+is_nothing Empty = true
+is_nothing s = false
+
+abbrev pub over_code : (last : Bool) → (target : ℕ) → List Instruction
+over_code true target = []
+over_code false target = instructions.Jump target ∷ []
+
+abbrev pub over_length : (last : Bool) → ℕ
+over_length true = 0
+over_length false = 1
+
 -- A branch whose condition stands at place p, the first statement behind the jump over it, and the other behind the jump
 -- to the end.
-abbrev pub if_code : (condition : List Instruction) → (jump : ℕ → Instruction) → (first second : List Instruction) → (p : ℕ) → List Instruction
-if_code condition jump first second p =
-    condition
-    ++ jump (p + length condition + 1 + length first + 1)
-    ∷ first
-    ++ instructions.Jump (p + length condition + 1 + length first + 1 + length second)
-    ∷ second
+abbrev pub if_code : (last : Bool) → (condition : List Instruction) → (jump : ℕ → Instruction) → (first second : List Instruction) → (p : ℕ) → List Instruction
+if_code last condition jump first second p =
+    (condition ++ jump (p + length condition + 1 + length first + over_length last) ∷ first)
+    ++ (over_code last (p + length condition + 1 + length first + over_length last + length second) ++ second)
 
 -- A loop begins with what leads to its body where its condition holds, and else to the jump behind it, which leads to the loop's end. So a
 -- continue, which goes to where the loop begins, and a break, which goes to that jump, have targets that are known before the body's code
@@ -107,13 +117,13 @@ break_target exits = exits.leaving
 abbrev pub body_target : (leaving : ℕ) → ℕ
 body_target leaving = leaving + 1
 
--- A loop whose condition is simple has it in front too: then nothing goes to the one behind its body, but what stands before that. Any
+-- A loop whose condition has little code has it in front too: then nothing goes to the one behind its body, but what stands before that. Any
 -- other begins with a jump to it, at place `test`.
-abbrev pub entry_code : (simple : Bool) → (condition : List Instruction) → (jump : ℕ → Instruction) → (test p : ℕ) → List Instruction
+abbrev pub entry_code : (guarded : Bool) → (condition : List Instruction) → (jump : ℕ → Instruction) → (test p : ℕ) → List Instruction
 entry_code true condition jump test p = condition ++ jump (p + length condition + 1 + 1) ∷ []
 entry_code false condition jump test p = instructions.Jump test ∷ []
 
-abbrev pub entry_length : (simple : Bool) → (condition : List Instruction) → ℕ
+abbrev pub entry_length : (guarded : Bool) → (condition : List Instruction) → ℕ
 entry_length true condition = length condition + 1
 entry_length false condition = 1
 
@@ -123,13 +133,13 @@ while_code entry body condition jump leaving =
 
 -- A loop at place p with the jump to its end at place `leaving`. The code of its condition is made for its place, and that of its body for
 -- that of the jump.
-abbrev pub entered_code : (simple : Bool) → (condition : ℕ → List Instruction) → (body : List Instruction) → (jump : ℕ → Instruction) → (p leaving : ℕ) → List Instruction
-entered_code simple condition body jump p leaving =
-    while_code (entry_code simple (condition p) jump (body_target leaving + length body) p) body (condition (body_target leaving + length body)) jump leaving
+abbrev pub entered_code : (guarded : Bool) → (condition : ℕ → List Instruction) → (body : List Instruction) → (jump : ℕ → Instruction) → (p leaving : ℕ) → List Instruction
+entered_code guarded condition body jump p leaving =
+    while_code (entry_code guarded (condition p) jump (body_target leaving + length body) p) body (condition (body_target leaving + length body)) jump leaving
 
-abbrev pub looped_code : (simple : Bool) → (condition body : ℕ → List Instruction) → (jump : ℕ → Instruction) → (p : ℕ) → List Instruction
-looped_code simple condition body jump p =
-    entered_code simple condition (body (p + entry_length simple (condition p))) jump p (p + entry_length simple (condition p))
+abbrev pub looped_code : (guarded : Bool) → (condition body : ℕ → List Instruction) → (jump : ℕ → Instruction) → (p : ℕ) → List Instruction
+looped_code guarded condition body jump p =
+    entered_code guarded condition (body (p + entry_length guarded (condition p))) jump p (p + entry_length guarded (condition p))
 
 -- ---- regions
 

@@ -11,7 +11,7 @@ use Rattle.cyc_types.specs.declared.typed.Clause.{Clause}
 use Rattle.cyc_types.specs.declared.typed.Item.TheVariants as item
 use Rattle.cyc_types.specs.Types.{Ty, words_of}
 use Rattle.cyc_types.specs.TypeView.{view_ty}
-use Rattle.cyc_types.specs.TypedTrees.{Expression, Converted, Convert, Arguments, Operations, ThenCompute, Statement, Clauses, Items, Function, Binary}
+use Rattle.cyc_types.specs.TypedTrees.{Expression, Converted, Convert, Arguments, Operations, ThenCompute, Statement, Clauses, Items, Function, Binary, If, Empty}
 use Rattle.cyc_types.specs.TypedTreeView.{view_struct, view_expression, view_converted, view_statement, clauses_of}
 use Rattle.cyc_plain.specs.declared.instruction.Operand.{Operand}
 use Rattle.cyc_plain.specs.declared.instruction.Operand.TheVariants.{Slot, Word}
@@ -22,7 +22,7 @@ use Rattle.cyc_lower.specs.Slots.{Starts, slot_of}
 use Rattle.cyc_lower.specs.ValueCode.{code_unless, slot_or, code_unless_slot, conversion_code, compute_code, test_code, behind_left, pointer_code, span_of}
 use Rattle.cyc_lower.specs.ControlCode.{is_same, deciding_jump, holding_jump, inside_loop, tag_operand, clause_code, opened_code, named_code, dynamic_code, inside_region, entry_code, looped_code, body_target}
 use Rattle.cyc_lower.specs.ExpressionCode.{operand_of, source_of, source_slot, printed_operand, printed_code, left_of, value_slot, left_slot, value_operand, expression_code, brought_code, are_simple, is_simple}
-use Rattle.cyc_lower.specs.Lowering.{condition_code, choice_code, choice_of, statement_code, declaration_code, condition_of, thrown_operand, thrown_code, caught_code, items_code, clauses_code}
+use Rattle.cyc_lower.specs.Lowering.{is_guard, condition_code, choice_code, choice_of, statement_code, declaration_code, condition_of, thrown_operand, thrown_code, caught_code, items_code, clauses_code}
 use Rattle.cyc_meaning.specs.FrameCount.{frame_count}
 use Rattle.cyc_plain.specs.declared.instruction.Comparison.TheVariants as comparisons
 use Rattle.cyc_lower.specs.declared.emitter.Emitter.{Emitter}
@@ -152,16 +152,20 @@ module _ (starts : Starts) where
 
   -- what a loop begins with, where it is not known yet at which place its condition is behind its body
   abbrev pub begun_loop : Expression → (p t : ℕ) → List Instruction
-  begun_loop a p t = entry_code (is_simple starts a) (choice_code starts logical.AndThen a p t) (holding_jump (choice_of starts logical.AndThen a t)) 0 p
+  begun_loop a p t = entry_code (is_guard starts a) (choice_code starts logical.AndThen a p t) (holding_jump (choice_of starts logical.AndThen a t)) 0 p
 
   -- and once that is known, as the next place, in code that has the loop from this place on
   abbrev pub entered_loop : Expression → (code : List Instruction) → (head : ℕ) → List Instruction
-  entered_loop a code head = if is_simple starts a then code else set code head (Jump (length code))
+  entered_loop a code head = if is_guard starts a then code else set code head (Jump (length code))
+
+  -- a branch with nothing behind `else`
+  abbrev pub then_code : Expression → Statement → (p : ℕ) → Exits → (t : ℕ) → List Instruction
+  then_code a s p exits t = statement_code starts (If a s Empty) p exits t
 
   -- a loop
   abbrev pub loop_code : Expression → Statement → (p : ℕ) → Exits → (t : ℕ) → List Instruction
   loop_code a s p exits t =
-      looped_code (is_simple starts a) (λ q. choice_code starts logical.AndThen a q t) (λ leaving. statement_code starts s (body_target leaving) (inside_loop p leaving exits) t) (holding_jump (choice_of starts logical.AndThen a t)) p
+      looped_code (is_guard starts a) (λ q. choice_code starts logical.AndThen a q t) (λ leaving. statement_code starts s (body_target leaving) (inside_loop p leaving exits) t) (holding_jump (choice_of starts logical.AndThen a t)) p
 
 -- behind an item of a block: the ways out, and the first slot for temporaries
 abbrev pub exits_behind : Item → Exits → (t : ℕ) → Exits

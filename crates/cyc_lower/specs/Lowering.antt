@@ -3,17 +3,19 @@
 -- is read on the way. Else it writes to the slots from t on alone. Numbers and locals are operands where they are used.
 --
 -- A value has as many slots as its kind has words, one behind the other, and a global as many words.
-use Rattle.std.specs.Prelude.{ℕ, suc, ◌+◌, Bool, false, List, [], ◌∷◌, ◌++◌, length, map, replicate, ◌-◌, Option, None, Some, true, ◌||◌, if◌then◌else◌}
+use Rattle.std.specs.Prelude.{ℕ, suc, ◌+◌, Bool, false, List, [], ◌∷◌, ◌++◌, length, map, replicate, ◌-◌, Option, None, Some, true, ◌||◌, ◌&&◌, is_some, if◌then◌else◌, max, take}
 use Rattle.std.specs.List.{list_any}
 use Rattle.cyc_words.specs.declared.span.Span.{Span}
 use Rattle.cyc_syntax.specs.Symbols.{Place}
 use Rattle.cyc_types.specs.declared.typed.Kind.{Kind}
 use Rattle.cyc_types.specs.declared.typed.Callee.TheVariants as callees
+use Rattle.cyc_types.specs.declared.typed.Operator.{Operator}
 use Rattle.cyc_types.specs.declared.typed.LogicalOperator.{LogicalOperator}
 use Rattle.cyc_types.specs.declared.typed.LogicalOperator.TheVariants as logical
+use Rattle.cyc_types.specs.declared.typed.UnaryOperator.TheVariants as unary
 use Rattle.cyc_types.specs.Types.{Ty, Handle, words_of}
 use Rattle.cyc_types.specs.typing.Expressions.{type_of_side}
-use Rattle.cyc_types.specs.TypedTrees.{Dereference, Lvalue, Local, Global, Expression, Call, Binary, Assign, Converted, Convert, Operations, NoOperations, ThenCompute, ThenTest, ThenPointer, ThenPointerPeek, Statement, Block, Empty, Evaluate, If, While, Return, Break, Continue, Items, NoItems, MoreItems, Execute, Declare, DeclareRegion, OpenRegion, DeclareAlias, DeclareKey, Constant, Word, Null, GlobalVariable, StructType, Function, Program, Store, Side, VariableSide, CellSide, Swap, Throw, Try, Clauses, NoClauses, Default, Case}
+use Rattle.cyc_types.specs.TypedTrees.{Dereference, Element, Lvalue, Local, Global, Expression, Call, Load, Unary, Binary, Assign, Converted, Convert, Operations, NoOperations, ThenCompute, ThenTest, ThenPointer, ThenPointerPeek, Statement, Block, Empty, Evaluate, If, While, Return, Break, Continue, Items, NoItems, MoreItems, Execute, Declare, DeclareRegion, OpenRegion, DeclareAlias, DeclareKey, Constant, Word, Null, GlobalVariable, StructType, Function, Program, Store, Side, VariableSide, CellSide, Swap, Throw, Try, Clauses, NoClauses, Default, Case}
 use Rattle.cyc_plain.specs.declared.instruction.Operand.{Operand}
 use Rattle.cyc_plain.specs.declared.instruction.Operand.TheVariants as operands
 use Rattle.cyc_plain.specs.declared.instruction.Instruction.{Instruction}
@@ -25,9 +27,9 @@ use Rattle.cyc_meaning.specs.FrameCount.{frame_count, items_need, words_of_all, 
 use Rattle.cyc_lower.specs.Slots.{Types, Starts, starts_from, slot_of, global_of, global_types}
 use Rattle.cyc_lower.specs.declared.operands.Condition.{Condition}
 use Rattle.cyc_lower.specs.declared.statements.Exits.{Exits}
-use Rattle.cyc_lower.specs.ValueCode.{slot_types, first_temporary, operand_or, code_unless, slot_or, code_unless_slot, left_with, blocks, move_of, conversion_code, span_of, addressed_by, word_by_word, global_code, passed_words, kind_passed, blank_code}
+use Rattle.cyc_lower.specs.ValueCode.{slot_types, first_temporary, operand_or, code_unless, slot_or, code_unless_slot, left_with, blocks, failing_comparison, move_of, conversion_code, span_of, addressed_by, word_by_word, global_code, passed_words, kind_passed, blank_code}
 use Rattle.cyc_lower.specs.ObjectCode.{stores_code, stored_by, load_at, right_slot}
-use Rattle.cyc_lower.specs.ControlCode.{compared_of, failing_jump, holding_jump, deciding_jump, are_tests, if_code, break_target, continue_target, named_code, opened_code, closed_code, dynamic_code, leave_code, behind_record, kept_code, tag_operand, handled_code, clause_code, goes_on, outside_loops, inside_loop, inside_try, inside_region, body_target, looped_code}
+use Rattle.cyc_lower.specs.ControlCode.{compared_of, failing_jump, holding_jump, deciding_jump, are_tests, if_code, break_target, continue_target, named_code, opened_code, closed_code, dynamic_code, leave_code, behind_record, kept_code, tag_operand, handled_code, clause_code, goes_on, outside_loops, inside_loop, inside_try, inside_region, body_target, looped_code, is_nothing, over_length}
 use Rattle.cyc_lower.specs.ExpressionCode.{operand_of, value_slot, slot_with, value_operand, source_of, converted_operand, printed_operand, place_operand, place_offset, load_code, expression_code, place_code, converted_operand_code, printed_code, initial_code, brought_code, is_simple}
 
 module _ (starts : Starts) where
@@ -118,6 +120,29 @@ module _ (starts : Starts) where
   choice_of u (Binary a os ty) t = if are_tests u os then last_condition os (condition_of a t) t else condition_of (Binary a os ty) t
   choice_of u a t = condition_of a t
 
+  -- An expression with little code: it is simple, or loads by a pointer that has none, at an index that is simple.
+  abbrev pub is_light_place : Dereference → Bool
+  is_light_place (Element a i ty) = is_some (operand_of starts a) && is_simple starts i
+  is_light_place x = false
+
+  abbrev pub is_light : Expression → Bool
+  is_light (Load x) = is_light_place x
+  is_light (Unary unary.Widen a) = is_light a
+  is_light a = is_simple starts a
+
+  -- A condition that has so little that it may stand twice: it is such an expression, or compares two.
+  abbrev pub is_light_comparison : Operator → (a b : Expression) → Bool
+  is_light_comparison o a b = is_some (failing_comparison o) && (is_light a && is_light b)
+
+  abbrev pub compares_light : (a : Expression) → Operations → Bool
+  compares_light a (ThenCompute o b NoOperations) = is_light_comparison o a b
+  compares_light a os = false
+
+  abbrev pub is_guard : Expression → Bool
+  is_guard (Unary unary.Not a) = is_guard a
+  is_guard (Binary a os ty) = is_simple starts (Binary a os ty) || compares_light a os
+  is_guard a = is_light a
+
   -- A value is returned from a slot: that of a local, or t. It is converted before handlers are closed.
   abbrev pub return_code : Option Converted → (p : ℕ) → Exits → (t : ℕ) → List Instruction
   return_code None p exits t = leave_code exits.in_function ++ instructions.Finish t ∷ []
@@ -182,12 +207,12 @@ module _ (starts : Starts) where
     statement_code (Evaluate a) p exits t = discarded_code a p t
     statement_code (Swap a b) p exits t = swap_code a b p t
     statement_code (If a s u) p exits t =
-        if_code (choice_code logical.OrElse a p t) (failing_jump (choice_of logical.OrElse a t))
+        if_code (is_nothing u) (choice_code logical.OrElse a p t) (failing_jump (choice_of logical.OrElse a t))
         (statement_code s (p + length (choice_code logical.OrElse a p t) + 1) exits t)
-        (statement_code u (p + length (choice_code logical.OrElse a p t) + 1 + length (statement_code s (p + length (choice_code logical.OrElse a p t) + 1) exits t) + 1) exits t)
+        (statement_code u (p + length (choice_code logical.OrElse a p t) + 1 + length (statement_code s (p + length (choice_code logical.OrElse a p t) + 1) exits t) + over_length (is_nothing u)) exits t)
         p
     statement_code (While w a s) p exits t =
-        looped_code (is_simple starts a) (λ q. choice_code logical.AndThen a q t) (λ leaving. statement_code s (body_target leaving) (inside_loop p leaving exits) t) (holding_jump (choice_of logical.AndThen a t)) p
+        looped_code (is_guard a) (λ q. choice_code logical.AndThen a q t) (λ leaving. statement_code s (body_target leaving) (inside_loop p leaving exits) t) (holding_jump (choice_of logical.AndThen a t)) p
     statement_code (Return v) p exits t = return_code v p exits t
     statement_code Break p exits t = leave_code exits.in_loop ++ instructions.Jump (break_target exits) ∷ []
     statement_code Continue p exits t = leave_code exits.in_loop ++ instructions.Jump (continue_target exits) ∷ []
@@ -238,10 +263,30 @@ raises_of structs globals scopes h = length (body_code (starts_with 0 structs gl
 abbrev pub types_of : List StructType → (globals : List Ty) → (scopes : Option ℕ) → Function → Types
 types_of structs globals scopes h = record { locals = slot_types h; structs = structs; raises = raises_of structs (starts_from 0 globals) scopes h; counters = []; globals = globals; scopes = scopes }
 
+-- the place to which an instruction leads, beside the one behind it
+abbrev pub target_of : Instruction → ℕ
+target_of (instructions.Jump target) = target
+target_of (instructions.Branch comparison left right target) = target
+target_of (instructions.Try first handler) = handler
+target_of i = 0
+
+-- the farthest place to which one of these leads
+abbrev pub farthest : List Instruction → ℕ
+farthest [] = 0
+farthest (i ∷ is) = max (target_of i) (farthest is)
+
 -- A body's code ends in a return, which is the end of a void function. In any other it is never reached, and stands there so that no
--- code runs off its end. The blocks stand behind it.
+-- code runs off its end. Behind it stand blocks, so many of them.
+abbrev pub with_blocks : (body : List Instruction) → (value count : ℕ) → List Instruction
+with_blocks body value count = body ++ instructions.Finish value ∷ take count blocks
+
+-- as far as something leads to them
+abbrev pub finished_code : (body : List Instruction) → (raises value : ℕ) → List Instruction
+finished_code body raises value = with_blocks body value (farthest body - raises)
+
 abbrev pub function_code : List StructType → (globals : List ℕ) → (scopes : Option ℕ) → Function → List Instruction
-function_code structs globals scopes h = body_code (starts_with (raises_of structs globals scopes h) structs globals scopes h) h ++ instructions.Finish (first_temporary h) ∷ blocks
+function_code structs globals scopes h =
+    finished_code (body_code (starts_with (raises_of structs globals scopes h) structs globals scopes h) h) (raises_of structs globals scopes h) (first_temporary h)
 
 -- the words that a function returns
 abbrev pub results_of : Option Ty → ℕ

@@ -3,6 +3,7 @@ ghost use Rattle.std.specs.Prelude.{◌≡◌, ◌<◌, [], ◌∷◌, ◌++◌,
 ghost use Rattle.cyc_types.specs.TypedTreeView.{view_lvalue};
 ghost use Rattle.cyc_lower.specs.ControlCode.{failing_jump};
 ghost use Rattle.cyc_lower.specs.ExpressionCode.{load_code};
+ghost use Rattle.cyc_lower.specs.Lowering.{target_of, farthest};
 ghost use Rattle.cyc_lower.specs.Emission.{Appends, view_starts};
 
 use crate::globals::global_of;
@@ -13,6 +14,17 @@ use crate::starts::Starts;
 use cyc_plain::{Instruction, Operand};
 use cyc_types::typed::Lvalue;
 use std::alloc::{AllocError, Global};
+
+/// The place to which an instruction leads, beside the one behind it.
+fn target_of(instruction: &Instruction) -> usize
+    ensures { result ≡ target_of instruction.now }
+{
+    match instruction {
+        Instruction::Jump { target } | Instruction::Branch { target, .. } => *target,
+        Instruction::Try { handler, .. } => *handler,
+        _ => 0,
+    }
+}
 
 /// The code of a function, as far as it is made.
 #[derive(Drop)]
@@ -34,6 +46,20 @@ impl Emitter {
         ensures { result ≡ length self.now.code.items }
     {
         self.code.len()
+    }
+
+    /// The farthest place to which an instruction leads.
+    pub(crate) fn farthest(&self) -> usize
+        ensures { result ≡ farthest self.now.code.items }
+    {
+        let mut place = 0;
+        for instruction in &self.code {
+            let target = target_of(instruction);
+            if target > place {
+                place = target;
+            }
+        }
+        place
     }
 
     /// One instruction more.

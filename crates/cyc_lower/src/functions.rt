@@ -28,6 +28,9 @@ use std::alloc::{AllocError, Global};
 /// The words of the largest value.
 const SPARE_SLOTS: usize = 3;
 
+/// The blocks that raise exceptions.
+const BLOCKS: usize = 4;
+
 /// The words that a function returns.
 fn results_of(of_type: &Option<Ty>) -> usize
     ensures { result ≡ results_of (option_map view_ty of_type.now) }
@@ -60,7 +63,8 @@ fn lower_body(
 }
 
 /// A function. Its slots are its locals, and behind them the records of handlers, the temporaries and one value more. How long
-/// its code is does not depend on where the blocks behind it stand: so that is made twice, and at first for any place.
+/// its code is does not depend on where the blocks behind it stand: so that is made twice, and at first for any place. Of the blocks
+/// stand those up to the last that something leads to.
 fn lower_function(
     alloc: Global,
     structs: &[StructType],
@@ -92,8 +96,11 @@ fn lower_function(
         alloc,
     };
     let mut emitter = lower_body(alloc, &starts, function, free)?;
+    let count = emitter.farthest().saturating_sub(raises).min(BLOCKS);
     emitter.emit(Instruction::Finish { value: free })?;
+    let end = emitter.place() + count;
     emitter.lower_blocks()?;
+    emitter.take_back(end);
     Ok(Function {
         name: function.span,
         parameters: words_of_all(&function.parameters),

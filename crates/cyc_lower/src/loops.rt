@@ -1,10 +1,10 @@
-//! Where a loop begins. A condition that is simple stands in front of the loop too, so that nothing goes to the one behind its body from afar.
+//! Where a loop begins. A condition with little code stands in front of the loop too, so that nothing goes to the one behind its body from afar.
 ghost use Rattle.std.specs.Prelude.{◌≡◌, ◌≤◌, ◌<◌, ◌+◌, length};
 ghost use Rattle.cyc_types.specs.TypedTreeView.{view_expression};
 ghost use Rattle.cyc_lower.specs.Emission.{Appends, most_locals, view_starts, begun_loop, entered_loop};
 
 use crate::emitter::Emitter;
-use crate::operands::is_simple;
+use crate::operands::is_guard;
 use crate::operators::holding_jump;
 use crate::starts::Starts;
 use cyc_plain::Instruction;
@@ -12,8 +12,8 @@ use cyc_types::typed::{Expr, LogicalOperator};
 use std::alloc::AllocError;
 
 impl Emitter {
-    /// What leads into a loop: its condition, and a jump over the next instruction where it holds. If it is not simple, it is a jump
-    /// whose target is not yet known.
+    /// What leads into a loop: its condition, and a jump over the next instruction where it holds. If that may have much code, it is a
+    /// jump whose target is not yet known.
     pub(crate) fn begin_loop(
         &mut self,
         starts: &Starts,
@@ -23,7 +23,7 @@ impl Emitter {
         requires { free ≤ most_locals + length self.old.code.items }
         ensures { Appends result self.old self.new (begun_loop (view_starts starts.now) (view_expression condition.now) (length self.old.code.items) free) }
     {
-        if !is_simple(starts, condition) {
+        if !is_guard(starts, condition) {
             return self.emit(Instruction::Jump { target: 0 });
         }
         let condition = self.lower_choice(starts, LogicalOperator::AndThen, condition, free)?;
@@ -36,7 +36,7 @@ impl Emitter {
         requires { head < length self.old.code.items }
         ensures { self.new.code.items ≡ entered_loop (view_starts starts.now) (view_expression condition.now) self.old.code.items head }
     {
-        if !is_simple(starts, condition) {
+        if !is_guard(starts, condition) {
             self.jump_here(head);
         }
     }

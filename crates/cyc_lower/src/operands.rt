@@ -8,16 +8,20 @@ ghost use Rattle.cyc_meaning.specs.Parts.{target_of, target_of_value};
 ghost use Rattle.cyc_meaning.specs.Values.{is_thin, kind_of, words_of_kind, bytes_of_kind};
 ghost use Rattle.cyc_lower.specs.ValueCode.{kind_behind, reached_operand, span_in, span_of, is_in, index_of, masks, keeps_words, converts_there, variable_bytes};
 ghost use Rattle.cyc_lower.specs.ExpressionCode.{are_simple, is_simple, operand_of, pointer_of, value_slot};
+ghost use Rattle.cyc_lower.specs.Lowering.{is_light_place, is_light, is_light_comparison, compares_light, is_guard};
 ghost use Rattle.cyc_lower.specs.Emission.{is_simple_chain, most_locals, takes_operand, view_starts};
 
 use crate::locals::slot_of;
+use crate::operators::failing_comparison;
 use crate::starts::Starts;
 use cyc_frame_count::words_of_kind;
 use cyc_plain::{Comparison, Operand};
 use cyc_store::HEAP;
 use cyc_syntax::PointerKind;
 use cyc_types::Ty;
-use cyc_types::typed::{Dereference, Expr, Kind, Lvalue, Operation, UnaryOperator, ValueType};
+use cyc_types::typed::{
+    Dereference, Expr, Kind, Lvalue, Operation, Operator, UnaryOperator, ValueType,
+};
 use std::alloc::AllocError;
 
 /// A frame has fewer slots than this and a few.
@@ -114,6 +118,68 @@ pub(crate) fn is_simple(starts: &Starts, value: &Expr) -> bool
         Expr::Binary { first, rest, .. } => is_simple(starts, first)
             && is_simple_chain(starts, rest),
         _ => operand_of(starts, value).is_some(),
+    }
+}
+
+/// Whether a place has little code: that of an element by a pointer that has none, at an index that is simple.
+fn is_light_place(starts: &Starts, place: &Dereference) -> bool
+    ensures { result ≡ is_light_place (view_starts starts.now) (view_dereference place.now) }
+{
+    match place {
+        Dereference::Element { pointer, index, .. } => operand_of(starts, pointer).is_some()
+            && is_simple(starts, index),
+        Dereference::Target { .. } | Dereference::Member { .. } => false,
+    }
+}
+
+/// Whether an expression has little code: it is simple, or loads by a pointer that has none, at an index that is simple.
+fn is_light(starts: &Starts, value: &Expr) -> bool
+    ensures { result ≡ is_light (view_starts starts.now) (view_expression value.now) }
+{
+    match value {
+        Expr::Load { source } => is_light_place(starts, source),
+        Expr::Unary {
+            operator: UnaryOperator::Widen,
+            operand,
+        } => is_light(starts, operand),
+        _ => is_simple(starts, value),
+    }
+}
+
+/// Whether an operator compares two expressions that have little code.
+fn is_light_comparison(starts: &Starts, operator: Operator, left: &Expr, right: &Expr) -> bool
+    ensures { result ≡ is_light_comparison (view_starts starts.now) operator (view_expression left.now) (view_expression right.now) }
+{
+    failing_comparison(operator).is_some() && is_light(starts, left) && is_light(starts, right)
+}
+
+/// Whether a chain is such a comparison.
+fn compares_light(starts: &Starts, first: &Expr, rest: &[Operation]) -> bool
+    ensures { result ≡ compares_light (view_starts starts.now) (view_expression first.now) (operations_of rest.now) }
+{
+    if rest.len() != 1 {
+        return false;
+    }
+    match rest.first() {
+        Some(Operation::Compute { operator, operand }) => is_light_comparison(
+            starts, *operator, first, operand,
+        ),
+        _ => false,
+    }
+}
+
+/// Whether a condition has so little code that it may stand twice.
+pub(crate) fn is_guard(starts: &Starts, condition: &Expr) -> bool
+    ensures { result ≡ is_guard (view_starts starts.now) (view_expression condition.now) }
+{
+    match condition {
+        Expr::Unary {
+            operator: UnaryOperator::Not,
+            operand,
+        } => is_guard(starts, operand),
+        Expr::Binary { first, rest, .. } => is_simple(starts, condition)
+            || compares_light(starts, first, rest),
+        _ => is_light(starts, condition),
     }
 }
 

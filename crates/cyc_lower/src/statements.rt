@@ -4,11 +4,11 @@ ghost use Rattle.cyc_types.specs.TypeView.{view_ty};
 ghost use Rattle.cyc_types.specs.TypedTrees.{NoClauses};
 ghost use Rattle.cyc_types.specs.TypedTreeView.{view_converted, view_expression, view_statement, items_of, clauses_of, default_of};
 ghost use Rattle.cyc_meaning.specs.FrameCount.{kept_by, kept_by_items, kept_by_clauses};
-ghost use Rattle.cyc_lower.specs.ControlCode.{nothing_opened, outermost, with_handler, with_mark, inside_try, inside_region, leave_code, other_jump, goes_on, break_target, continue_target, inside_loop};
+ghost use Rattle.cyc_lower.specs.ControlCode.{nothing_opened, outermost, with_handler, with_mark, inside_try, inside_region, leave_code, other_jump, goes_on, break_target, continue_target, inside_loop, is_nothing};
 ghost use Rattle.cyc_lower.specs.ValueCode.{blank_code};
 ghost use Rattle.cyc_lower.specs.Lowering.{clauses_code, caught_code, return_code, declaration_code, statement_code, items_code};
 ghost use Rattle.cyc_frame_count.specs.Needs.{kept_by_item};
-ghost use Rattle.cyc_lower.specs.Emission.{Appends, most_locals, throw_code, case_code, BeginClauses, item_code, exits_behind, free_behind, loop_code, view_starts};
+ghost use Rattle.cyc_lower.specs.Emission.{Appends, most_locals, throw_code, case_code, BeginClauses, item_code, exits_behind, free_behind, loop_code, then_code, view_starts};
 
 use crate::emitter::Emitter;
 use crate::locals::slot_of;
@@ -133,6 +133,13 @@ fn free_behind(item: &Item, free: usize) -> usize
         | Item::Alias { .. }
         | Item::DynamicRegion { .. } => free,
     }
+}
+
+/// Whether nothing stands behind `else`.
+fn is_nothing(statement: &Stmt) -> bool
+    ensures { result ≡ is_nothing (view_statement statement.now) }
+{
+    matches!(statement, Stmt::Empty)
 }
 
 impl Emitter {
@@ -368,6 +375,27 @@ impl Emitter {
         Ok(())
     }
 
+    /// A branch with nothing behind `else`.
+    #[cycle(statement)]
+    fn lower_then(
+        &mut self,
+        starts: &Starts,
+        then: &Stmt,
+        condition: &Expr,
+        exits: Exits,
+        free: usize,
+    ) -> Result<(), AllocError>
+        requires slots { free + kept_by (view_statement then.now) ≤ most_locals }
+        requires begun { exits.head ≤ length self.old.code.items }
+        ensures { Appends result self.old self.new (then_code (view_starts starts.now) (view_expression condition.now) (view_statement then.now) (length self.old.code.items) exits free) }
+    {
+        let condition = self.lower_choice(starts, LogicalOperator::OrElse, condition, free)?;
+        let over = self.reserve()?;
+        self.lower_statement(starts, then, exits, free)?;
+        self.jump_here_if_failing(over, condition);
+        Ok(())
+    }
+
     /// A statement with these ways out.
     #[cycle(statement)]
     fn lower_statement(
@@ -391,6 +419,9 @@ impl Emitter {
                 then,
                 otherwise,
             } => {
+                if is_nothing(otherwise) {
+                    return self.lower_then(starts, then, condition, exits, free);
+                }
                 let condition = self.lower_choice(
                     starts,
                     LogicalOperator::OrElse,

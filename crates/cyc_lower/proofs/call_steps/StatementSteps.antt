@@ -34,7 +34,7 @@ use Rattle.cyc_lower.specs.ValueCode.{converts_there, keeps_words, span_of}
 use Rattle.cyc_lower.specs.ControlCode.{break_target, continue_target, body_target, inside_loop}
 use Rattle.cyc_lower.specs.ExpressionCode.{operand_of, value_slot, source_of}
 use Rattle.cyc_lower.specs.Lowering.{scopes_of, results_of, lower_function, lower_program, globals_of}
-use Rattle.cyc_lower.proofs.relation.Stands.{BranchesAt, OperandBy, ExpressionAt, InitialAt, InitialBy, ReturnedAt, ItemsAt, BlankAt, BroughtAt, ConversionAt}
+use Rattle.cyc_lower.proofs.relation.Stands.{OverAt, BranchesAt, OperandBy, ExpressionAt, InitialAt, InitialBy, ReturnedAt, ItemsAt, BlankAt, BroughtAt, ConversionAt}
 use Rattle.cyc_objects.specs.Tables.{Tables, with_row, with_handle, Row}
 use Rattle.cyc_objects.specs.Related.{scopes}
 use Rattle.cyc_objects.specs.Words.{Is}
@@ -126,6 +126,10 @@ module _ (source : Program) (pages calls : ℕ) where
   tries_first a s k g exits outer p q frames t slots locals first leave loop stack =
       as_condition exits.leaving (body_target exits.leaving) first tt (outer, q, inr leave, stack) (exits, outer, p, q, loop, refl, stack)
 
+  comes_over : (code : List Instruction) (p q : ℕ) → OverAt code p q → Arrives source code p q
+  comes_over code p q (inl here) = in_place here
+  comes_over code p q (inr jump) = by_jump jump
+
   pub executing : (s : Statement) (k : List Entry) (e : Environment) (w : World) (c : Configuration) → IsNested k e w → IsStep source pages calls (Executing s) k e w c
   executing (Block r js) k e w c nested well (shared, facts, (exits, q, items, stack)) =
       silently source pages calls (Running (Executing (Block r js)) k e w) (Running Proceeding (Rest js ∷ region_end e w ∷ k) (inside e w) (opened w)) (plain.Running c) refl (
@@ -146,7 +150,7 @@ module _ (source : Program) (pages calls : ℕ) where
   executing (Swap a b) k e w c nested well related = begins_swap source pages calls a b k e w c well related
   executing (If a s t) k e w c nested well (shared, facts, (exits, q, (f, h, r, at_a, at_s, over, at_t), stack)) =
       silently source pages calls (Running (Executing (If a s t)) k e w) (Running (Evaluating a) (Needs (Choose s t) ∷ k) e w) (plain.Running c) refl
-      (shared, facts, as_condition f h at_a tt (exits, q, at_t, stack) (exits, r, q, at_s, by_jump over, stack))
+      (shared, facts, as_condition f h at_a tt (exits, q, at_t, stack) (exits, r, q, at_s, comes_over (code_of source c.active.function) r q over, stack))
       (omega arith)
   executing (While p a s) k e w c nested well (shared, facts, (exits, q, (l, r, inl first, leave, at_s, again, after), stack)) =
       silently source pages calls (Running (Executing (While p a s)) k e w) (Running (Evaluating a) (Needs (Test a s) ∷ k) e w) (plain.Running c) refl

@@ -1,5 +1,5 @@
 -- Code of statements that is made piece by piece: blocks, with the regions that they open, and branches whose jumps are written back.
-use Rattle.std.proofs.Common.{◌≡◌, ℕ, zero, suc, ◌+◌, ◌-◌, ◌<◌, ◌≤◌, List, [], ◌∷◌, ◌++◌, length, get_or, drop, set, refl, sym, ap, ◌∙◌, arith, append_assoc, append-nil}
+use Rattle.std.proofs.Common.{◌≡◌, ℕ, zero, suc, ◌+◌, ◌-◌, ◌<◌, ◌≤◌, Bool, true, false, List, [], ◌∷◌, ◌++◌, length, get_or, drop, set, refl, sym, ap, ◌∙◌, arith, append_assoc, append-nil}
 use Rattle.std.proofs.lemmas.List.{drop_all, drop_more, length-append}
 use Rattle.std.specs.declared.vec.Vec.{Vec}
 use Rattle.std.specs.declared.boxed.Box.{Box}
@@ -10,7 +10,7 @@ use Rattle.cyc_types.specs.declared.typed.Stmt.{Stmt}
 use Rattle.cyc_types.specs.declared.typed.Stmt.TheVariants as stmt
 use Rattle.cyc_types.specs.declared.typed.Item.{Item as ItemCode}
 use Rattle.cyc_types.specs.declared.typed.Item.TheVariants as item
-use Rattle.cyc_types.specs.TypedTrees.{Statement, Block, If}
+use Rattle.cyc_types.specs.TypedTrees.{Expression, Statement, Empty, Block, If}
 use Rattle.cyc_types.specs.TypedTreeView.{view_expression, view_statement, items_of}
 use Rattle.cyc_types.proofs.TypedTreeViewLemmas.{view_block}
 use Rattle.cyc_meaning.specs.FrameCount.{kept_by_items}
@@ -19,10 +19,10 @@ use Rattle.cyc_plain.specs.declared.instruction.Instruction.TheVariants as instr
 use Rattle.cyc_lower.specs.declared.operands.Condition.{Condition}
 use Rattle.cyc_lower.specs.declared.statements.Exits.{Exits}
 use Rattle.cyc_lower.specs.Slots.{Starts}
-use Rattle.cyc_lower.specs.ControlCode.{failing_jump, inside_region, opened_code, closed_code}
+use Rattle.cyc_lower.specs.ControlCode.{failing_jump, inside_region, opened_code, closed_code, is_nothing, over_code, over_length}
 use Rattle.cyc_lower.specs.Lowering.{choice_code, choice_of, statement_code, items_code}
 use Rattle.cyc_frame_count.specs.Needs.{kept_by_item}
-use Rattle.cyc_lower.specs.Emission.{most_locals, item_code, exits_behind, free_behind}
+use Rattle.cyc_lower.specs.Emission.{most_locals, item_code, exits_behind, free_behind, then_code}
 use Rattle.cyc_lower.proofs.emission.Emitting.{Remains, goes_on_by, no_shorter_than, written_back}
 
 -- ---- blocks
@@ -200,23 +200,55 @@ module _ (old condition : List Instruction) (x y : Instruction) (first second : 
       ∙ ap (λ (l : List Instruction). l ++ (over q ∷ (t ++ rest))) e0
       ∙ append_assoc old condition (over q ∷ (t ++ rest))
 
+nothing_is : (s : Statement) → is_nothing s ≡ true → s ≡ Empty
+nothing_is Empty is = refl
+nothing_is s is = absurd (let f : false ≡ true = is in cc)
+
+-- a branch of which nothing stands behind `else`
+module _ (starts : Starts) (a : Expression) (s : Statement) (exits : Exits) (d : ℕ) (o : Condition) (o_is : o ≡ choice_of starts logical.OrElse a d) (old : List Instruction) (x : Instruction) (m0 m1 m2 m3 : List Instruction) (over : ℕ) where
+  pub made_then : m0 ≡ old ++ choice_code starts logical.OrElse a (length old) d → over ≡ length m0 → m1 ≡ m0 ++ x ∷ [] → m2 ≡ m1 ++ statement_code starts s (length m1) exits d → m3 ≡ set m2 over (failing_jump o (length m2))
+      → m3 ≡ old ++ then_code starts a s (length old) exits d
+  made_then e0 h1 e1 e2 e3 =
+      let condition = choice_code starts logical.OrElse a (length old) d in
+      let jump : ℕ → Instruction = λ n. failing_jump (choice_of starts logical.OrElse a d) n in
+      let first : ℕ → List Instruction = λ p. statement_code starts s p exits d in
+      let p = length old + length condition + 1 in
+      let l0 : length m0 + 1 ≡ p = let e : length m0 ≡ length old + length condition = ap length e0 ∙ length-append old condition in omega (arith, e) in
+      let end : p + length (first p) ≡ p + length (first p) + 0 = omega arith in
+      written_back m0 x first jump m1 m2 m3 e1 e2 (e3 ∙ ap (λ (n : ℕ). set m2 n (failing_jump o (length m2))) h1 ∙ ap (λ (c : Condition). set m2 (length m0) (failing_jump c (length m2))) o_is)
+      ∙ ap (λ (n : ℕ). m0 ++ jump (n + length (first n)) ∷ first n) l0
+      ∙ ap (λ (l : List Instruction). l ++ jump (p + length (first p)) ∷ first p) e0
+      ∙ append_assoc old condition (jump (p + length (first p)) ∷ first p)
+      ∙ ap (λ (n : ℕ). old ++ (condition ++ jump n ∷ first p)) end
+      ∙ ap (λ (l : List Instruction). old ++ l) (sym (append-nil (condition ++ jump (p + length (first p) + 0) ∷ first p)))
+
+module _ (starts : Starts) (value : Stmt) (e : Expr) (b b' : Box Stmt Heap) (is : value ≡ stmt.If e b b') (s t : Stmt) (at : s ≡ b.value) (at' : t ≡ b'.value) where
+  pub if_viewed : view_statement value ≡ If (view_expression e) (view_statement s) (view_statement t)
+  if_viewed = ap view_statement is ∙ ap (λ (z : Stmt). If (view_expression e) (view_statement z) (view_statement b'.value)) (sym at) ∙ ap (λ (z : Stmt). If (view_expression e) (view_statement s) (view_statement z)) (sym at')
+
+  pub made_alone : is_nothing (view_statement t) ≡ true → (exits : Exits) (d : ℕ) (old new : List Instruction) → new ≡ old ++ then_code starts (view_expression e) (view_statement s) (length old) exits d
+      → new ≡ old ++ statement_code starts (view_statement value) (length old) exits d
+  made_alone none exits d old new made =
+      made
+      ∙ ap (λ (z : Statement). old ++ statement_code starts (If (view_expression e) (view_statement s) z) (length old) exits d) (sym (nothing_is (view_statement t) none))
+      ∙ ap (λ (z : Statement). old ++ statement_code starts z (length old) exits d) (sym if_viewed)
+
 module _ (starts : Starts) (value : Stmt) (e : Expr) (b b' : Box Stmt Heap) (is : value ≡ stmt.If e b b') (s t : Stmt) (at : s ≡ b.value) (at' : t ≡ b'.value) (exits : Exits) (d : ℕ) (o : Condition) (o_is : o ≡ choice_of starts logical.OrElse (view_expression e) d) (old : List Instruction) (x y : Instruction) (m0 m1 m2 m3 m4 m5 m6 : List Instruction) (p1 p2 : ℕ) where
-  pub made_if : m0 ≡ old ++ choice_code starts logical.OrElse (view_expression e) (length old) d → p1 ≡ length m0 → m1 ≡ m0 ++ x ∷ [] → m2 ≡ m1 ++ statement_code starts (view_statement s) (length m1) exits d → p2 ≡ length m2 → m3 ≡ m2 ++ y ∷ []
+  pub made_if : is_nothing (view_statement t) ≡ false → m0 ≡ old ++ choice_code starts logical.OrElse (view_expression e) (length old) d → p1 ≡ length m0 → m1 ≡ m0 ++ x ∷ [] → m2 ≡ m1 ++ statement_code starts (view_statement s) (length m1) exits d → p2 ≡ length m2 → m3 ≡ m2 ++ y ∷ []
       → m4 ≡ set m3 p1 (failing_jump o (length m3)) → m5 ≡ m4 ++ statement_code starts (view_statement t) (length m4) exits d → m6 ≡ set m5 p2 (instructions.Jump (length m5))
       → m6 ≡ old ++ statement_code starts (view_statement value) (length old) exits d
-  made_if e0 h1 e1 e2 h2 e3 e4 e5 e6 =
+  made_if some e0 h1 e1 e2 h2 e3 e4 e5 e6 =
       let condition = choice_code starts logical.OrElse (view_expression e) (length old) d in
       let jump : ℕ → Instruction = λ n. failing_jump (choice_of starts logical.OrElse (view_expression e) d) n in
       let first : ℕ → List Instruction = λ p. statement_code starts (view_statement s) p exits d in
       let second : ℕ → List Instruction = λ p. statement_code starts (view_statement t) p exits d in
       let p = length old + length condition + 1 in
       let q = p + length (first p) + 1 in
-      let tree : view_statement value ≡ If (view_expression e) (view_statement s) (view_statement t)
-      = ap view_statement is ∙ ap (λ (z : Stmt). If (view_expression e) (view_statement z) (view_statement b'.value)) (sym at) ∙ ap (λ (z : Stmt). If (view_expression e) (view_statement s) (view_statement z)) (sym at') in
       branched old condition x y first second jump (λ (n : ℕ). instructions.Jump n) m0 m1 m2 m3 m4 m5 m6
       e0 e1 e2 e3
       (e4 ∙ ap (λ (n : ℕ). set m3 n (failing_jump o (length m3))) h1 ∙ ap (λ (r : Condition). set m3 (length m0) (failing_jump r (length m3))) o_is)
       e5 (e6 ∙ ap (λ (n : ℕ). set m5 n (instructions.Jump (length m5))) h2)
       p refl q refl
       ∙ ap (λ (l : List Instruction). old ++ l) (sym (append_assoc condition (jump q ∷ first p) (instructions.Jump (q + length (second q)) ∷ second q)))
-      ∙ ap (λ (z : Statement). old ++ statement_code starts z (length old) exits d) (sym tree)
+      ∙ ap (λ (last : Bool). old ++ ((condition ++ jump (p + length (first p) + over_length last) ∷ first p) ++ (over_code last (p + length (first p) + over_length last + length (second (p + length (first p) + over_length last))) ++ second (p + length (first p) + over_length last)))) (sym some)
+      ∙ ap (λ (z : Statement). old ++ statement_code starts z (length old) exits d) (sym (if_viewed starts value e b b' is s t at at'))

@@ -1,5 +1,5 @@
 -- The code of a construct stands where its list of instructions does.
-use Rattle.std.proofs.Common.{◌≡◌, ℕ, zero, suc, ◌+◌, false, List, [], ◌∷◌, ◌++◌, length, map, Option, Some, slice_get, refl, sym, ap, subst, ◌∙◌, arith}
+use Rattle.std.proofs.Common.{◌≡◌, ℕ, zero, suc, ◌+◌, false, List, [], ◌∷◌, ◌++◌, length, map, take, ◌-◌, Option, Some, slice_get, refl, sym, ap, subst, ◌∙◌}
 use Rattle.std.proofs.lemmas.Option.{same_Some, none-some, get_or_from_slice_get, slice_get-map}
 use Rattle.std.specs.Prelude.{option_map}
 use Rattle.cyc_types.specs.TypedTrees.{Signature, StructType, Function, Program, GlobalVariable}
@@ -7,19 +7,19 @@ use Rattle.cyc_types.specs.Numbered.{numbering_of, signatures_of}
 use Rattle.cyc_plain.specs.declared.instruction.Instruction.{Instruction}
 use Rattle.cyc_plain.specs.declared.instruction.Instruction.TheVariants as instructions
 use Rattle.cyc_plain.specs.Program.{Routine, no_routine, routine_at}
-use Rattle.cyc_plain.specs.Straight.{At, HasAt}
+use Rattle.cyc_plain.specs.Straight.{At}
 use Rattle.cyc_plain.proofs.Straight.{has_front, has_back, has_whole}
 use Rattle.cyc_meaning.specs.FrameCount.{words_of_all}
 use Rattle.cyc_lower.specs.Slots.{starts_of, global_types}
 use Rattle.cyc_lower.specs.ValueCode.{first_temporary, blocks}
 use Rattle.cyc_lower.specs.ControlCode.{outside_loops}
-use Rattle.cyc_lower.specs.Lowering.{types_of, function_code, lower_function, lower_program, body_code, globals_of, scopes_of}
+use Rattle.cyc_lower.specs.Lowering.{types_of, farthest, function_code, lower_function, lower_program, body_code, globals_of, scopes_of}
 use Rattle.cyc_lower.proofs.relation.Stands.{ItemsAt}
 use Rattle.cyc_lower.proofs.emission.Lengths.{body_long}
 use Rattle.cyc_lower.proofs.relation.Fitting.{FitItems, AreFitting, IsFitting}
 use Rattle.cyc_lower.proofs.relation.Relation.{bounds_in, types_in}
 use Rattle.cyc_lower.proofs.call_steps.Calls.{FunctionsStand}
-use Rattle.cyc_lower.proofs.emission.OperandBridge.{blocks_stand}
+use Rattle.cyc_lower.proofs.emission.Blocks.{blocks_stand}
 use Rattle.cyc_lower.proofs.emission.StatementBridge.{items_stand}
 
 -- ---- functions
@@ -47,11 +47,11 @@ module _ (source : Program) where
       let d = first_temporary h in
       let types = types_of source.structs (global_types source.globals) (scopes_of source) h in
       let body = body_code (starts_of types) h in
-      let end = instructions.Finish d ∷ blocks in
+      let end = instructions.Finish d ∷ take (farthest body - types.raises) blocks in
       let code = body ++ end in
       let has = has_whole code in
-      let (here, raising_all) = has_back code 0 body end has in
-      let raised = blocks_stand code types.raises (subst (λ n. HasAt code (n + 1) blocks) (let e : 0 + length body ≡ types.raises = omega (arith, body_long source.structs (globals_of source) (scopes_of source) h) in e) raising_all) in
+      let (here, behind) = has_back code 0 body end has in
+      let raised = blocks_stand body types.raises d (body_long source.structs (globals_of source) (scopes_of source) h) in
       (0 + length body, items_stand code (bounds_in source (Some h)) types raised h.body false outside_loops d 0 (0 + length body) numbered refl (has_front code 0 body end has), here)
 
   pub functions_stand : (pages calls : ℕ) → IsFitting source → FunctionsStand source pages calls

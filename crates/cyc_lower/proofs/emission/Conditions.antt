@@ -20,7 +20,7 @@ use Rattle.cyc_lower.specs.Slots.{Starts}
 use Rattle.cyc_lower.specs.ValueCode.{operand_or, failing_comparison}
 use Rattle.cyc_lower.specs.ControlCode.{Compared, with_zero, compared_or, compared_of, deciding_jump, all_test, are_tests}
 use Rattle.cyc_lower.specs.ExpressionCode.{left_of, left_slot, value_operand}
-use Rattle.cyc_lower.specs.Lowering.{first_operand, first_code, second_code, pair_code, condition_code, condition_of, others_code, last_condition, tests_code, behind_tests, choice_code, choice_of}
+use Rattle.cyc_lower.specs.Lowering.{first_operand, first_code, second_code, pair_code, condition_code, condition_of, others_code, last_condition, tests_code, behind_tests, choice_code, choice_of, compares_light, is_light_comparison}
 use Rattle.cyc_lower.specs.Emission.{most_locals, is_test, other_code, other_condition, value_code, left_code, zero_condition}
 use Rattle.cyc_lower.proofs.emission.Emitting.{joined, Lowers, Remains, goes_on, all_made, no_shorter_than}
 
@@ -36,6 +36,24 @@ not_single first (operation.Compute o e ∷ operation.Compute u x ∷ os) ty man
 not_single first (operation.Compute o e ∷ operation.Test u x ∷ os) ty many = refl
 not_single first (operation.Compute o e ∷ operation.Pointer u x ∷ os) ty many = refl
 not_single first (operation.Compute o e ∷ operation.PointerPeek u n x ∷ os) ty many = refl
+
+-- one that is not compares nothing
+pub compares_alone : (starts : Starts) (first : Expression) (os : List Operation) → (length os ≡ 1 → ⊥) → compares_light starts first (operations_of os) ≡ false
+compares_alone starts first [] many = refl
+compares_alone starts first (operation.Test o e ∷ os) many = refl
+compares_alone starts first (operation.Pointer o e ∷ os) many = refl
+compares_alone starts first (operation.PointerPeek o n e ∷ os) many = refl
+compares_alone starts first (operation.Compute o e ∷ []) many = absurd (many refl)
+compares_alone starts first (operation.Compute o e ∷ operation.Compute u x ∷ os) many = refl
+compares_alone starts first (operation.Compute o e ∷ operation.Test u x ∷ os) many = refl
+compares_alone starts first (operation.Compute o e ∷ operation.Pointer u x ∷ os) many = refl
+compares_alone starts first (operation.Compute o e ∷ operation.PointerPeek u n x ∷ os) many = refl
+
+pub compares_one : (starts : Starts) (first : Expression) (xs : List Operation) (x : Operation) (o : Operator) (e : Expr) → length xs ≡ 1 → Some x ≡ slice_get xs 0 → x ≡ operation.Compute o e
+    → compares_light starts first (operations_of xs) ≡ is_light_comparison starts o first (view_expression e)
+compares_one starts first [] x o e single at is = absurd (omega (arith, single))
+compares_one starts first (y ∷ z ∷ xs) x o e single at is = absurd (omega (arith, single))
+compares_one starts first (y ∷ []) x o e single at is = ap (λ (z : Operation). compares_light starts first (operations_of (z ∷ []))) (sym (same_Some x y at) ∙ is)
 
 -- ---- locals that have these first slots
 

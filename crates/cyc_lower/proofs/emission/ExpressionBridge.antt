@@ -27,7 +27,8 @@ use Rattle.cyc_lower.proofs.slots.Widths.{kind_few, type_words}
 use Rattle.cyc_lower.proofs.slots.CellBytes.{passed_slots, passed_many}
 use Rattle.cyc_lower.proofs.relation.Fitting.{FitsCell, FitsObject, Fits, FitsConverted, FitArguments, FitOperations}
 use Rattle.cyc_lower.proofs.place_steps.Sources.{stored_apart}
-use Rattle.cyc_lower.proofs.emission.OperandBridge.{cut, BlocksStand, operand_by, returned_by, right_by, IsLeft, next_left, first_left, freed_stands, check_stands, reached_stands, followed_stands, in_slots, source_brought, conversion_stands, operator_stands, pointer_stands, global_stands, count_stands, load_stands, saved_stands, object_stands, begun_stands, filled_stands, copy_by, address_stands, loaded_stands, initial_by, last_byte_stands, brought_by}
+use Rattle.cyc_lower.proofs.emission.Blocks.{BlocksStand}
+use Rattle.cyc_lower.proofs.emission.OperandBridge.{cut, operand_by, returned_by, right_by, IsLeft, next_left, first_left, freed_stands, check_stands, reached_stands, followed_stands, in_slots, source_brought, conversion_stands, operator_stands, pointer_stands, global_stands, count_stands, load_stands, saved_stands, object_stands, begun_stands, filled_stands, copy_by, address_stands, loaded_stands, initial_by, last_byte_stands, brought_by}
 use Rattle.cyc_types.specs.declared.typed.UnaryOperator.TheVariants as unary
 use Rattle.cyc_types.specs.declared.typed.Kind.{Kind}
 

@@ -2,7 +2,7 @@
 -- is made for the length that it had with them elsewhere, has its blocks where its checks lead to.
 use Rattle.cyc_types.specs.typing.Expressions.{type_of_side}
 use Rattle.std.proofs.Common.{◌≡◌, ℕ, zero, suc, ◌+◌, Bool, true, false, List, [], ◌∷◌, ◌++◌, length, Option, None, Some, refl, sym, ap, ◌∙◌, arith, length-append}
-use Rattle.std.specs.Prelude.{if◌then◌else◌, is_some, ◌&&◌}
+use Rattle.std.specs.Prelude.{if◌then◌else◌, is_some, ◌&&◌, ◌||◌}
 use Rattle.cyc_types.specs.declared.typed.Kind.{Kind}
 use Rattle.cyc_types.specs.declared.typed.Kind.TheVariants as kinds
 use Rattle.cyc_types.specs.declared.typed.Callee.TheVariants as callees
@@ -21,12 +21,12 @@ use Rattle.cyc_plain.specs.declared.instruction.Instruction.{Instruction}
 use Rattle.cyc_store.specs.declared.range.TheConstants.{HEAP, UNIQUE}
 use Rattle.cyc_lower.specs.declared.statements.Exits.{Exits}
 use Rattle.cyc_lower.specs.Slots.{with_counter, Starts, slot_of, global_of}
-use Rattle.cyc_lower.specs.ValueCode.{first_temporary, keeps_words, kind_behind, last_byte_code, kind_passed, converts_there, passed_words, operand_or, code_unless, code_unless_slot, left_with, next_slot, converted_by, conversion_code, divisor_code, operator_code, pointer_instructions, first_two, copy_code, address_code, behind_left, checked_code, span_of, span_in, followed_operand, followed_code, conversion_by, widened_code, count_code, loaded_code, slot_or, kinds_passed, thinned_code, bounded_code, past_bounded, reached_operand, reached_code, word_by_word, load_word, global_code, masks}
+use Rattle.cyc_lower.specs.ValueCode.{first_temporary, keeps_words, kind_behind, last_byte_code, kind_passed, converts_there, passed_words, operand_or, code_unless, code_unless_slot, left_with, next_slot, converted_by, conversion_code, divisor_code, operator_code, pointer_instructions, first_two, copy_code, address_code, behind_left, checked_code, span_of, span_in, followed_operand, followed_code, conversion_by, widened_code, count_code, loaded_code, slot_or, kinds_passed, thinned_code, bounded_code, past_bounded, reached_operand, reached_code, word_by_word, load_word, global_code, masks, failing_comparison}
 use Rattle.cyc_lower.specs.ObjectCode.{begun_code, filled_code, elements_code, ended_code, object_code, right_slot, saved_code, stores_code}
-use Rattle.cyc_lower.specs.ControlCode.{outside_loops, if_code, failing_jump, holding_jump, deciding_jump, are_tests, compared_of, inside_loop, leave_code, try_code, clause_code, break_target, continue_target, kept_code, restored_code, behind_record, inside_try, inside_region, opened_code, closed_code, entry_code, entry_length, entered_code, body_target}
+use Rattle.cyc_lower.specs.ControlCode.{outside_loops, if_code, failing_jump, holding_jump, deciding_jump, are_tests, compared_of, inside_loop, leave_code, try_code, clause_code, break_target, continue_target, kept_code, restored_code, behind_record, inside_try, inside_region, opened_code, closed_code, entry_code, entry_length, entered_code, body_target, is_nothing, over_code, over_length}
 use Rattle.cyc_lower.specs.ExpressionCode.{operand_of, left_of, value_slot, slot_with, left_slot, value_operand, source_of, source_slot, converted_operand, load_code, place_operand, place_offset, expression_code, place_code, made_code, arguments_code, converted_code, converted_operand_code, printed_code, initial_code, operations_code, pointer_of, brought_code, is_simple, are_simple}
 use Rattle.cyc_lower.specs.declared.operands.Condition.{Condition}
-use Rattle.cyc_lower.specs.Lowering.{others_code, tests_code, behind_tests, choice_code, choice_of, raises_of, body_code, assignment_code, discarded_code, pair_code, condition_code, return_code, declaration_code, statement_code, items_code, side_code, swap_code, thrown_code, caught_code, clauses_code, starts_with, read_side, write_side, exchange_code}
+use Rattle.cyc_lower.specs.Lowering.{others_code, tests_code, behind_tests, choice_code, choice_of, raises_of, body_code, assignment_code, discarded_code, pair_code, condition_code, return_code, declaration_code, statement_code, items_code, side_code, swap_code, thrown_code, caught_code, clauses_code, starts_with, read_side, write_side, exchange_code, is_light, compares_light, is_guard}
 use Rattle.cyc_plain.specs.declared.instruction.Instruction.TheVariants as instructions
 use Rattle.cyc_meaning.specs.Values.{is_thin, kind_of, words_of_kind}
 
@@ -66,21 +66,25 @@ pointer_long pointers.NullIsNot l m r s d e left same = refl
 pointer_long pointers.EqualThin l m r s d e left same = refl
 pointer_long pointers.NotEqualThin l m r s d e left same = refl
 
-if_long : (a b c x y z : List Instruction) (jump same : ℕ → Instruction) (p q : ℕ) → length a ≡ length x → length b ≡ length y → length c ≡ length z → length (if_code a jump b c p) ≡ length (if_code x same y z q)
-if_long a b c x y z jump same p q first second third =
-    joined (a ++ _ ∷ b) (_ ∷ c) (x ++ _ ∷ y) (_ ∷ z) (joined a (_ ∷ b) x (_ ∷ y) first (ap suc second)) (ap suc third)
+over_long : (last : Bool) (target aim : ℕ) → length (over_code last target) ≡ length (over_code last aim)
+over_long true target aim = refl
+over_long false target aim = refl
 
-entries_long : (simple same : Bool) (a x : List Instruction) (jump other : ℕ → Instruction) (test aim p q : ℕ) → simple ≡ same → length a ≡ length x → length (entry_code simple a jump test p) ≡ length (entry_code same x other aim q)
+if_long : (last : Bool) (a b c x y z : List Instruction) (jump same : ℕ → Instruction) (p q : ℕ) → length a ≡ length x → length b ≡ length y → length c ≡ length z → length (if_code last a jump b c p) ≡ length (if_code last x same y z q)
+if_long last a b c x y z jump same p q first second third =
+    joined (a ++ _ ∷ b) (over_code last _ ++ c) (x ++ _ ∷ y) (over_code last _ ++ z) (joined a (_ ∷ b) x (_ ∷ y) first (ap suc second)) (joined (over_code last _) c (over_code last _) z (over_long last _ _) third)
+
+entries_long : (guarded same : Bool) (a x : List Instruction) (jump other : ℕ → Instruction) (test aim p q : ℕ) → guarded ≡ same → length a ≡ length x → length (entry_code guarded a jump test p) ≡ length (entry_code same x other aim q)
 entries_long true same a x jump other test aim p q is long = joined a (_ ∷ []) x (_ ∷ []) long refl ∙ ap (λ z. length (entry_code z x other aim q)) is
 entries_long false same a x jump other test aim p q is long = ap (λ z. length (entry_code z x other aim q)) is
 
-entered_long : (simple same : Bool) (condition others : ℕ → List Instruction) (body inner : List Instruction) (jump other : ℕ → Instruction) (p q leaving out : ℕ) → simple ≡ same → ((m n : ℕ) → length (condition m) ≡ length (others n)) → length body ≡ length inner
-    → length (entered_code simple condition body jump p leaving) ≡ length (entered_code same others inner other q out)
-entered_long simple same condition others body inner jump other p q leaving out is long first =
+entered_long : (guarded same : Bool) (condition others : ℕ → List Instruction) (body inner : List Instruction) (jump other : ℕ → Instruction) (p q leaving out : ℕ) → guarded ≡ same → ((m n : ℕ) → length (condition m) ≡ length (others n)) → length body ≡ length inner
+    → length (entered_code guarded condition body jump p leaving) ≡ length (entered_code same others inner other q out)
+entered_long guarded same condition others body inner jump other p q leaving out is long first =
     let r = body_target leaving + length body in
     let s = body_target out + length inner in
-    joined (entry_code simple (condition p) jump r p) (_ ∷ ((body ++ condition r) ++ _ ∷ [])) (entry_code same (others q) other s q) (_ ∷ ((inner ++ others s) ++ _ ∷ []))
-    (entries_long simple same (condition p) (others q) jump other r s p q is (long p q))
+    joined (entry_code guarded (condition p) jump r p) (_ ∷ ((body ++ condition r) ++ _ ∷ [])) (entry_code same (others q) other s q) (_ ∷ ((inner ++ others s) ++ _ ∷ []))
+    (entries_long guarded same (condition p) (others q) jump other r s p q is (long p q))
     (ap suc (joined (body ++ condition r) (_ ∷ []) (inner ++ others s) (_ ∷ []) (joined body (condition r) inner (others s) first (long r s)) refl))
 
 try_long : (a b x y : List Instruction) (t p q : ℕ) → length a ≡ length x → length b ≡ length y → length (try_code t a b p) ≡ length (try_code t x y q)
@@ -407,6 +411,21 @@ module _ (starts : Starts) (raises : ℕ) where
   caught_long (Some n) t = refl
 
   -- with loops that begin at any places, and that are left at any
+  same_light : (a : Expression) → is_light starts a ≡ is_light (other starts raises) a
+  same_light (Load (Element a i ty)) = λ k. is_some (same_operand starts raises a k) && same_simple starts raises i k
+  same_light (Load x) = refl
+  same_light (Unary unary.Widen a) = same_light a
+  same_light a = same_simple starts raises a
+
+  same_compares : (a : Expression) (os : Operations) → compares_light starts a os ≡ compares_light (other starts raises) a os
+  same_compares a (ThenCompute o b NoOperations) = λ i. is_some (failing_comparison o) && (same_light a i && same_light b i)
+  same_compares a os = refl
+
+  same_guard : (a : Expression) → is_guard starts a ≡ is_guard (other starts raises) a
+  same_guard (Unary unary.Not a) = same_guard a
+  same_guard (Binary a os ty) = λ i. same_simple starts raises (Binary a os ty) i || same_compares a os i
+  same_guard a = same_light a
+
   mutual
     statement_long : (s : Statement) (p q head leaving : ℕ) (exits : Exits) (t : ℕ) → length (statement_code starts s p exits t) ≡ length (statement_code (other starts raises) s q (record exits { head = head; leaving = leaving }) t)
     statement_long (Block r js) p q head leaving exits t = items_long js p q head leaving exits t
@@ -418,17 +437,18 @@ module _ (starts : Starts) (raises : ℕ) where
         let n = q + length (choice_code (other starts raises) logical.OrElse a q t) in
         let first = statement_code starts s (m + 1) exits t in
         let same_first = statement_code (other starts raises) s (n + 1) others t in
-        let second = statement_code starts u (m + 1 + length first + 1) exits t in
-        let same_second = statement_code (other starts raises) u (n + 1 + length same_first + 1) others t in
-        if_long (choice_code starts logical.OrElse a p t) first second (choice_code (other starts raises) logical.OrElse a q t) same_first same_second (failing_jump (choice_of starts logical.OrElse a t)) (failing_jump (choice_of (other starts raises) logical.OrElse a t)) p q
-        (choice_long logical.OrElse a p q t) (statement_long s (m + 1) (n + 1) head leaving exits t) (statement_long u (m + 1 + length first + 1) (n + 1 + length same_first + 1) head leaving exits t)
+        let last = is_nothing u in
+        let second = statement_code starts u (m + 1 + length first + over_length last) exits t in
+        let same_second = statement_code (other starts raises) u (n + 1 + length same_first + over_length last) others t in
+        if_long last (choice_code starts logical.OrElse a p t) first second (choice_code (other starts raises) logical.OrElse a q t) same_first same_second (failing_jump (choice_of starts logical.OrElse a t)) (failing_jump (choice_of (other starts raises) logical.OrElse a t)) p q
+        (choice_long logical.OrElse a p q t) (statement_long s (m + 1) (n + 1) head leaving exits t) (statement_long u (m + 1 + length first + over_length last) (n + 1 + length same_first + over_length last) head leaving exits t)
     statement_long (While w a s) p q head leaving exits t =
         let same = other starts raises in
-        let l = p + entry_length (is_simple starts a) (choice_code starts logical.AndThen a p t) in
-        let m = q + entry_length (is_simple same a) (choice_code same logical.AndThen a q t) in
+        let l = p + entry_length (is_guard starts a) (choice_code starts logical.AndThen a p t) in
+        let m = q + entry_length (is_guard same a) (choice_code same logical.AndThen a q t) in
         let around = inside_loop p l exits in
-        entered_long (is_simple starts a) (is_simple same a) (λ n. choice_code starts logical.AndThen a n t) (λ n. choice_code same logical.AndThen a n t) (statement_code starts s (body_target l) around t) (statement_code same s (body_target m) (record around { head = q; leaving = m }) t)
-        (holding_jump (choice_of starts logical.AndThen a t)) (holding_jump (choice_of same logical.AndThen a t)) p q l m (same_simple starts raises a)
+        entered_long (is_guard starts a) (is_guard same a) (λ n. choice_code starts logical.AndThen a n t) (λ n. choice_code same logical.AndThen a n t) (statement_code starts s (body_target l) around t) (statement_code same s (body_target m) (record around { head = q; leaving = m }) t)
+        (holding_jump (choice_of starts logical.AndThen a t)) (holding_jump (choice_of same logical.AndThen a t)) p q l m (same_guard a)
         (λ i j. choice_long logical.AndThen a i j t) (statement_long s (body_target l) (body_target m) q m around t)
     statement_long (Return v) p q head leaving exits t = return_long v p q head leaving exits t
     statement_long Break p q head leaving exits t =

@@ -11,27 +11,30 @@ use Rattle.cyc_plain.specs.declared.instruction.Instruction.TheVariants as instr
 use Rattle.cyc_lower.specs.declared.operands.Condition.{Condition}
 use Rattle.cyc_lower.specs.declared.statements.Exits.{Exits}
 use Rattle.cyc_lower.specs.Slots.{Starts}
-use Rattle.cyc_lower.specs.ControlCode.{holding_jump, body_target, inside_loop, entry_code, entry_length}
-use Rattle.cyc_lower.specs.ExpressionCode.{is_simple}
-use Rattle.cyc_lower.specs.Lowering.{choice_code, choice_of, statement_code}
+use Rattle.cyc_lower.specs.ControlCode.{holding_jump, body_target, inside_loop, entry_code, entry_length, over_code, over_length}
+use Rattle.cyc_lower.specs.Lowering.{is_guard, choice_code, choice_of, statement_code}
 use Rattle.cyc_lower.specs.Emission.{begun_loop, entered_loop, loop_code}
 
-pub entry_long : (simple : Bool) (condition : List Instruction) (jump : ℕ → Instruction) (test p : ℕ) → length (entry_code simple condition jump test p) ≡ entry_length simple condition
+pub entry_long : (guarded : Bool) (condition : List Instruction) (jump : ℕ → Instruction) (test p : ℕ) → length (entry_code guarded condition jump test p) ≡ entry_length guarded condition
 entry_long true condition jump test p = length-append condition (jump (p + length condition + 1 + 1) ∷ [])
 entry_long false condition jump test p = refl
 
+pub over_long : (last : Bool) (target : ℕ) → length (over_code last target) ≡ over_length last
+over_long true target = refl
+over_long false target = refl
+
 -- the code is as long once a loop knows where its condition is
 pub entering_keeps : (starts : Starts) (a : Expression) (code : List Instruction) (head : ℕ) (new : List Instruction) → new ≡ entered_loop starts a code head → length new ≡ length code
-entering_keeps starts a code head new is = ap length is ∙ by (is_simple starts a)
+entering_keeps starts a code head new is = ap length is ∙ by (is_guard starts a)
   where
-    by : (simple : Bool) → length (if simple then code else set code head (instructions.Jump (length code))) ≡ length code
+    by : (guarded : Bool) → length (if guarded then code else set code head (instructions.Jump (length code))) ≡ length code
     by true = refl
     by false = length-set code head (instructions.Jump (length code))
 
--- a condition that is simple leads into a loop
-pub entered_first : (starts : Starts) (a : Expression) (t : ℕ) (o : Condition) (old m1 m2 : List Instruction) (body : ℕ) → is_simple starts a ≡ true → o ≡ choice_of starts logical.AndThen a t
+-- a condition that may stand twice leads into a loop
+pub entered_first : (starts : Starts) (a : Expression) (t : ℕ) (o : Condition) (old m1 m2 : List Instruction) (body : ℕ) → is_guard starts a ≡ true → o ≡ choice_of starts logical.AndThen a t
     → m1 ≡ old ++ choice_code starts logical.AndThen a (length old) t → body ≡ length m1 + 2 → m2 ≡ m1 ++ holding_jump o body ∷ [] → m2 ≡ old ++ begun_loop starts a (length old) t
-entered_first starts a t o old m1 m2 body simple is made there jumps =
+entered_first starts a t o old m1 m2 body guarded is made there jumps =
     let p = length old in
     let condition = choice_code starts logical.AndThen a p t in
     let answer = choice_of starts logical.AndThen a t in
@@ -41,20 +44,20 @@ entered_first starts a t o old m1 m2 body simple is made there jumps =
     ∙ ap (λ (c : Condition). m1 ++ holding_jump c (p + length condition + 1 + 1) ∷ []) is
     ∙ ap (λ (l : List Instruction). l ++ holding_jump answer (p + length condition + 1 + 1) ∷ []) made
     ∙ append_assoc old condition (holding_jump answer (p + length condition + 1 + 1) ∷ [])
-    ∙ ap (λ (s : Bool). old ++ entry_code s condition (holding_jump answer) 0 p) (sym simple)
+    ∙ ap (λ (s : Bool). old ++ entry_code s condition (holding_jump answer) 0 p) (sym guarded)
 
 -- Code of which the first piece leads into a loop, and what follows it.
-module _ (simple : Bool) (old condition : List Instruction) (jump : ℕ → Instruction) (y test : Instruction) (body again : List Instruction) (m1 m2 m3 m4 m5 m6 m7 : List Instruction) where
+module _ (guarded : Bool) (old condition : List Instruction) (jump : ℕ → Instruction) (y test : Instruction) (body again : List Instruction) (m1 m2 m3 m4 m5 m6 m7 : List Instruction) where
   abbrev entry : (place : ℕ) → List Instruction
-  entry place = entry_code simple condition jump place (length old)
+  entry place = entry_code guarded condition jump place (length old)
 
   abbrev IsEntered : Bool → (first : ℕ → List Instruction) → Type 0
-  IsEntered simple first = m1 ≡ old ++ first 0 → m3 ≡ m1 ++ (y ∷ body) → m4 ≡ (if simple then m3 else set m3 (length old) (instructions.Jump (length m3))) → m4 ≡ old ++ (first (length m3) ++ (y ∷ body))
+  IsEntered guarded first = m1 ≡ old ++ first 0 → m3 ≡ m1 ++ (y ∷ body) → m4 ≡ (if guarded then m3 else set m3 (length old) (instructions.Jump (length m3))) → m4 ≡ old ++ (first (length m3) ++ (y ∷ body))
 
-  entered : IsEntered simple entry
-  entered = by simple
+  entered : IsEntered guarded entry
+  entered = by guarded
     where
-      by : (simple : Bool) → IsEntered simple (λ (place : ℕ). entry_code simple condition jump place (length old))
+      by : (guarded : Bool) → IsEntered guarded (λ (place : ℕ). entry_code guarded condition jump place (length old))
       by true e1 e3 e4 =
           let front = condition ++ jump (length old + length condition + 1 + 1) ∷ [] in
           e4 ∙ e3 ∙ ap (λ (l : List Instruction). l ++ (y ∷ body)) e1 ∙ append_assoc old front (y ∷ body)
@@ -63,7 +66,7 @@ module _ (simple : Bool) (old condition : List Instruction) (jump : ℕ → Inst
           = e3 ∙ ap (λ (l : List Instruction). l ++ (y ∷ body)) e1 ∙ append_assoc old (instructions.Jump 0 ∷ []) (y ∷ body) in
           e4 ∙ ap (λ (l : List Instruction). set l (length old) (instructions.Jump (length m3))) inside ∙ set-append_seam old (instructions.Jump 0) (y ∷ body) (instructions.Jump (length m3))
 
-  pub looped : m1 ≡ old ++ entry 0 → m2 ≡ m1 ++ y ∷ [] → m3 ≡ m2 ++ body → m4 ≡ (if simple then m3 else set m3 (length old) (instructions.Jump (length m3))) → m5 ≡ m4 ++ again → m6 ≡ m5 ++ test ∷ []
+  pub looped : m1 ≡ old ++ entry 0 → m2 ≡ m1 ++ y ∷ [] → m3 ≡ m2 ++ body → m4 ≡ (if guarded then m3 else set m3 (length old) (instructions.Jump (length m3))) → m5 ≡ m4 ++ again → m6 ≡ m5 ++ test ∷ []
       → m7 ≡ set m6 (length m1) (instructions.Jump (length m6)) → m7 ≡ old ++ (entry (length m3) ++ (instructions.Jump (length m6) ∷ ((body ++ again) ++ test ∷ [])))
   looped e1 e2 e3 e4 e5 e6 e7 =
       let first = entry (length m3) in
@@ -71,8 +74,8 @@ module _ (simple : Bool) (old condition : List Instruction) (jump : ℕ → Inst
       let b3 : m3 ≡ m1 ++ (y ∷ body) = e3 ∙ ap (λ (l : List Instruction). l ++ body) e2 ∙ append_assoc m1 (y ∷ []) body in
       let b4 : m4 ≡ before ++ (y ∷ body) = entered e1 b3 e4 ∙ sym (append_assoc old first (y ∷ body)) in
       let here : length m1 ≡ length before
-      = ap length e1 ∙ length-append old (entry 0) ∙ ap (λ (n : ℕ). length old + n) (entry_long simple condition jump 0 (length old))
-      ∙ sym (length-append old first ∙ ap (λ (n : ℕ). length old + n) (entry_long simple condition jump (length m3) (length old))) in
+      = ap length e1 ∙ length-append old (entry 0) ∙ ap (λ (n : ℕ). length old + n) (entry_long guarded condition jump 0 (length old))
+      ∙ sym (length-append old first ∙ ap (λ (n : ℕ). length old + n) (entry_long guarded condition jump (length m3) (length old))) in
       let b5 : m5 ≡ before ++ (y ∷ (body ++ again)) = e5 ∙ ap (λ (l : List Instruction). l ++ again) b4 ∙ append_assoc before (y ∷ body) again in
       let whole = (body ++ again) ++ test ∷ [] in
       let b6 : m6 ≡ before ++ (y ∷ whole) = e6 ∙ ap (λ (l : List Instruction). l ++ test ∷ []) b5 ∙ append_assoc before (y ∷ (body ++ again)) (test ∷ []) in
@@ -83,8 +86,8 @@ module _ (simple : Bool) (old condition : List Instruction) (jump : ℕ → Inst
       ∙ append_assoc old first (instructions.Jump (length m6) ∷ whole)
 
   -- the places of its parts
-  pub parts_long : m1 ≡ old ++ entry 0 → m2 ≡ m1 ++ y ∷ [] → m3 ≡ m2 ++ body → m4 ≡ (if simple then m3 else set m3 (length old) (instructions.Jump (length m3))) → m5 ≡ m4 ++ again → m6 ≡ m5 ++ test ∷ []
-      → (leaving : ℕ) → leaving ≡ length old + entry_length simple condition
+  pub parts_long : m1 ≡ old ++ entry 0 → m2 ≡ m1 ++ y ∷ [] → m3 ≡ m2 ++ body → m4 ≡ (if guarded then m3 else set m3 (length old) (instructions.Jump (length m3))) → m5 ≡ m4 ++ again → m6 ≡ m5 ++ test ∷ []
+      → (leaving : ℕ) → leaving ≡ length old + entry_length guarded condition
       → (length m1 ≡ leaving) × (length m2 ≡ body_target leaving) × (length m3 ≡ body_target leaving + length body) × (length m4 ≡ body_target leaving + length body) × (length m6 ≡ body_target leaving + length body + length again + 1)
   parts_long e1 e2 e3 e4 e5 e6 leaving at =
       let b3 : m3 ≡ m1 ++ (y ∷ body) = e3 ∙ ap (λ (l : List Instruction). l ++ body) e2 ∙ append_assoc m1 (y ∷ []) body in
@@ -95,8 +98,8 @@ module _ (simple : Bool) (old condition : List Instruction) (jump : ℕ → Inst
       = ap length (entered e1 b3 e4) ∙ length-append old (entry (length m3) ++ (y ∷ body)) ∙ ap (λ (n : ℕ). length old + n) (length-append (entry (length m3)) (y ∷ body)) in
       let five : length m5 ≡ length m4 + length again = ap length e5 ∙ length-append m4 again in
       let six : length m6 ≡ length m5 + 1 = ap length e6 ∙ length-append m5 (test ∷ []) in
-      let first = entry_long simple condition jump 0 (length old) in
-      let same = entry_long simple condition jump (length m3) (length old) in
+      let first = entry_long guarded condition jump 0 (length old) in
+      let same = entry_long guarded condition jump (length m3) (length old) in
       let l1 : length m1 ≡ leaving = omega (arith, one, first, at) in
       let l2 : length m2 ≡ body_target leaving = omega (arith, two, l1) in
       let l3 : length m3 ≡ body_target leaving + length body = omega (arith, three, l2) in
@@ -108,17 +111,17 @@ module _ (starts : Starts) (a : Expression) (s : Statement) (exits : Exits) (d :
       → m4 ≡ entered_loop starts a m3 head → m5 ≡ m4 ++ choice_code starts logical.AndThen a (length m4) d → m6 ≡ m5 ++ holding_jump o again ∷ [] → m7 ≡ set m6 leaving (instructions.Jump (length m6))
       → m7 ≡ old ++ loop_code starts a s (length old) exits d
   made_loop e1 k1 e2 k2 e3 e4 e5 e6 e7 =
-      let simple = is_simple starts a in
+      let guarded = is_guard starts a in
       let begin = length old in
       let condition = choice_code starts logical.AndThen a begin d in
       let jump : ℕ → Instruction = λ n. holding_jump (choice_of starts logical.AndThen a d) n in
-      let l = begin + entry_length simple condition in
+      let l = begin + entry_length guarded condition in
       let body = statement_code starts s (length m2) (inside_loop head leaving exits) d in
       let after = choice_code starts logical.AndThen a (length m4) d in
       let test = holding_jump o again in
-      let f4 : m4 ≡ (if simple then m3 else set m3 begin (instructions.Jump (length m3))) = e4 ∙ ap (λ (n : ℕ). if simple then m3 else set m3 n (instructions.Jump (length m3))) here in
+      let f4 : m4 ≡ (if guarded then m3 else set m3 begin (instructions.Jump (length m3))) = e4 ∙ ap (λ (n : ℕ). if guarded then m3 else set m3 n (instructions.Jump (length m3))) here in
       let f7 : m7 ≡ set m6 (length m1) (instructions.Jump (length m6)) = e7 ∙ ap (λ (n : ℕ). set m6 n (instructions.Jump (length m6))) k1 in
-      let (l1, l2, l3, l4, l6) = parts_long simple old condition jump y test body after m1 m2 m3 m4 m5 m6 m7 e1 e2 e3 f4 e5 e6 l refl in
+      let (l1, l2, l3, l4, l6) = parts_long guarded old condition jump y test body after m1 m2 m3 m4 m5 m6 m7 e1 e2 e3 f4 e5 e6 l refl in
       let left : leaving ≡ l = k1 ∙ l1 in
       let turned : again ≡ body_target l = k2 ∙ l2 in
       let body_is : body ≡ statement_code starts s (body_target l) (inside_loop begin l exits) d
@@ -132,9 +135,9 @@ module _ (starts : Starts) (a : Expression) (s : Statement) (exits : Exits) (d :
       let test_is : test ≡ jump (body_target l) = ap (λ (n : ℕ). holding_jump o n) turned ∙ ap (λ (c : Condition). holding_jump c (body_target l)) o_is in
       let last : length m6 ≡ r + length (choice_code starts logical.AndThen a r d) + 1
       = l6 ∙ ap (λ (n : ℕ). n + length after + 1) at_test ∙ ap (λ (c : List Instruction). r + length c + 1) after_is in
-      looped simple old condition jump y test body after m1 m2 m3 m4 m5 m6 m7 e1 e2 e3 f4 e5 e6 f7
-      ∙ ap (λ (n : ℕ). old ++ (entry_code simple condition jump n begin ++ (instructions.Jump (length m6) ∷ ((body ++ after) ++ test ∷ [])))) (l3 ∙ at_test)
-      ∙ ap (λ (n : ℕ). old ++ (entry_code simple condition jump r begin ++ (instructions.Jump n ∷ ((body ++ after) ++ test ∷ [])))) last
-      ∙ ap (λ (b : List Instruction). old ++ (entry_code simple condition jump r begin ++ (instructions.Jump (r + length (choice_code starts logical.AndThen a r d) + 1) ∷ ((b ++ after) ++ test ∷ [])))) body_is
-      ∙ ap (λ (c : List Instruction). old ++ (entry_code simple condition jump r begin ++ (instructions.Jump (r + length (choice_code starts logical.AndThen a r d) + 1) ∷ ((final ++ c) ++ test ∷ [])))) after_is
-      ∙ ap (λ (i : Instruction). old ++ (entry_code simple condition jump r begin ++ (instructions.Jump (r + length (choice_code starts logical.AndThen a r d) + 1) ∷ ((final ++ choice_code starts logical.AndThen a r d) ++ i ∷ [])))) test_is
+      looped guarded old condition jump y test body after m1 m2 m3 m4 m5 m6 m7 e1 e2 e3 f4 e5 e6 f7
+      ∙ ap (λ (n : ℕ). old ++ (entry_code guarded condition jump n begin ++ (instructions.Jump (length m6) ∷ ((body ++ after) ++ test ∷ [])))) (l3 ∙ at_test)
+      ∙ ap (λ (n : ℕ). old ++ (entry_code guarded condition jump r begin ++ (instructions.Jump n ∷ ((body ++ after) ++ test ∷ [])))) last
+      ∙ ap (λ (b : List Instruction). old ++ (entry_code guarded condition jump r begin ++ (instructions.Jump (r + length (choice_code starts logical.AndThen a r d) + 1) ∷ ((b ++ after) ++ test ∷ [])))) body_is
+      ∙ ap (λ (c : List Instruction). old ++ (entry_code guarded condition jump r begin ++ (instructions.Jump (r + length (choice_code starts logical.AndThen a r d) + 1) ∷ ((final ++ c) ++ test ∷ [])))) after_is
+      ∙ ap (λ (i : Instruction). old ++ (entry_code guarded condition jump r begin ++ (instructions.Jump (r + length (choice_code starts logical.AndThen a r d) + 1) ∷ ((final ++ choice_code starts logical.AndThen a r d) ++ i ∷ [])))) test_is

@@ -23,12 +23,13 @@ use Rattle.cyc_plain.proofs.Straight.{has_front, has_back}
 use Rattle.cyc_store.specs.declared.range.TheConstants.{MOST_BLOCK_WORDS}
 use Rattle.cyc_meaning.specs.Values.{words_of_kind, bytes_of_kind, begins, behind, is_thin, number_of_kind}
 use Rattle.cyc_lower.specs.Slots.{Types, starts_of, slot_of, global_of}
-use Rattle.cyc_lower.specs.ValueCode.{converts_there, moved_by, move_of, operand_or, code_unless, slot_or, code_unless_slot, left_with, next_slot, check_code, conversion_code, divisor_code, checked_code, operator_code, is_in, pointer_operator, index_code, pointer_instructions, address_code, raising, blocks, guard_code, jump_if_zero, count_code, span_of, tested_code, widened_code, conversion_by, bounds_code, stepped_code, scaled_code, summed_code, bounded_code, past_bounded, thinned_code, reached_code, followed_code, word_by_word, load_word, store_word, global_code, keeps_words, last_byte_code, blank_code, load_of, masked_by, inside_code}
+use Rattle.cyc_lower.specs.ValueCode.{converts_there, moved_by, move_of, operand_or, code_unless, slot_or, code_unless_slot, left_with, next_slot, check_code, conversion_code, divisor_code, checked_code, operator_code, is_in, pointer_operator, index_code, pointer_instructions, address_code, guard_code, jump_if_zero, count_code, span_of, tested_code, widened_code, conversion_by, bounds_code, stepped_code, scaled_code, summed_code, bounded_code, past_bounded, thinned_code, reached_code, followed_code, word_by_word, load_word, store_word, global_code, keeps_words, last_byte_code, blank_code, load_of, masked_by, inside_code}
 use Rattle.cyc_lower.specs.ObjectCode.{most_elements, begun_code, filled_code, stores_code, cells_code, slots_of_kinds, object_code, free_code, saved_code, sized_code}
 use Rattle.cyc_lower.specs.ControlCode.{counter_operand}
 use Rattle.cyc_lower.specs.ExpressionCode.{source_of, source_slot, operand_of, left_of, value_slot, slot_with, left_slot, value_operand, converted_operand, load_code, expression_code, brought_code, is_simple}
 use Rattle.cyc_lower.proofs.relation.Stands.{BegunAt, FilledAt, OperandBy, CheckAt, ConversionBy, ConversionAt, DivisorAt, CheckedAt, OperatorAt, LoadAt, CopyBy, ExpressionAt, InitialBy, ReturnedAt, FirstTwoAt, IndexAt, PointerAt, StoresAt, CellsAt, ObjectAt, AddressAt, GuardAt, FreedAt, CountAt, TestedAt, WidenedAt, LoadedBy, SavedAt, BoundsAt, SteppedAt, ScaledAt, SummedAt, ThinnedAt, ReachedAt, FollowedAt, EachAt, GlobalAt, SizedAt, LastByteAt, BlankAt, BroughtAt, BroughtBy, LeftBy, InsideAt}
 use Rattle.cyc_lower.proofs.emission.Lengths.{past_long}
+use Rattle.cyc_lower.proofs.emission.Blocks.{BlocksStand}
 use Rattle.cyc_lower.specs.Lowerable.{is_converted, is_pointer}
 use Rattle.cyc_lower.proofs.slots.Widths.{given, changes}
 use Rattle.cyc_lower.proofs.relation.Fitting.{FitsPlace}
@@ -43,19 +44,6 @@ use Rattle.cyc_plain.specs.declared.instruction.Request.TheVariants as requests
 -- the end of the second part
 pub cut : (p q : ℕ) (a b : List Instruction) → p + length (a ++ b) ≡ q → p + length a + length b ≡ q
 cut p q a b end = omega (arith, end, length-append a b)
-
--- the blocks that raise exceptions stand behind this place
-abbrev pub BlocksStand : List Instruction → (raises : ℕ) → Type 0
-BlocksStand code raises = (tag : ℕ) → 1 ≤ tag → tag ≤ 4 → At code (raises + tag) (raising tag)
-
-pub blocks_stand : (code : List Instruction) (raises : ℕ) → HasAt code (raises + 1) blocks → BlocksStand code raises
-blocks_stand code raises has zero some few = absurd (omega (arith, some))
-blocks_stand code raises (first, rest) (suc zero) some few = first
-blocks_stand code raises (first, (second, rest)) (suc (suc zero)) some few = subst (λ n. At code n (raising 2)) (let e : raises + 1 + 1 ≡ raises + 2 = omega arith in e) second
-blocks_stand code raises (first, (second, (third, rest))) (suc (suc (suc zero))) some few = subst (λ n. At code n (raising 3)) (let e : raises + 1 + 1 + 1 ≡ raises + 3 = omega arith in e) third
-blocks_stand code raises (first, (second, (third, (fourth, none)))) (suc (suc (suc (suc zero)))) some few =
-    subst (λ n. At code n (raising 4)) (let e : raises + 1 + 1 + 1 + 1 ≡ raises + 4 = omega arith in e) fourth
-blocks_stand code raises has (suc (suc (suc (suc (suc n))))) some few = absurd (omega (arith, few))
 
 module _ (code : List Instruction) (b : Numbering) (types : Types) (raised : BlocksStand code types.raises) where
   -- ---- operands
@@ -104,7 +92,7 @@ module _ (code : List Instruction) (b : Numbering) (types : Types) (raised : Blo
   -- ---- expressions
 
   guard_stands : (tag : ℕ) (failing : Comparison) (l r : Operand) (p q : ℕ) → 1 ≤ tag → tag ≤ 4 → p + 1 ≡ q → HasAt code p (guard_code (starts_of types) tag failing l r) → GuardAt code b types tag failing l r p q
-  guard_stands tag failing l r p q some few end (jump, none) = (types.raises + tag, jump, raised tag some few, end)
+  guard_stands tag failing l r p q some few end (jump, none) = (types.raises + tag, jump, raised p tag (instructions.Branch failing l r (types.raises + tag)) some few jump refl, end)
 
   pub freed_stands : (o : Operand) (p q : ℕ) → p + 2 ≡ q → HasAt code p (free_code o p) → FreedAt code b types o p q
   freed_stands o p q end (jump, (ask, none)) = (subst (λ t. At code p (jump_if_zero o t)) end jump, ask, omega (arith, end))
@@ -141,8 +129,8 @@ module _ (code : List Instruction) (b : Numbering) (types : Types) (raised : Blo
   inside_stands : (n m p q : ℕ) → p + 3 ≡ q → HasAt code p (inside_code (starts_of types) n m p) → InsideAt code b types n m p q
   inside_stands n m p q end (compare, (question, (jump, none))) = (
     subst (λ (x : ℕ). At code p (instructions.Branch comparisons.LessUnsigned (operands.Slot m) (operands.Slot (n + 1)) x)) end compare,
-    (types.raises + null_exception, question, raised null_exception (omega arith) (omega arith)),
-    (types.raises + array_bounds, subst (λ (x : ℕ). At code x (instructions.Jump (types.raises + array_bounds))) (let two : p + 1 + 1 ≡ p + 2 = omega arith in two) jump, raised array_bounds (omega arith) (omega arith)),
+    (types.raises + null_exception, question, raised (p + 1) null_exception (instructions.Branch comparisons.Equal (operands.Slot n) (operands.Word 0) (types.raises + null_exception)) (omega arith) (omega arith) question refl),
+    (types.raises + array_bounds, subst (λ (x : ℕ). At code x (instructions.Jump (types.raises + array_bounds))) (let two : p + 1 + 1 ≡ p + 2 = omega arith in two) jump, raised (p + 1 + 1) array_bounds (instructions.Jump (types.raises + array_bounds)) (omega arith) (omega arith) jump refl),
     end,
   )
 

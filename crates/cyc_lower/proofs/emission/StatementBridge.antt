@@ -21,21 +21,22 @@ use Rattle.cyc_meaning.specs.FrameCount.{operand_words}
 use Rattle.cyc_lower.specs.Slots.{Types, starts_of, slot_of, global_of}
 use Rattle.cyc_lower.specs.ValueCode.{passed_words, move_of, operand_or, slot_or, code_unless_slot, left_with, conversion_code, failing_comparison, address_code, span_of, global_code, kind_passed}
 use Rattle.cyc_lower.specs.ObjectCode.{right_slot, saved_code, load_at}
-use Rattle.cyc_lower.specs.ControlCode.{compared_or, compared_of, failing_jump, holding_jump, all_test, are_tests, break_target, continue_target, body_target, inside_loop, leave_code, other_jump, clause_code, kept_code, kept_code_in, restored_code, restored_code_in, behind_record, inside_try, closed_code, handlers_code, marks_code, try_code, opened_code, inside_region, dynamic_code, entry_code, entry_length}
+use Rattle.cyc_lower.specs.ControlCode.{compared_or, compared_of, failing_jump, holding_jump, all_test, are_tests, break_target, continue_target, body_target, inside_loop, leave_code, other_jump, clause_code, kept_code, kept_code_in, restored_code, restored_code_in, behind_record, inside_try, closed_code, handlers_code, marks_code, try_code, opened_code, inside_region, dynamic_code, entry_code, entry_length, is_nothing, over_code, over_length}
 use Rattle.cyc_lower.specs.ExpressionCode.{source_of, operand_of, value_slot, slot_with, value_operand, converted_operand, printed_operand, expression_code, converted_operand_code, printed_code, place_operand, place_offset, place_code, brought_code, is_simple}
-use Rattle.cyc_lower.specs.Lowering.{assignment_code, assigned_operand, discarded_code, first_operand, first_code, second_code, pair_code, condition_code, condition_of, others_code, last_condition, tests_code, behind_tests, choice_code, choice_of, return_code, declaration_code, statement_code, items_code, results_of, side_code, read_side, write_side, exchange_code, swap_code, thrown_code, thrown_operand, caught_code, clauses_code}
+use Rattle.cyc_lower.specs.Lowering.{assignment_code, assigned_operand, discarded_code, first_operand, first_code, second_code, pair_code, condition_code, condition_of, others_code, last_condition, tests_code, behind_tests, choice_code, choice_of, return_code, declaration_code, statement_code, items_code, results_of, side_code, read_side, write_side, exchange_code, swap_code, thrown_code, thrown_operand, caught_code, clauses_code, is_guard}
 use Rattle.cyc_lower.specs.declared.operands.Condition.{Condition}
 use Rattle.cyc_lower.specs.declared.statements.Exits.{Exits}
 use Rattle.cyc_lower.specs.declared.statements.Opened.{Opened}
-use Rattle.cyc_lower.proofs.relation.Stands.{PairAt, ConditionAt, ForkAt, BranchesAt, TestsAt, Ends, AssignmentAt, DiscardedAt, ReturnAt, DeclarationAt, StatementAt, ItemsAt, HasSide, SideAt, ReadAt, WriteAt, SwapAt, LeaveAt, ThrownAt, CaughtAt, ClausesAt, ExchangeAt, ClosedAt, HandlersAt, MarksAt, KeptAt, RestoredAt, OpenedAt, LeftBy, EntryAt}
+use Rattle.cyc_lower.proofs.relation.Stands.{PairAt, ConditionAt, ForkAt, BranchesAt, TestsAt, Ends, AssignmentAt, DiscardedAt, ReturnAt, DeclarationAt, StatementAt, ItemsAt, HasSide, SideAt, ReadAt, WriteAt, SwapAt, LeaveAt, ThrownAt, CaughtAt, ClausesAt, ExchangeAt, ClosedAt, HandlersAt, MarksAt, KeptAt, RestoredAt, OpenedAt, LeftBy, EntryAt, OverAt}
 use Rattle.cyc_types.specs.typing.Expressions.{type_of_side}
 use Rattle.cyc_lower.proofs.slots.Widths.{kind_of_result, type_words, HasLocal}
 use Rattle.cyc_lower.proofs.relation.Fitting.{FitsPlace, Fits, FitOperations, FitsConverted, FitsReturn, FitsInitial, FitsStatement, FitItems, FitsSide, FitsThrown, FitsCaught, FitClauses}
 use Rattle.cyc_lower.proofs.place_steps.Sources.{stored_apart}
 use Rattle.cyc_lower.proofs.relation.Tested.{compared_whole}
 use Rattle.cyc_lower.proofs.emission.Conditions.{tests_same}
-use Rattle.cyc_lower.proofs.emission.Loops.{entry_long}
-use Rattle.cyc_lower.proofs.emission.OperandBridge.{cut, BlocksStand, operand_by, returned_by, right_by, left_first, returned_brought, conversion_stands, each_stands, global_stands, load_stands, stores_stand, saved_stands, address_stands, blank_stands}
+use Rattle.cyc_lower.proofs.emission.Loops.{entry_long, over_long}
+use Rattle.cyc_lower.proofs.emission.Blocks.{BlocksStand}
+use Rattle.cyc_lower.proofs.emission.OperandBridge.{cut, operand_by, returned_by, right_by, left_first, returned_brought, conversion_stands, each_stands, global_stands, load_stands, stores_stand, saved_stands, address_stands, blank_stands}
 use Rattle.cyc_lower.proofs.emission.ExpressionBridge.{expression_stands, place_stands, initial_stands, converted_operand_stands, printed_stands, brought_stands}
 
 module _ (code : List Instruction) (b : Numbering) (types : Types) (raised : BlocksStand code types.raises) where
@@ -263,8 +264,8 @@ module _ (code : List Instruction) (b : Numbering) (types : Types) (raised : Blo
   -- ---- statements
 
   -- what leads into a loop
-  entry_stands : (simple : Bool) (a : Expression) (exits : Exits) (t p l r : ℕ) → Fits b types a → l ≡ p + entry_length simple (choice_code (starts_of types) logical.AndThen a p t) → p < r
-      → HasAt code p (entry_code simple (choice_code (starts_of types) logical.AndThen a p t) (holding_jump (choice_of (starts_of types) logical.AndThen a t)) r p)
+  entry_stands : (guarded : Bool) (a : Expression) (exits : Exits) (t p l r : ℕ) → Fits b types a → l ≡ p + entry_length guarded (choice_code (starts_of types) logical.AndThen a p t) → p < r
+      → HasAt code p (entry_code guarded (choice_code (starts_of types) logical.AndThen a p t) (holding_jump (choice_of (starts_of types) logical.AndThen a t)) r p)
       → EntryAt code b types a (inside_loop p l exits) t r
   entry_stands true a exits t p l r numbered at before has =
       let first = choice_code (starts_of types) logical.AndThen a p t in
@@ -443,35 +444,42 @@ module _ (code : List Instruction) (b : Numbering) (types : Types) (raised : Blo
         let m = p + length condition in
         let first = statement_code (starts_of types) s (m + 1) exits t in
         let r = m + 1 + length first in
-        let second = statement_code (starts_of types) u (r + 1) exits t in
-        let jump_first = failing_jump (choice_of (starts_of types) logical.OrElse a t) (r + 1) ∷ first in
-        let jump_second = instructions.Jump (r + 1 + length second) ∷ second in
+        let last = is_nothing u in
+        let second = statement_code (starts_of types) u (r + over_length last) exits t in
+        let jump_first = failing_jump (choice_of (starts_of types) logical.OrElse a t) (r + over_length last) ∷ first in
+        let over = over_code last (r + over_length last + length second) in
         let front = condition ++ jump_first in
         let long : length front ≡ length condition + suc (length first) = length-append condition jump_first in
-        let (jump, has_first) = has_back code p condition jump_first (has_front code p front jump_second has) in
-        let (over, has_second) = subst (λ x. HasAt code x jump_second) (let e : p + length front ≡ r = omega (arith, long) in e) (has_back code p front jump_second has) in
-        let end_is : r + 1 + length second ≡ q = omega (arith, cut p q front jump_second end, long) in (
-          r + 1,
+        let (jump, has_first) = has_back code p condition jump_first (has_front code p front (over ++ second) has) in
+        let has_rest = subst (λ x. HasAt code x (over ++ second)) (let e : p + length front ≡ r = omega (arith, long) in e) (has_back code p front (over ++ second) has) in
+        let has_second = subst (λ x. HasAt code x second) (ap (λ n. r + n) (over_long last (r + over_length last + length second))) (has_back code r over second has_rest) in
+        let end_is : r + over_length last + length second ≡ q = omega (arith, cut p q front (over ++ second) end, length-append over second, over_long last (r + over_length last + length second), long) in (
+          r + over_length last,
           m + 1,
           r,
-          choice_stands a (r + 1) t p m numbered_a refl (has_front code p condition jump_first (has_front code p front jump_second has)) jump,
+          choice_stands a (r + over_length last) t p m numbered_a refl (has_front code p condition jump_first (has_front code p front (over ++ second) has)) jump,
           statement_stands s in_loop exits t (m + 1) r numbered_s refl has_first,
-          subst (λ x. At code r (instructions.Jump x)) end_is over,
-          statement_stands u in_loop exits t (r + 1) q numbered_u end_is has_second,
+          over_stands u r q end_is (has_front code r over second has_rest),
+          statement_stands u in_loop exits t (r + over_length last) q numbered_u end_is has_second,
         )
+      where
+        over_stands : (u : Statement) (r q : ℕ) → r + over_length (is_nothing u) + length (statement_code (starts_of types) u (r + over_length (is_nothing u)) exits t) ≡ q
+            → HasAt code r (over_code (is_nothing u) (r + over_length (is_nothing u) + length (statement_code (starts_of types) u (r + over_length (is_nothing u)) exits t))) → OverAt code r q
+        over_stands Empty r q end has = inl (omega (arith, end))
+        over_stands u r q end (jump, none) = inr (subst (λ x. At code r (instructions.Jump x)) end jump)
     statement_stands (While w a s) in_loop exits t p q (numbered_a, numbered_s) end has =
-        let simple = is_simple (starts_of types) a in
+        let guarded = is_guard (starts_of types) a in
         let first = choice_code (starts_of types) logical.AndThen a p t in
         let jump : ℕ → Instruction = λ n. holding_jump (choice_of (starts_of types) logical.AndThen a t) n in
-        let l = p + entry_length simple first in
+        let l = p + entry_length guarded first in
         let body = statement_code (starts_of types) s (body_target l) (inside_loop p l exits) t in
         let r = body_target l + length body in
         let condition = choice_code (starts_of types) logical.AndThen a r t in
         let m = r + length condition in
-        let entry = entry_code simple first jump r p in
+        let entry = entry_code guarded first jump r p in
         let test = jump (body_target l) ∷ [] in
         let inner = (body ++ condition) ++ test in
-        let entered : p + length entry ≡ l = ap (λ (n : ℕ). p + n) (entry_long simple first jump r p) in
+        let entered : p + length entry ≡ l = ap (λ (n : ℕ). p + n) (entry_long guarded first jump r p) in
         let (leave, inner_at) = subst (λ x. HasAt code x (instructions.Jump (m + 1) ∷ inner)) entered (has_back code p entry (instructions.Jump (m + 1) ∷ inner) has) in
         let long : length (body ++ condition) ≡ length body + length condition = length-append body condition in
         let all : length inner ≡ length (body ++ condition) + 1 = length-append (body ++ condition) test in
@@ -481,7 +489,7 @@ module _ (code : List Instruction) (b : Numbering) (types : Types) (raised : Blo
         let end_is : m + 1 ≡ q = omega (arith, end, whole, long, all, entered) in (
           l,
           r,
-          entry_stands simple a exits t p l r numbered_a refl (omega arith) (has_front code p entry (instructions.Jump (m + 1) ∷ inner) has),
+          entry_stands guarded a exits t p l r numbered_a refl (omega arith) (has_front code p entry (instructions.Jump (m + 1) ∷ inner) has),
           subst (λ x. At code l (instructions.Jump x)) end_is leave,
           statement_stands s true (inside_loop p l exits) t (body_target l) r numbered_s refl (has_front code (body_target l) body condition front_has),
           subst (λ x. BranchesAt code b types a x (body_target l) t r) end_is

@@ -83,6 +83,10 @@ module _ (code : List Instruction) where
   LastByteAt kinds.Char d p q = At code p (instructions.Binary plain_binary.Add d (operands.Slot d) (operands.Word 3)) × (p + 1 ≡ q)
   LastByteAt kind d p q = p ≡ q
 
+  -- what stands behind `else` is jumped over, where something does
+  abbrev pub OverAt : (p q : ℕ) → Type 0
+  OverAt p q = (p ≡ q) ⊎ At code p (instructions.Jump q)
+
   -- a local of a kind is declared without a value
   abbrev pub BlankAt : Kind → (slot p q : ℕ) → Type 0
   BlankAt kinds.Char slot p q = At code p (instructions.Move slot (operands.Word 0)) × (p + 1 ≡ q)
@@ -636,7 +640,7 @@ module _ (code : List Instruction) (bounds : Numbering) (types : Types) where
     StatementAt (Evaluate a) exits t p q = DiscardedAt a t p q
     StatementAt (Swap a b) exits t p q = SwapAt a b t p q
     StatementAt (If a s u) exits t p q =
-        (f : ℕ) × (h : ℕ) × (r : ℕ) × BranchesAt a f h t p × StatementAt s exits t h r × At code r (instructions.Jump q) × StatementAt u exits t f q
+        (f : ℕ) × (h : ℕ) × (r : ℕ) × BranchesAt a f h t p × StatementAt s exits t h r × OverAt code r q × StatementAt u exits t f q
     StatementAt (While w a s) exits t p q =
         (l : ℕ) × (r : ℕ) × EntryAt a (inside_loop p l exits) t r × At code l (instructions.Jump q)
         × StatementAt s (inside_loop p l exits) t (body_target l) r × BranchesAt a q (body_target l) t r × (l < q)

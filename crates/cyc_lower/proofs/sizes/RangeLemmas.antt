@@ -1,19 +1,22 @@
 -- What the bounds of instructions rest on: words that are needed, and instructions that name what is there.
-use Rattle.std.proofs.Common.{◌≡◌, ℕ, zero, suc, ◌+◌, ◌-◌, ◌≤◌, ◌<◌, List, [], ◌∷◌, ◌++◌, length, Option, None, Some, slice_get, ap, arith, length-append, inl, inr}
+use Rattle.std.proofs.Common.{◌≡◌, ℕ, zero, suc, ◌+◌, ◌-◌, ◌≤◌, ◌<◌, true, false, List, [], ◌∷◌, ◌++◌, length, take, min, Option, None, Some, All, IsSomeAnd, slice_get, refl, sym, ap, subst, arith, length-append, length-take, inl, inr}
 use Rattle.std.specs.List.{AllByRecursion}
 use Rattle.cyc_types.specs.Types.{Ty, words_of, ValueType, Void, Null, Value}
 use Rattle.cyc_types.specs.TypedTrees.{Initial, Plain, Fields, Array, Converted, Convert, Arguments, NoArguments, MoreArguments, Signature}
 use Rattle.cyc_plain.specs.declared.instruction.Instruction.{Instruction}
 use Rattle.cyc_plain.specs.declared.instruction.Instruction.TheVariants as instructions
 use Rattle.cyc_plain.specs.Program.{Routine, Program as PlainProgram, routine_at}
-use Rattle.cyc_plain.specs.WellFormed.{IsInRange}
+use Rattle.cyc_plain.specs.declared.instruction.Operand.{Operand}
+use Rattle.cyc_plain.specs.declared.instruction.Operand.TheVariants as operands
+use Rattle.cyc_plain.specs.Requests.{first_operand, second_operand}
+use Rattle.cyc_plain.specs.WellFormed.{IsInRange, IsOperand, IsArgument, is_return, leaves}
 use Rattle.std.specs.Prelude.{max}
 use Rattle.cyc_meaning.specs.Values.{kind_of, words_of_kind}
 use Rattle.cyc_meaning.specs.FrameCount.{operand_words, converted_words, argument_words, words_of_all, initial_value_need}
 use Rattle.cyc_lower.proofs.relation.Counters.{found_last}
 use Rattle.cyc_lower.specs.Slots.{counted, Types, slot_in}
-use Rattle.cyc_lower.specs.ValueCode.{all_passed, kind_passed}
-use Rattle.cyc_lower.specs.Lowering.{spare_slots, results_of}
+use Rattle.cyc_lower.specs.ValueCode.{all_passed, kind_passed, blocks}
+use Rattle.cyc_lower.specs.Lowering.{spare_slots, results_of, target_of, farthest, with_blocks}
 use Rattle.cyc_lower.proofs.slots.Widths.{kind_positive, kind_few, type_words, kind_of_result, passed_is}
 use Rattle.cyc_lower.proofs.slots.Slots.{words_positive}
 
@@ -107,3 +110,78 @@ takes_locals program r locals (i ∷ code) (first, rest) = (by i first, takes_lo
     by : (i : Instruction) → IsIn program r locals i → TakesLocal locals i
     by (instructions.AddressOf d slot count) (there, few, takes) = takes
     by i inside = tt
+
+-- What a function names is there too where its code is shorter, if nothing leads behind that.
+module _ (program : PlainProgram) (r : Routine) (longer : List Instruction) (locals : List Ty) (far : ℕ) (reaches : (t : ℕ) → t ≤ far → t < length longer → t < length r.code) (no_return : All (λ i. is_return i ≡ false) r.code) where
+  abbrev full : Routine
+  full = record r { code = longer }
+
+  operand_cut : (o : Operand) → IsOperand full o → IsOperand r o
+  operand_cut (operands.Slot n) inside = inside
+  operand_cut (operands.Word w) inside = tt
+
+  argument_cut : (o : Option Operand) → IsArgument full o → IsArgument r o
+  argument_cut (Some o) inside = operand_cut o inside
+  argument_cut None inside = tt
+
+  one_cut : (i : Instruction) → target_of i ≤ far → IsIn program full locals i → IsIn program r locals i
+  one_cut (instructions.Move d s) least (there, source) = (there, operand_cut s source)
+  one_cut (instructions.MoveWords d s count) least inside = record { some = inside.some; few = inside.few; destination_in_range = inside.destination_in_range; source_in_range = inside.source_in_range }
+  one_cut (instructions.Unary operator d o) least (there, operand) = (there, operand_cut o operand)
+  one_cut (instructions.Binary operator d left right) least (there, first, second) = (there, operand_cut left first, operand_cut right second)
+  one_cut (instructions.Jump target) least inside = reaches target least inside
+  one_cut (instructions.Branch comparison left right target) least (first, second, inside) = (operand_cut left first, operand_cut right second, reaches target least inside)
+  one_cut (instructions.Call function arguments count result) least inside =
+      record { function_in_range = inside.function_in_range; takes = inside.takes; arguments_in_range = inside.arguments_in_range; result_in_range = inside.result_in_range }
+  one_cut (instructions.Return value) least inside = inside
+  one_cut (instructions.ReadByte d) least inside = inside
+  one_cut (instructions.WriteByte s) least inside = operand_cut s inside
+  one_cut (instructions.AddressOf d slot count) least inside = inside
+  one_cut (instructions.LoadGlobal d global) least inside = inside
+  one_cut (instructions.StoreGlobal global s) least (there, source) = (there, operand_cut s source)
+  one_cut (instructions.Load d address offset) least (there, from) = (there, operand_cut address from)
+  one_cut (instructions.Store address offset s) least (to, source) = (operand_cut address to, operand_cut s source)
+  one_cut (instructions.LoadByte d address offset) least (there, from) = (there, operand_cut address from)
+  one_cut (instructions.StoreByte address offset s) least (to, source) = (operand_cut address to, operand_cut s source)
+  one_cut (instructions.Ask request) least inside = record {
+    answer_in_range = inside.answer_in_range;
+    first_in_range = argument_cut (first_operand request) inside.first_in_range;
+    second_in_range = argument_cut (second_operand request) inside.second_in_range;
+  }
+  one_cut (instructions.CountLexical d) least inside = inside
+  one_cut (instructions.Try first handler) least inside = record { record_in_range = inside.record_in_range; handler_in_range = reaches handler least inside.handler_in_range; no_return = no_return }
+  one_cut (instructions.Leave first) least inside = inside
+  one_cut (instructions.Throw tag value) least (first, second) = (operand_cut tag first, operand_cut value second)
+  one_cut (instructions.Finish value) least inside = inside
+  one_cut (instructions.Uncaught tag value) least inside = operand_cut value inside
+
+  pub all_cut : (code : List Instruction) → farthest code ≤ far → AllByRecursion (IsIn program full locals) code → AllByRecursion (IsIn program r locals) code
+  all_cut [] least inside = tt
+  all_cut (i ∷ code) least (first, rest) = (one_cut i (omega (arith, least)) first, all_cut code (omega (arith, least)) rest)
+
+-- blocks name nothing that could be missing
+pub blocks_in : (program : PlainProgram) (r : Routine) (locals : List Ty) (n : ℕ) → AllByRecursion (IsIn program r locals) (take n blocks)
+blocks_in program r locals zero = tt
+blocks_in program r locals (suc zero) = ((tt, tt), tt)
+blocks_in program r locals (suc (suc zero)) = ((tt, tt), ((tt, tt), tt))
+blocks_in program r locals (suc (suc (suc zero))) = ((tt, tt), ((tt, tt), ((tt, tt), tt)))
+blocks_in program r locals (suc (suc (suc (suc zero)))) = ((tt, tt), ((tt, tt), ((tt, tt), ((tt, tt), tt))))
+blocks_in program r locals (suc (suc (suc (suc (suc n))))) = ((tt, tt), ((tt, tt), ((tt, tt), ((tt, tt), tt))))
+
+-- how many of them stand where so many are to
+pub blocks_many : (n : ℕ) → min n 4 ≤ length (take n blocks)
+blocks_many n = omega (arith, length-take n blocks)
+
+-- a function's code ends in what leaves it
+pub end_leaves : (body : List Instruction) (value n : ℕ) → IsSomeAnd (slice_get (with_blocks body value n) (length (with_blocks body value n) - 1)) (λ i. leaves i ≡ true)
+end_leaves body value n =
+    let end = instructions.Finish value ∷ take n blocks in
+    subst (λ (o : Option Instruction). IsSomeAnd o (λ i. leaves i ≡ true)) (sym (last_behind body end (omega arith))) (by n)
+  where
+    by : (n : ℕ) → IsSomeAnd (slice_get (instructions.Finish value ∷ take n blocks) (length (instructions.Finish value ∷ take n blocks) - 1)) (λ i. leaves i ≡ true)
+    by zero = refl
+    by (suc zero) = refl
+    by (suc (suc zero)) = refl
+    by (suc (suc (suc zero))) = refl
+    by (suc (suc (suc (suc zero)))) = refl
+    by (suc (suc (suc (suc (suc n))))) = refl

@@ -1,5 +1,5 @@
 -- Functions and globals that are lowered one after the other.
-use Rattle.std.proofs.Common.{◌≡◌, ℕ, zero, suc, ◌+◌, ◌<◌, ◌≤◌, List, [], ◌∷◌, ◌++◌, length, get_or, map, take, Option, Some, refl, sym, ap, ◌∙◌, arith, slice_get, append_assoc}
+use Rattle.std.proofs.Common.{◌≡◌, ℕ, zero, suc, ◌+◌, ◌<◌, ◌≤◌, List, [], ◌∷◌, ◌++◌, ◌-◌, length, get_or, map, take, min, Option, Some, refl, sym, ap, ◌∙◌, arith, slice_get}
 use Rattle.cyc_words.specs.declared.fault.Code.{Code}
 use Rattle.cyc_words.specs.declared.fault.Code.TheVariants.{TooManyFunctions}
 use Rattle.cyc_words.specs.declared.fault.Fault.{Fault}
@@ -13,12 +13,13 @@ use Rattle.cyc_plain.specs.declared.instruction.Instruction.TheVariants.{Finish}
 use Rattle.cyc_lower.specs.Slots.{starts_from}
 use Rattle.cyc_lower.specs.ValueCode.{first_temporary, slot_types, blocks}
 use Rattle.cyc_lower.specs.ControlCode.{outside_loops}
-use Rattle.cyc_lower.specs.Lowering.{items_code, function_code, raises_of, body_code, starts_with}
+use Rattle.cyc_lower.specs.Lowering.{items_code, farthest, with_blocks, finished_code, function_code, raises_of, body_code, starts_with}
 use Rattle.cyc_lower.specs.declared.limits.TheConstants.{MOST_FUNCTIONS}
 use Rattle.cyc_lower.specs.Lowered.{HasTooMany}
 use Rattle.cyc_frame_count.specs.Needs.{most_frame_count}
 use Rattle.cyc_lower.specs.Emission.{most_locals}
 use Rattle.cyc_lower.proofs.slots.Slots.{slots-few}
+use Rattle.cyc_lower.proofs.emission.Blocks.{some_blocks}
 
 -- the element with a number, in a list that is mapped
 pub numbered_at : {A B : Type 0} (f : A → B) (xs : List A) (n : ℕ) (x : A) → n < length xs → x ≡ get_or xs n x → slice_get (map f xs) n ≡ Some (f x)
@@ -31,19 +32,19 @@ pub few_locals : (f : FunctionCode) → frame_count (view_function f) ≤ most_f
     → (words_of_all (view_function f).parameters ≤ most_frame_count) × (first_temporary (view_function f) + kept_by_items (view_function f).body ≤ most_locals)
 few_locals f small = (omega (arith, small), omega (arith, small, slots-few (view_function f)))
 
--- the code of a function's body, made again for the length that it had, with a return and the blocks behind it
-pub function_made : (structs : List StructType) (globals : List ℕ) (scopes : Option ℕ) (h : Function) (locals : List ℕ) (free raises : ℕ) (first body ended code : List Instruction) → locals ≡ starts_from 0 (slot_types h) → free ≡ first_temporary h
+-- the code of a function's body, made again for the length that it had, with a return and the blocks behind it that something leads to
+pub function_made : (structs : List StructType) (globals : List ℕ) (scopes : Option ℕ) (h : Function) (locals : List ℕ) (free raises end : ℕ) (count kept : ℕ) (first body ended all code : List Instruction) → locals ≡ starts_from 0 (slot_types h) → free ≡ first_temporary h
     → first ≡ items_code (record { locals = locals; structs = structs; raises = 0; counters = []; globals = globals; scopes = scopes }) h.body 0 outside_loops free → raises ≡ length first
     → body ≡ items_code (record { locals = locals; structs = structs; raises = raises; counters = []; globals = globals; scopes = scopes }) h.body 0 outside_loops free
-    → ended ≡ body ++ Finish free ∷ [] → code ≡ ended ++ blocks → code ≡ function_code structs globals scopes h
-function_made structs globals scopes h locals free raises first body ended code locals_is free_is first_is raises_is body_is ended_is code_is =
+    → count ≡ farthest body - raises → kept ≡ min count 4 → ended ≡ body ++ Finish free ∷ [] → end ≡ length ended + kept → all ≡ ended ++ blocks → code ≡ take end all → code ≡ function_code structs globals scopes h
+function_made structs globals scopes h locals free raises end count kept first body ended all code locals_is free_is first_is raises_is body_is count_is kept_is ended_is end_is all_is code_is =
     let made : first ≡ body_code (starts_with 0 structs globals scopes h) h =
     first_is ∙ (λ i. items_code (record { locals = locals_is i; structs = structs; raises = 0; counters = []; globals = globals; scopes = scopes }) h.body 0 outside_loops (free_is i)) in
     let known : raises ≡ raises_of structs globals scopes h = raises_is ∙ ap (λ (l : List Instruction). length l) made in
-    code_is
-    ∙ ap (λ (l : List Instruction). l ++ blocks) (ended_is ∙ ap (λ (l : List Instruction). l ++ Finish free ∷ []) body_is)
-    ∙ (λ i. (items_code (record { locals = locals_is i; structs = structs; raises = known i; counters = []; globals = globals; scopes = scopes }) h.body 0 outside_loops (free_is i) ++ Finish (free_is i) ∷ []) ++ blocks)
-    ∙ append_assoc (body_code (starts_with (raises_of structs globals scopes h) structs globals scopes h) h) (Finish (first_temporary h) ∷ []) blocks
+    some_blocks body ended all code free count kept end ended_is all_is kept_is end_is code_is
+    ∙ ap (λ (n : ℕ). with_blocks body free n) count_is
+    ∙ ap (λ (l : List Instruction). finished_code l raises free) body_is
+    ∙ (λ i. finished_code (items_code (record { locals = locals_is i; structs = structs; raises = known i; counters = []; globals = globals; scopes = scopes }) h.body 0 outside_loops (free_is i)) (known i) (free_is i))
 
 -- ---- lists that are lowered element by element
 

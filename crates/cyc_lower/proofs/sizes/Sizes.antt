@@ -1,9 +1,10 @@
 -- The size of a function's code is bounded by the tokens that its spelling needs. A value through a fat pointer to fat pointers is one token,
 -- and takes some eighty words.
 use Rattle.cyc_types.specs.typing.Expressions.{type_of_side}
-use Rattle.std.proofs.Common.{◌≡◌, ℕ, zero, suc, ◌+◌, ◌*◌, ◌≤◌, Bool, true, false, List, [], ◌∷◌, ◌++◌, length, Option, None, Some, max, refl, arith}
-use Rattle.std.specs.Prelude.{◌==◌, ◌&&◌, is_some, sum_by, if◌then◌else◌}
+use Rattle.std.proofs.Common.{◌≡◌, ℕ, zero, suc, ◌+◌, ◌*◌, ◌≤◌, Bool, true, false, List, [], ◌∷◌, ◌++◌, ◌-◌, length, take, Option, None, Some, max, refl, arith, inl, inr}
+use Rattle.std.specs.Prelude.{◌==◌, ◌&&◌, is_some, sum_by, if◌then◌else◌, ◌||◌}
 use Rattle.cyc_words.proofs.Booleans.{and_left, and_right}
+use Rattle.std.proofs.lemmas.Bool.{or_cases}
 use Rattle.std.proofs.lemmas.List.Sums.{sum_by-append, sum_by-cons}
 use Rattle.cyc_types.specs.declared.typed.Kind.{Kind}
 use Rattle.cyc_types.specs.declared.typed.Kind.TheVariants as kinds
@@ -40,9 +41,9 @@ use Rattle.cyc_lower.proofs.slots.CellBytes.{passed_slots}
 use Rattle.cyc_lower.specs.ValueCode.{converts_there, passed_words, all_passed, kinds_passed, converted_by, moved_by, move_of, binary_operator, operand_or, code_unless, slot_or, code_unless_slot, next_slot, conversion_code, divisor_code, checked_code, operator_code, truth_code, low_byte, test_code, is_in, copy_code, failing_comparison, left_with, first_temporary, jump_if_zero, jump_if_nonzero, behind_left, pointer_code, pointer_operator, index_of, first_two, pointer_instructions, address_code, blocks, element_by, count_code, span_of, tested_code, widened_code, conversion_by, tested_by, check_code, loaded_code, bounds_code, stepped_code, scaled_code, summed_code, bounded_code, past_bounded, thinned_code, reached_code, followed_code, followed_operand, followed_by, span_in, reached_operand, word_by_word, load_word, store_word, global_code, keeps_words, load_of, store_of, unary_instruction, last_byte_code, blank_code, kind_behind, kind_passed, scale_of, masks, masked_by, inside_code}
 use Rattle.cyc_lower.specs.ObjectCode.{begun_code, filled_code, ended_code, elements_code, stores_code, cells_code, slots_of_kinds, object_code, free_code, right_slot, saved_code, load_at, measured_code, sized_code}
 use Rattle.cyc_lower.specs.declared.operands.Condition.{Condition}
-use Rattle.cyc_lower.specs.ControlCode.{compared_or, failing_jump, holding_jump, deciding_jump, are_tests, break_target, continue_target, body_target, outside_loops, inside_loop, leave_code, tag_operand, other_jump, clause_code, opened_code, closed_code, named_code, dynamic_code, closing_code, handlers_code, marks_code, kept_code, kept_code_in, restored_code, restored_code_in, behind_record, inside_try, inside_region, entry_code, entry_length}
+use Rattle.cyc_lower.specs.ControlCode.{compared_or, failing_jump, holding_jump, deciding_jump, are_tests, break_target, continue_target, body_target, outside_loops, inside_loop, leave_code, tag_operand, other_jump, clause_code, opened_code, closed_code, named_code, dynamic_code, closing_code, handlers_code, marks_code, kept_code, kept_code_in, restored_code, restored_code_in, behind_record, inside_try, inside_region, entry_code, entry_length, is_nothing, over_code, over_length}
 use Rattle.cyc_lower.specs.ExpressionCode.{source_of, source_slot, operand_of, left_of, value_slot, left_slot, value_operand, converted_operand, printed_operand, load_code, expression_code, arguments_code, converted_code, converted_operand_code, printed_code, initial_code, operations_code, slot_with, made_code, place_operand, place_offset, place_code, pointer_of, pointer_slot, brought_code, is_simple, are_simple}
-use Rattle.cyc_lower.specs.Lowering.{assignment_code, discarded_code, first_code, second_code, pair_code, condition_code, condition_of, others_code, tests_code, behind_tests, choice_code, choice_of, return_code, declaration_code, statement_code, items_code, lower_function, store_address_code, side_code, read_side, write_side, exchange_code, swap_code, caught_code, clauses_code, starts_with, raises_of}
+use Rattle.cyc_lower.specs.Lowering.{assignment_code, discarded_code, first_code, second_code, pair_code, condition_code, condition_of, others_code, tests_code, behind_tests, choice_code, choice_of, return_code, declaration_code, statement_code, items_code, lower_function, store_address_code, side_code, read_side, write_side, exchange_code, swap_code, caught_code, clauses_code, starts_with, raises_of, farthest, is_guard, is_light, compares_light}
 use Rattle.cyc_meaning.specs.Operators.{null_exception}
 use Rattle.cyc_lower.specs.Lowered.{size_per_weight}
 use Rattle.cyc_lower.specs.declared.statements.Opened.{Opened}
@@ -56,6 +57,11 @@ both a b = sum_by-append instruction_size a b
 
 cons : (i : Instruction) (a : List Instruction) → code_size (i ∷ a) ≡ instruction_size i + code_size a
 cons i a = sum_by-cons instruction_size i a
+
+taken_size : (n : ℕ) (code : List Instruction) → code_size (take n code) ≤ code_size code
+taken_size zero code = omega arith
+taken_size (suc n) [] = omega arith
+taken_size (suc n) (i ∷ code) = omega (arith, cons i code, cons i (take n code), taken_size n code)
 
 -- ---- expressions
 
@@ -736,6 +742,39 @@ module _ (starts : Starts) where
       )
   simple_size a p d t simple = known_operand_size a p d t simple
 
+-- so has what loads by a pointer without code, at a simple index
+module _ (starts : Starts) where
+  known_few_size : (a : Expression) (p d t : ℕ) → is_some (operand_of starts a) ≡ true → code_size (expression_code starts a p d t) ≤ 30
+  known_few_size (Number n) p d t some = omega arith
+  known_few_size NullPointer p d t some = omega arith
+  known_few_size HeapRegion p d t some = omega arith
+  known_few_size (Counter l) p d t some = omega arith
+  known_few_size (Copy l ty) p d t some = omega (arith, load_size starts l ty d)
+  known_few_size (Move w n ty) p d t some = omega (arith, load_size starts (Local w n) ty d)
+  known_few_size (Peek w n ty) p d t some = omega (arith, load_size starts (Local w n) ty d)
+  known_few_size (Unary unary.Widen a) p d t some = omega (arith, known_few_size a p d t some)
+  known_few_size a p d t some = absurd (let f : false ≡ true = some in cc)
+
+  light_size : (a : Expression) (p d t : ℕ) → is_light starts a ≡ true → code_size (expression_code starts a p d t) ≤ 50 * expression_weight a
+  light_size (Load (Element a i ty)) p d t light =
+      let known = and_left (is_some (operand_of starts a)) (is_simple starts i) light in
+      let simple = and_right (is_some (operand_of starts a)) (is_simple starts i) light in
+      let front = expression_code starts a p t t in
+      let slot = value_slot starts i (t + 3) in
+      let q = p + length (code_unless_slot (pointer_of starts a i) front) in
+      let o = place_operand starts (Element a i ty) t in
+      let place = place_code starts (Element a i ty) p t in
+      omega (
+        arith,
+        both place (loaded_code (kind_of ty) o 0 d t),
+        loaded_size (words_of_kind (kind_of ty) == 1) (kind_of ty) o 0 d t,
+        element_by_size starts (pointer_of starts a i) front (operand_of starts i) (expression_code starts i q slot (t + 3)) (span_in ty) (pointer_slot starts a i t) (value_operand starts i (t + 3)) t p 30 (50 * expression_weight i) (known_few_size a p t t known) (simple_size starts i q slot (t + 3) simple),
+        some_token a,
+      )
+  light_size (Load x) p d t light = absurd (let f : false ≡ true = light in cc)
+  light_size (Unary unary.Widen a) p d t light = omega (arith, light_size a p d t light)
+  light_size a p d t light = simple_size starts a p d t light
+
 module _ (starts : Starts) where
   assignment_size : (l : Lvalue) (c : Converted) (p t : ℕ) → code_size (assignment_code starts l c p t) ≤ size_per_weight * converted_weight c + 64
   assignment_size (Local w n) c p t = initial_size starts c p (slot_of starts n) t
@@ -807,50 +846,82 @@ module _ (starts : Starts) where
       by false = condition_size (Binary a os ty) p t
   choice_size u a p t = condition_size a p t
 
-  simple_first_size : (a b : Expression) (p t : ℕ) → is_simple starts a ≡ true → code_size (first_code starts a b p t) ≤ 50 * expression_weight a
-  simple_first_size a b p t simple =
+  -- the code of a condition that may stand twice is half as large
+  light_first_size : (a b : Expression) (p t : ℕ) → is_light starts a ≡ true → code_size (first_code starts a b p t) ≤ 50 * expression_weight a
+  light_first_size a b p t light =
       let slot = slot_with starts (is_simple starts b) a t in
-      omega (arith, unless_size (left_with (is_simple starts b) (operand_of starts a)) (expression_code starts a p slot t), simple_size starts a p slot t simple)
+      omega (arith, unless_size (left_with (is_simple starts b) (operand_of starts a)) (expression_code starts a p slot t), light_size starts a p slot t light)
 
-  simple_alone_size : (a : Expression) (p t : ℕ) → is_simple starts a ≡ true → code_size (pair_code starts a (Number 0) p t) ≤ 50 * expression_weight a
-  simple_alone_size a p t simple = omega (arith, both (first_code starts a (Number 0) p t) [], simple_first_size a (Number 0) p t simple)
+  light_second_size : (b : Expression) (p t : ℕ) → is_light starts b ≡ true → code_size (second_code starts b p t) ≤ 50 * expression_weight b
+  light_second_size b p t light =
+      let inner = expression_code starts b p (value_slot starts b (suc t)) (suc t) in
+      omega (arith, unless_size (operand_of starts b) inner, light_size starts b p (value_slot starts b (suc t)) (suc t) light)
 
-  known_simple_size : (a : Expression) → is_some (operand_of starts a) ≡ true → (p t : ℕ) → code_size (pair_code starts a (Number 0) p t) ≤ 50 * expression_weight a
-  known_simple_size a some p t =
-      let slot = slot_with starts true a t in
-      omega (arith, both (first_code starts a (Number 0) p t) [], unless_size (operand_of starts a) (expression_code starts a p slot t), known_operand_size starts a p slot t some)
+  light_alone_size : (a : Expression) (p t : ℕ) → is_light starts a ≡ true → code_size (pair_code starts a (Number 0) p t) ≤ 50 * expression_weight a
+  light_alone_size a p t light = omega (arith, both (first_code starts a (Number 0) p t) [], light_first_size a (Number 0) p t light)
 
-  known_condition_size : (a : Expression) (p t : ℕ) → is_some (operand_of starts a) ≡ true → code_size (condition_code starts a p t) ≤ 50 * expression_weight a
-  known_condition_size (Unary unary.Not a) p t some = absurd (let f : false ≡ true = some in cc)
-  known_condition_size (Binary a os ty) p t some = absurd (let f : false ≡ true = some in cc)
-  known_condition_size a p t some = known_simple_size a some p t
+  known_light : (a : Expression) → is_some (operand_of starts a) ≡ true → is_light starts a ≡ true
+  known_light (Load x) some = absurd (let f : false ≡ true = some in cc)
+  known_light (Binary a os ty) some = absurd (let f : false ≡ true = some in cc)
+  known_light (Unary unary.Widen a) some = known_light a some
+  known_light (Unary u a) some = absurd (let f : false ≡ true = some in cc)
+  known_light a some = some
 
-  simple_condition_size : (a : Expression) (p t : ℕ) → is_simple starts a ≡ true → code_size (condition_code starts a p t) ≤ 50 * expression_weight a
-  simple_condition_size (Unary unary.Not a) p t simple = omega (arith, known_condition_size a p t simple)
-  simple_condition_size (Binary a (ThenCompute o b NoOperations) ty) p t simple = by (failing_comparison o)
+  simple_light : (a : Expression) → is_simple starts a ≡ true → is_light starts a ≡ true
+  simple_light (Load x) simple = absurd (let f : false ≡ true = simple in cc)
+  simple_light (Unary unary.Widen a) simple = known_light a simple
+  simple_light a simple = simple
+
+  compared_guard_size : (a b : Expression) (o : Operator) (ty : Ty) (f : Option Comparison) (p t : ℕ)
+      → (is_simple starts (Binary a (ThenCompute o b NoOperations) ty) || (is_some f && (is_light starts a && is_light starts b))) ≡ true
+      → code_size (pair_code starts (compared_or f a b (Binary a (ThenCompute o b NoOperations) ty)).left (compared_or f a b (Binary a (ThenCompute o b NoOperations) ty)).right p t) ≤ 50 * expression_weight (Binary a (ThenCompute o b NoOperations) ty)
+  compared_guard_size a b o ty f p t guard = elim (or_cases (is_simple starts (Binary a (ThenCompute o b NoOperations) ty)) (is_some f && (is_light starts a && is_light starts b)) guard) [
+    | inl simple ↦ by f (
+      known_light b (and_left (is_some (operand_of starts b)) true (and_right (is_simple starts a) (is_some (operand_of starts b) && true) simple)),
+      simple_light a (and_left (is_simple starts a) (is_some (operand_of starts b) && true) simple),
+      simple,
+    )
+    | inr light ↦ of_lights f light
+  ]
     where
-      by : (f : Option Comparison) → code_size (pair_code starts (compared_or f a b (Binary a (ThenCompute o b NoOperations) ty)).left (compared_or f a b (Binary a (ThenCompute o b NoOperations) ty)).right p t) ≤ 50 * expression_weight (Binary a (ThenCompute o b NoOperations) ty)
-      by (Some failing) =
+      whole : Expression
+      whole = Binary a (ThenCompute o b NoOperations) ty
+
+      pair : is_light starts a ≡ true → is_light starts b ≡ true → code_size (pair_code starts a b p t) ≤ 50 * expression_weight whole
+      pair first second =
           let front = first_code starts a b p t in
           let q = p + length front in
-          let inner = expression_code starts b q (value_slot starts b (suc t)) (suc t) in
-          let some = and_left (is_some (operand_of starts b)) true (and_right (is_simple starts a) (is_some (operand_of starts b) && true) simple) in
-          omega (arith, both front (second_code starts b q t), simple_first_size a b p t (and_left (is_simple starts a) (is_some (operand_of starts b) && true) simple), known_size (operand_of starts b) inner some)
-      by None = simple_alone_size (Binary a (ThenCompute o b NoOperations) ty) p t simple
-  simple_condition_size a p t simple = simple_alone_size a p t simple
+          omega (arith, both front (second_code starts b q t), light_first_size a b p t first, light_second_size b q t second)
 
-  simple_choice_size : (u : LogicalOperator) (a : Expression) (p t : ℕ) → is_simple starts a ≡ true → code_size (choice_code starts u a p t) ≤ 50 * expression_weight a
-  simple_choice_size u (Binary a (ThenCompute o b os) ty) p t simple = simple_condition_size (Binary a (ThenCompute o b os) ty) p t simple
-  simple_choice_size u (Binary a os ty) p t simple = absurd (let f : false ≡ true = simple in cc)
-  simple_choice_size u a p t simple = simple_condition_size a p t simple
+      by : (f : Option Comparison) → (is_light starts b ≡ true) × (is_light starts a ≡ true) × (is_simple starts whole ≡ true) → code_size (pair_code starts (compared_or f a b whole).left (compared_or f a b whole).right p t) ≤ 50 * expression_weight whole
+      by None (second, first, simple) = light_alone_size whole p t simple
+      by (Some failing) (second, first, simple) = pair first second
+
+      of_lights : (f : Option Comparison) → (is_some f && (is_light starts a && is_light starts b)) ≡ true → code_size (pair_code starts (compared_or f a b whole).left (compared_or f a b whole).right p t) ≤ 50 * expression_weight whole
+      of_lights None light = absurd (let g : false ≡ true = light in cc)
+      of_lights (Some failing) light = pair (and_left (is_light starts a) (is_light starts b) light) (and_right (is_light starts a) (is_light starts b) light)
+
+  guard_size : (a : Expression) (p t : ℕ) → is_guard starts a ≡ true → code_size (condition_code starts a p t) ≤ 50 * expression_weight a
+  guard_size (Unary unary.Not a) p t guard = omega (arith, guard_size a p t guard)
+  guard_size (Binary a (ThenCompute o b NoOperations) ty) p t guard = compared_guard_size a b o ty (failing_comparison o) p t guard
+  guard_size (Binary a os ty) p t guard = elim (or_cases (is_simple starts (Binary a os ty)) (compares_light starts a os) guard) [
+    | inl simple ↦ light_alone_size (Binary a os ty) p t simple
+    | inr light ↦ absurd (let f : false ≡ true = light in cc)
+  ]
+  guard_size a p t guard = light_alone_size a p t guard
+
+  guard_choice_size : (u : LogicalOperator) (a : Expression) (p t : ℕ) → is_guard starts a ≡ true → code_size (choice_code starts u a p t) ≤ 50 * expression_weight a
+  guard_choice_size u (Binary a (ThenCompute o b os) ty) p t guard = guard_size (Binary a (ThenCompute o b os) ty) p t guard
+  guard_choice_size u (Binary a os ty) p t guard = absurd (let f : false ≡ true = guard in cc)
+  guard_choice_size u a p t guard = guard_size a p t guard
 
   -- what leads into a loop, and the condition behind its body
-  tested_loop_size : (simple : Bool) (a : Expression) (p q t : ℕ) → is_simple starts a ≡ simple
-      → code_size (entry_code simple (choice_code starts logical.AndThen a p t) (holding_jump (choice_of starts logical.AndThen a t)) q p) + code_size (choice_code starts logical.AndThen a q t) ≤ 11 + size_per_weight * expression_weight a
-  tested_loop_size true a p q t simple =
+  tested_loop_size : (guarded : Bool) (a : Expression) (p q t : ℕ) → is_guard starts a ≡ guarded
+      → code_size (entry_code guarded (choice_code starts logical.AndThen a p t) (holding_jump (choice_of starts logical.AndThen a t)) q p) + code_size (choice_code starts logical.AndThen a q t) ≤ 11 + size_per_weight * expression_weight a
+  tested_loop_size true a p q t guarded =
       let front = choice_code starts logical.AndThen a p t in
-      omega (arith, both front (holding_jump (choice_of starts logical.AndThen a t) (p + length front + 1 + 1) ∷ []), simple_choice_size logical.AndThen a p t simple, simple_choice_size logical.AndThen a q t simple)
-  tested_loop_size false a p q t simple = omega (arith, choice_size logical.AndThen a q t)
+      omega (arith, both front (holding_jump (choice_of starts logical.AndThen a t) (p + length front + 1 + 1) ∷ []), guard_choice_size logical.AndThen a p t guarded, guard_choice_size logical.AndThen a q t guarded)
+  tested_loop_size false a p q t guarded = omega (arith, choice_size logical.AndThen a q t)
 
   return_size : (v : Option Converted) (p : ℕ) (exits : Exits) (t : ℕ) → code_size (return_code starts v p exits t) ≤ size_per_weight * statement_weight (Return v)
   return_size None p exits t = omega (arith, both (leave_code exits.in_function) (instructions.Finish t ∷ []), leave_size exits.in_function)
@@ -885,6 +956,10 @@ module _ (starts : Starts) where
   caught_size : (x : Option ℕ) (t : ℕ) → code_size (caught_code starts x t) ≤ 6
   caught_size None t = omega arith
   caught_size (Some n) t = omega arith
+
+  over_size : (last : Bool) (target : ℕ) → code_size (over_code last target) ≤ 2
+  over_size true target = omega arith
+  over_size false target = omega arith
 
   else_size : (t : Statement) (p : ℕ) (exits : Exits) (d : ℕ) → code_size (statement_code starts t p exits d) ≤ size_per_weight * statement_weight t → code_size (statement_code starts t p exits d) ≤ size_per_weight * else_weight t (statement_weight t)
   else_size Empty p exits d bound = omega arith
@@ -954,27 +1029,29 @@ module _ (starts : Starts) where
         let condition = choice_code starts logical.OrElse a p t in
         let m = p + length condition in
         let first = statement_code starts s (m + 1) exits t in
-        let r = m + 1 + length first in
-        let second = statement_code starts u (r + 1) exits t in
-        let jump_first = failing_jump (choice_of starts logical.OrElse a t) (r + 1) ∷ first in
-        let jump_second = instructions.Jump (r + 1 + length second) ∷ second in
+        let last = is_nothing u in
+        let r = m + 1 + length first + over_length last in
+        let second = statement_code starts u r exits t in
+        let jump_first = failing_jump (choice_of starts logical.OrElse a t) r ∷ first in
+        let over = over_code last (r + length second) in
         omega (
           arith,
-          both (condition ++ jump_first) jump_second,
+          both (condition ++ jump_first) (over ++ second),
           both condition jump_first,
-          cons (failing_jump (choice_of starts logical.OrElse a t) (r + 1)) first,
-          cons (instructions.Jump (r + 1 + length second)) second,
+          both over second,
+          over_size last (r + length second),
+          cons (failing_jump (choice_of starts logical.OrElse a t) r) first,
           choice_size logical.OrElse a p t,
           statement_size s (m + 1) exits t,
-          else_size u (r + 1) exits t (statement_size u (r + 1) exits t),
+          else_size u r exits t (statement_size u r exits t),
         )
     statement_size (While w a s) p exits t =
-        let simple = is_simple starts a in
-        let l = p + entry_length simple (choice_code starts logical.AndThen a p t) in
+        let guarded = is_guard starts a in
+        let l = p + entry_length guarded (choice_code starts logical.AndThen a p t) in
         let body = statement_code starts s (body_target l) (inside_loop p l exits) t in
         let m = body_target l + length body in
         let condition = choice_code starts logical.AndThen a m t in
-        let entry = entry_code simple (choice_code starts logical.AndThen a p t) (holding_jump (choice_of starts logical.AndThen a t)) m p in
+        let entry = entry_code guarded (choice_code starts logical.AndThen a p t) (holding_jump (choice_of starts logical.AndThen a t)) m p in
         let test = holding_jump (choice_of starts logical.AndThen a t) (body_target l) ∷ [] in
         let rest = (body ++ condition) ++ test in
         let exit = instructions.Jump (m + length condition + 1) in
@@ -984,7 +1061,7 @@ module _ (starts : Starts) where
           cons exit rest,
           both (body ++ condition) test,
           both body condition,
-          tested_loop_size simple a p m t refl,
+          tested_loop_size guarded a p m t refl,
           statement_size s (body_target l) (inside_loop p l exits) t,
         )
     statement_size (Return v) p exits d = return_size v p exits d
@@ -1066,4 +1143,7 @@ pub function_size : (structs : List StructType) (globals : List ℕ) (scopes : O
 function_size structs globals scopes h =
     let d = first_temporary h in
     let starts = starts_with (raises_of structs globals scopes h) structs globals scopes h in
-    omega (arith, both (items_code starts h.body 0 outside_loops d) (instructions.Finish d ∷ blocks), items_size starts h.body 0 outside_loops d)
+    let body = items_code starts h.body 0 outside_loops d in
+    let count = farthest body - raises_of structs globals scopes h in
+    let some = take count blocks in
+    omega (arith, both body (instructions.Finish d ∷ some), cons (instructions.Finish d) some, taken_size count blocks, items_size starts h.body 0 outside_loops d)

@@ -25,15 +25,15 @@ use Rattle.cyc_lower.specs.Slots.{starts_of, slot_of, Types, global_of}
 use Rattle.cyc_lower.specs.ValueCode.{passed_words, operand_or, slot_or, code_unless_slot, left_with, conversion_code, failing_comparison, span_of, word_by_word, global_code, keeps_words, kind_passed}
 use Rattle.cyc_lower.specs.ObjectCode.{right_slot, load_at}
 use Rattle.cyc_lower.specs.declared.operands.Condition.{Condition}
-use Rattle.cyc_lower.specs.ControlCode.{compared_or, failing_jump, holding_jump, deciding_jump, are_tests, body_target, inside_loop, leave_code, tag_operand, clause_code, opened_code, closed_code, named_code, dynamic_code, handlers_code, marks_code, kept_code, kept_code_in, restored_code, restored_code_in, behind_record, behind_record_in, inside_try, inside_region, outermost, entry_code, entry_length}
+use Rattle.cyc_lower.specs.ControlCode.{compared_or, failing_jump, holding_jump, deciding_jump, are_tests, body_target, inside_loop, leave_code, tag_operand, clause_code, opened_code, closed_code, named_code, dynamic_code, handlers_code, marks_code, kept_code, kept_code_in, restored_code, restored_code_in, behind_record, behind_record_in, inside_try, inside_region, outermost, entry_code, entry_length, is_nothing, over_code, over_length}
 use Rattle.cyc_lower.specs.ExpressionCode.{source_of, operand_of, value_slot, slot_with, value_operand, converted_operand, printed_operand, expression_code, converted_operand_code, printed_code, brought_code, is_simple}
-use Rattle.cyc_lower.specs.Lowering.{spare_slots, assignment_code, discarded_code, first_operand, first_code, second_code, pair_code, condition_code, condition_of, others_code, last_condition, tests_code, behind_tests, choice_code, choice_of, return_code, declaration_code, statement_code, items_code, results_of, side_code, read_side, write_side, exchange_code, swap_code, thrown_code, thrown_operand, caught_code, clauses_code}
+use Rattle.cyc_lower.specs.Lowering.{spare_slots, assignment_code, discarded_code, first_operand, first_code, second_code, pair_code, condition_code, condition_of, others_code, last_condition, tests_code, behind_tests, choice_code, choice_of, return_code, declaration_code, statement_code, items_code, results_of, side_code, read_side, write_side, exchange_code, swap_code, thrown_code, thrown_operand, caught_code, clauses_code, is_guard}
 use Rattle.cyc_lower.proofs.slots.Widths.{kind_positive, kind_few, type_words, words_in, HasRoom, keeps_wide}
 use Rattle.cyc_lower.proofs.relation.Fitting.{FitsPlace, Fits, FitOperations, FitsConverted, FitsReturn, FitsInitial, FitsStatement, FitItems, FitsSide, FitsThrown, FitsCaught, FitClauses}
 use Rattle.cyc_types.specs.typing.Expressions.{type_of_side}
 use Rattle.cyc_lower.proofs.slots.Slots.{words_positive, global-room, global-inside}
 use Rattle.cyc_lower.specs.declared.statements.Opened.{Opened}
-use Rattle.cyc_lower.proofs.emission.Loops.{entry_long}
+use Rattle.cyc_lower.proofs.emission.Loops.{entry_long, over_long}
 use Rattle.cyc_lower.proofs.sizes.RangeLemmas.{operand_positive, converted_few, results_few, IsKnown, AreGlobals}
 use Rattle.cyc_lower.proofs.sizes.ValueRanges.{AreIn, append, unless_in, unless_slot_in, kind_at, HasOperand, slot_fits, value_room, value_in, converted_room, printed_value_in, move_in, slot_with_in, left_with_in, conversion_in, loads_in, global_in, assigned_in, stores_in, addressed_in, stored_in, load_of_in, blank_in}
 use Rattle.cyc_lower.proofs.emission.Conditions.{tests_same}
@@ -362,13 +362,17 @@ module _ (program : PlainProgram) (r : Routine) (b : Numbering) (types : Types) 
       ((loop_record, mark_behind exits.in_loop.mark slot loop_mark room), (first_record, mark_behind exits.in_function.mark slot first_mark room))
 
   -- what leads into a loop, whose body and condition stand before the end
-  entry_in : (simple : Bool) (a : Expression) (p t test : ℕ) → Fits b types a → t + expression_need a + spare_slots ≤ r.slots
-      → (p + entry_length simple (choice_code (starts_of types) logical.AndThen a p t) + 1 < length r.code) × (test < length r.code)
-      → AreIn program r b types locals levels globals called results behind (entry_code simple (choice_code (starts_of types) logical.AndThen a p t) (holding_jump (choice_of (starts_of types) logical.AndThen a t)) test p)
+  entry_in : (guarded : Bool) (a : Expression) (p t test : ℕ) → Fits b types a → t + expression_need a + spare_slots ≤ r.slots
+      → (p + entry_length guarded (choice_code (starts_of types) logical.AndThen a p t) + 1 < length r.code) × (test < length r.code)
+      → AreIn program r b types locals levels globals called results behind (entry_code guarded (choice_code (starts_of types) logical.AndThen a p t) (holding_jump (choice_of (starts_of types) logical.AndThen a t)) test p)
   entry_in true a p t test numbered few (short, there) =
       let (left, right) = chosen_in logical.AndThen a t numbered (omega (arith, few)) in
       append program r b types locals levels globals called results behind (choice_code (starts_of types) logical.AndThen a p t) _ (choice_in logical.AndThen a p t numbered (omega (arith, few)) (omega (arith, short))) ((left, right, omega (arith, short)), tt)
   entry_in false a p t test numbered few (short, there) = (there, tt)
+
+  over_in : (last : Bool) (target : ℕ) → target < length r.code → AreIn program r b types locals levels globals called results behind (over_code last target)
+  over_in true target inside = tt
+  over_in false target inside = (inside, tt)
 
   mutual
     statement_in : (s : Statement) (in_loop : Bool) (p : ℕ) (exits : Exits) (t : ℕ) → FitsStatement b types in_loop s → (in_loop ≡ true → (exits.head < length r.code) × (exits.leaving < length r.code)) → HasExits exits → t + kept_by s + statement_need s + spare_slots ≤ r.slots → p + length (statement_code (starts_of types) s p exits t) < length r.code → AreIn program r b types locals levels globals called results behind (statement_code (starts_of types) s p exits t)
@@ -380,35 +384,38 @@ module _ (program : PlainProgram) (r : Routine) (b : Numbering) (types : Types) 
         let condition = choice_code (starts_of types) logical.OrElse a p t in
         let m = p + length condition in
         let first = statement_code (starts_of types) s (m + 1) exits t in
-        let q = m + 1 + length first in
-        let second = statement_code (starts_of types) u (q + 1) exits t in
-        let jump_first = failing_jump (choice_of (starts_of types) logical.OrElse a t) (q + 1) ∷ first in
-        let jump_second = instructions.Jump (q + 1 + length second) ∷ second in
-        let long = length-append (condition ++ jump_first) jump_second in
+        let last = is_nothing u in
+        let q = m + 1 + length first + over_length last in
+        let second = statement_code (starts_of types) u q exits t in
+        let jump_first = failing_jump (choice_of (starts_of types) logical.OrElse a t) q ∷ first in
+        let over = over_code last (q + length second) in
+        let long = length-append (condition ++ jump_first) (over ++ second) in
         let long_front = length-append condition jump_first in
+        let long_back = length-append over second in
+        let long_over = over_long last (q + length second) in
         let (left, right) = chosen_in logical.OrElse a t numbered_a (omega (arith, few)) in
-        append program r b types locals levels globals called results behind (condition ++ jump_first) jump_second
+        append program r b types locals levels globals called results behind (condition ++ jump_first) (over ++ second)
         (append program r b types locals levels globals called results behind condition jump_first (choice_in logical.OrElse a p t numbered_a (omega (arith, few)) (omega (arith, short, long, long_front)))
-        ((left, right, omega (arith, short, long, long_front)), statement_in s in_loop (m + 1) exits t numbered_s around outside (omega (arith, few)) (omega (arith, short, long, long_front))))
-        (omega (arith, short, long, long_front), statement_in u in_loop (q + 1) exits t numbered_u around outside (omega (arith, few)) (omega (arith, short, long, long_front)))
+        ((left, right, omega (arith, short, long, long_front, long_back, long_over)), statement_in s in_loop (m + 1) exits t numbered_s around outside (omega (arith, few)) (omega (arith, short, long, long_front, long_back, long_over))))
+        (append program r b types locals levels globals called results behind over second (over_in last (q + length second) (omega (arith, short, long, long_front, long_back, long_over))) (statement_in u in_loop q exits t numbered_u around outside (omega (arith, few)) (omega (arith, short, long, long_front, long_back, long_over))))
     statement_in (While w a s) in_loop p exits t (numbered_a, numbered_s) around outside few short =
-        let simple = is_simple (starts_of types) a in
+        let guarded = is_guard (starts_of types) a in
         let first = choice_code (starts_of types) logical.AndThen a p t in
         let jump : ℕ → Instruction = λ n. holding_jump (choice_of (starts_of types) logical.AndThen a t) n in
-        let l = p + entry_length simple first in
+        let l = p + entry_length guarded first in
         let inside = inside_loop p l exits in
         let body = statement_code (starts_of types) s (body_target l) inside t in
         let m = body_target l + length body in
         let condition = choice_code (starts_of types) logical.AndThen a m t in
-        let entry = entry_code simple first jump m p in
+        let entry = entry_code guarded first jump m p in
         let test = jump (body_target l) ∷ [] in
         let leave = instructions.Jump (m + length condition + 1) in
         let long = length-append (body ++ condition) test in
         let long_front = length-append body condition in
         let whole = length-append entry (leave ∷ ((body ++ condition) ++ test)) in
-        let entered = entry_long simple first jump m p in
+        let entered = entry_long guarded first jump m p in
         let (left, right) = chosen_in logical.AndThen a t numbered_a (omega (arith, few)) in
-        append program r b types locals levels globals called results behind entry (leave ∷ ((body ++ condition) ++ test)) (entry_in simple a p t m numbered_a (omega (arith, few)) (omega (arith, short, long, long_front, whole, entered), omega (arith, short, long, long_front, whole, entered))) (
+        append program r b types locals levels globals called results behind entry (leave ∷ ((body ++ condition) ++ test)) (entry_in guarded a p t m numbered_a (omega (arith, few)) (omega (arith, short, long, long_front, whole, entered), omega (arith, short, long, long_front, whole, entered))) (
           omega (arith, short, long, long_front, whole, entered),
           append program r b types locals levels globals called results behind (body ++ condition) test
               (append program r b types locals levels globals called results behind body condition

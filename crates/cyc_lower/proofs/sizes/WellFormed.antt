@@ -1,28 +1,27 @@
 -- The lowered program is well formed: all that its instructions name is there, and its frames have room.
-use Rattle.std.proofs.Common.{◌≡◌, ℕ, zero, suc, ◌≤◌, ◌<◌, true, false, List, [], ◌∷◌, ◌++◌, length, map, Option, Some, slice_get, slice_index_or, IsSomeAnd, refl, sym, ap, subst, arith, length-append}
+use Rattle.std.proofs.Common.{◌≡◌, ℕ, zero, suc, ◌≤◌, ◌<◌, ◌-◌, true, false, List, [], ◌∷◌, length, map, take, Option, Some, slice_get, slice_index_or, refl, ap, arith, length-append}
 use Rattle.std.specs.List.{AllByRecursion}
 use Rattle.std.proofs.lemmas.Option.{same_Some, none-some}
 use Rattle.cyc_types.specs.TypedTrees.{Signature, StructType, Function, Program}
 use Rattle.cyc_types.specs.typing.WellTyped.{signature_of}
 use Rattle.cyc_types.specs.Numbered.{signatures_of, numbering_of}
-use Rattle.cyc_plain.specs.declared.instruction.Instruction.{Instruction}
 use Rattle.cyc_plain.specs.declared.instruction.Instruction.TheVariants as instructions
-use Rattle.cyc_plain.specs.Program.{no_routine}
+use Rattle.cyc_plain.specs.Program.{Routine, no_routine}
 use Rattle.cyc_plain.specs.declared.limits.TheConstants.{MOST_GLOBALS}
-use Rattle.cyc_plain.specs.WellFormed.{IsInRange, IsRoutine, IsWellFormed, leaves}
+use Rattle.cyc_plain.specs.WellFormed.{IsInRange, IsRoutine, IsWellFormed}
 use Rattle.std.proofs.lemmas.List.Elements.{All-from_recursion}
 use Rattle.cyc_words.proofs.Lists.{all_append}
 use Rattle.cyc_meaning.specs.FrameCount.{words_of_all}
 use Rattle.cyc_lower.specs.Slots.{starts_of, global_types}
 use Rattle.cyc_lower.specs.ValueCode.{first_temporary, blocks, slot_types}
 use Rattle.cyc_lower.specs.ControlCode.{outside_loops}
-use Rattle.cyc_lower.specs.Lowering.{types_of, items_code, results_of, lower_function, lower_program, globals_of, scopes_of, function_code}
+use Rattle.cyc_lower.specs.Lowering.{types_of, items_code, results_of, lower_function, lower_program, globals_of, scopes_of, function_code, farthest, with_blocks}
 use Rattle.cyc_lower.proofs.relation.Fitting.{FitItems, AreFitting, IsFitting}
 use Rattle.cyc_lower.specs.Words.{AreOfWordsItems, AreOfWordsFunctions, IsOfWordsProgram}
 use Rattle.cyc_lower.proofs.sizes.WordLemmas.{no_return}
 use Rattle.cyc_lower.proofs.emission.Lengths.{body_long}
 use Rattle.cyc_lower.proofs.slots.Slots.{slot-room, slot_types-many, slots-few, globals_counted}
-use Rattle.cyc_lower.proofs.sizes.RangeLemmas.{last_behind, results_few, IsKnown, AreGlobals, TakesLocal, IsIn, in_range, takes_locals}
+use Rattle.cyc_lower.proofs.sizes.RangeLemmas.{results_few, IsKnown, AreGlobals, TakesLocal, IsIn, in_range, takes_locals, all_cut, blocks_in, blocks_many, end_leaves}
 use Rattle.cyc_lower.proofs.sizes.StatementRanges.{items_in}
 
 -- ---- functions
@@ -54,29 +53,37 @@ module _ (source : Program) (is_fitting : IsFitting source) where
       → AllByRecursion (IsIn (lower_program source) (lower_function source.structs (globals_of source) (scopes_of source) h) (slot_types h)) (function_code source.structs (globals_of source) (scopes_of source) h)
   code_in h words numbered_body =
       let d = first_temporary h in
-      let r = lower_function source.structs (globals_of source) (scopes_of source) h in
+      let scopes = scopes_of source in
+      let r = lower_function source.structs (globals_of source) scopes h in
       let b = numbering_of (length source.globals) (signatures_of source.functions) h in
-      let types = types_of source.structs (global_types source.globals) (scopes_of source) h in
+      let types = types_of source.structs (global_types source.globals) scopes h in
       let body = items_code (starts_of types) h.body 0 outside_loops d in
-      let end = instructions.Finish d ∷ blocks in
-      let long = length-append body end in
-      let placed = body_long source.structs (globals_of source) (scopes_of source) h in
+      let count = farthest body - types.raises in
+      let end = instructions.Finish d ∷ take count blocks in
+      let all = with_blocks body d 4 in
+      let whole : Routine = record r { code = all } in
+      let placed = body_long source.structs (globals_of source) scopes h in
+      let long = length-append body (instructions.Finish d ∷ blocks) in
+      let short = length-append body end in
+      let inside = items_in (lower_program source) whole b types (λ n within. omega (arith, slot-room types n (omega (arith, within, slot_types-many h)))) (λ l slot there. absurd (none-some slot there)) known_globals known_functions refl (omega (arith, long, placed)) (no_return source.structs (globals_of source) scopes h 4 words)
+      h.body false 0 outside_loops d numbered_body (λ inside. absurd (let f : false ≡ true = inside in cc)) ((tt, tt), (tt, tt)) (omega arith) (omega (arith, long)) in
+      let reaches : (t : ℕ) → t ≤ farthest body → t < length all → t < length r.code = λ t least within. omega (arith, least, within, long, short, placed, blocks_many count) in
       all_append (IsIn (lower_program source) r (slot_types h)) body end
-      (items_in (lower_program source) r b types (λ n within. omega (arith, slot-room types n (omega (arith, within, slot_types-many h)))) (λ l slot there. absurd (none-some slot there)) known_globals known_functions refl (omega (arith, long, placed)) (no_return source.structs (globals_of source) (scopes_of source) h words)
-      h.body false 0 outside_loops d numbered_body (λ inside. absurd (let f : false ≡ true = inside in cc)) ((tt, tt), (tt, tt)) (omega arith) (omega (arith, long)))
-      (omega (arith, results_few h.result), ((tt, tt), ((tt, tt), ((tt, tt), ((tt, tt), tt)))))
+      (all_cut (lower_program source) r all (slot_types h) (farthest body) reaches (no_return source.structs (globals_of source) scopes h count words) body (omega arith) inside)
+      (omega (arith, results_few h.result), blocks_in (lower_program source) r (slot_types h) count)
 
   function_well : (h : Function) → AreOfWordsItems h.body → FitItems (numbering_of (length source.globals) (signatures_of source.functions) h) (types_of source.structs (global_types source.globals) (scopes_of source) h) false h.body → IsRoutine (lower_program source) (lower_function source.structs (globals_of source) (scopes_of source) h)
   function_well h words numbered_body =
       let r = lower_function source.structs (globals_of source) (scopes_of source) h in
-      let body = items_code (starts_of (types_of source.structs (global_types source.globals) (scopes_of source) h)) h.body 0 outside_loops (first_temporary h) in
-      let end = instructions.Finish (first_temporary h) ∷ blocks in
+      let types = types_of source.structs (global_types source.globals) (scopes_of source) h in
+      let body = items_code (starts_of types) h.body 0 outside_loops (first_temporary h) in
+      let code = function_code source.structs (globals_of source) (scopes_of source) h in
       record {
         parameters = omega (arith, slots-few h);
         results = omega (arith, results_few h.result);
         frame = omega (arith, slots-few h);
-        instructions = All-from_recursion (IsInRange (lower_program source) r) (body ++ end) (in_range (lower_program source) r (slot_types h) (body ++ end) (code_in h words numbered_body));
-        last = subst (λ (o : Option Instruction). IsSomeAnd o (λ i. leaves i ≡ true)) (sym (last_behind body end (omega arith))) refl;
+        instructions = All-from_recursion (IsInRange (lower_program source) r) code (in_range (lower_program source) r (slot_types h) code (code_in h words numbered_body));
+        last = end_leaves body (first_temporary h) (farthest body - types.raises);
       }
 
   -- it takes the addresses of locals alone

@@ -1,6 +1,6 @@
 -- A lowered program has words wherever its source has.
 use Rattle.cyc_types.specs.typing.Expressions.{type_of_side}
-use Rattle.std.proofs.Common.{◌≡◌, ℕ, zero, suc, ◌+◌, ◌*◌, ◌≤◌, max, Bool, true, false, List, [], ◌∷◌, ◌++◌, length, map, Option, None, Some, All, refl, arith, slice_get, ◌-◌}
+use Rattle.std.proofs.Common.{◌≡◌, ℕ, zero, suc, ◌+◌, ◌*◌, ◌≤◌, max, Bool, true, false, List, [], ◌∷◌, ◌++◌, length, map, take, Option, None, Some, All, refl, arith, slice_get, ◌-◌}
 use Rattle.cyc_meaning.specs.Operators.{null_exception, division_by_zero, array_bounds}
 use Rattle.std.specs.List.{AllByRecursion}
 use Rattle.cyc_words.proofs.WordLemmas.{IsWord-add_of}
@@ -38,9 +38,9 @@ use Rattle.cyc_meaning.specs.Values.{words_of_kind, bytes_of_kind, begins, behin
 use Rattle.cyc_lower.specs.ValueCode.{converts_there, passed_words, kinds_passed, converted_by, moved_by, move_of, operand_or, code_unless, slot_or, code_unless_slot, left_with, next_slot, check_code, conversion_code, divisor_code, checked_code, operator_code, truth_code, test_code, is_in, copy_code, failing_comparison, first_temporary, behind_left, pointer_code, index_of, first_two, pointer_instructions, address_code, addressed_by, guard_code, blocks, element_by, count_code, span_of, tested_code, widened_code, conversion_by, tested_by, bounds_code, stepped_code, scaled_code, summed_code, bounded_code, thinned_code, reached_code, followed_code, followed_operand, followed_by, span_in, reached_operand, word_by_word, load_word, store_word, global_code, keeps_words, scale_of, load_of, store_of, unary_instruction, last_byte_code, blank_code, kind_behind, kind_passed, variable_bytes, masks, masked_by, low_byte, inside_code}
 use Rattle.cyc_lower.specs.ObjectCode.{begun_code, filled_code, ended_code, elements_code, stores_code, cells_code, slots_of_kinds, object_code, right_slot, saved_code, asked_code, load_at, measured_code, sized_code, most_elements}
 use Rattle.cyc_lower.specs.declared.operands.Condition.{Condition}
-use Rattle.cyc_lower.specs.ControlCode.{counter_operand, compared_or, compared_of, deciding_jump, are_tests, outside_loops, inside_loop, leave_code, clause_code, opened_code, closed_code, named_code, dynamic_code, handlers_code, marks_code, kept_code, kept_code_in, restored_code, restored_code_in, behind_record, inside_try, inside_region, body_target, entry_code, entry_length, holding_jump}
+use Rattle.cyc_lower.specs.ControlCode.{counter_operand, compared_or, compared_of, deciding_jump, are_tests, outside_loops, inside_loop, leave_code, clause_code, opened_code, closed_code, named_code, dynamic_code, handlers_code, marks_code, kept_code, kept_code_in, restored_code, restored_code_in, behind_record, inside_try, inside_region, body_target, entry_code, entry_length, holding_jump, is_nothing, over_code, over_length}
 use Rattle.cyc_lower.specs.ExpressionCode.{source_of, source_slot, operand_of, left_of, value_slot, left_slot, value_operand, converted_operand, printed_operand, load_code, expression_code, arguments_code, converted_code, converted_operand_code, printed_code, initial_code, operations_code, slot_with, made_code, place_operand, place_offset, place_code, pointer_of, pointer_slot, brought_code, is_simple}
-use Rattle.cyc_lower.specs.Lowering.{assignment_code, discarded_code, first_code, second_code, pair_code, condition_code, condition_of, others_code, last_condition, tests_code, behind_tests, choice_code, choice_of, return_code, declaration_code, statement_code, items_code, initial_word, lower_function, lower_program, store_address_code, store_code, caught_code, clauses_code, function_code, side_code, read_side, write_side, exchange_code, swap_code, globals_of, lower_globals, starts_with, raises_of, scopes_of}
+use Rattle.cyc_lower.specs.Lowering.{assignment_code, discarded_code, first_code, second_code, pair_code, condition_code, condition_of, others_code, last_condition, tests_code, behind_tests, choice_code, choice_of, return_code, declaration_code, statement_code, items_code, initial_word, lower_function, lower_program, store_address_code, store_code, caught_code, clauses_code, function_code, side_code, read_side, write_side, exchange_code, swap_code, globals_of, lower_globals, starts_with, raises_of, scopes_of, body_code, farthest, with_blocks, is_guard}
 use Rattle.cyc_lower.proofs.slots.Widths.{kind_few}
 use Rattle.cyc_lower.proofs.slots.CellBytes.{begins_within, behind_within, bytes_within, passed_slots}
 use Rattle.cyc_lower.specs.declared.statements.Opened.{Opened}
@@ -169,6 +169,11 @@ operator_words starts operators.Remainder l r d left right = checked_words start
 operator_words starts o l r d left right = ((left, right), tt)
 
 -- what raises exceptions, behind a function's body
+taken_words : (n : ℕ) (code : List Instruction) → HaveWords code → HaveWords (take n code)
+taken_words zero code words = tt
+taken_words (suc n) [] words = tt
+taken_words (suc n) (i ∷ code) (first, rest) = (first, taken_words n code rest)
+
 blocks_words : HaveWords blocks
 blocks_words = ((omega arith, omega arith), ((omega arith, omega arith), ((omega arith, omega arith), ((omega arith, omega arith), tt))))
 
@@ -798,7 +803,11 @@ module _ (starts : Starts) where
   caught_words None t = tt
   caught_words (Some n) t = (tt, tt)
 
-  entry_words : (simple : Bool) (a : Expression) (p t test : ℕ) → IsOfWords a → HaveWords (entry_code simple (choice_code starts logical.AndThen a p t) (holding_jump (choice_of starts logical.AndThen a t)) test p)
+  over_words : (last : Bool) (target : ℕ) → HaveWords (over_code last target)
+  over_words true target = tt
+  over_words false target = (tt, tt)
+
+  entry_words : (guarded : Bool) (a : Expression) (p t test : ℕ) → IsOfWords a → HaveWords (entry_code guarded (choice_code starts logical.AndThen a p t) (holding_jump (choice_of starts logical.AndThen a t)) test p)
   entry_words true a p t test words = append (choice_code starts logical.AndThen a p t) _ (choice_words logical.AndThen a p t words) (choice_word logical.AndThen a t words, tt)
   entry_words false a p t test words = (tt, tt)
 
@@ -812,16 +821,20 @@ module _ (starts : Starts) where
         let condition = choice_code starts logical.OrElse a p t in
         let m = p + length condition in
         let first_part = statement_code starts s (m + 1) exits t in
-        let q = m + 1 + length first_part in
-        append (condition ++ _ ∷ first_part) (_ ∷ statement_code starts u (q + 1) exits t)
-        (append condition (_ ∷ first_part) (choice_words logical.OrElse a p t first) (choice_word logical.OrElse a t first, statement_words s (m + 1) exits t second)) (tt, statement_words u (q + 1) exits t third)
+        let last = is_nothing u in
+        let q = m + 1 + length first_part + over_length last in
+        let second_part = statement_code starts u q exits t in
+        let over = over_code last (q + length second_part) in
+        append (condition ++ _ ∷ first_part) (over ++ second_part)
+        (append condition (_ ∷ first_part) (choice_words logical.OrElse a p t first) (choice_word logical.OrElse a t first, statement_words s (m + 1) exits t second))
+        (append over second_part (over_words last (q + length second_part)) (statement_words u q exits t third))
     statement_words (While w a s) p exits t (first, second) =
-        let simple = is_simple starts a in
-        let l = p + entry_length simple (choice_code starts logical.AndThen a p t) in
+        let guarded = is_guard starts a in
+        let l = p + entry_length guarded (choice_code starts logical.AndThen a p t) in
         let body = statement_code starts s (body_target l) (inside_loop p l exits) t in
         let r = body_target l + length body in
         let condition = choice_code starts logical.AndThen a r t in
-        append (entry_code simple (choice_code starts logical.AndThen a p t) (holding_jump (choice_of starts logical.AndThen a t)) r p) _ (entry_words simple a p t r first) (
+        append (entry_code guarded (choice_code starts logical.AndThen a p t) (holding_jump (choice_of starts logical.AndThen a t)) r p) _ (entry_words guarded a p t r first) (
           tt,
           append (body ++ condition) _ (append body condition (statement_words s (body_target l) (inside_loop p l exits) t second) (choice_words logical.AndThen a r t first)) (choice_word logical.AndThen a t first, tt),
         )
@@ -876,16 +889,24 @@ module _ (starts : Starts) where
         ((tt, omega arith), append (caught ++ items) (instructions.Jump out ∷ []) (append caught items (caught_words x t) (items_words js (p + 1 + length caught) exits t first)) (tt, tt))
         (clauses_words cs (p + length clause) out exits t rest)
 
-function_words : (structs : List StructType) (globals : List ℕ) (scopes : Option ℕ) (h : Function) → AreOfWordsItems h.body → HaveWords (function_code structs globals scopes h)
-function_words structs globals scopes h words =
+-- the code of a function with so many blocks behind it
+abbrev pub body_with : (structs : List StructType) (globals : List ℕ) (scopes : Option ℕ) (h : Function) (count : ℕ) → List Instruction
+body_with structs globals scopes h count = with_blocks (body_code (starts_with (raises_of structs globals scopes h) structs globals scopes h) h) (first_temporary h) count
+
+body_words : (structs : List StructType) (globals : List ℕ) (scopes : Option ℕ) (h : Function) (n : ℕ) → AreOfWordsItems h.body → HaveWords (body_with structs globals scopes h n)
+body_words structs globals scopes h n words =
     let d = first_temporary h in
     let starts = starts_with (raises_of structs globals scopes h) structs globals scopes h in
-    append (items_code starts h.body 0 outside_loops d) (instructions.Finish d ∷ blocks) (items_words starts h.body 0 outside_loops d words) (tt, blocks_words)
+    append (items_code starts h.body 0 outside_loops d) (instructions.Finish d ∷ take n blocks) (items_words starts h.body 0 outside_loops d words) (tt, taken_words n blocks blocks_words)
+
+function_words : (structs : List StructType) (globals : List ℕ) (scopes : Option ℕ) (h : Function) → AreOfWordsItems h.body → HaveWords (function_code structs globals scopes h)
+function_words structs globals scopes h words =
+    body_words structs globals scopes h (farthest (body_code (starts_with (raises_of structs globals scopes h) structs globals scopes h) h) - raises_of structs globals scopes h) words
 
 -- no function returns while handlers are open
-pub no_return : (structs : List StructType) (globals : List ℕ) (scopes : Option ℕ) (h : Function) → AreOfWordsItems h.body → All (λ i. is_return i ≡ false) (function_code structs globals scopes h)
-no_return structs globals scopes h words =
-    All-from_recursion (λ i. is_return i ≡ false) (function_code structs globals scopes h) (all_told IsMade (λ i. is_return i ≡ false) made_no_return (function_code structs globals scopes h) (function_words structs globals scopes h words))
+pub no_return : (structs : List StructType) (globals : List ℕ) (scopes : Option ℕ) (h : Function) (n : ℕ) → AreOfWordsItems h.body → All (λ i. is_return i ≡ false) (body_with structs globals scopes h n)
+no_return structs globals scopes h n words =
+    All-from_recursion (λ i. is_return i ≡ false) (body_with structs globals scopes h n) (all_told IsMade (λ i. is_return i ≡ false) made_no_return (body_with structs globals scopes h n) (body_words structs globals scopes h n words))
 
 functions_words : (structs : List StructType) (globals : List ℕ) (scopes : Option ℕ) (hs : List Function) → AreOfWordsFunctions hs → AllByRecursion (λ r. All HasWord r.code) (map (lower_function structs globals scopes) hs)
 functions_words structs globals scopes [] words = tt

@@ -1,4 +1,4 @@
-use Rattle.std.proofs.Common.{◌≡◌, ℕ, ◌+◌, List, map, ap, ◌∙◌, arith, []}
+use Rattle.std.proofs.Common.{◌≡◌, ℕ, ◌+◌, ◌-◌, List, map, ap, ◌∙◌, arith, []}
 use Rattle.cyc_types.specs.declared.typed.Item.{Item}
 use Rattle.cyc_types.specs.TypeView.{view_ty}
 use Rattle.cyc_types.specs.TypedTreeView.{view_struct, view_function, items_of}
@@ -54,13 +54,13 @@ returns c =
     let body = ap (λ (js : List Item). items_need (items_of js)) c.deref-5.ensures.value in
     let kept = ap (λ (js : List Item). kept_by_items (items_of js)) c.deref-4.ensures.value in
     let slots : free + c.kept_by_items.result + c.items_need.result + 3 ≡ first_temporary h + kept_by_items h.body + items_need h.body + 3 = omega (arith, c.in_ok-locals.ensures.1, c.kept_by_items.ensures, kept, c.items_need.ensures, body) in
-    let code : c.lower_blocks.new.self.code.items ≡ function_code structs globals scopes h =
-    function_made structs globals scopes h c.in_ok-locals.locals.items free raises c.in_ok-lower_body.field-0.code.items c.in_ok-emitter.emitter.code.items c.emit.new.self.code.items c.lower_blocks.new.self.code.items
+    let code : c.take_back.new.self.code.items ≡ function_code structs globals scopes h =
+    function_made structs globals scopes h c.in_ok-locals.locals.items free raises (c.place.result + c.min-count.result) c.saturating_sub.result c.min-count.result c.in_ok-lower_body.field-0.code.items c.in_ok-emitter.emitter.code.items c.emit.new.self.code.items c.lower_blocks.new.self.code.items c.take_back.new.self.code.items
     c.in_ok-locals.ensures.0 c.in_ok-locals.ensures.1
     (c.in_ok-lower_body.ensures ∙ ap (λ (l : List ℕ). items_code (record { locals = l; structs = structs; raises = 0; counters = []; globals = globals; scopes = scopes }) h.body 0 outside_loops free) c.deref.ensures.value)
     c.place-raises.ensures
     (c.in_ok-emitter.ensures ∙ ap (λ (l : List ℕ). items_code (record { locals = l; structs = structs; raises = raises; counters = []; globals = globals; scopes = scopes }) h.body 0 outside_loops free) c.deref-2.ensures.value)
-    c.in_ok-emit.ensures c.in_ok-lower_blocks.ensures in
+    (c.saturating_sub.ensures ∙ ap (λ (n : ℕ). n - raises) c.farthest.ensures) c.min-count.ensures c.in_ok-emit.ensures (ap (λ (n : ℕ). n + c.min-count.result) c.place.ensures) c.in_ok-lower_blocks.ensures c.take_back.ensures in
     λ i. record {
       name = span_of_place h.place;
       parameters = parameters i;

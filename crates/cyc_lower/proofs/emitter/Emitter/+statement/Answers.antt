@@ -1,21 +1,22 @@
 use borrow.Author.Rules.{rules, get_or_read}
-use Rattle.std.proofs.Common.{ℕ, List, [], ◌∷◌, ◌++◌, length, set, Option, ◌∙◌, refl, ap, arith}
+use Rattle.std.proofs.Common.{ℕ, List, [], ◌∷◌, ◌++◌, length, set, Option, ◌∙◌, refl, sym, ap, arith}
 use Rattle.std.proofs.lemmas.Result.{on_ok_weaker}
 use Rattle.std.proofs.lemmas.List.{length-append}
 use Rattle.cyc_types.specs.declared.ty.Ty.TheFolds as types
+use Rattle.cyc_types.specs.declared.typed.Stmt.{Stmt}
 use Rattle.cyc_types.specs.declared.typed.Item.{Item}
 use Rattle.cyc_types.specs.declared.typed.Item.TheFolds as statements
 use Rattle.cyc_types.specs.declared.typed.Body.{Body}
 use Rattle.cyc_types.specs.TypedTreeView.{view_expression, view_statement, items_of, default_of}
-use Rattle.cyc_meaning.specs.FrameCount.{kept_by_items, kept_by_clauses}
+use Rattle.cyc_meaning.specs.FrameCount.{kept_by, kept_by_items, kept_by_clauses}
 use Rattle.cyc_plain.specs.declared.instruction.Instruction.{Instruction}
 use Rattle.cyc_plain.specs.declared.instruction.Instruction.TheVariants.{Jump, Leave}
-use Rattle.cyc_lower.specs.ControlCode.{other_jump, inside_try}
+use Rattle.cyc_lower.specs.ControlCode.{other_jump, inside_try, is_nothing}
 use Rattle.cyc_lower.specs.Lowering.{items_code, statement_code}
 use Rattle.cyc_lower.specs.declared.statements.Exits.{Exits}
 use Rattle.cyc_lower.specs.declared.statements.Opened.{Opened}
 use Rattle.cyc_lower.specs.Emission.{view_starts}
-use Rattle.cyc_lower.proofs.emission.Branching.{made_block, made_if, item_room, more_items, closes_begin, closes_next, closes_end}
+use Rattle.cyc_lower.proofs.emission.Branching.{made_block, made_if, made_then, made_alone, if_viewed, item_room, more_items, closes_begin, closes_next, closes_end}
 use Rattle.cyc_lower.proofs.emission.Loops.{made_loop, entering_keeps}
 use Rattle.cyc_lower.proofs.emission.Handlers.{kept_of_clause, made_clause, made_clauses, more_clauses, made_handler, record_room, clauses_longer, body_longer}
 use Rattle.cyc_lower.proofs.emission.Emitting.{no_shorter_than}
@@ -48,12 +49,37 @@ lower_statement-returns-in-Block t c =
     (made_block (view_starts c.args.starts.now) c.args.statement.now c.in-Block.region c.in-Block.items c.in-Block.is c.deref.result.now c.deref.ensures.value c.args.self.now.code.items c.lower_items.new.self.code.items c.args.exits c.args.free)
     c.lower_items.ensures
 
+pub lower_then-returns : goal.lower_then-returns
+lower_then-returns t c =
+    made_then (view_starts c.args.starts.now) (view_expression c.args.condition.now) (view_statement c.args.then.now) c.args.exits c.args.free c.in_ok-condition.condition c.in_ok-condition.ensures.0 c.args.self.now.code.items (Jump 0)
+    c.lower_choice.new.self.code.items c.reserve.new.self.code.items c.lower_statement.new.self.code.items c.jump_here_if_failing.new.self.code.items c.in_ok-over.over
+    c.in_ok-condition.ensures.1 c.in_ok-over.ensures.0 c.in_ok-over.ensures.1 c.in_ok-lower_statement.ensures c.jump_here_if_failing.ensures
+
+pub lower_then-lower_statement-requires : goal.lower_then-lower_statement-requires
+lower_then-lower_statement-requires t c =
+    let zero = no_shorter_than c.args.self.now.code.items _ c.lower_choice.new.self.code.items c.in_ok-condition.ensures.1 in
+    let one = no_shorter_than c.lower_choice.new.self.code.items _ c.reserve.new.self.code.items c.in_ok-over.ensures.1 in
+    (search (rules, types.the_lemmas, statements.the_lemmas, get_or_read), (omega (arith, c.requires.slots), omega (arith, zero, one, c.requires.begun)))
+
+pub lower_statement-lower_then-requires : goal.lower_statement-lower_then-requires
+lower_statement-lower_then-requires t c =
+    let tree = if_viewed (view_starts c.args.starts.now) c.args.statement.now c.in-If.condition c.in-If.then c.in-If.otherwise c.in-If.is c.deref-then-is_nothing.result.now c.deref-in-If.result.now c.deref-then-is_nothing.ensures c.deref-in-If.ensures in
+    let kept = ap kept_by tree in
+    (search (rules, types.the_lemmas, statements.the_lemmas, get_or_read), (omega (arith, kept, c.requires.slots), omega (arith, c.requires.begun)))
+
+pub lower_statement-returns-then-is_nothing : goal.lower_statement-returns-then-is_nothing
+lower_statement-returns-then-is_nothing t c =
+    on_ok_weaker c.lower_then.result
+    (made_alone (view_starts c.args.starts.now) c.args.statement.now c.in-If.condition c.in-If.then c.in-If.otherwise c.in-If.is c.deref-then-is_nothing.result.now c.deref-in-If.result.now c.deref-then-is_nothing.ensures c.deref-in-If.ensures
+    (sym c.is_nothing.ensures ∙ c.if-is_nothing.true) c.args.exits c.args.free c.args.self.now.code.items c.lower_then.new.self.code.items)
+    c.lower_then.ensures
+
 pub lower_statement-returns-in_ok-lower_statement-in-If-2 : goal.lower_statement-returns-in_ok-lower_statement-in-If-2
 lower_statement-returns-in_ok-lower_statement-in-If-2 t c =
-    made_if (view_starts c.args.starts.now) c.args.statement.now c.in-If.condition c.in-If.then c.in-If.otherwise c.in-If.is c.deref-in-If.result.now c.deref-in-If-2.result.now c.deref-in-If.ensures c.deref-in-If-2.ensures c.args.exits c.args.free c.in_ok-condition-in-If.condition c.in_ok-condition-in-If.ensures.0 c.args.self.now.code.items (Jump 0) (Jump 0)
+    made_if (view_starts c.args.starts.now) c.args.statement.now c.in-If.condition c.in-If.then c.in-If.otherwise c.in-If.is c.deref-in-If-2.result.now c.deref-in-If-3.result.now c.deref-in-If-2.ensures c.deref-in-If-3.ensures c.args.exits c.args.free c.in_ok-condition-in-If.condition c.in_ok-condition-in-If.ensures.0 c.args.self.now.code.items (Jump 0) (Jump 0)
     c.lower_choice.new.self.code.items c.reserve.new.self.code.items c.lower_statement.new.self.code.items c.reserve-in-If.new.self.code.items c.jump_here_if_failing.new.self.code.items c.lower_statement-in-If.new.self.code.items c.jump_here.new.self.code.items
     c.in_ok-over_then-in-If.over_then c.in_ok-over_otherwise-in-If.over_otherwise
-    c.in_ok-condition-in-If.ensures.1 c.in_ok-over_then-in-If.ensures.0 c.in_ok-over_then-in-If.ensures.1 c.in_ok-lower_statement-in-If.ensures c.in_ok-over_otherwise-in-If.ensures.0 c.in_ok-over_otherwise-in-If.ensures.1 c.jump_here_if_failing.ensures c.in_ok-lower_statement-in-If-2.ensures c.jump_here.ensures
+    (ap (λ (z : Stmt). is_nothing (view_statement z)) (c.deref-in-If-3.ensures ∙ sym c.deref-in-If.ensures) ∙ sym c.is_nothing.ensures ∙ c.if-is_nothing.false) c.in_ok-condition-in-If.ensures.1 c.in_ok-over_then-in-If.ensures.0 c.in_ok-over_then-in-If.ensures.1 c.in_ok-lower_statement-in-If.ensures c.in_ok-over_otherwise-in-If.ensures.0 c.in_ok-over_otherwise-in-If.ensures.1 c.jump_here_if_failing.ensures c.in_ok-lower_statement-in-If-2.ensures c.jump_here.ensures
 
 pub lower_clause-returns : goal.lower_clause-returns
 lower_clause-returns t c =

@@ -11,6 +11,6 @@ returns c =
     let made = c.lower_choice.new.self.code.items in
     on_ok_weaker c.emit-2.result
     (λ jumps. entered_first (view_starts c.args.starts.now) (view_expression c.args.condition.now) c.args.free c.in_ok-condition.condition c.args.self.now.code.items made c.emit-2.new.self.code.items (c.place-body.result + 2)
-    (sym c.is_simple.ensures ∙ c.if-not-is_simple.false) c.in_ok-condition.ensures.0 c.in_ok-condition.ensures.1 (ap (λ (n : ℕ). n + 2) c.place-body.ensures)
+    (sym c.is_guard.ensures ∙ c.if-not-is_guard.false) c.in_ok-condition.ensures.0 c.in_ok-condition.ensures.1 (ap (λ (n : ℕ). n + 2) c.place-body.ensures)
     (jumps ∙ ap (λ (i : Instruction). made ++ i ∷ []) c.holding_jump.ensures))
     c.emit-2.ensures
