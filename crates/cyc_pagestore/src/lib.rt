@@ -9,7 +9,5 @@ mod paged;
 mod serial;
 mod step;
 mod table;
-#[cfg(test)]
-mod tests;
 
 pub use paged::PageStore;

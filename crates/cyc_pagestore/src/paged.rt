@@ -116,9 +116,9 @@ impl PageStore {
         let _table = &self.table;
     }
 
-    /// Leaves one serial before the last.
-    #[cfg(test)]
-    pub(crate) fn come_to_last_serial(&mut self)
+    /// Leaves one serial before the last, as if so many regions had been opened and closed: a test cannot do that. What the store holds
+    /// stays, and so does what each call answers.
+    pub fn come_to_last_serial(&mut self)
         ensures { self.new ≡ self.old }
     {
         self.table.come_to_last_serial();

@@ -303,7 +303,6 @@ impl PoolTable {
     }
 
     /// Leaves one serial before the last, as if so many regions had been opened and closed.
-    #[cfg(test)]
     #[tactic(auto, using(crate::proofs::Calls::later_backed))]
     pub(crate) fn come_to_last_serial(&mut self)
         ensures { self.new ≡ self.old }

@@ -100,6 +100,19 @@ const ENDS_OF_RANGES: &str = "\
 4096 7ffff000 nothing
 ";
 
+/// How many bytes there are.
+fn length_of(bytes: &[u8]) -> Option<u32> {
+    u32::try_from(bytes.len()).ok()
+}
+
+/// Where contents stand in a file with so many segments that have so many bytes of others before them.
+fn offset_of(segments: u32, before: u32) -> u32 {
+    segments
+        .wrapping_mul(32)
+        .wrapping_add(before)
+        .wrapping_add(52)
+}
+
 /// Appends the header of a segment to a file that has so many, and its stored bytes to the contents behind all headers.
 fn put_segment(
     file: &mut Vec<u8>,
@@ -109,10 +122,10 @@ fn put_segment(
 ) -> Option<()> {
     let (address, rest) = segment.split_once(' ')?;
     let (size, words) = rest.split_once(' ')?;
-    let before = u32::try_from(contents.len()).ok()?;
+    let before = length_of(contents)?;
     put_words(contents, words)?;
-    let stored = u32::try_from(contents.len()).ok()?.wrapping_sub(before);
-    let offset = count.wrapping_mul(32).wrapping_add(before).wrapping_add(52);
+    let stored = length_of(contents)?.checked_sub(before)?;
+    let offset = offset_of(count, before);
     let (address, size) = (hexadecimal(address)?, hexadecimal(size)?);
     put_numbers(file, &[1, offset, address, address, stored, size, 5, 4])
 }

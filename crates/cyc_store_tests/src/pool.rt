@@ -85,6 +85,11 @@ fn each_page(rt: HostRuntime) {
     }
 }
 
+/// What is written to a word of a page.
+fn mark(page: u32, word: u32) -> u32 {
+    page.wrapping_mul(1024).wrapping_add(word).wrapping_add(1)
+}
+
 /// A pool of many pages.
 #[derive(Drop)]
 struct Largest {
@@ -132,11 +137,7 @@ impl Largest {
         }
         for step in 0..94 {
             let word = step * 11;
-            self.save(
-                page,
-                word,
-                page.wrapping_mul(1024).wrapping_add(word).wrapping_add(1),
-            );
+            self.save(page, word, mark(page, word));
         }
         Some(())
     }
@@ -145,9 +146,7 @@ impl Largest {
     fn is_filled(&self, page: u32) -> bool {
         for step in 0..94 {
             let word = step * 11;
-            if self.load(page, word)
-                != Some(page.wrapping_mul(1024).wrapping_add(word).wrapping_add(1))
-            {
+            if self.load(page, word) != Some(mark(page, word)) {
                 return false;
             }
         }

@@ -203,6 +203,13 @@ fn calls(rt: HostRuntime) {
 
 // ---- many calls, the same of both stores, beside plain lists
 
+/// The state behind this one of numbers that look random.
+fn state_behind(state: u64) -> u64 {
+    state
+        .wrapping_mul(6_364_136_223_846_793_005)
+        .wrapping_add(1_442_695_040_888_963_407)
+}
+
 /// Numbers that look random, the same in each run.
 #[derive(Drop)]
 struct Random {
@@ -212,10 +219,7 @@ struct Random {
 impl Random {
     /// A number below this one, or 0 where it is 0.
     fn below(&mut self, bound: u32) -> u32 {
-        self.state = self
-            .state
-            .wrapping_mul(6_364_136_223_846_793_005)
-            .wrapping_add(1_442_695_040_888_963_407);
+        self.state = state_behind(self.state);
         let number = u32::try_from(self.state >> 33).unwrap_or(0);
         number.checked_rem(bound).unwrap_or(0)
     }
@@ -281,6 +285,18 @@ fn class_of(size: u32) -> (usize, u32) {
     (10, 1)
 }
 
+/// The address of the last word of a block.
+fn end_of(address: u32, size: u32) -> u32 {
+    address.wrapping_add(size.wrapping_sub(1).wrapping_mul(4))
+}
+
+/// How many pages so many blocks take of which a page has so many, if it has any.
+fn pages_for(blocks: u32, in_page: u32) -> Option<u32> {
+    blocks
+        .wrapping_add(in_page.wrapping_sub(1))
+        .checked_div(in_page)
+}
+
 /// Writes the first and the last word of a new block, if it is one.
 fn marked<S: Store>(store: &mut S, random: &mut Random, address: u32, size: u32) -> Option<Block> {
     let first = random.below(1_000_000);
@@ -289,8 +305,7 @@ fn marked<S: Store>(store: &mut S, random: &mut Random, address: u32, size: u32)
     } else {
         random.below(1_000_000)
     };
-    let end = address.wrapping_add(size.wrapping_sub(1).wrapping_mul(4));
-    if store.save(address, first) && store.save(end, last) {
+    if store.save(address, first) && store.save(end_of(address, size), last) {
         return Some(Block {
             address,
             size,
@@ -303,9 +318,7 @@ fn marked<S: Store>(store: &mut S, random: &mut Random, address: u32, size: u32)
 
 /// Whether a block has what was written to it.
 fn has_words<S: Store>(store: &S, block: &Block) -> bool {
-    let end = block
-        .address
-        .wrapping_add(block.size.wrapping_sub(1).wrapping_mul(4));
+    let end = end_of(block.address, block.size);
     store.load(block.address) == Some(block.first) && store.load(end) == Some(block.last)
 }
 
@@ -482,9 +495,7 @@ impl Lists {
     /// How many pages one more live block of a class asks for.
     fn class_grows(&self, class: usize, in_page: u32) -> Option<u32> {
         let live = self.live.get(class)?.wrapping_add(1);
-        let pages = live
-            .wrapping_add(in_page.wrapping_sub(1))
-            .checked_div(in_page)?;
+        let pages = pages_for(live, in_page)?;
         Some(pages.saturating_sub(*self.classes.get(class)?))
     }
 
@@ -710,4 +721,76 @@ fn each_page(rt: HostRuntime) {
         let right = gives_back(rt.alloc(), pages);
         expect(&rt, right == Some(true), name);
     }
+}
+
+// ---- the last serial
+
+/// A region with a block on each of two pages.
+#[derive(Clone, Copy)]
+struct Pair {
+    handle: u32,
+    first: u32,
+    second: u32,
+}
+
+/// Opens a region, and makes two blocks in it, each with this number in its first word.
+fn open_pair(store: &mut PageStore, number: u32) -> Option<Pair> {
+    let handle = store.open_dynamic().ok()?;
+    let first = store.alloc(handle, 1000).ok()?;
+    let second = store.alloc(handle, 1000).ok()?;
+    if store.save(first, number) && store.save(second, number) {
+        return Some(Pair {
+            handle,
+            first,
+            second,
+        });
+    }
+    None
+}
+
+/// Whether a pair's words are live, with this number in each, or where there is no number, whether none of them is live.
+fn has_number(store: &PageStore, pair: Pair, number: Option<u32>) -> bool {
+    store.load(pair.first) == number && store.load(pair.second) == number
+}
+
+/// Four regions of a store, the last of which stays open.
+fn open_four(store: &mut PageStore) -> Option<[Pair; 4]> {
+    let one = open_pair(store, 1)?;
+    let two = open_pair(store, 2)?;
+    let three = open_pair(store, 3)?;
+    let kept = open_pair(store, 4)?;
+    Some([one, two, three, kept])
+}
+
+/// Closes a region. True if its words are gone then, and those of another one are as they were.
+fn is_closed(store: &mut PageStore, pair: Pair, other: Pair, number: u32) -> bool {
+    let closed = store.close_dynamic(pair.handle).is_ok();
+    closed && has_number(store, pair, None) && has_number(store, other, Some(number))
+}
+
+/// Three regions are closed while the serials of a new store come to their last, one stays open, and one is opened afterwards.
+fn passes_last_serial(store: &mut PageStore) -> Option<bool> {
+    let [one, two, three, kept] = open_four(store)?;
+    let block = store.alloc(HEAP, 1).ok()?;
+    let saved = store.save(block, 5);
+    store.come_to_last_serial();
+    let first = is_closed(store, one, two, 2) && has_number(store, kept, Some(4));
+    let second = is_closed(store, two, three, 3) && has_number(store, one, None);
+    let third = is_closed(store, three, kept, 4);
+    let gone = has_number(store, one, None) && has_number(store, two, None);
+    let again = open_pair(store, 6)?;
+    let open = has_number(store, kept, Some(4)) && has_number(store, again, Some(6));
+    let held = saved && store.load(block) == Some(5);
+    Some(first && second && third && gone && open && held)
+}
+
+/// A new store passes its last serial.
+fn stays_dead(alloc: Global, pages: u32) -> Option<bool> {
+    passes_last_serial(&mut paged_of(alloc, pages)?)
+}
+
+#[test]
+fn stale_words_stay_dead(rt: HostRuntime) {
+    let right = stays_dead(rt.alloc(), 16);
+    expect(&rt, right == Some(true), "past the last serial");
 }

@@ -9,7 +9,7 @@ ghost use Rattle.cyc_types.specs.TypedTreeView.{view_program};
 ghost use Rattle.cyc_types.specs.typing.WellTyped.{IsWellTypedProgram};
 ghost use Rattle.cyc_types.specs.Weight.{program_weight};
 ghost use Rattle.cyc_soundness.specs.Sound.{IsSound};
-ghost use Rattle.cyc_lower.specs.Lowered.{CanBeLowered, IsLowered};
+ghost use Rattle.cyc_lower.specs.Lowered.{CanBeLowered, HasTooMany, IsAccepted, IsLowered};
 ghost use Rattle.cyc_frame.specs.Layout.{AreFrames};
 ghost use Rattle.cyc_system.specs.Front.{IsAcceptedText};
 ghost use Rattle.cyc_system.specs.FullPreservation.{IsImageOf};
@@ -24,6 +24,7 @@ use cyc_frame::{Frames, layout};
 use cyc_lower::lower;
 use cyc_plain::Plain;
 use cyc_select::select;
+use cyc_simplify::simplify;
 use cyc_syntax::Token;
 use cyc_words::Fault;
 use std::alloc::Global;
@@ -50,6 +51,19 @@ fn compile_plain(
     Ok(file)
 }
 
+/// The plain program of a typed one, in which what is known is not computed, tested or moved once more. What is refused is so by the
+/// lowering.
+fn lower_simplified(alloc: Global, program: &Flowed) -> Result<Plain, Fault>
+    requires well_typed { IsWellTypedProgram (view_program program.now.tree) }
+    requires small { program_weight (view_program program.now.tree) ≤ max_tokens }
+    requires can_be { CanBeLowered (view_program program.now.tree) }
+    ensures { Decides (IsAccepted (view_program program.now.tree)) IsLowered (HasTooMany (view_program program.now.tree)) (HasTooMany (view_program program.now.tree)) result }
+{
+    let plain = lower(alloc, program)?;
+    let simplified = simplify(alloc, &plain)?;
+    Ok(simplified)
+}
+
 /// Compiles a typed program to an image, as the bytes of a file.
 fn build(alloc: Global, program: &Flowed, note: Option<(u32, u32)>) -> Result<Vec<u8>, Fault>
     requires well_typed { IsWellTypedProgram (view_program program.now.tree) }
@@ -61,7 +75,7 @@ fn build(alloc: Global, program: &Flowed, note: Option<(u32, u32)>) -> Result<Ve
         (IsTooLarge (view_program program.now.tree)) (IsTooLarge (view_program program.now.tree)) result }
     ensures note { IfOk result (λ file. Carries file.items note) }
 {
-    let plain = lower(alloc, program)?;
+    let plain = lower_simplified(alloc, program)?;
     let frames = layout(alloc, &plain)?;
     compile_plain(alloc, plain, frames, note)
 }

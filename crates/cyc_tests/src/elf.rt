@@ -1,8 +1,9 @@
 //! Images as files, with the answers worked out by hand.
 
-use crate::expect::{expect, expect_number, expect_text};
+use crate::expect::{expect, expect_text};
 use cyc_elf::{ElfFault, read_image};
-use cyc_rows::rows::{bytes_of_words, decimal};
+use cyc_rows::rows::{bytes_of_words, decimal, hexadecimal};
+use cyc_words::bytes_of;
 use std::alloc::Global;
 use std::process::Abort;
 
@@ -29,134 +30,172 @@ const DOUBLED: &str = "\
 00400000 00000018 00000018 00000005 00000004 24040001 10000002 24840002
 24840004 24020003 0000000c";
 
-/// A file, the words of it that are changed, with the places of their first bytes, and the number of the fault, or 0.
-const CHANGES: &str = "\
-small|0=7f454c47|2
-small|4=02020100|2
-small|4=01010100|2
-small|16=00030008|3
-small|16=0002003e|3
-small|20=00000002|3
-small|40=00340028|4
-small|44=00020000|1
-small|44=00000000|6
-small|28=fffffff0|1
-small|24=00400014|0
-small|24=00400018|6
-small|24=00400002|6
-small|52=00000003|5
-small|52=00000006|6
-small|56=00000058|1
-small|56=fffffff0|1
-small|60=00400002|4
-small|60=fffffff0|4
-small|60=003ffff8|0
-small|68=00000019|4
-small|68=00000000|0
-small|72=00000017|4
-small|72=0fffffff|0
-small|72=ffffffff|4
-small|76=00000000|0
-small|24=30000000 60=30000000 64=30000000|0
-small|68=0 72=0|6
-pair|92=400000 100=5 104=8|4
-pair|92=400004 100=5 104=5|4
-pair|92=3ffffc 100=5 104=5|4
-pair|92=3ffffc 100=5 104=100|4
-pair|92=0 100=5 104=ffffffff|4
-pair|92=400008 100=5 104=5|0
-pair|92=3ffff8 100=5 104=8|0
-pair|92=3ffff8 100=5 104=9|4
-pair|92=fffffff8 100=5 104=8|0
-pair|92=fffffffc 100=5 104=5|4
-pair|92=400004 100=0 104=0|0
-pair|92=400004 100=0 104=1|4
-pair|92=400002 100=0 104=0|4
-pair|92=400004 100=1 104=0|4
-doubled|44=20000 56=74 88=74|4
+/// One segment of six instructions, which end with 3, and a note behind it: 8 pages, 32 calls.
+const LIMITED: &str = "\
+7f454c46 01020100 00000000 00000000 00020008 00000001 00400000 00000034
+00000000 00000000 00340020 00020000 00000000 00000001 00000074 00400000
+00400000 00000018 00000018 00000005 00000004 00000004 0000008c 00000000
+00000000 0000001c 0000001c 00000004 00000004 24040001 10000002 24840002
+24840004 24020003 0000000c 00000008 00000008 00000001 4379636c 6f6e6500
+00000008 00000020";
+
+/// The words of `SMALL` that are changed, with the places of their first bytes, and the number of the fault, or the limits that the file
+/// then carries.
+const SMALL_CHANGES: &str = "\
+0=7f454c47|2
+4=02020100|2
+4=01010100|2
+16=00030008|3
+16=0002003e|3
+20=00000002|3
+40=00340028|4
+44=00020000|1
+44=00000000|6
+28=fffffff0|1
+24=00400014|None
+24=00400018|6
+24=00400002|6
+52=00000003|5
+52=00000006|6
+56=00000058|1
+56=fffffff0|1
+60=00400002|4
+60=fffffff0|4
+60=003ffff8|None
+68=00000019|4
+68=00000000|None
+72=00000017|4
+72=0fffffff|None
+72=ffffffff|4
+76=00000000|None
+24=30000000 60=30000000 64=30000000|None
+68=0 72=0|6
 ";
 
-/// The words of the file of this name.
-fn words_of(name: &str) -> &'static str {
-    match name {
-        "small" => SMALL,
-        "pair" => PAIR,
-        _ => DOUBLED,
-    }
-}
+/// The same of `PAIR`.
+const PAIR_CHANGES: &str = "\
+92=400000 100=5 104=8|4
+92=400004 100=5 104=5|4
+92=3ffffc 100=5 104=5|4
+92=3ffffc 100=5 104=100|4
+92=0 100=5 104=ffffffff|4
+92=400008 100=5 104=5|None
+92=3ffff8 100=5 104=8|None
+92=3ffff8 100=5 104=9|4
+92=fffffff8 100=5 104=8|None
+92=fffffffc 100=5 104=5|4
+92=400004 100=0 104=0|None
+92=400004 100=0 104=1|4
+92=400002 100=0 104=0|4
+92=400004 100=1 104=0|4
+";
 
-/// Sets bytes at a place, as far as there are any.
-fn set(file: &mut [u8], place: usize, new: &[u8]) {
-    for (old, byte) in file.iter_mut().skip(place).zip(new) {
-        *old = *byte;
-    }
-}
+/// The same of `DOUBLED`.
+const DOUBLED_CHANGES: &str = "\
+44=20000 56=74 88=74|4
+";
+
+/// The same of `LIMITED`.
+const LIMITED_CHANGES: &str = "\
+160=00000008|Some((8, 32))
+160=00000003|Some((3, 32))
+160=00000002|4
+160=00010000|Some((65536, 32))
+160=00010001|4
+164=00000001|Some((8, 1))
+164=00000000|4
+164=00001000|Some((8, 4096))
+164=00001001|4
+144=00000010|4
+148=00000002|4
+140=00000007|None
+156=6f6e6600|None
+156=6f6e6501|None
+84=00000006|None
+100=0000001b|4
+100=00000014|4
+100=00000013|None
+100=0000001d|None
+88=00000090|None
+88=ffffffff|None
+52=00000004 56=0000008c 68=0000001c|4
+52=00000003|5
+84=00000003|5
+24=00400002|6
+";
 
 /// Makes a change, as `24=400014`, to a file.
-fn change(alloc: Global, file: &mut [u8], change: &str) -> Option<()> {
+fn change(file: &mut [u8], change: &str) -> Option<()> {
     let (place, word) = change.split_once('=')?;
-    let new = bytes_of_words(alloc, word)?;
-    set(file, decimal(place)? as usize, &new);
+    let mut place = decimal(place)? as usize;
+    for byte in &bytes_of(hexadecimal(word)?) {
+        *file.get_mut(place)? = *byte;
+        place = place.saturating_add(1);
+    }
     Some(())
 }
 
-/// The number of the fault of a file, or 0.
-fn fault_of(alloc: Global, file: &[u8]) -> u32 {
+/// The number of a file's fault, or the limits that it carries.
+fn told(alloc: Global, file: &[u8]) -> Option<String> {
     match read_image(alloc, file) {
-        Ok(_) => 0,
-        Err(fault) => fault.number(),
+        Ok(image) => format!(in alloc; "{:?}", image.note).ok(),
+        Err(fault) => format!(in alloc; "{}", fault.number()).ok(),
     }
 }
 
-/// The entry of an image, and of each segment its address, its flags, its size and its bytes.
-fn told(alloc: Global, words: &str) -> Option<String> {
-    let file = bytes_of_words(alloc, words)?;
-    let image = read_image(alloc, &file).ok()?;
-    let mut told = String::new(alloc);
-    write!(told, "{:x}", image.entry).ok()?;
-    for it in &image.segments {
-        let bytes = it.bytes.as_slice();
-        write!(told, "; {:x} {} {} {bytes:?}", it.vaddr, it.flags, it.size).ok()?;
+/// With the changes of a row a file is as the row says.
+fn expect_told<A: Abort>(rt: &A, alloc: Global, words: &str, row: &str) -> Option<()> {
+    let (changes, want) = row.split_once('|')?;
+    let mut file = bytes_of_words(alloc, words)?;
+    for it in changes.split_whitespace() {
+        change(&mut file, it)?;
     }
-    Some(told)
+    expect_text(rt, &told(alloc, &file)?, want, row);
+    Some(())
 }
 
 #[test]
-fn images_are_read(rt: HostRuntime) {
-    for &(name, want) in &[
-        (
-            "small",
-            "400000; 400000 5 24 [36, 4, 0, 1, 16, 0, 0, 2, 36, 132, 0, 2, 36, 132, 0, 4, 36, 2, 0, 3, 0, 0, 0, 12]",
-        ),
-        (
-            "pair",
-            "400004; 400000 5 8 [36, 2, 0, 3, 0, 0, 0, 12]; 10000000 6 9 [1, 2, 3, 4, 5]",
-        ),
+fn changed_images_are_as_told(rt: HostRuntime) {
+    for &(words, changes) in &[
+        (SMALL, SMALL_CHANGES),
+        (PAIR, PAIR_CHANGES),
+        (DOUBLED, DOUBLED_CHANGES),
+        (LIMITED, LIMITED_CHANGES),
     ] {
-        match told(rt.alloc(), words_of(name)) {
-            Some(told) => expect_text(&rt, &told, want, name),
-            None => expect(&rt, false, name),
+        for row in changes.lines() {
+            let read = expect_told(&rt, rt.alloc(), words, row);
+            expect(&rt, read.is_some(), row);
         }
     }
 }
 
-/// A file has its fault with the changes of a row.
-fn expect_fault<A: Abort>(rt: &A, alloc: Global, row: &str) -> Option<()> {
-    let (name, rest) = row.split_once('|')?;
-    let (changes, want) = rest.split_once('|')?;
-    let mut file = bytes_of_words(alloc, words_of(name))?;
-    for it in changes.split_whitespace() {
-        change(alloc, &mut file, it)?;
-    }
-    expect_number(rt, fault_of(alloc, &file), decimal(want)?, row);
-    Some(())
+/// The image of a file.
+fn shown(alloc: Global, words: &str) -> Option<String> {
+    let file = bytes_of_words(alloc, words)?;
+    let image = read_image(alloc, &file).ok()?;
+    format!(in alloc; "{image:?}").ok()
 }
 
 #[test]
-fn changed_images_have_their_faults(rt: HostRuntime) {
-    for row in CHANGES.lines() {
-        let read = expect_fault(&rt, rt.alloc(), row);
-        expect(&rt, read.is_some(), row);
+fn images_are_read(rt: HostRuntime) {
+    for &(words, want) in &[
+        (
+            SMALL,
+            "Image { entry: 4194304, segments: [Segment { vaddr: 4194304, flags: 5, bytes: [36, 4, 0, 1, 16, 0, 0, 2, 36, 132, 0, 2, 36, 132, 0, 4, 36, 2, 0, 3, 0, 0, 0, 12], size: 24 }], note: None }",
+        ),
+        (
+            PAIR,
+            "Image { entry: 4194308, segments: [Segment { vaddr: 4194304, flags: 5, bytes: [36, 2, 0, 3, 0, 0, 0, 12], size: 8 }, Segment { vaddr: 268435456, flags: 6, bytes: [1, 2, 3, 4, 5], size: 9 }], note: None }",
+        ),
+        (
+            LIMITED,
+            "Image { entry: 4194304, segments: [Segment { vaddr: 4194304, flags: 5, bytes: [36, 4, 0, 1, 16, 0, 0, 2, 36, 132, 0, 2, 36, 132, 0, 4, 36, 2, 0, 3, 0, 0, 0, 12], size: 24 }], note: Some((8, 32)) }",
+        ),
+    ] {
+        match shown(rt.alloc(), words) {
+            Some(shown) => expect_text(&rt, &shown, want, want),
+            None => expect(&rt, false, want),
+        }
     }
 }
 
@@ -164,8 +203,8 @@ fn changed_images_have_their_faults(rt: HostRuntime) {
 fn expect_cut<A: Abort>(rt: &A, alloc: Global) -> Option<()> {
     let file = bytes_of_words(alloc, SMALL)?;
     for length in 0..file.len() {
-        let fault = fault_of(alloc, file.get(..length)?);
-        expect_number(rt, fault, ElfFault::Truncated.number(), "a part of a file");
+        let told = told(alloc, file.get(..length)?)?;
+        expect_text(rt, &told, "1", "a part of a file");
     }
     Some(())
 }

@@ -225,8 +225,7 @@ fn expect_vector<A: Abort>(rt: &A, alloc: Global, row: &str) -> Option<()> {
     let instr = decode(word)?;
     expect_number(rt, encode(instr), word, row);
     let mut bytes = Vec::new(alloc);
-    let written = write_text(instr, hexadecimal(address)?, &mut Writer::new(&mut bytes));
-    expect(rt, written.is_ok(), row);
+    write_text(instr, hexadecimal(address)?, &mut Writer::new(&mut bytes)).ok()?;
     expect(rt, bytes.as_slice() == text.as_bytes(), row);
     Some(())
 }

@@ -141,14 +141,6 @@ const LONG_TEXTS: &str = "\
 60000|¶ x|fault 6 at 2:2
 ";
 
-/// What a text comes to, or `tokens`.
-fn outcome(alloc: Global, text: &[u8]) -> Option<String> {
-    match lex(alloc, text) {
-        Ok(_) => String::from_str(alloc, "tokens").ok(),
-        Err(fault) => shown_fault(alloc, fault),
-    }
-}
-
 /// The text of a row comes to what is wanted.
 fn expect_outcome<A: Abort>(rt: &A, alloc: Global, row: &str) -> Option<()> {
     let (count, rest) = row.split_once('|')?;
@@ -156,8 +148,10 @@ fn expect_outcome<A: Abort>(rt: &A, alloc: Global, row: &str) -> Option<()> {
     let behind = behind.replace(alloc, '¶', "\n").ok()?;
     let mut text = vec![in alloc; b';'; decimal(count)? as usize].ok()?;
     text.extend_from_slice(behind.as_bytes()).ok()?;
-    let got = outcome(alloc, &text)?;
-    expect_text(rt, &got, want, row);
+    match lex(alloc, &text).err() {
+        Some(fault) => expect_text(rt, &shown_fault(alloc, fault)?, want, row),
+        None => expect_text(rt, "tokens", want, row),
+    }
     Some(())
 }
 

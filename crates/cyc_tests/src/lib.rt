@@ -1,5 +1,5 @@
-//! The tests of the crates: what no clause says. There is a file for each crate that is tested, and beside them what several
-//! of them use.
+//! The tests of the crates from words and texts to types, instructions and files: what no clause says. There is a file for each crate
+//! that is tested, and beside them what several of them use.
 #![tactic(auto)]
 
 #[cfg(test)]
@@ -11,13 +11,7 @@ mod isa;
 #[cfg(test)]
 mod lex;
 #[cfg(test)]
-mod notes;
-#[cfg(test)]
-mod surface;
-#[cfg(test)]
 mod syntax;
-#[cfg(test)]
-mod system;
 #[cfg(test)]
 mod types;
 #[cfg(test)]

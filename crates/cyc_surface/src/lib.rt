@@ -1,5 +1,7 @@
 //! The calls that the crates give to those who use them, each once, with its name and with the types that it takes and answers. Where a
 //! call asks something, so does the function that calls it, and nothing else.
+//! That this is proved is the test.
+#![tactic(auto)]
 
 ghost use Rattle.std.specs.Prelude.{◌≡◌, ◌≢◌, ◌<◌, ◌≤◌, [], ◌∷◌, length};
 ghost use Rattle.cyc_syntax.specs.TokenRule.{AreTokensOf, max_bytes, max_tokens};

@@ -1,0 +1,138 @@
+-- What an instruction leaves and makes of the slots of its call.
+use Rattle.std.proofs.Common.{◌≡◌, ◌≢◌, ℕ, suc, ◌+◌, ◌-◌, ◌≤◌, ◌<◌, Bool, true, false, ◌||◌, List, None, refl, sym, ap, subst, ◌∙◌, arith}
+use Rattle.std.specs.Prelude.{◌==◌, not, if◌then◌else◌}
+use Rattle.std.proofs.lemmas.Bool.{or_parts, and_from, eqb-true, eq-eqb, eqb-false, cond-false, cond_both, not-true, le-leb, lt-ltb, false≢true, not_from_false}
+use Rattle.cyc_store.specs.State.{StoreState}
+use Rattle.cyc_store.specs.Services as services
+use Rattle.cyc_store.specs.Services.{answer}
+use Rattle.cyc_plain.specs.declared.instruction.Operand.{Operand}
+use Rattle.cyc_plain.specs.declared.instruction.Operand.TheVariants as operands
+use Rattle.cyc_plain.specs.declared.instruction.Request.{Request}
+use Rattle.cyc_plain.specs.declared.instruction.Request.TheVariants as requests
+use Rattle.cyc_plain.specs.declared.instruction.BinaryOperator.{BinaryOperator}
+use Rattle.cyc_plain.specs.declared.instruction.Comparison.{Comparison}
+use Rattle.cyc_plain.specs.Requests.{destination_of, answer_count}
+use Rattle.cyc_plain.specs.Operators.{binary_result, has_no_result, compares}
+use Rattle.cyc_plain.specs.State.{Words, put, copied}
+use Rattle.cyc_plain.specs.Step.{operand_word, call_in, told}
+use Rattle.cyc_plain.proofs.SlotLaws.{put-same, put-other}
+use Rattle.cyc_frame.specs.Uses.{is_slot, is_among}
+use Rattle.cyc_simplify.specs.declared.fact.Fact.TheVariants as facts_are
+use Rattle.cyc_simplify.specs.declared.fact.Written.{Written}
+use Rattle.cyc_simplify.specs.Facts.{IsTrueIn, IsTrueIfAny, leaves_slot, negated, is_any_slot, suited, shown}
+use Rattle.cyc_simplify.proofs.Truth.{IsLeft, suited_any}
+use Rattle.cyc_simplify.proofs.Same.{negated_compares}
+
+abbrev range : (first count : ℕ) → Written
+range first count = record { first = first; count = count }
+
+-- ---- slots that are written
+
+not_among : (first count slot : ℕ) → leaves_slot (range first count) slot ≡ true → is_among first count slot ≡ false
+not_among first count slot leaves = not-true (is_among first count slot) leaves
+
+pub nothing_left : (old : Words) (w : Written) → IsLeft old old w
+nothing_left old w = λ slot leaves. refl
+
+apart_from : (destination slot : ℕ) → leaves_slot (range destination 1) slot ≡ true → slot ≢ destination
+apart_from destination slot leaves same =
+    let inside : is_among destination 1 slot ≡ true =
+    and_from _ _ (le-leb destination slot (omega (arith, same))) (lt-ltb slot (destination + 1) (omega (arith, same))) in
+    false≢true (sym (not_among destination 1 slot leaves) ∙ inside)
+
+pub put_left : (old : Words) (destination word : ℕ) → IsLeft old (put old destination word) (range destination 1)
+put_left old destination word = λ slot leaves. put-other old destination slot word (apart_from destination slot leaves)
+
+-- a slot that gets its own word
+pub put_itself : (old : Words) (destination word : ℕ) → word ≡ old destination → (w : Written) → IsLeft old (put old destination word) w
+put_itself old destination word is w = λ slot leaves. go slot
+  where
+    go : (slot : ℕ) → put old destination word slot ≡ old slot
+    go slot = cond_both (slot == destination) word (old slot) (λ x. x ≡ old slot) (λ same. is ∙ ap old (sym (eqb-true slot destination same))) (λ other. refl)
+
+pub copied_left : (from old : Words) (source count destination : ℕ) → IsLeft old (copied from source count old destination) (range destination count)
+copied_left from old source count destination = λ slot leaves.
+    cond-false (is_among destination count slot) (from (source + (slot - destination))) (old slot) (not_among destination count slot leaves)
+
+-- two slots, one behind the other
+two_left : (old : Words) (destination one other : ℕ) → IsLeft old (put (put old destination one) (suc destination) other) (range destination 2)
+two_left old destination one other = λ slot leaves.
+    put-other (put old destination one) (suc destination) slot other (outside slot leaves (suc destination) (omega arith) (omega arith))
+    ∙ put-other old destination slot one (outside slot leaves destination (omega arith) (omega arith))
+  where
+    outside : (slot : ℕ) → leaves_slot (range destination 2) slot ≡ true → (number : ℕ) → destination ≤ number → number < destination + 2 → slot ≢ number
+    outside slot leaves number low high same =
+        let inside : is_among destination 2 slot ≡ true =
+        and_from _ _ (le-leb destination slot (omega (arith, same, low))) (lt-ltb slot (destination + 2) (omega (arith, same, high))) in
+        false≢true (sym (not_among destination 2 slot leaves) ∙ inside)
+
+-- what the store answers comes to the slots for its answer
+pub told_left : (store : StoreState) (old read : Words) (request : Request) (choice : services.Choice)
+    → IsLeft old (told (answer store (call_in read request) choice) (destination_of request) old) (range (destination_of request) (answer_count request))
+told_left store old read (requests.OpenLexical destination) choice = two_left old destination _ _
+told_left store old read (requests.CloseTo mark) choice = nothing_left old (range 0 0)
+told_left store old read (requests.OpenDynamic destination) choice = put_left old destination _
+told_left store old read (requests.CloseDynamic handle) choice = nothing_left old (range 0 0)
+told_left store old read (requests.Allocate destination handle words) choice = put_left old destination _
+told_left store old read (requests.Free address) choice = nothing_left old (range 0 0)
+
+-- ---- facts that are made
+
+-- an operand stands for what it did where another slot has got a word
+other_word : (old : Words) (destination word : ℕ) (operand : Operand) → is_slot operand destination ≡ false
+    → operand_word (put old destination word) operand ≡ operand_word old operand
+other_word old destination word (operands.Word number) other = refl
+other_word old destination word (operands.Slot number) other = put-other old destination number word (eqb-false number destination other)
+
+pub moved_made : (old : Words) (pinned : List Bool) (destination : ℕ) (source : Operand) → is_slot source destination ≡ false
+    → IsTrueIfAny (put old destination (operand_word old source)) (suited pinned (facts_are.Equal destination source))
+moved_made old pinned destination source other =
+    suited_any (put old destination (operand_word old source)) pinned (facts_are.Equal destination source)
+    (put-same old destination (operand_word old source) ∙ sym (other_word old destination (operand_word old source) source other))
+
+pub itself_word : (old : Words) (destination : ℕ) (source : Operand) → is_slot source destination ≡ true → operand_word old source ≡ old destination
+itself_word old destination (operands.Word number) is = absurd (false≢true is)
+itself_word old destination (operands.Slot number) is = ap old (eqb-true number destination is)
+
+pub computed_made : (old : Words) (pinned : List Bool) (operator : BinaryOperator) (destination : ℕ) (left right : Operand)
+    → has_no_result operator (operand_word old right) ≡ false
+    → IsTrueIfAny (put old destination (binary_result operator (operand_word old left) (operand_word old right)))
+    (if is_slot left destination || is_slot right destination then None else suited pinned (facts_are.Computed destination operator left right))
+computed_made old pinned operator destination left right some =
+    let word : ℕ = binary_result operator (operand_word old left) (operand_word old right) in
+    let new : Words = put old destination word in
+    cond_both (is_slot left destination || is_slot right destination) None (suited pinned (facts_are.Computed destination operator left right)) (IsTrueIfAny new)
+    (λ among. tt)
+    (λ none.
+    let (l, r) = or_parts (is_slot left destination) (is_slot right destination) none in
+    let by_left = other_word old destination word left l in
+    let by_right = other_word old destination word right r in
+    suited_any new pinned (facts_are.Computed destination operator left right) (
+      put-same old destination word ∙ ap (λ (a : ℕ). binary_result operator a (operand_word old right)) (sym by_left)
+          ∙ ap (λ (b : ℕ). binary_result operator (operand_word new left) b) (sym by_right),
+      ap (has_no_result operator) by_right ∙ some,
+    ))
+
+-- what a branch shows, where it is taken or not
+pub shown_true : (slots : Words) (pinned : List Bool) (comparison : Comparison) (left right : Operand) (target index : ℕ) (taken : Bool)
+    → compares comparison (operand_word slots left) (operand_word slots right) ≡ taken
+    → IsTrueIfAny slots (shown pinned comparison left right target index (if taken then target else index + 1))
+shown_true slots pinned comparison left right target index taken is =
+    let next : ℕ = if taken then target else index + 1 in
+    cond_both (target == index + 1 || not (is_any_slot left || is_any_slot right)) None
+    (suited pinned (facts_are.Holds (if next == target then comparison else negated comparison) left right)) (IsTrueIfAny slots)
+    (λ nothing. tt)
+    (λ some. suited_any slots pinned (facts_are.Holds (if next == target then comparison else negated comparison) left right) (go taken is (eqb-false target (index + 1) (or_parts (target == index + 1) (not (is_any_slot left || is_any_slot right)) some).0)))
+  where
+    go : (taken : Bool) → compares comparison (operand_word slots left) (operand_word slots right) ≡ taken → target ≢ index + 1
+        → IsTrueIn slots (facts_are.Holds (if (if taken then target else index + 1) == target then comparison else negated comparison) left right)
+    go true is apart =
+        subst (λ (b : Bool). compares (if b then comparison else negated comparison) (operand_word slots left) (operand_word slots right) ≡ true)
+        (sym (eq-eqb target target refl)) is
+    go false is apart =
+        subst (λ (b : Bool). compares (if b then comparison else negated comparison) (operand_word slots left) (operand_word slots right) ≡ true)
+        (sym (not_there apart))
+        (negated_compares comparison (operand_word slots left) (operand_word slots right) ∙ not_from_false (compares comparison (operand_word slots left) (operand_word slots right)) is)
+      where
+        not_there : target ≢ index + 1 → (index + 1 == target) ≡ false
+        not_there apart = grind (arith, apart)

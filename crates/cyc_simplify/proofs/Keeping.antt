@@ -1,0 +1,66 @@
+-- What is kept and remembered, as it is found.
+use Rattle.std.proofs.Common.{◌≡◌, ℕ, ◌+◌, ◌-◌, ◌<◌, ◌≤◌, Bool, true, false, ◌&&◌, List, [], ◌∷◌, refl, ap, ◌∙◌, arith, inl, inr}
+use Rattle.std.specs.Prelude.{not, nat_le, nat_lt}
+use Rattle.std.proofs.lemmas.Bool.{cases_lt, and_from, and_parts, and_right, cond-true, le-ltb, lt-ltb, le-leb, lt-leb, not_from_false}
+use Rattle.cyc_plain.specs.declared.instruction.Operand.{Operand}
+use Rattle.cyc_plain.specs.declared.instruction.Operand.TheVariants as operands
+use Rattle.cyc_frame.specs.Uses.{is_among}
+use Rattle.cyc_simplify.specs.declared.fact.Fact.{Fact}
+use Rattle.cyc_simplify.specs.declared.fact.Fact.TheVariants as facts_are
+use Rattle.cyc_simplify.specs.declared.fact.Written.{Written}
+use Rattle.cyc_simplify.specs.Entries.{keeps_all}
+use Rattle.cyc_simplify.specs.Replacement.{simplified_operand}
+use Rattle.cyc_simplify.specs.Facts.{leaves_slot, leaves_operand, keeps, kept}
+
+-- ---- a slot that is not written
+
+pub left_below : (slots : Written) (slot : ℕ) → slot < slots.first → leaves_slot slots slot ≡ true
+left_below slots slot below = ap (λ (b : Bool). not (b && nat_lt slot (slots.first + slots.count))) (lt-leb slots.first slot below)
+
+pub left_at : (slots : Written) (slot : ℕ) → slots.first ≤ slot → slots.count ≤ slot - slots.first → leaves_slot slots slot ≡ true
+left_at slots slot above far =
+    not_from_false (is_among slots.first slots.count slot)
+    (and_right (nat_le slots.first slot) (nat_lt slot (slots.first + slots.count)) (le-ltb slot (slots.first + slots.count) (omega (arith, above, far))))
+
+pub not_left : (slots : Written) (slot : ℕ) → slots.first ≤ slot → slot - slots.first < slots.count → leaves_slot slots slot ≡ false
+not_left slots slot above near =
+    ap not (and_from _ _ (le-leb slots.first slot above) (lt-ltb slot (slots.first + slots.count) (omega (arith, above, near))))
+
+-- ---- nothing written
+
+module _ (slots : Written) (none : slots.count ≡ 0) where
+  leaves_any : (slot : ℕ) → leaves_slot slots slot ≡ true
+  leaves_any slot = elim (cases_lt slot slots.first) [
+    | inl below ↦ left_below slots slot below
+    | inr above ↦ left_at slots slot (omega (arith, above)) (omega (arith, none))
+  ]
+
+  leaves_any_operand : (operand : Operand) → leaves_operand slots operand ≡ true
+  leaves_any_operand (operands.Slot number) = leaves_any number
+  leaves_any_operand (operands.Word word) = refl
+
+  keeps_any : (fact : Fact) → keeps slots fact ≡ true
+  keeps_any (facts_are.Equal slot operand) = and_from _ _ (leaves_any slot) (leaves_any_operand operand)
+  keeps_any (facts_are.Computed slot operator left right) = and_from _ _ (leaves_any slot) (and_from _ _ (leaves_any_operand left) (leaves_any_operand right))
+  keeps_any (facts_are.Holds comparison left right) = and_from _ _ (leaves_any_operand left) (leaves_any_operand right)
+
+  pub none_written : (facts : List Fact) → kept slots facts ≡ facts
+  none_written [] = refl
+  none_written (fact ∷ facts) =
+      cond-true (keeps slots fact) (fact ∷ kept slots facts) (kept slots facts) (keeps_any fact) ∙ ap (λ (others : List Fact). fact ∷ others) (none_written facts)
+
+-- ---- nothing forgotten
+
+pub all_kept : (slots : Written) (facts : List Fact) → keeps_all slots facts ≡ true → kept slots facts ≡ facts
+all_kept slots [] all = refl
+all_kept slots (fact ∷ facts) all =
+    let (first, rest) = and_parts (keeps slots fact) (keeps_all slots facts) all in
+    cond-true (keeps slots fact) (fact ∷ kept slots facts) (kept slots facts) first ∙ ap (λ (others : List Fact). fact ∷ others) (all_kept slots facts rest)
+
+-- ---- a word stands for itself
+
+pub simplified_word : (facts : List Fact) (word : ℕ) → simplified_operand facts (operands.Word word) ≡ operands.Word word
+simplified_word [] word = refl
+simplified_word (facts_are.Equal slot operand ∷ facts) word = simplified_word facts word
+simplified_word (facts_are.Computed slot operator left right ∷ facts) word = simplified_word facts word
+simplified_word (facts_are.Holds comparison left right ∷ facts) word = simplified_word facts word

@@ -1,0 +1,17 @@
+-- facts that are true stay so
+pub mod Truth
+pub mod Behind
+pub mod Kept
+-- what stands for an instruction does the same
+pub mod Same
+pub mod Steps
+-- a table that was checked is right
+pub mod Tables
+-- each run of a simplified program is one of the program given
+pub mod Runs
+-- it is a plain program, and not larger
+pub mod Sizes
+-- what the functions do
+pub mod Keeping
+pub mod Ranges
+pub mod Walks

@@ -1,0 +1,151 @@
+-- Which slots of a function have their address taken is found.
+use Rattle.std.proofs.Common.{◌≡◌, ℕ, zero, suc, ◌+◌, ◌<◌, ◌≤◌, Bool, true, false, ◌||◌, List, [], ◌∷◌, ◌++◌, drop, length, Some, None, slice_get, refl, sym, ap, subst, ◌∙◌, arith, inl, inr}
+use Rattle.std.specs.Prelude.{◌⊎◌, not, slice_index_or, replicate}
+use Rattle.std.proofs.lemmas.Bool.{cases_lt, or_cases, false≢true, not-true, both_ways}
+use Rattle.std.proofs.lemmas.List.{length-append}
+use Rattle.std.proofs.lemmas.Option.{none-some}
+use Rattle.cyc_plain.specs.declared.instruction.Instruction.{Instruction}
+use Rattle.cyc_plain.specs.declared.instruction.Instruction.TheVariants as instructions
+use Rattle.cyc_plain.specs.Memory.{pins, is_pinned}
+use Rattle.cyc_plain.specs.Program.{Routine}
+use Rattle.cyc_simplify.specs.declared.fact.Written.{Written}
+use Rattle.cyc_simplify.specs.Facts.{leaves_slot, is_free}
+use Rattle.cyc_simplify.specs.Pins.{is_within, range_of, AreRanges, AreFirstPins}
+use Rattle.cyc_simplify.specs.Table.{ArePins}
+
+-- each slot that the code pins is in a range, or is pinned by what is still to be looked at
+abbrev pub AreRangesBut : (code left : List Instruction) → List Written → Type 0
+AreRangesBut code left ranges = (slot : ℕ) → is_pinned code slot ≡ true → (is_within ranges slot ≡ true) ⊎ (is_pinned left slot ≡ true)
+
+pub not_yet : (code : List Instruction) → AreRangesBut code code []
+not_yet code slot is = inr is
+
+within_more : (ranges : List Written) (range : Written) (slot : ℕ) → is_within ranges slot ≡ true → is_within (ranges ++ range ∷ []) slot ≡ true
+within_more [] range slot is = absurd (false≢true is)
+within_more (other ∷ ranges) range slot is = elim (or_cases (not (leaves_slot other slot)) (is_within ranges slot) is) [
+  | inl here ↦ ap (λ (b : Bool). b || is_within (ranges ++ range ∷ []) slot) here
+  | inr behind ↦ or_right (not (leaves_slot other slot)) (within_more ranges range slot behind)
+]
+  where
+    or_right : (b : Bool) {c : Bool} → c ≡ true → (b || c) ≡ true
+    or_right true is = refl
+    or_right false is = is
+
+within_last : (ranges : List Written) (range : Written) (slot : ℕ) → leaves_slot range slot ≡ false → is_within (ranges ++ range ∷ []) slot ≡ true
+within_last [] range slot is = ap (λ (b : Bool). not b || false) is
+within_last (other ∷ ranges) range slot is = or_right (not (leaves_slot other slot)) (within_last ranges range slot is)
+  where
+    or_right : (b : Bool) {c : Bool} → c ≡ true → (b || c) ≡ true
+    or_right true is = refl
+    or_right false is = is
+
+-- what one instruction pins is in its range
+pinned_in : (i : Instruction) (slot : ℕ) → pins i slot ≡ true → (range : Written) × (range_of i ≡ Some range) × (leaves_slot range slot ≡ false)
+pinned_in (instructions.AddressOf destination first count) slot is = (record { first = first; count = count }, refl, ap not is)
+pinned_in i slot is = absurd (false≢true is)
+
+drop_at : (code : List Instruction) (k : ℕ) (i : Instruction) → slice_get code k ≡ Some i → drop k code ≡ i ∷ drop (suc k) code
+drop_at [] k i at = absurd (none-some i at)
+drop_at (j ∷ code) zero i at = let same : j ≡ i = cc in ap (λ (x : Instruction). x ∷ code) same
+drop_at (j ∷ code) (suc k) i at = drop_at code k i at
+
+drop_here : (code : List Instruction) (k : ℕ) (i : Instruction) → slice_get code k ≡ Some i → drop k code ≡ i ∷ drop (k + 1) code
+drop_here code k i at = let after : suc k ≡ k + 1 = omega arith in subst (λ (n : ℕ). drop k code ≡ i ∷ drop n code) after (drop_at code k i at)
+
+module _ (code : List Instruction) (k : ℕ) (i : Instruction) (ranges : List Written) (at : slice_get code k ≡ Some i) (are : AreRangesBut code (drop k code) ranges) where
+  here_or_behind : (slot : ℕ) → is_pinned (drop k code) slot ≡ true → (pins i slot ≡ true) ⊎ (is_pinned (drop (k + 1) code) slot ≡ true)
+  here_or_behind slot is = or_cases (pins i slot) (is_pinned (drop (k + 1) code) slot) (subst (λ (is : List Instruction). is_pinned is slot ≡ true) (drop_here code k i at) is)
+
+  pub no_range : range_of i ≡ None → AreRangesBut code (drop (k + 1) code) ranges
+  no_range none slot is = elim (are slot is) [
+    | inl within ↦ inl within
+    | inr pinned ↦ elim (here_or_behind slot pinned) [
+      | inl here ↦ let (range, some, leaves) = pinned_in i slot here in absurd (none-some range (sym none ∙ some))
+      | inr behind ↦ inr behind
+    ]
+  ]
+
+  pub one_range : (range : Written) → range_of i ≡ Some range → AreRangesBut code (drop (k + 1) code) (ranges ++ range ∷ [])
+  one_range range its slot is = elim (are slot is) [
+    | inl within ↦ inl (within_more ranges range slot within)
+    | inr pinned ↦ elim (here_or_behind slot pinned) [
+      | inl here ↦
+          let (other, some, leaves) = pinned_in i slot here in
+          let e : Some other ≡ Some range = sym some ∙ its in
+          let same : other ≡ range = cc in
+          inl (within_last ranges range slot (subst (λ (w : Written). leaves_slot w slot ≡ false) same leaves))
+      | inr behind ↦ inr behind
+    ]
+  ]
+
+pub are_ranges : (code : List Instruction) (ranges : List Written) → AreRangesBut code [] ranges → AreRanges code ranges
+are_ranges code ranges are slot is = elim (are slot is) [
+  | inl within ↦ within
+  | inr none ↦ absurd (false≢true none)
+]
+
+-- ---- slot by slot
+
+pub no_pins : (ranges : List Written) → AreFirstPins ranges 0 []
+no_pins ranges = record { as_many = refl; each = λ slot below. absurd (omega arith) }
+
+pin_before : (pinned : List Bool) (b : Bool) (slot : ℕ) → slot < length pinned → slice_index_or (pinned ++ b ∷ []) slot true ≡ slice_index_or pinned slot true
+pin_before [] b slot below = absurd (omega arith)
+pin_before (x ∷ pinned) b zero below = refl
+pin_before (x ∷ pinned) b (suc slot) below = pin_before pinned b slot (omega arith)
+
+pin_last : (pinned : List Bool) (b : Bool) → slice_index_or (pinned ++ b ∷ []) (length pinned) true ≡ b
+pin_last [] b = refl
+pin_last (x ∷ pinned) b = pin_last pinned b
+
+pub more_pins : (ranges : List Written) (count : ℕ) (pinned : List Bool) (b : Bool) → AreFirstPins ranges count pinned → b ≡ is_within ranges count
+    → AreFirstPins ranges (count + 1) (pinned ++ b ∷ [])
+more_pins ranges count pinned b are is = record {
+  as_many = omega (arith, length-append pinned (b ∷ []), are.as_many);
+  each = λ slot below. elim (cases_lt slot count) [
+    | inl first ↦ pin_before pinned b slot (omega (arith, first, are.as_many)) ∙ are.each slot first
+    | inr not_first ↦
+        let same : slot ≡ length pinned = omega (arith, below, not_first, are.as_many) in
+        let last : slice_index_or (pinned ++ b ∷ []) slot true ≡ b =
+        subst (λ (k : ℕ). slice_index_or (pinned ++ b ∷ []) k true ≡ b) (sym same) (pin_last pinned b) in
+        let there : b ≡ is_within ranges slot = subst (λ (k : ℕ). b ≡ is_within ranges k) (sym (same ∙ are.as_many)) is in
+        last ∙ there
+  ];
+}
+
+beyond : (pinned : List Bool) (slot : ℕ) → length pinned ≤ slot → slice_index_or pinned slot true ≡ true
+beyond [] slot above = refl
+beyond (b ∷ pinned) zero above = absurd (omega arith)
+beyond (b ∷ pinned) (suc slot) above = beyond pinned slot (omega arith)
+
+not_pinned : (b : Bool) → (b ≡ true → ⊥) → b ≡ false
+not_pinned true never = absurd (never refl)
+not_pinned false never = refl
+
+pub are_pins : (r : Routine) (ranges : List Written) (pinned : List Bool) → AreRanges r.code ranges → AreFirstPins ranges r.slots pinned → ArePins r pinned
+are_pins r ranges pinned are first = record {
+  as_many = first.as_many;
+  right = λ slot free. not_pinned (is_pinned r.code slot) (λ is. not_free slot free (is_pinned_there slot is));
+}
+  where
+    is_pinned_there : (slot : ℕ) → is_pinned r.code slot ≡ true → slice_index_or pinned slot true ≡ true
+    is_pinned_there slot is = elim (cases_lt slot r.slots) [
+      | inl below ↦ first.each slot below ∙ are slot is
+      | inr above ↦ beyond pinned slot (omega (arith, above, first.as_many))
+    ]
+
+    not_free : (slot : ℕ) → is_free pinned slot ≡ true → slice_index_or pinned slot true ≡ true → ⊥
+    not_free slot free is = both_ways (slice_index_or pinned slot true) (not-true (slice_index_or pinned slot true) free) is
+
+all_true : (count slot : ℕ) → slice_index_or (replicate count true) slot true ≡ true
+all_true zero slot = refl
+all_true (suc count) zero = refl
+all_true (suc count) (suc slot) = all_true count slot
+
+pub all_pinned : (r : Routine) (pinned : List Bool) → pinned ≡ replicate r.slots true → length pinned ≡ r.slots → ArePins r pinned
+all_pinned r pinned are as_many = record {
+  as_many = as_many;
+  right = λ slot free.
+      absurd (both_ways (slice_index_or pinned slot true) (not-true (slice_index_or pinned slot true) free)
+      (subst (λ (bs : List Bool). slice_index_or bs slot true ≡ true) (sym are) (all_true r.slots slot)));
+}

@@ -1,0 +1,276 @@
+-- The simplified program goes in lockstep with the one given: their states are equal, and what is known is true in them.
+use Rattle.std.proofs.Common.{◌≡◌, ℕ, suc, ◌+◌, ◌*◌, ◌-◌, ◌/◌, ◌%◌, ◌≤◌, Bool, true, false, ◌&&◌, ◌||◌, List, [], ◌∷◌, length, Option, Some, None, slice_get, refl, sym, ap, subst, ◌∙◌, arith, inl, inr}
+use Rattle.std.specs.Prelude.{◌==◌, if◌then◌else◌}
+use Rattle.std.proofs.lemmas.Bool.{cases_lt}
+use Rattle.std.proofs.lemmas.List.{get_or_past}
+use Rattle.std.proofs.lemmas.Option.{slice_get_past}
+use Rattle.cyc_words.specs.Simulation.{Machine, Matching, Steps, NeverFails, Follows}
+use Rattle.cyc_words.proofs.Simulation.{running_ended, running_failed, simulates}
+use Rattle.cyc_words.proofs.Matching.{by_one}
+use Rattle.cyc_words.proofs.Lists.{slice_get_below}
+use Rattle.cyc_words.specs.Word.{add_of}
+use Rattle.cyc_words.specs.WordBytes.{with_byte, word_of}
+use Rattle.cyc_store.specs.State.{StoreState}
+use Rattle.cyc_store.specs.Services.{Call}
+use Rattle.cyc_plain.specs.declared.instruction.Instruction.{Instruction}
+use Rattle.cyc_plain.specs.declared.instruction.Instruction.TheVariants as instructions
+use Rattle.cyc_plain.specs.Program.{Routine, Program, CodePlace, no_routine, routine_at}
+use Rattle.cyc_plain.specs.State.{Activation, Frame, Configuration, State, Running, Ended, Stuck, output_of, status_of, place_of}
+use Rattle.cyc_plain.specs.Memory.{pins, is_pinned, global_at, slot_at, word_or, word_waiting, put_or, with_waiting, Range, OfGlobals, OfStore, OfSlots, range_of, word_in, memory_at, with_global, with_slot, with_word, with_memory}
+use Rattle.cyc_plain.specs.Step.{Choice, operand_word, IsAllowed, MayLie, MayServe, returns, finishes, loads, saves, loads_byte, saves_byte, advanced, call_of, callee_of, called, performed, executed, instruction_at, step, limited, limited_step, Step, start, machine}
+use Rattle.cyc_plain.proofs.RunLaws.{lawful, limited_either}
+use Rattle.cyc_simplify.specs.declared.fact.Fact.{Fact}
+use Rattle.cyc_simplify.specs.declared.fact.Fact.TheVariants as facts_are
+use Rattle.cyc_simplify.specs.Facts.{is_known}
+use Rattle.cyc_simplify.specs.Replacement.{simplified_operand, holder_in, simplified_binary, simplified_move, decision_in, simplified_branch, simplified_instruction}
+use Rattle.cyc_simplify.specs.Table.{IsReplaced, AreReplaced}
+use Rattle.cyc_simplify.proofs.Kept.{facts_in, IsKnown, known_behind, known_start}
+use Rattle.cyc_simplify.proofs.Steps.{performs_same, callee_same, request_same}
+use Rattle.cyc_simplify.proofs.Tables.{unchanged}
+
+-- ---- the functions
+
+-- every function is replaced, also where there is none
+pub each_replaced : (program simplified : Program) → AreReplaced program simplified → (k : ℕ) → IsReplaced program (routine_at program k) (routine_at simplified k)
+each_replaced program simplified are k = elim (cases_lt k (length program.functions)) [
+  | inl below ↦ are.each k below
+  | inr past ↦
+      let none : no_routine ≡ routine_at program k = sym (get_or_past program.functions k no_routine past) in
+      let no_other : no_routine ≡ routine_at simplified k = sym (get_or_past simplified.functions k no_routine (let l = are.as_many in omega (arith, past, l))) in
+      subst (λ (s : Routine). IsReplaced program (routine_at program k) s) no_other
+      (subst (λ (r : Routine). IsReplaced program r no_routine) none
+      (unchanged program no_routine [] (record { as_many = refl; right = λ slot free. refl })))
+]
+
+-- ---- what has its address taken
+
+pins_same : (facts : List Fact) (i : Instruction) (slot : ℕ) → pins (simplified_instruction facts i) slot ≡ pins i slot
+pins_same facts (instructions.Move destination source) slot = go (is_known facts (facts_are.Equal destination (simplified_operand facts source)))
+  where
+    go : (b : Bool) → pins (simplified_move b destination (simplified_operand facts source)) slot ≡ false
+    go true = refl
+    go false = refl
+pins_same facts (instructions.Binary operator destination left right) slot = go (holder_in facts operator (simplified_operand facts left) (simplified_operand facts right))
+  where
+    go : (o : Option ℕ) → pins (simplified_binary o operator destination (simplified_operand facts left) (simplified_operand facts right)) slot ≡ false
+    go (Some found) = refl
+    go None = refl
+pins_same facts (instructions.Branch comparison left right target) slot = go (decision_in facts comparison (simplified_operand facts left) (simplified_operand facts right))
+  where
+    go : (o : Option Bool) → pins (simplified_branch o comparison (simplified_operand facts left) (simplified_operand facts right) target) slot ≡ false
+    go (Some true) = refl
+    go (Some false) = refl
+    go None = refl
+pins_same facts i slot = refl
+
+pinned_alike : (slot : ℕ) (code others : List Instruction) → length others ≡ length code
+    → ((index : ℕ) (i : Instruction) → slice_get code index ≡ Some i → (j : Instruction) × (slice_get others index ≡ Some j) × (pins j slot ≡ pins i slot))
+    → is_pinned others slot ≡ is_pinned code slot
+pinned_alike slot [] [] long each = refl
+pinned_alike slot [] (j ∷ others) long each = absurd (omega (arith, long))
+pinned_alike slot (i ∷ code) [] long each = absurd (omega (arith, long))
+pinned_alike slot (i ∷ code) (j ∷ others) long each =
+    let (other, at, same) = each 0 i refl in
+    let is : j ≡ other = let e : Some j ≡ Some other = at in cc in
+    ap (λ (b : Bool). b || is_pinned others slot) (ap (λ (x : Instruction). pins x slot) is ∙ same)
+    ∙ ap (λ (b : Bool). pins i slot || b) (pinned_alike slot code others (omega (arith, long)) (λ index x found. each (suc index) x found))
+
+module _ (program simplified : Program) (are : AreReplaced program simplified) where
+  pinned_same : (function slot : ℕ) → is_pinned (routine_at simplified function).code slot ≡ is_pinned (routine_at program function).code slot
+  pinned_same function slot =
+      let r = each_replaced program simplified are function in
+      pinned_alike slot (routine_at program function).code (routine_at simplified function).code r.as_many
+      (λ index i at. (simplified_instruction (r.table index) i, r.each index i at, pins_same (r.table index) i slot))
+
+  -- ---- memory
+
+  slot_same : (a : Activation) (address : ℕ) → slot_at simplified a address ≡ slot_at program a address
+  slot_same a address =
+      ap (λ (b : Bool). if a.base + 4 * ((address - a.base) / 4) == address && b then Some ((address - a.base) / 4) else None) (pinned_same a.function ((address - a.base) / 4))
+
+  global_same : (address : ℕ) → global_at simplified address ≡ global_at program address
+  global_same address = ap (λ (globals : List ℕ). global_at (record program { globals = globals }) address) are.globals
+
+  waiting_same : (frames : List Frame) (address : ℕ) → word_waiting simplified frames address ≡ word_waiting program frames address
+  waiting_same [] address = refl
+  waiting_same (f ∷ frames) address =
+      ap (λ (o : Option ℕ). word_or o f.caller.slots (word_waiting simplified frames address)) (slot_same f.caller address)
+      ∙ ap (word_or (slot_at program f.caller address) f.caller.slots) (waiting_same frames address)
+
+  with_waiting_same : (frames : List Frame) (address word : ℕ) → with_waiting simplified frames address word ≡ with_waiting program frames address word
+  with_waiting_same [] address word = refl
+  with_waiting_same (f ∷ frames) address word =
+      ap (λ (o : Option ℕ). put_or o word f frames (with_waiting simplified frames address word)) (slot_same f.caller address)
+      ∙ ap (put_or (slot_at program f.caller address) word f frames) (with_waiting_same frames address word)
+
+  memory_same : (c : Configuration) (address : ℕ) → memory_at simplified c address ≡ memory_at program c address
+  memory_same c address = go (range_of address)
+    where
+      go : (range : Range) → word_in simplified c address range ≡ word_in program c address range
+      go OfGlobals = ap (λ (o : Option ℕ). word_or o c.globals None) (global_same address)
+      go OfStore = refl
+      go OfSlots =
+          ap (λ (o : Option ℕ). word_or o c.active.slots (word_waiting simplified c.frames address)) (slot_same c.active address)
+          ∙ ap (word_or (slot_at program c.active address) c.active.slots) (waiting_same c.frames address)
+
+  written_same : (c : Configuration) (address word : ℕ) → with_memory simplified c address word ≡ with_memory program c address word
+  written_same c address word = go (range_of address)
+    where
+      by_slot : (o : Option ℕ) → with_slot simplified c o address word ≡ with_slot program c o address word
+      by_slot (Some number) = refl
+      by_slot None = ap (λ (frames : List Frame). record c { frames = frames }) (with_waiting_same c.frames address word)
+
+      go : (range : Range) → with_word simplified c address word range ≡ with_word program c address word range
+      go OfGlobals = ap (λ (o : Option ℕ). with_global c o word) (global_same address)
+      go OfStore = refl
+      go OfSlots = ap (λ (o : Option ℕ). with_slot simplified c o address word) (slot_same c.active address) ∙ by_slot (slot_at program c.active address)
+
+  -- ---- an instruction of either program
+
+  saves_same : (c : Configuration) (address word : ℕ) (o : Option ℕ) → saves simplified c address word o ≡ saves program c address word o
+  saves_same c address word None = refl
+  saves_same c address word (Some old) = ap (λ (d : Configuration). Running (advanced d)) (written_same c address word)
+
+  saves_byte_same : (c : Configuration) (address byte : ℕ) (o : Option ℕ) → saves_byte simplified c address byte o ≡ saves_byte program c address byte o
+  saves_byte_same c address byte None = refl
+  saves_byte_same c address byte (Some old) = ap (λ (d : Configuration). Running (advanced d)) (written_same c (word_of address) (with_byte old (address % 4) byte))
+
+  results_same : (function : ℕ) → (routine_at simplified function).results ≡ (routine_at program function).results
+  results_same function = (each_replaced program simplified are function).results
+
+  either_performs : (choice : Choice) (c : Configuration) (i : Instruction) → performed simplified choice c i ≡ performed program choice c i
+  either_performs choice c (instructions.Return value) = ap (λ (n : ℕ). returns c value n c.frames) (results_same c.active.function)
+  either_performs choice c (instructions.Finish value) = ap (λ (n : ℕ). finishes c value n c.active.handlers) (results_same c.active.function)
+  either_performs choice c (instructions.Load destination address offset) = ap (loads c destination) (memory_same c (add_of (operand_word c.active.slots address) offset))
+  either_performs choice c (instructions.LoadByte destination address offset) =
+      let a : ℕ = add_of (operand_word c.active.slots address) offset in ap (loads_byte c destination a) (memory_same c (word_of a))
+  either_performs choice c (instructions.Store address offset source) =
+      let a : ℕ = add_of (operand_word c.active.slots address) offset in
+      let word : ℕ = operand_word c.active.slots source in
+      ap (saves simplified c a word) (memory_same c a) ∙ saves_same c a word (memory_at program c a)
+  either_performs choice c (instructions.StoreByte address offset source) =
+      let a : ℕ = add_of (operand_word c.active.slots address) offset in
+      let byte : ℕ = operand_word c.active.slots source % 256 in
+      ap (saves_byte simplified c a byte) (memory_same c (word_of a)) ∙ saves_byte_same c a byte (memory_at program c (word_of a))
+  either_performs choice c i = refl
+
+  -- ---- steps
+
+  module _ (choice : Choice) (c : Configuration) (known : IsKnown program simplified (each_replaced program simplified are) (Running c)) where
+    abbrev place : CodePlace
+    place = place_of (Running c)
+
+    abbrev facts : List Fact
+    facts = facts_in program simplified (each_replaced program simplified are) c.active.function c.active.next
+
+    -- the instructions that both programs have there
+    abbrev AreBoth : Option Instruction → Option Instruction → Type 0
+    AreBoth (Some i) other = other ≡ Some (simplified_instruction facts i)
+    AreBoth None other = other ≡ None
+
+    both : (o : Option Instruction) → instruction_at program place ≡ o → AreBoth o (instruction_at simplified place)
+    both (Some i) at = (each_replaced program simplified are c.active.function).each c.active.next i at
+    both None at = slice_get_past (routine_at simplified c.active.function).code c.active.next past
+      where
+        past : length (routine_at simplified c.active.function).code ≤ c.active.next
+        past = elim (cases_lt c.active.next (length (routine_at program c.active.function).code)) [
+          | inl below ↦
+              let (i, there) = slice_get_below (routine_at program c.active.function).code c.active.next below in
+              absurd (let e : None ≡ Some i = sym at ∙ there in cc)
+          | inr end ↦ (let l = (each_replaced program simplified are c.active.function).as_many in omega (arith, end, l))
+        ]
+
+    -- a step of the simplified program is one of the other, behind which as much is known
+    record IsSame (o other : Option Instruction) : Type 0 where
+      pub does : executed simplified choice c other ≡ executed program choice c o
+      pub knows : IsKnown program simplified (each_replaced program simplified are) (executed program choice c o)
+      pub calls : callee_of other ≡ callee_of o
+      pub asks : call_of c.active.slots other ≡ call_of c.active.slots o
+
+    executes_same : (o other : Option Instruction) → instruction_at simplified place ≡ other → AreBoth o other → IsSame o other
+    executes_same None other at is = record {
+      does = ap (executed simplified choice c) is;
+      knows = tt;
+      calls = ap callee_of is;
+      asks = ap (call_of c.active.slots) is;
+    }
+    executes_same (Some i) other at is =
+        let j : Instruction = simplified_instruction facts i in
+        let same : performed program choice c j ≡ performed program choice c i = performs_same program choice c facts known.0 i in
+        record {
+          does = ap (executed simplified choice c) is ∙ either_performs choice c j ∙ same;
+          knows = subst (IsKnown program simplified (each_replaced program simplified are)) same
+              (known_behind program simplified (each_replaced program simplified are) choice c j (at ∙ is) known);
+          calls = ap callee_of is ∙ callee_same facts i;
+          asks = ap (call_of c.active.slots) is ∙ request_same c.active.slots facts known.0 i;
+        }
+
+    same_step : IsSame (instruction_at program place) (instruction_at simplified place)
+    same_step = executes_same (instruction_at program place) (instruction_at simplified place) refl (both (instruction_at program place) refl)
+
+    -- what may be chosen for it
+    lies_same : (base : ℕ) (o : Option ℕ) → MayLie simplified base o (Running c) → MayLie program base o (Running c)
+    lies_same base None may = may
+    lies_same base (Some function) may = record {
+      aligned = may.aligned;
+      low = may.low;
+      high = subst (λ (n : ℕ). base + 4 * n ≤ c.active.base) (each_replaced program simplified are function).slots may.high;
+    }
+
+    allowed_same : IsAllowed simplified (Running c) choice → IsAllowed program (Running c) choice
+    allowed_same allowed = record {
+      contents = allowed.contents;
+      lies = lies_same choice.base (called program (Running c)) (subst (λ (o : Option ℕ). MayLie simplified choice.base o (Running c)) same_step.calls allowed.lies);
+      serves = subst (λ (o : Option Call). MayServe choice.serving o (Running c)) same_step.asks allowed.serves;
+    }
+
+    known_limited : (pages calls : ℕ) → IsKnown program simplified (each_replaced program simplified are) (limited_step program pages calls choice (Running c))
+    known_limited pages calls =
+        limited_either (IsKnown program simplified (each_replaced program simplified are)) pages calls (Running c) (step program choice (Running c)) (λ within. same_step.knows) tt
+
+    does_limited : (pages calls : ℕ) → limited_step simplified pages calls choice (Running c) ≡ limited_step program pages calls choice (Running c)
+    does_limited pages calls = ap (limited pages calls (Running c)) same_step.does
+
+  -- ---- runs
+
+  abbrev above : (pages calls : ℕ) → Machine
+  above pages calls = machine program pages calls
+
+  abbrev below : (pages calls : ℕ) → Machine
+  below pages calls = machine simplified pages calls
+
+  abbrev Matches : State → State → Type 0
+  Matches s t = (t ≡ s) × IsKnown program simplified (each_replaced program simplified are) s
+
+  abbrev matching : (pages calls : ℕ) → Matching (machine program pages calls) (machine simplified pages calls)
+  matching pages calls = record {
+    Matches = Matches;
+    weight = λ s. 0;
+    own = λ place. place ∷ [];
+    outputs = λ s t matches. ap output_of matches.0;
+    endings = λ s t ending matches ended. ap status_of matches.0 ∙ ended;
+  }
+
+  stepped : (pages calls : ℕ) (c : Configuration) (u : State) → IsKnown program simplified (each_replaced program simplified are) (Running c)
+      → Step simplified pages calls (Running c) u → (next : State) × Step program pages calls (Running c) next × Matches next u
+  stepped pages calls c u known (choice, allowed, is) =
+      let next : State = limited_step program pages calls choice (Running c) in
+      (next, (choice, allowed_same choice c known allowed, refl), (is ∙ does_limited choice c known pages calls, known_limited choice c known pages calls))
+
+  matched : (pages calls : ℕ) → Steps (machine program pages calls) (machine simplified pages calls) (matching pages calls)
+  matched pages calls (Running c) t (is, known) running fine =
+      by_one (above pages calls) (below pages calls) (matching pages calls) (Running c) t (is, known) (ap status_of is) (0, (omega arith), sym (ap place_of is))
+      (λ u step. stepped pages calls c u known (subst (λ s. Step simplified pages calls s u) is step))
+  matched pages calls (Ended ending output input) t matches running fine = absurd (running_ended ending (sym running))
+  matched pages calls (Stuck output input) t matches running fine = absurd (running_failed (sym running))
+
+  start_same : (base : ℕ) (store : StoreState) (input : List ℕ) → start simplified base store input ≡ start program base store input
+  start_same base store input = λ i. start (record program { main = are.main i; globals = are.globals i }) base store input
+
+  -- each run of the simplified program is one of the other
+  pub follows : (pages calls base : ℕ) (store : StoreState) (input : List ℕ) → NeverFails (machine program pages calls) (start program base store input)
+      → Follows (machine program pages calls) (machine simplified pages calls) [] (λ place. place ∷ []) (start program base store input) (start simplified base store input)
+  follows pages calls base store input never =
+      simulates (above pages calls) (below pages calls) (matching pages calls) (matched pages calls) (lawful simplified pages calls) [] (start program base store input) never
+      (start simplified base store input) refl
+      (start_same base store input, known_start program simplified (each_replaced program simplified are) base store input)

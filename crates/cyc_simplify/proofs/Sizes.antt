@@ -1,0 +1,437 @@
+-- A simplified program is well formed, its numbers are words, and it is not larger.
+use Rattle.std.proofs.Common.{◌≡◌, ℕ, suc, ◌-◌, ◌^◌, ◌<◌, ◌≤◌, Bool, true, false, ◌&&◌, List, [], ◌∷◌, length, get_or, Option, Some, None, slice_get, refl, sym, ap, subst, ◌∙◌, arith, inl, inr}
+use Rattle.std.specs.Prelude.{All, IsSomeAnd, sum_by, not, slice_index_or, unwrap_or}
+use Rattle.std.proofs.lemmas.Bool.{and_parts, cases_lt, cond_both, ltb-true, false≢true}
+use Rattle.std.proofs.lemmas.List.{get_or_past}
+use Rattle.std.proofs.lemmas.List.Sums.{sum_by-cons}
+use Rattle.std.proofs.lemmas.Option.{slice_get-get_or, get_or_from_slice_get}
+use Rattle.cyc_words.specs.Word.{IsWord}
+use Rattle.cyc_words.proofs.Lists.{slice_get_below}
+use Rattle.cyc_plain.specs.declared.instruction.Instruction.{Instruction}
+use Rattle.cyc_plain.specs.declared.instruction.Instruction.TheVariants as instructions
+use Rattle.cyc_plain.specs.declared.instruction.Operand.{Operand}
+use Rattle.cyc_plain.specs.declared.instruction.Operand.TheVariants as operands
+use Rattle.cyc_plain.specs.declared.instruction.Request.{Request}
+use Rattle.cyc_plain.specs.declared.instruction.Request.TheVariants as requests
+use Rattle.cyc_plain.specs.declared.instruction.BinaryOperator.{BinaryOperator}
+use Rattle.cyc_plain.specs.declared.instruction.BinaryOperator.TheVariants as binary
+use Rattle.cyc_plain.specs.declared.limits.TheConstants.{MOST_GLOBALS, RECORD_WORDS}
+use Rattle.cyc_plain.specs.Requests.{first_operand, second_operand, request_size}
+use Rattle.cyc_plain.specs.Program.{Routine, Program, no_routine, routine_at, operator_size, instruction_size, size}
+use Rattle.cyc_plain.specs.WellFormed.{HasSlots, IsOperand, IsCallInRange, IsRequestInRange, IsInRange, IsRoutine, IsWellFormed, is_return, leaves, IsOfWord, IsArgumentOfWord, HasWord, HasWords, IsPlain}
+use Rattle.cyc_plain.proofs.Placed.{below_of_get, holds_at}
+use Rattle.cyc_frame.specs.Homes.{At}
+use Rattle.cyc_frame.specs.Uses.{is_slot}
+use Rattle.cyc_simplify.specs.declared.fact.Fact.{Fact}
+use Rattle.cyc_simplify.specs.declared.fact.Fact.TheVariants as facts_are
+use Rattle.cyc_simplify.specs.Facts.{is_same_operator, is_same_operand, is_known, is_free, suits_operand, suits, are_suited}
+use Rattle.cyc_simplify.specs.Replacement.{is_cheap, instead, simplified_operand, holder, or_slot, holder_in, simplified_binary, simplified_move, decision_in, simplified_branch, simplified_request, simplified_instruction}
+use Rattle.cyc_simplify.specs.Simplified.{IsLike, IsSimplified}
+use Rattle.cyc_simplify.specs.Table.{IsReplaced, AreReplaced}
+use Rattle.cyc_simplify.proofs.Runs.{each_replaced, follows}
+
+-- ---- lists
+
+all_from : {X : Type 0} (P : X → Type 0) (xs : List X) → ((k : ℕ) (x : X) → slice_get xs k ≡ Some x → P x) → All P xs
+all_from P xs each = λ k d below. each k (get_or xs k d) (slice_get-get_or xs k d below)
+
+-- a sum of no larger numbers
+sum_at_most : {X : Type 0} (f : X → ℕ) (xs ys : List X) → length ys ≡ length xs
+    → ((k : ℕ) (x : X) → slice_get xs k ≡ Some x → (y : X) × (slice_get ys k ≡ Some y) × (f y ≤ f x)) → sum_by f ys ≤ sum_by f xs
+sum_at_most f [] [] long each = omega arith
+sum_at_most f [] (y ∷ ys) long each = absurd (omega (arith, long))
+sum_at_most f (x ∷ xs) [] long each = absurd (omega (arith, long))
+sum_at_most f (x ∷ xs) (y ∷ ys) long each =
+    let (other, at, less) = each 0 x refl in
+    let same : f y ≡ f other = ap f (let e : Some y ≡ Some other = at in cc) in
+    let rest = sum_at_most f xs ys (omega (arith, long)) (λ k z found. each (suc k) z found) in
+    omega (arith, sum_by-cons f x xs, sum_by-cons f y ys, less, same, rest)
+
+-- ---- operands
+
+module _ (pinned : List Bool) where
+  free_below : (slot : ℕ) → is_free pinned slot ≡ true → slot < length pinned
+  free_below slot free = elim (cases_lt slot (length pinned)) [
+    | inl below ↦ below
+    | inr past ↦ absurd (false≢true (sym (ap not (get_or_past pinned slot true past)) ∙ free))
+  ]
+
+  module _ (P : Operand → Type 0) (fine : (operand : Operand) → suits_operand pinned operand ≡ true → P operand) where
+    instead_has : (fact : Fact) (operand rest : Operand) → suits pinned fact ≡ true → P rest → P (unwrap_or (instead fact operand) rest)
+    instead_has (facts_are.Computed slot operator left right) operand rest suits has = has
+    instead_has (facts_are.Holds comparison left right) operand rest suits has = has
+    instead_has (facts_are.Equal slot other) operand rest suits has =
+        cond_both (is_slot operand slot && is_cheap other) (Some other) None (λ o. P (unwrap_or o rest))
+        (λ is. fine other (and_parts (is_free pinned slot) (suits_operand pinned other) suits).1) (λ is. has)
+
+    pub operand_has : (facts : List Fact) (operand : Operand) → are_suited pinned facts ≡ true → P operand → P (simplified_operand facts operand)
+    operand_has [] operand all has = has
+    operand_has (fact ∷ facts) operand all has =
+        let (first, rest) = and_parts (suits pinned fact) (are_suited pinned facts) all in
+        instead_has fact operand (simplified_operand facts operand) first (operand_has facts operand rest has)
+
+  -- a slot that holds a result is free
+  abbrev IsFreeIfAny : Option ℕ → Type 0
+  IsFreeIfAny (Some slot) = is_free pinned slot ≡ true
+  IsFreeIfAny None = Unit {0}
+
+  holder_free : (fact : Fact) (operator : BinaryOperator) (left right : Operand) → suits pinned fact ≡ true → IsFreeIfAny (holder fact operator left right)
+  holder_free (facts_are.Equal slot operand) operator left right suits = tt
+  holder_free (facts_are.Holds comparison left_2 right_2) operator left right suits = tt
+  holder_free (facts_are.Computed slot other left_2 right_2) operator left right suits =
+      cond_both (is_same_operator other operator && (is_same_operand left_2 left && is_same_operand right_2 right)) (Some slot) None IsFreeIfAny
+      (λ is. (and_parts (is_free pinned slot) (suits_operand pinned left_2 && suits_operand pinned right_2) suits).0) (λ is. tt)
+
+  holder_in_free : (facts : List Fact) (operator : BinaryOperator) (left right : Operand) → are_suited pinned facts ≡ true → IsFreeIfAny (holder_in facts operator left right)
+  holder_in_free [] operator left right all = tt
+  holder_in_free (fact ∷ facts) operator left right all =
+      let (first, rest) = and_parts (suits pinned fact) (are_suited pinned facts) all in
+      go (holder fact operator left right) (holder_free fact operator left right first) (holder_in_free facts operator left right rest)
+    where
+      go : (one : Option ℕ) → IsFreeIfAny one → IsFreeIfAny (holder_in facts operator left right) → IsFreeIfAny (or_slot one (holder_in facts operator left right))
+      go (Some slot) free others = free
+      go None free others = others
+
+word_suits : (pinned : List Bool) (operand : Operand) → suits_operand pinned operand ≡ true → IsOfWord operand
+word_suits pinned (operands.Slot number) suits = tt
+word_suits pinned (operands.Word word) suits = ltb-true word (2 ^ 32) suits
+
+-- ---- an instruction
+
+-- its numbers are words
+module _ (pinned : List Bool) (facts : List Fact) (all : are_suited pinned facts ≡ true) where
+  of_word : (operand : Operand) → IsOfWord operand → IsOfWord (simplified_operand facts operand)
+  of_word operand is = operand_has pinned IsOfWord (word_suits pinned) facts operand all is
+
+  request_words : (request : Request) → IsArgumentOfWord (first_operand request) × IsArgumentOfWord (second_operand request)
+      → IsArgumentOfWord (first_operand (simplified_request facts request)) × IsArgumentOfWord (second_operand (simplified_request facts request))
+  request_words (requests.OpenLexical destination) has = has
+  request_words (requests.CloseTo mark) (first, second) = (of_word mark first, second)
+  request_words (requests.OpenDynamic destination) has = has
+  request_words (requests.CloseDynamic handle) (first, second) = (of_word handle first, second)
+  request_words (requests.Allocate destination handle words) (first, second) = (of_word handle first, of_word words second)
+  request_words (requests.Free address) (first, second) = (of_word address first, second)
+
+  has_word : (i : Instruction) → HasWord i → HasWord (simplified_instruction facts i)
+  has_word (instructions.Move destination source) has = go (is_known facts (facts_are.Equal destination (simplified_operand facts source)))
+    where
+      go : (b : Bool) → HasWord (simplified_move b destination (simplified_operand facts source))
+      go true = tt
+      go false = of_word source has
+  has_word (instructions.Unary operator destination operand) has = of_word operand has
+  has_word (instructions.Binary operator destination left right) (first, second) = go (holder_in facts operator (simplified_operand facts left) (simplified_operand facts right))
+    where
+      go : (o : Option ℕ) → HasWord (simplified_binary o operator destination (simplified_operand facts left) (simplified_operand facts right))
+      go (Some slot) = tt
+      go None = (of_word left first, of_word right second)
+  has_word (instructions.Branch comparison left right target) (first, second) = go (decision_in facts comparison (simplified_operand facts left) (simplified_operand facts right))
+    where
+      zero_word : IsWord 0
+      zero_word = omega arith
+
+      go : (o : Option Bool) → HasWord (simplified_branch o comparison (simplified_operand facts left) (simplified_operand facts right) target)
+      go (Some true) = tt
+      go (Some false) = (zero_word, zero_word)
+      go None = (of_word left first, of_word right second)
+  has_word (instructions.WriteByte source) has = of_word source has
+  has_word (instructions.StoreGlobal global source) has = of_word source has
+  has_word (instructions.Load destination address offset) (first, second) = (of_word address first, second)
+  has_word (instructions.Store address offset source) (first, second, third) = (of_word address first, second, of_word source third)
+  has_word (instructions.LoadByte destination address offset) (first, second) = (of_word address first, second)
+  has_word (instructions.StoreByte address offset source) (first, second, third) = (of_word address first, second, of_word source third)
+  has_word (instructions.Ask request) has = request_words request has
+  has_word (instructions.Throw tag value) (first, second) = (of_word tag first, of_word value second)
+  has_word (instructions.Uncaught tag value) (first, second) = (first, of_word value second)
+  has_word i has = has
+
+-- it is not larger
+eleven : (operator : BinaryOperator) → 11 ≤ operator_size operator
+eleven binary.Divide = omega arith
+eleven binary.Remainder = omega arith
+eleven operator = omega arith
+
+same_request_size : (facts : List Fact) (request : Request) → request_size (simplified_request facts request) ≡ request_size request
+same_request_size facts (requests.OpenLexical destination) = refl
+same_request_size facts (requests.CloseTo mark) = refl
+same_request_size facts (requests.OpenDynamic destination) = refl
+same_request_size facts (requests.CloseDynamic handle) = refl
+same_request_size facts (requests.Allocate destination handle words) = refl
+same_request_size facts (requests.Free address) = refl
+
+not_larger : (facts : List Fact) (i : Instruction) → instruction_size (simplified_instruction facts i) ≤ instruction_size i
+not_larger facts (instructions.Move destination source) = go (is_known facts (facts_are.Equal destination (simplified_operand facts source)))
+  where
+    go : (b : Bool) → instruction_size (simplified_move b destination (simplified_operand facts source)) ≤ 6
+    go true = omega arith
+    go false = omega arith
+not_larger facts (instructions.Binary operator destination left right) = go (holder_in facts operator (simplified_operand facts left) (simplified_operand facts right))
+  where
+    go : (o : Option ℕ) → instruction_size (simplified_binary o operator destination (simplified_operand facts left) (simplified_operand facts right)) ≤ operator_size operator
+    go (Some slot) = omega (arith, eleven operator)
+    go None = omega arith
+not_larger facts (instructions.Branch comparison left right target) = go (decision_in facts comparison (simplified_operand facts left) (simplified_operand facts right))
+  where
+    go : (o : Option Bool) → instruction_size (simplified_branch o comparison (simplified_operand facts left) (simplified_operand facts right) target) ≤ 11
+    go (Some true) = omega arith
+    go (Some false) = omega arith
+    go None = omega arith
+not_larger facts (instructions.Ask request) = omega (arith, same_request_size facts request)
+not_larger facts i = omega arith
+
+-- a return is one, and nothing else becomes one
+same_return : (facts : List Fact) (i : Instruction) → is_return (simplified_instruction facts i) ≡ is_return i
+same_return facts (instructions.Move destination source) = go (is_known facts (facts_are.Equal destination (simplified_operand facts source)))
+  where
+    go : (b : Bool) → is_return (simplified_move b destination (simplified_operand facts source)) ≡ false
+    go true = refl
+    go false = refl
+same_return facts (instructions.Binary operator destination left right) = go (holder_in facts operator (simplified_operand facts left) (simplified_operand facts right))
+  where
+    go : (o : Option ℕ) → is_return (simplified_binary o operator destination (simplified_operand facts left) (simplified_operand facts right)) ≡ false
+    go (Some slot) = refl
+    go None = refl
+same_return facts (instructions.Branch comparison left right target) = go (decision_in facts comparison (simplified_operand facts left) (simplified_operand facts right))
+  where
+    go : (o : Option Bool) → is_return (simplified_branch o comparison (simplified_operand facts left) (simplified_operand facts right) target) ≡ false
+    go (Some true) = refl
+    go (Some false) = refl
+    go None = refl
+same_return facts i = refl
+
+-- what leaves still does
+still_leaves : (facts : List Fact) (i : Instruction) → leaves i ≡ true → leaves (simplified_instruction facts i) ≡ true
+still_leaves facts (instructions.Move destination source) is = absurd (false≢true is)
+still_leaves facts (instructions.Binary operator destination left right) is = absurd (false≢true is)
+still_leaves facts (instructions.Branch comparison left right target) is = absurd (false≢true is)
+still_leaves facts i is = is
+
+-- ---- a function
+
+module _ (program simplified : Program) (are : AreReplaced program simplified) (r s : Routine) (replaced : IsReplaced program r s) where
+  -- what an instruction stands for
+  record IsPut (index : ℕ) (j : Instruction) : Type 0 where
+    pub instruction : Instruction
+    pub at : At r index instruction
+    pub is : j ≡ simplified_instruction (replaced.table index) instruction
+    pub all : are_suited replaced.pinned (replaced.table index) ≡ true
+
+  put_at : (index : ℕ) (j : Instruction) → At s index j → IsPut index j
+  put_at index j at =
+      let long = replaced.as_many in
+      let within = below_of_get s.code index j at in
+      let (i, there) = slice_get_below r.code index (omega (arith, within, long)) in
+      record {
+        instruction = i;
+        at = there;
+        is = (let e : Some j ≡ Some (simplified_instruction (replaced.table index) i) = sym at ∙ replaced.each index i there in cc);
+        all = replaced.is_table.suited index within;
+      }
+
+  -- what holds of each that is put in holds of all
+  all_put : (P Q : Instruction → Type 0) → ((facts : List Fact) → are_suited replaced.pinned facts ≡ true → (i : Instruction) → P i → Q (simplified_instruction facts i)) → All P r.code → All Q s.code
+  all_put P Q each all = all_from Q s.code (λ index j at.
+      let put = put_at index j at in
+      subst Q (sym put.is) (each (replaced.table index) put.all put.instruction (holds_at P r.code index put.instruction all put.at)))
+
+  below_slots : (slot : ℕ) → slot < r.slots → slot < s.slots
+  below_slots slot is = let e = replaced.slots in omega (arith, is, e)
+
+  has_slots : (first count : ℕ) → HasSlots r first count → HasSlots s first count
+  has_slots first count is = let e = replaced.slots in omega (arith, is, e)
+
+  in_code : (target : ℕ) → target < length r.code → target < length s.code
+  in_code target is = let e = replaced.as_many in omega (arith, is, e)
+
+  global_in : (global : ℕ) → global < length program.globals → global < length simplified.globals
+  global_in global is = subst (λ (l : List ℕ). global < length l) (sym are.globals) is
+
+  free_slot : (slot : ℕ) → is_free replaced.pinned slot ≡ true → slot < s.slots
+  free_slot slot free =
+      let within = free_below replaced.pinned slot free in
+      let long = replaced.pins.as_many in
+      let e = replaced.slots in
+      omega (arith, within, long, e)
+
+  operand_fine : (operand : Operand) → suits_operand replaced.pinned operand ≡ true → IsOperand s operand
+  operand_fine (operands.Slot number) suits = free_slot number suits
+  operand_fine (operands.Word word) suits = tt
+
+  operand_still : (operand : Operand) → IsOperand r operand → IsOperand s operand
+  operand_still (operands.Slot number) is = below_slots number is
+  operand_still (operands.Word word) is = tt
+
+  module _ (facts : List Fact) (all : are_suited replaced.pinned facts ≡ true) where
+    operand_in : (operand : Operand) → IsOperand r operand → IsOperand s (simplified_operand facts operand)
+    operand_in operand is = operand_has replaced.pinned (IsOperand s) operand_fine facts operand all (operand_still operand is)
+
+    request_in : (request : Request) → IsRequestInRange r request → IsRequestInRange s (simplified_request facts request)
+    request_in (requests.OpenLexical destination) is =
+        record { answer_in_range = has_slots destination 2 is.answer_in_range; first_in_range = tt; second_in_range = tt }
+    request_in (requests.CloseTo mark) is =
+        record { answer_in_range = has_slots 0 0 is.answer_in_range; first_in_range = operand_in mark is.first_in_range; second_in_range = tt }
+    request_in (requests.OpenDynamic destination) is =
+        record { answer_in_range = has_slots destination 1 is.answer_in_range; first_in_range = tt; second_in_range = tt }
+    request_in (requests.CloseDynamic handle) is =
+        record { answer_in_range = has_slots 0 0 is.answer_in_range; first_in_range = operand_in handle is.first_in_range; second_in_range = tt }
+    request_in (requests.Allocate destination handle words) is =
+        record {
+          answer_in_range = has_slots destination 1 is.answer_in_range;
+          first_in_range = operand_in handle is.first_in_range;
+          second_in_range = operand_in words is.second_in_range;
+        }
+    request_in (requests.Free address) is =
+        record { answer_in_range = has_slots 0 0 is.answer_in_range; first_in_range = operand_in address is.first_in_range; second_in_range = tt }
+
+    call_in_range : (function arguments count result : ℕ) → IsCallInRange program r function arguments count result → IsCallInRange simplified s function arguments count result
+    call_in_range function arguments count result is =
+        let callee = each_replaced program simplified are function in
+        record {
+          function_in_range = (let f = is.function_in_range in let l = are.as_many in omega (arith, f, l));
+          takes = is.takes ∙ sym callee.parameters;
+          arguments_in_range = has_slots arguments count is.arguments_in_range;
+          result_in_range = (let f = is.result_in_range in let e = replaced.slots in let n = callee.results in omega (arith, f, e, n));
+        }
+
+    in_range : (i : Instruction) → IsInRange program r i → IsInRange simplified s (simplified_instruction facts i)
+    in_range (instructions.Move destination source) (first, second) = go (is_known facts (facts_are.Equal destination (simplified_operand facts source)))
+      where
+        go : (b : Bool) → IsInRange simplified s (simplified_move b destination (simplified_operand facts source))
+        go true = (below_slots destination first, below_slots destination first)
+        go false = (below_slots destination first, operand_in source second)
+    in_range (instructions.MoveWords destination source count) is =
+        record {
+          some = is.some;
+          few = is.few;
+          destination_in_range = has_slots destination count is.destination_in_range;
+          source_in_range = has_slots source count is.source_in_range;
+        }
+    in_range (instructions.Unary operator destination operand) (first, second) = (below_slots destination first, operand_in operand second)
+    in_range (instructions.Binary operator destination left right) (first, second, third) =
+        go (holder_in facts operator (simplified_operand facts left) (simplified_operand facts right))
+        (holder_in_free replaced.pinned facts operator (simplified_operand facts left) (simplified_operand facts right) all)
+      where
+        go : (o : Option ℕ) → IsFreeIfAny replaced.pinned o → IsInRange simplified s (simplified_binary o operator destination (simplified_operand facts left) (simplified_operand facts right))
+        go (Some slot) free = (below_slots destination first, free_slot slot free)
+        go None free = (below_slots destination first, operand_in left second, operand_in right third)
+    in_range (instructions.Jump target) is = in_code target is
+    in_range (instructions.Branch comparison left right target) (first, second, third) = go (decision_in facts comparison (simplified_operand facts left) (simplified_operand facts right))
+      where
+        go : (o : Option Bool) → IsInRange simplified s (simplified_branch o comparison (simplified_operand facts left) (simplified_operand facts right) target)
+        go (Some true) = in_code target third
+        go (Some false) = (tt, tt, in_code target third)
+        go None = (operand_in left first, operand_in right second, in_code target third)
+    in_range (instructions.Call function arguments count result) is = call_in_range function arguments count result is
+    in_range (instructions.Return value) is = (let e = replaced.slots in let n = replaced.results in omega (arith, is, e, n))
+    in_range (instructions.ReadByte destination) is = below_slots destination is
+    in_range (instructions.WriteByte source) is = operand_in source is
+    in_range (instructions.AddressOf destination slot count) (first, second, third) = (below_slots destination first, second, has_slots slot count third)
+    in_range (instructions.LoadGlobal destination global) (first, second) = (below_slots destination first, global_in global second)
+    in_range (instructions.StoreGlobal global source) (first, second) = (global_in global first, operand_in source second)
+    in_range (instructions.Load destination address offset) (first, second) = (below_slots destination first, operand_in address second)
+    in_range (instructions.Store address offset source) (first, second) = (operand_in address first, operand_in source second)
+    in_range (instructions.LoadByte destination address offset) (first, second) = (below_slots destination first, operand_in address second)
+    in_range (instructions.StoreByte address offset source) (first, second) = (operand_in address first, operand_in source second)
+    in_range (instructions.Ask request) is = request_in request is
+    in_range (instructions.CountLexical destination) is = below_slots destination is
+    in_range (instructions.Try first handler) is = record {
+      record_in_range = has_slots first RECORD_WORDS is.record_in_range;
+      handler_in_range = in_code handler is.handler_in_range;
+      no_return = all_put (λ i. is_return i ≡ false) (λ i. is_return i ≡ false) (λ facts all i none. same_return facts i ∙ none) is.no_return;
+    }
+    in_range (instructions.Leave first) is = has_slots first RECORD_WORDS is
+    in_range (instructions.Throw tag value) (first, second) = (operand_in tag first, operand_in value second)
+    in_range (instructions.Finish value) is = (let e = replaced.slots in let n = replaced.results in omega (arith, is, e, n))
+    in_range (instructions.Uncaught tag value) is = operand_in value is
+
+  last_leaves : (o : Option Instruction) → slice_get r.code (length r.code - 1) ≡ o → IsSomeAnd o (λ i. leaves i ≡ true) → IsSomeAnd (slice_get s.code (length s.code - 1)) (λ i. leaves i ≡ true)
+  last_leaves None at none = absurd none
+  last_leaves (Some i) at is =
+      let same : length r.code - 1 ≡ length s.code - 1 = (let l = replaced.as_many in omega (arith, l)) in
+      let there : slice_get s.code (length s.code - 1) ≡ Some (simplified_instruction (replaced.table (length r.code - 1)) i) =
+      subst (λ (k : ℕ). slice_get s.code k ≡ Some (simplified_instruction (replaced.table (length r.code - 1)) i)) same (replaced.each (length r.code - 1) i at) in
+      subst (λ (o : Option Instruction). IsSomeAnd o (λ j. leaves j ≡ true)) (sym there) (still_leaves (replaced.table (length r.code - 1)) i is)
+
+  is_routine : IsRoutine program r → IsRoutine simplified s
+  is_routine is = record {
+    parameters = (let a = is.parameters in let p = replaced.parameters in let e = replaced.slots in omega (arith, a, p, e));
+    results = (let a = is.results in let n = replaced.results in omega (arith, a, n));
+    frame = (let a = is.frame in let f = replaced.frame_count in let e = replaced.slots in omega (arith, a, f, e));
+    instructions = all_put (IsInRange program r) (IsInRange simplified s) in_range is.instructions;
+    last = last_leaves (slice_get r.code (length r.code - 1)) refl is.last;
+  }
+
+  words_of : All HasWord r.code → All HasWord s.code
+  words_of all = all_put HasWord HasWord (λ facts suited i has. has_word replaced.pinned facts suited i has) all
+
+  smaller : size s ≤ size r
+  smaller = sum_at_most instruction_size r.code s.code replaced.as_many (λ k i at.
+      (simplified_instruction (replaced.table k) i, replaced.each k i at, not_larger (replaced.table k) i))
+
+  is_like : IsLike r s
+  is_like = record {
+    name = replaced.name;
+    parameters = replaced.parameters;
+    results = replaced.results;
+    slots = replaced.slots;
+    frame_count = replaced.frame_count;
+    as_many = replaced.as_many;
+    small = smaller;
+  }
+
+-- ---- a program
+
+module _ (program simplified : Program) (are : AreReplaced program simplified) where
+  here_at : (functions : List Routine) (k : ℕ) (r : Routine) → slice_get functions k ≡ Some r → slice_index_or functions k no_routine ≡ r
+  here_at functions k r at = get_or_from_slice_get functions k r no_routine at
+
+  -- what holds of each function, put in, holds of all
+  all_functions : (P Q : Routine → Type 0) → ((r s : Routine) → IsReplaced program r s → P r → Q s) → All P program.functions → All Q simplified.functions
+  all_functions P Q each all = all_from Q simplified.functions (λ k s at.
+      let within : k < length program.functions = (let b = below_of_get simplified.functions k s at in let l = are.as_many in omega (arith, b, l)) in
+      subst Q (here_at simplified.functions k s at) (each (routine_at program k) (routine_at simplified k) (are.each k within) (all k no_routine within)))
+
+  well_formed : IsWellFormed program → IsWellFormed simplified
+  well_formed well =
+      let main = each_replaced program simplified are program.main in
+      record {
+        functions = all_functions (IsRoutine program) (IsRoutine simplified) (λ r s replaced is. is_routine program simplified are r s replaced is) well.functions;
+        main = (let m = well.main in let e = are.main in let l = are.as_many in omega (arith, m, e, l));
+        main_parameters = ap (λ (k : ℕ). (routine_at simplified k).parameters) are.main ∙ main.parameters ∙ well.main_parameters;
+        main_results = ap (λ (k : ℕ). (routine_at simplified k).results) are.main ∙ main.results ∙ well.main_results;
+        globals = subst (λ (l : List ℕ). length l ≤ MOST_GLOBALS) (sym are.globals) well.globals;
+      }
+
+  has_words : HasWords program → HasWords simplified
+  has_words words = record {
+    functions = all_functions (λ r. All HasWord r.code) (λ s. All HasWord s.code) (λ r s replaced is. words_of program simplified are r s replaced is) words.functions;
+    globals = subst (All IsWord) (sym are.globals) words.globals;
+  }
+
+  all_smaller : sum_by size simplified.functions ≤ sum_by size program.functions
+  all_smaller = sum_at_most size program.functions simplified.functions are.as_many (λ k r at.
+      let within = below_of_get program.functions k r at in
+      let below_other : k < length simplified.functions = (let l = are.as_many in omega (arith, within, l)) in (
+        routine_at simplified k,
+        slice_get-get_or simplified.functions k no_routine below_other,
+        subst (λ (x : Routine). size (routine_at simplified k) ≤ size x) (here_at program.functions k r at)
+            (smaller program simplified are (routine_at program k) (routine_at simplified k) (are.each k within)),
+      ))
+
+  -- a simplified program is a plain program
+  pub is_plain : IsPlain program → IsPlain simplified
+  is_plain plain = record {
+    well_formed = well_formed plain.well_formed;
+    words = has_words plain.words;
+    small = (let a = plain.small in omega (arith, a, all_smaller));
+  }
+
+  -- and all that is promised of it is so
+  pub is_simplified : IsPlain program → IsSimplified program simplified
+  is_simplified plain = record {
+    plain = is_plain plain;
+    as_many = are.as_many;
+    each = λ k below. is_like program simplified are (routine_at program k) (routine_at simplified k) (are.each k below);
+    globals = are.globals;
+    main = are.main;
+    follows = follows program simplified are;
+  }

@@ -1,0 +1,19 @@
+-- cyc_simplify/proofs/effects/keep/Answers.antt
+use Rattle.std.proofs.Common.{◌≡◌, ◌∙◌, rules, sym, subst, true}
+use Rattle.std.proofs.lemmas.Fn.{filter_same}
+use Rattle.std.specs.Prelude.{List}
+use Rattle.cyc_simplify.specs.declared.fact.Fact.{Fact}
+use Rattle.cyc_simplify.specs.Entries.{keeps_all}
+use Rattle.cyc_simplify.proofs.Keeping.{none_written, all_kept}
+use Rattle.cyc_simplify.proofs.effects.keep.Goals as goal
+
+pub returns-then-slots-eq0 : goal.returns-then-slots-eq0
+returns-then-slots-eq0 c = sym (none_written c.args.slots c.if-slots-eq0.true _)
+
+pub returns-then-not-keeps_all : goal.returns-then-not-keeps_all
+returns-then-not-keeps_all c = filter_same _ _ _ (λ x b f' k. search rules) _ _ c.retain.ensures.filtered
+
+pub returns-else-not-keeps_all : goal.returns-else-not-keeps_all
+returns-else-not-keeps_all c =
+    sym (all_kept c.args.slots c.args.facts.now.items
+    (subst (λ (facts : List Fact). keeps_all c.args.slots facts ≡ true) c.deref.ensures.value (sym c.keeps_all.ensures ∙ c.if-not-keeps_all.false)))

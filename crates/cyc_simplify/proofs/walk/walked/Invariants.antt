@@ -1,0 +1,9 @@
+-- cyc_simplify/proofs/walk/walked/Invariants.antt
+use Rattle.cyc_plain.specs.Program.{routine_of}
+use Rattle.cyc_simplify.specs.Entries.{AreWalked}
+use Rattle.cyc_simplify.proofs.walk.walked.Given as goal
+
+-- the instructions so far
+abbrev pub invariant-loop-index : goal.invariant-loop-index
+invariant-loop-index l =
+    AreWalked l.plain (routine_of l.function) l.pinned l.entries l.index l.code.items l.facts.items

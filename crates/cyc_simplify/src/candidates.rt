@@ -1,0 +1,107 @@
+//! Which functions are worth a look. Nothing is promised of it: any function may stay as it is.
+use crate::effects::is_any_slot;
+use crate::jumps::is_end;
+use cyc_plain::{Instruction, Operand, Request};
+
+/// Slots to which other slots were moved since the last call, from the first to the last.
+#[derive(Clone, Copy)]
+struct Copies {
+    first: usize,
+    last: usize,
+}
+
+fn no_copies() -> Copies {
+    Copies { first: 1, last: 0 }
+}
+
+/// One copy more. Copies that are made one behind the other stand in slots that do.
+fn with_copy(copies: Copies, destination: usize) -> Copies {
+    if destination > copies.last && copies.first <= copies.last {
+        Copies {
+            first: copies.first,
+            last: destination,
+        }
+    } else {
+        Copies {
+            first: destination,
+            last: destination,
+        }
+    }
+}
+
+/// The copies behind an instruction. What is copied for a call is not looked at: it is to stand there.
+fn copies_behind(copies: Copies, instruction: Instruction) -> Copies {
+    match instruction {
+        Instruction::Move {
+            destination,
+            source,
+        } => {
+            if is_any_slot(source) {
+                with_copy(copies, destination)
+            } else {
+                copies
+            }
+        }
+        Instruction::Call { .. } => no_copies(),
+        _ => copies,
+    }
+}
+
+fn is_copy(copies: Copies, operand: Operand) -> bool {
+    match operand {
+        Operand::Slot { number } => copies.first <= number && number <= copies.last,
+        Operand::Word { .. } => false,
+    }
+}
+
+/// Whether an instruction reads a copy, so that it may read the slot that was copied.
+fn reads_copy(copies: Copies, instruction: Instruction) -> bool {
+    match instruction {
+        Instruction::Move { source, .. } => is_copy(copies, source),
+        Instruction::Unary { operand, .. } => is_copy(copies, operand),
+        Instruction::Binary { left, right, .. } => is_copy(copies, left) || is_copy(copies, right),
+        Instruction::Branch { left, right, .. } => is_copy(copies, left) || is_copy(copies, right),
+        Instruction::Load { address, .. } => is_copy(copies, address),
+        Instruction::LoadByte { address, .. } => is_copy(copies, address),
+        Instruction::Store {
+            address,
+            source,
+            ..
+        } => is_copy(copies, address) || is_copy(copies, source),
+        Instruction::StoreByte {
+            address,
+            source,
+            ..
+        } => is_copy(copies, address) || is_copy(copies, source),
+        Instruction::StoreGlobal { source, .. } => is_copy(copies, source),
+        Instruction::Ask {
+            request: Request::Allocate { handle, words, .. },
+        } => is_copy(copies, handle) || is_copy(copies, words),
+        _ => false,
+    }
+}
+
+/// Whether a slot is tested, and an exception thrown if the test fails.
+fn is_check(code: &[Instruction], instruction: Instruction) -> bool {
+    match instruction {
+        Instruction::Branch {
+            left,
+            right,
+            target,
+            ..
+        } => (is_any_slot(left) || is_any_slot(right)) && is_end(code, target),
+        _ => false,
+    }
+}
+
+/// Whether code may test or move something once more: it has a check, or reads a copy of a slot.
+pub(crate) fn is_candidate(code: &[Instruction]) -> bool {
+    let mut copies = no_copies();
+    for instruction in code {
+        if is_check(code, *instruction) || reads_copy(copies, *instruction) {
+            return true;
+        }
+        copies = copies_behind(copies, *instruction);
+    }
+    false
+}

@@ -1,0 +1,35 @@
+//! What is known of slots at a place of the code.
+use cyc_plain::{BinaryOperator, Comparison, Operand};
+
+/// So many facts are remembered at most. Where there is one more, the oldest is forgotten.
+pub(crate) const MOST_FACTS: usize = 6;
+
+/// Something that is true of the words in a function's slots.
+#[derive(Clone, Copy)]
+pub(crate) enum Fact {
+    /// The slot holds the word that the operand stands for.
+    Equal {
+        slot: usize,
+        operand: Operand,
+    },
+    /// The slot holds what the operator computes of the operands, for which there is a result.
+    Computed {
+        slot: usize,
+        operator: BinaryOperator,
+        left: Operand,
+        right: Operand,
+    },
+    /// The comparison holds.
+    Holds {
+        comparison: Comparison,
+        left: Operand,
+        right: Operand,
+    },
+}
+
+/// The slots that an instruction writes: so many from the first on.
+#[derive(Clone, Copy)]
+pub(crate) struct Written {
+    pub(crate) first: usize,
+    pub(crate) count: usize,
+}

@@ -1,0 +1,207 @@
+//! Which facts are the same, and which are among others.
+ghost use Rattle.std.specs.Prelude.{◌≡◌, ◌&&◌};
+ghost use Rattle.cyc_frame.specs.Uses as uses;
+ghost use Rattle.cyc_simplify.specs.Facts as facts_of;
+ghost use Rattle.cyc_simplify.specs.Table as table;
+
+use crate::fact::Fact;
+use crate::replacement::simplified_operand;
+use cyc_plain::{BinaryOperator, Comparison, Operand};
+
+/// Whether an operand is this slot.
+pub(crate) fn is_slot(operand: Operand, slot: usize) -> bool
+    ensures { result ≡ uses.is_slot operand slot }
+{
+    match operand {
+        Operand::Slot { number } => number == slot,
+        Operand::Word { .. } => false,
+    }
+}
+
+fn operator_number(operator: BinaryOperator) -> u8
+    ensures { result ≡ facts_of.operator_number operator }
+{
+    match operator {
+        BinaryOperator::Add => 0,
+        BinaryOperator::Subtract => 1,
+        BinaryOperator::Multiply => 2,
+        BinaryOperator::Divide => 3,
+        BinaryOperator::Remainder => 4,
+        BinaryOperator::And => 5,
+        BinaryOperator::Or => 6,
+        BinaryOperator::Xor => 7,
+        BinaryOperator::ShiftLeft => 8,
+        BinaryOperator::ShiftRight => 9,
+        BinaryOperator::Equal => 10,
+        BinaryOperator::NotEqual => 11,
+        BinaryOperator::Less => 12,
+        BinaryOperator::LessOrEqual => 13,
+        BinaryOperator::Greater => 14,
+        BinaryOperator::GreaterOrEqual => 15,
+    }
+}
+
+fn comparison_number(comparison: Comparison) -> u8
+    ensures { result ≡ facts_of.comparison_number comparison }
+{
+    match comparison {
+        Comparison::Equal => 0,
+        Comparison::NotEqual => 1,
+        Comparison::Less => 2,
+        Comparison::LessOrEqual => 3,
+        Comparison::Greater => 4,
+        Comparison::GreaterOrEqual => 5,
+        Comparison::LessUnsigned => 6,
+        Comparison::GreaterOrEqualUnsigned => 7,
+    }
+}
+
+pub(crate) fn is_same_operator(one: BinaryOperator, other: BinaryOperator) -> bool
+    ensures { result ≡ facts_of.is_same_operator one other }
+{
+    operator_number(one) == operator_number(other)
+}
+
+pub(crate) fn is_same_comparison(one: Comparison, other: Comparison) -> bool
+    ensures { result ≡ facts_of.is_same_comparison one other }
+{
+    comparison_number(one) == comparison_number(other)
+}
+
+pub(crate) fn is_same_operand(one: Operand, other: Operand) -> bool
+    ensures { result ≡ facts_of.is_same_operand one other }
+{
+    match one {
+        Operand::Slot { number } => match other {
+            Operand::Slot { number: second } => number == second,
+            Operand::Word { .. } => false,
+        },
+        Operand::Word { word } => match other {
+            Operand::Slot { .. } => false,
+            Operand::Word { word: second } => word == second,
+        },
+    }
+}
+
+/// Whether both left operands are the same, and both right ones.
+pub(crate) fn are_same_operands(
+    left: Operand,
+    right: Operand,
+    other_left: Operand,
+    other_right: Operand,
+) -> bool
+    ensures { result ≡ (facts_of.is_same_operand left other_left && facts_of.is_same_operand right other_right) }
+{
+    is_same_operand(left, other_left) && is_same_operand(right, other_right)
+}
+
+fn is_same_fact(one: Fact, other: Fact) -> bool
+    ensures { result ≡ facts_of.is_same_fact one other }
+{
+    match one {
+        Fact::Equal { slot, operand } => match other {
+            Fact::Equal {
+                slot: second,
+                operand: other_operand,
+            } => slot == second && is_same_operand(operand, other_operand),
+            Fact::Computed { .. } | Fact::Holds { .. } => false,
+        },
+        Fact::Computed {
+            slot,
+            operator,
+            left,
+            right,
+        } => match other {
+            Fact::Computed {
+                slot: second,
+                operator: other_operator,
+                left: other_left,
+                right: other_right,
+            } => {
+                slot == second
+                    && (is_same_operator(operator, other_operator)
+                        && are_same_operands(left, right, other_left, other_right))
+            }
+            Fact::Equal { .. } | Fact::Holds { .. } => false,
+        },
+        Fact::Holds {
+            comparison,
+            left,
+            right,
+        } => match other {
+            Fact::Holds {
+                comparison: second,
+                left: other_left,
+                right: other_right,
+            } => {
+                is_same_comparison(comparison, second)
+                    && are_same_operands(left, right, other_left, other_right)
+            }
+            Fact::Equal { .. } | Fact::Computed { .. } => false,
+        },
+    }
+}
+
+/// Whether a fact is among these.
+pub(crate) fn is_known(facts: &[Fact], fact: Fact) -> bool
+    ensures { result ≡ facts_of.is_known facts.now fact }
+{
+    for other in facts {
+        if is_same_fact(*other, fact) {
+            return true;
+        }
+    }
+    false
+}
+
+fn is_more(more: Option<Fact>, fact: Fact) -> bool
+    ensures { result ≡ table.is_more more fact }
+{
+    match more {
+        Some(other) => is_same_fact(other, fact),
+        None => false,
+    }
+}
+
+fn is_known_with(facts: &[Fact], more: Option<Fact>, fact: Fact) -> bool
+    ensures { result ≡ table.is_known_with facts.now more fact }
+{
+    is_known(facts, fact) || is_more(more, fact)
+}
+
+/// A fact about what stands for the same words.
+fn resolved_fact(facts: &[Fact], fact: Fact) -> Fact
+    ensures { result ≡ table.resolved_fact facts.now fact }
+{
+    match fact {
+        Fact::Holds {
+            comparison,
+            left,
+            right,
+        } => Fact::Holds {
+            comparison,
+            left: simplified_operand(facts, left),
+            right: simplified_operand(facts, right),
+        },
+        Fact::Equal { .. } | Fact::Computed { .. } => fact,
+    }
+}
+
+/// Whether a fact is among these and one more, if need be where operands are put for equal ones.
+pub(crate) fn follows(facts: &[Fact], more: Option<Fact>, fact: Fact) -> bool
+    ensures { result ≡ table.follows facts.now more fact }
+{
+    is_known_with(facts, more, fact) || is_known_with(facts, more, resolved_fact(facts, fact))
+}
+
+/// Whether all that is asked for is known.
+pub(crate) fn are_known(asked: &[Fact], facts: &[Fact], more: Option<Fact>) -> bool
+    ensures { result ≡ table.are_known asked.now facts.now more }
+{
+    for fact in asked {
+        if !follows(facts, more, *fact) {
+            return false;
+        }
+    }
+    true
+}

@@ -1,0 +1,16 @@
+//! Simplification: what is known of slots is not computed, tested or moved once more.
+#![tactic(auto)]
+
+mod candidates;
+mod effects;
+mod entries;
+mod entry;
+mod fact;
+mod jumps;
+mod known;
+mod pins;
+mod replacement;
+mod simplification;
+mod walk;
+
+pub use simplification::simplify;

@@ -1,0 +1,99 @@
+//! Which slots of a function have their address taken: a store by an address may change them, and nothing is known of them.
+ghost use Rattle.std.specs.Prelude.{◌≡◌, IfOk};
+ghost use Rattle.cyc_plain.specs.Program.{routine_of};
+ghost use Rattle.cyc_simplify.specs.Facts as facts_of;
+ghost use Rattle.cyc_simplify.specs.Pins as pins;
+ghost use Rattle.cyc_simplify.specs.Pins.{AreRanges};
+ghost use Rattle.cyc_simplify.specs.Table.{ArePins};
+
+use crate::effects::{leaves_slot, suits};
+use crate::fact::{Fact, Written};
+use cyc_frame::MOST_FRAME_WORDS;
+use cyc_plain::{Function, Instruction, Operand, RECORD_WORDS};
+use std::alloc::{AllocError, Global};
+
+/// Whether a slot is one of the function's, and its address is not taken.
+pub(crate) fn is_free(pinned: &[bool], slot: usize) -> bool
+    ensures { result ≡ facts_of.is_free pinned.now slot }
+{
+    match pinned.get(slot) {
+        Some(is_pinned) => !*is_pinned,
+        None => false,
+    }
+}
+
+pub(crate) fn suits_operand(pinned: &[bool], operand: Operand) -> bool
+    ensures { result ≡ facts_of.suits_operand pinned.now operand }
+{
+    match operand {
+        Operand::Slot { number } => is_free(pinned, number),
+        Operand::Word { .. } => true,
+    }
+}
+
+/// Whether facts are about free slots and words.
+pub(crate) fn are_suited(pinned: &[bool], facts: &[Fact]) -> bool
+    ensures { result ≡ facts_of.are_suited pinned.now facts.now }
+{
+    for fact in facts {
+        if !suits(pinned, *fact) {
+            return false;
+        }
+    }
+    true
+}
+
+fn is_within(ranges: &[Written], slot: usize) -> bool
+    ensures { result ≡ pins.is_within ranges.now slot }
+{
+    for range in ranges {
+        if !leaves_slot(*range, slot) {
+            return true;
+        }
+    }
+    false
+}
+
+/// The slots whose address an instruction takes. The record of a handler is as such: it is in memory, so that a copy serves better.
+fn range_of(instruction: Instruction) -> Option<Written>
+    ensures { result ≡ pins.range_of instruction }
+{
+    match instruction {
+        Instruction::AddressOf { slot, count, .. } => Some(Written { first: slot, count }),
+        Instruction::Try { first, .. } => Some(Written {
+            first,
+            count: RECORD_WORDS,
+        }),
+        _ => None,
+    }
+}
+
+/// The slots whose address code takes.
+#[tactic(auto, using(crate::proofs::Ranges::not_yet, crate::proofs::Ranges::no_range, crate::proofs::Ranges::one_range, crate::proofs::Ranges::are_ranges))]
+fn ranges_of(alloc: Global, code: &[Instruction]) -> Result<Vec<Written>, AllocError>
+    ensures { IfOk result (λ ranges. AreRanges code.now ranges.items) }
+{
+    let mut ranges = Vec::new(alloc);
+    for index in 0..code.len() {
+        if let Some(range) = range_of(code[index]) {
+            ranges.push(range)?;
+        }
+    }
+    Ok(ranges)
+}
+
+/// Which slots of a function have their address taken. Where its frame is too large, and it will be refused, all are as if they had.
+#[tactic(auto, using(crate::proofs::Ranges::all_pinned, crate::proofs::Ranges::no_pins, crate::proofs::Ranges::more_pins, crate::proofs::Ranges::are_pins))]
+pub(crate) fn pins_of(alloc: Global, function: &Function) -> Result<Vec<bool>, AllocError>
+    ensures { IfOk result (λ pinned. ArePins (routine_of function.now) pinned.items) }
+{
+    if function.frame_count > MOST_FRAME_WORDS {
+        return Ok(vec![in alloc; true; function.slots]?);
+    }
+    let ranges = ranges_of(alloc, &function.code)?;
+    let mut pinned = Vec::with_capacity(alloc, function.slots)?;
+    for slot in 0..function.slots {
+        pinned.push(is_within(&ranges, slot))?;
+    }
+    Ok(pinned)
+}

@@ -1,0 +1,375 @@
+//! What stands for an instruction where facts are known.
+ghost use Rattle.std.specs.Prelude.{◌≡◌};
+ghost use Rattle.cyc_simplify.specs.Replacement as replacement;
+ghost use Rattle.cyc_simplify.specs.Facts as facts_of;
+ghost use Rattle.cyc_simplify.specs.declared.fact.Fact.TheVariants as facts_are;
+
+use crate::effects::negated;
+use crate::fact::Fact;
+use crate::known::{are_same_operands, is_known, is_same_comparison, is_same_operator, is_slot};
+use cyc_plain::{BinaryOperator, Comparison, Instruction, Operand, Request};
+
+/// Whether an operand serves in the place of a slot: a word may take lines of its own.
+fn is_cheap(operand: Operand) -> bool
+    ensures { result ≡ replacement.is_cheap operand }
+{
+    match operand {
+        Operand::Slot { .. } => true,
+        Operand::Word { .. } => false,
+    }
+}
+
+/// What a fact says to put in the place of an operand.
+fn instead(fact: Fact, operand: Operand) -> Option<Operand>
+    ensures { result ≡ replacement.instead fact operand }
+{
+    match fact {
+        Fact::Equal {
+            slot,
+            operand: other,
+        } => {
+            if is_slot(operand, slot) && is_cheap(other) {
+                Some(other)
+            } else {
+                None
+            }
+        }
+        Fact::Computed { .. } | Fact::Holds { .. } => None,
+    }
+}
+
+/// What stands for the same word as an operand. For a word that is the word itself, whatever is known.
+#[tactic(auto, using(crate::proofs::Keeping::simplified_word))]
+pub(crate) fn simplified_operand(facts: &[Fact], operand: Operand) -> Operand
+    ensures { result ≡ replacement.simplified_operand facts.now operand }
+{
+    if let Operand::Word { .. } = operand {
+        return operand;
+    }
+    for fact in facts {
+        if let Some(other) = instead(*fact, operand) {
+            return other;
+        }
+    }
+    operand
+}
+
+/// The slot that holds a result already, by a fact.
+fn holder(fact: Fact, operator: BinaryOperator, left: Operand, right: Operand) -> Option<usize>
+    ensures { result ≡ replacement.holder fact operator left right }
+{
+    match fact {
+        Fact::Computed {
+            slot,
+            operator: other,
+            left: other_left,
+            right: other_right,
+        } => {
+            if is_same_operator(other, operator)
+                && are_same_operands(other_left, other_right, left, right)
+            {
+                Some(slot)
+            } else {
+                None
+            }
+        }
+        Fact::Equal { .. } | Fact::Holds { .. } => None,
+    }
+}
+
+fn holder_in(
+    facts: &[Fact],
+    operator: BinaryOperator,
+    left: Operand,
+    right: Operand,
+) -> Option<usize>
+    ensures { result ≡ replacement.holder_in facts.now operator left right }
+{
+    for fact in facts {
+        if let Some(slot) = holder(*fact, operator, left, right) {
+            return Some(slot);
+        }
+    }
+    None
+}
+
+fn simplified_binary(
+    facts: &[Fact],
+    operator: BinaryOperator,
+    destination: usize,
+    left: Operand,
+    right: Operand,
+) -> Instruction
+    ensures { result ≡ replacement.simplified_binary (replacement.holder_in facts.now operator left right) operator destination left right }
+{
+    match holder_in(facts, operator, left, right) {
+        Some(slot) => Instruction::Move {
+            destination,
+            source: Operand::Slot { number: slot },
+        },
+        None => Instruction::Binary {
+            operator,
+            destination,
+            left,
+            right,
+        },
+    }
+}
+
+fn simplified_move(facts: &[Fact], destination: usize, source: Operand) -> Instruction
+    ensures { result ≡ replacement.simplified_move (facts_of.is_known facts.now (facts_are.Equal destination source)) destination source }
+{
+    let equal = Fact::Equal {
+        slot: destination,
+        operand: source,
+    };
+    if is_known(facts, equal) {
+        Instruction::Move {
+            destination,
+            source: Operand::Slot {
+                number: destination,
+            },
+        }
+    } else {
+        Instruction::Move {
+            destination,
+            source,
+        }
+    }
+}
+
+/// Whether a comparison holds where another does.
+fn implies(known: Comparison, asked: Comparison) -> bool
+    ensures { result ≡ replacement.implies known asked }
+{
+    match known {
+        Comparison::Equal => match asked {
+            Comparison::LessOrEqual
+            | Comparison::GreaterOrEqual
+            | Comparison::GreaterOrEqualUnsigned => true,
+            _ => is_same_comparison(known, asked),
+        },
+        Comparison::Less => match asked {
+            Comparison::NotEqual | Comparison::LessOrEqual => true,
+            _ => is_same_comparison(known, asked),
+        },
+        Comparison::Greater => match asked {
+            Comparison::NotEqual | Comparison::GreaterOrEqual => true,
+            _ => is_same_comparison(known, asked),
+        },
+        Comparison::LessUnsigned => match asked {
+            Comparison::NotEqual => true,
+            _ => is_same_comparison(known, asked),
+        },
+        _ => is_same_comparison(known, asked),
+    }
+}
+
+/// Whether a comparison holds, where that is known.
+fn verdict(known: Comparison, asked: Comparison) -> Option<bool>
+    ensures { result ≡ replacement.verdict known asked }
+{
+    if implies(known, asked) {
+        Some(true)
+    } else if implies(known, negated(asked)) {
+        Some(false)
+    } else {
+        None
+    }
+}
+
+fn decision(fact: Fact, comparison: Comparison, left: Operand, right: Operand) -> Option<bool>
+    ensures { result ≡ replacement.decision fact comparison left right }
+{
+    match fact {
+        Fact::Holds {
+            comparison: known,
+            left: other_left,
+            right: other_right,
+        } => {
+            if are_same_operands(other_left, other_right, left, right) {
+                verdict(known, comparison)
+            } else {
+                None
+            }
+        }
+        Fact::Equal { .. } | Fact::Computed { .. } => None,
+    }
+}
+
+fn decision_in(
+    facts: &[Fact],
+    comparison: Comparison,
+    left: Operand,
+    right: Operand,
+) -> Option<bool>
+    ensures { result ≡ replacement.decision_in facts.now comparison left right }
+{
+    for fact in facts {
+        if let Some(holds) = decision(*fact, comparison, left, right) {
+            return Some(holds);
+        }
+    }
+    None
+}
+
+fn simplified_branch(
+    facts: &[Fact],
+    comparison: Comparison,
+    left: Operand,
+    right: Operand,
+    target: usize,
+) -> Instruction
+    ensures { result ≡ replacement.simplified_branch (replacement.decision_in facts.now comparison left right) comparison left right target }
+{
+    match decision_in(facts, comparison, left, right) {
+        Some(holds) => {
+            if holds {
+                Instruction::Jump { target }
+            } else {
+                Instruction::Branch {
+                    comparison: Comparison::NotEqual,
+                    left: Operand::Word { word: 0 },
+                    right: Operand::Word { word: 0 },
+                    target,
+                }
+            }
+        }
+        None => Instruction::Branch {
+            comparison,
+            left,
+            right,
+            target,
+        },
+    }
+}
+
+fn simplified_request(facts: &[Fact], request: Request) -> Request
+    ensures { result ≡ replacement.simplified_request facts.now request }
+{
+    match request {
+        Request::CloseTo { mark } => Request::CloseTo {
+            mark: simplified_operand(facts, mark),
+        },
+        Request::CloseDynamic { handle } => Request::CloseDynamic {
+            handle: simplified_operand(facts, handle),
+        },
+        Request::Allocate {
+            destination,
+            handle,
+            words,
+        } => Request::Allocate {
+            destination,
+            handle: simplified_operand(facts, handle),
+            words: simplified_operand(facts, words),
+        },
+        Request::Free { address } => Request::Free {
+            address: simplified_operand(facts, address),
+        },
+        Request::OpenLexical { .. } | Request::OpenDynamic { .. } => request,
+    }
+}
+
+/// An instruction that does exactly the same wherever the facts are true. Where there are none that is the instruction itself.
+#[tactic(auto, using(crate::proofs::Tables::unaltered_without))]
+pub(crate) fn simplified_instruction(facts: &[Fact], instruction: Instruction) -> Instruction
+    ensures { result ≡ replacement.simplified_instruction facts.now instruction }
+{
+    if facts.is_empty() {
+        return instruction;
+    }
+    match instruction {
+        Instruction::Move {
+            destination,
+            source,
+        } => simplified_move(facts, destination, simplified_operand(facts, source)),
+        Instruction::Unary {
+            operator,
+            destination,
+            operand,
+        } => Instruction::Unary {
+            operator,
+            destination,
+            operand: simplified_operand(facts, operand),
+        },
+        Instruction::Binary {
+            operator,
+            destination,
+            left,
+            right,
+        } => simplified_binary(
+            facts,
+            operator,
+            destination,
+            simplified_operand(facts, left),
+            simplified_operand(facts, right),
+        ),
+        Instruction::Branch {
+            comparison,
+            left,
+            right,
+            target,
+        } => simplified_branch(
+            facts,
+            comparison,
+            simplified_operand(facts, left),
+            simplified_operand(facts, right),
+            target,
+        ),
+        Instruction::WriteByte { source } => Instruction::WriteByte {
+            source: simplified_operand(facts, source),
+        },
+        Instruction::StoreGlobal { global, source } => Instruction::StoreGlobal {
+            global,
+            source: simplified_operand(facts, source),
+        },
+        Instruction::Load {
+            destination,
+            address,
+            offset,
+        } => Instruction::Load {
+            destination,
+            address: simplified_operand(facts, address),
+            offset,
+        },
+        Instruction::Store {
+            address,
+            offset,
+            source,
+        } => Instruction::Store {
+            address: simplified_operand(facts, address),
+            offset,
+            source: simplified_operand(facts, source),
+        },
+        Instruction::LoadByte {
+            destination,
+            address,
+            offset,
+        } => Instruction::LoadByte {
+            destination,
+            address: simplified_operand(facts, address),
+            offset,
+        },
+        Instruction::StoreByte {
+            address,
+            offset,
+            source,
+        } => Instruction::StoreByte {
+            address: simplified_operand(facts, address),
+            offset,
+            source: simplified_operand(facts, source),
+        },
+        Instruction::Ask { request } => Instruction::Ask {
+            request: simplified_request(facts, request),
+        },
+        Instruction::Throw { tag, value } => Instruction::Throw {
+            tag: simplified_operand(facts, tag),
+            value: simplified_operand(facts, value),
+        },
+        Instruction::Uncaught { tag, value } => Instruction::Uncaught {
+            tag,
+            value: simplified_operand(facts, value),
+        },
+        _ => instruction,
+    }
+}

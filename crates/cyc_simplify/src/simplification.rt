@@ -1,0 +1,64 @@
+//! Plain programs in which what is known is not computed, tested or moved once more.
+ghost use Rattle.std.specs.Prelude.{IfOk};
+ghost use Rattle.cyc_plain.specs.Program.{routine_of};
+ghost use Rattle.cyc_simplify.specs.Entries.{with_code};
+ghost use Rattle.cyc_simplify.specs.Simplified.{IsSimplified};
+ghost use Rattle.cyc_simplify.specs.Table.{IsReplaced};
+
+use crate::candidates::is_candidate;
+use crate::entries::entries_of;
+use crate::pins::pins_of;
+use crate::walk::walked;
+use cyc_plain::{Function, Instruction, Plain};
+use std::alloc::{AllocError, Global};
+
+/// The code of a function, simplified.
+#[tactic(auto, using(crate::proofs::Walks::walked_replaced, crate::proofs::Walks::same_replaced))]
+fn simplified_code(
+    alloc: Global,
+    plain: &Plain,
+    function: &Function,
+) -> Result<Vec<Instruction>, AllocError>
+    ensures { IfOk result (λ code. IsReplaced plain.now (routine_of function.now) (with_code (routine_of function.now) code.items)) }
+{
+    if is_candidate(&function.code) {
+        let pinned = pins_of(alloc, function)?;
+        let entries = entries_of(alloc, plain, function, &pinned)?;
+        if let Some(code) = walked(alloc, plain, function, &pinned, &entries)? {
+            return Ok(code);
+        }
+    }
+    let mut code = Vec::with_capacity(alloc, function.code.len())?;
+    code.extend_from_slice(&function.code)?;
+    Ok(code)
+}
+
+/// A function, simplified.
+fn simplified(alloc: Global, plain: &Plain, function: &Function) -> Result<Function, AllocError>
+    ensures { IfOk result (λ made. IsReplaced plain.now (routine_of function.now) (routine_of made)) }
+{
+    let code = simplified_code(alloc, plain, function)?;
+    Ok(Function {
+        name: function.name,
+        parameters: function.parameters,
+        results: function.results,
+        slots: function.slots,
+        frame_count: function.frame_count,
+        code,
+    })
+}
+
+/// The program without what is known already: moves of a slot's own word, sums that a slot holds, tests that cannot fail.
+pub fn simplify(alloc: Global, plain: &Plain) -> Result<Plain, AllocError>
+    ensures { IfOk result (λ simplified. IsSimplified plain.now simplified) }
+{
+    let given = plain.functions();
+    let mut functions = Vec::with_capacity(alloc, given.len())?;
+    for number in 0..given.len() {
+        let function = simplified(alloc, plain, plain.function(number))?;
+        functions.push(function)?;
+    }
+    let mut globals = Vec::with_capacity(alloc, plain.globals().len())?;
+    globals.extend_from_slice(plain.globals())?;
+    Ok(Plain::new(functions, globals, plain.main()))
+}
