@@ -592,6 +592,48 @@ def is_right_body_wanted(folder):
     return right
 
 
+# The root of a program, and what is left of it where the prover is asked for another function than its `main`.
+OF_PROGRAM = """mod work;
+
+fn main(rt: HostRuntime) {
+    for it in work::all() {
+        work::show(&rt, it);
+    }
+}
+
+fn rest() {
+    work::end();
+}
+"""
+OF_LIBRARY = """mod work;
+
+
+fn rest() {
+    work::end();
+}
+"""
+
+
+def is_library_made(folder):
+    """Whether the functions of a program are proved in a library, but for its `main`."""
+    crates, right = os.path.join(folder, "programs"), True
+    os.makedirs(os.path.join(crates, "top", "src"))
+    with open(os.path.join(crates, "top", "src", "main.rt"), "w", encoding="utf-8") as file:
+        file.write(OF_PROGRAM)
+    group = wrong.Group("top", set(), [], wrong.Settings(folder, crates, {"top": []}, crates, folder))
+    for functions, wanted in ((["main", "rest"], ("main.rt", OF_PROGRAM)), (["rest"], ("lib.rt", OF_LIBRARY))):
+        there = os.path.join(folder, "-".join(functions))
+        group.fill(there, [], functions)
+        got = []
+        for name in os.listdir(os.path.join(there, "top", "src")):
+            with open(os.path.join(there, "top", "src", name), encoding="utf-8") as file:
+                got.append((name, file.read()))
+        if got != [wanted]:
+            print(suite.difference(f"the root of a program that is asked for {functions}", [wanted], got))
+            right = False
+    return right
+
+
 class Runs:
     """A group that asks no prover: what it was asked, in order, and how many of its runs were at work when each began."""
 
@@ -930,7 +972,7 @@ def main():
     with tempfile.TemporaryDirectory() as folder:
         right = [is_runner_right(folder), is_judge_of_images_right(folder), is_table_right(), are_rounds_right(folder), are_missing_found(folder)]
         right += [are_lanes_right(), are_groups_right(folder), are_proofs_taken(folder), is_right_body_wanted(folder)]
-        right += [is_first_run_kept(), is_judge_right(), are_promises_told()]
+        right += [is_library_made(folder), is_first_run_kept(), is_judge_right(), are_promises_told()]
         right.append(are_pairs_right(folder))
     right += reference.with_room(lambda: [is_case_right(case) for case in cases] + [is_text_right(case) for case in texts])
     right += reference.with_room(lambda: [is_program_right(*one) for name in ("accepted", "refused") for one in in_trees.programs_in(name)])

@@ -36,7 +36,7 @@ from concurrent.futures import FIRST_COMPLETED, ThreadPoolExecutor, wait
 
 import suite  # first: it says where the references and the generators are
 import in_trees
-from bodies import Bodies, traits_of
+from bodies import HEAD, Bodies, traits_of
 
 CASES = os.path.join(suite.TESTS, "wrong")
 PARTS = ("src", "specs", "proofs")
@@ -408,6 +408,26 @@ def is_goal_of(function, said):
 
 # ---- the prover's runs
 
+# The function that makes a crate a program.
+MAIN = "main"
+
+
+def make_library(crate):
+    """Makes a library of the crate in this folder, if it is a program: one without its `main`. What the prover says of its other functions
+    is the same, and of a program it proves besides how each value is let go that the whole of it makes."""
+    paths = [os.path.join(crate, "src", name) for name in ("main.rt", "lib.rt")]
+    if not os.path.exists(paths[0]):
+        return
+    with open(paths[0], encoding="utf-8") as file:
+        lines = file.read().split("\n")
+    starts = next(at for at, line in enumerate(lines) if (found := HEAD.match(line)) and found[2] == MAIN)
+    ends = lines.index("}", starts)
+    with open(paths[1], "w", encoding="utf-8") as file:
+        file.write("\n".join(lines[:starts] + lines[ends + 1:]))
+    os.remove(paths[0])
+    shutil.rmtree(os.path.join(crate, "proofs", MAIN), ignore_errors=True)
+
+
 # Where the prover and its libraries are, the crates, what each stands on, a folder with the libraries that are built of them, and one for
 # what is made here; and whether functions are taken for proved that `rt ci` has proved.
 Settings = collections.namedtuple("Settings", "kit crates graph built room is_trusting", defaults=(True,))
@@ -490,6 +510,8 @@ class Group:
         for path, text in texts_with(cases, self.settings.crates, left_out).items():
             with open(os.path.join(folder, path), "w", encoding="utf-8") as file:
                 file.write(text)
+        if MAIN not in functions:
+            make_library(os.path.join(folder, self.crate))
 
     def words(self, crates, kept, functions):
         """The prover's words for these functions."""
