@@ -1,10 +1,11 @@
 -- Laws of the slots that are filled.
 use Rattle.std.proofs.Common.{◌≡◌, ◌≢◌, ℕ, zero, suc, ◌+◌, ◌<◌, List, length, get_or, take, Bool, true, false, cond, nat_eq, Option, None, Some, refl, sym, ap, subst, ◌∙◌, arith, inl, inr, eq-eqb}
-use Rattle.std.specs.Prelude.{◌⊎◌, ◌||◌, ◌&&◌, slice_get, slice_set}
+use Rattle.std.specs.Prelude.{◌⊎◌, ◌||◌, slice_get, slice_set}
 use Rattle.std.proofs.lemmas.Bool.{cases_eq, ne_eqb}
 use Rattle.std.proofs.lemmas.List.{get_or-set_same, get_or-set_other, length-set}
 use Rattle.std.proofs.lemmas.List.Folds.{list_any_at, list_any_more}
 use Rattle.std.proofs.lemmas.Option.{slice_get_within, get_or_from_slice_get}
+use Rattle.cyc_words.proofs.Booleans.{and_left}
 use Rattle.cyc_isa.specs.declared.instr.Instr.{Instr}
 use Rattle.cyc_select.specs.declared.code.Line.{Line}
 use Rattle.cyc_select.specs.declared.code.Line.TheVariants as lines
@@ -61,22 +62,10 @@ filled code (suc before) i is = unless (is_named code (suc before)) refl is
 -- what fills a slot may move, and its line is a branch or a jump
 pub filled_moves : (i : Instr) (line : Line) → moves i line ≡ true → (is_movable i ≡ true) × (is_jump line ≡ true)
 filled_moves i (lines.Ordinary other) may = absurd (let e : false ≡ true = may in cc)
-filled_moves i (lines.Branch condition label) may = (and_first (is_movable i) _ may, refl)
-  where
-    and_first : (a b : Bool) → (a && b) ≡ true → a ≡ true
-    and_first true b both = refl
-    and_first false b both = both
+filled_moves i (lines.Branch condition label) may = (and_left (is_movable i) _ may, refl)
 filled_moves i (lines.Jump label) may = (may, refl)
-filled_moves i (lines.Call label) may = (and_first (is_movable i) _ may, refl)
-  where
-    and_first : (a b : Bool) → (a && b) ≡ true → a ≡ true
-    and_first true b both = refl
-    and_first false b both = both
-filled_moves i lines.Return may = (and_first (is_movable i) _ may, refl)
-  where
-    and_first : (a b : Bool) → (a && b) ≡ true → a ≡ true
-    and_first true b both = refl
-    and_first false b both = both
+filled_moves i (lines.Call label) may = (and_left (is_movable i) _ may, refl)
+filled_moves i lines.Return may = (and_left (is_movable i) _ may, refl)
 
 -- ---- slots that are empty
 

@@ -1,11 +1,12 @@
 -- The numbers that stand in an instruction are the words that they are for.
-use Rattle.std.proofs.Common.{◌≡◌, ◌≢◌, ℕ, ◌+◌, ◌-◌, ◌%◌, ◌^◌, ◌<◌, ◌≤◌, ℤ, pos, ◌+ℤ◌, ◌-ℤ◌, Bool, true, false, not, ◌&&◌, Some, None, refl, sym, ap, subst, ◌∙◌, inl, inr, arith}
+use Rattle.std.proofs.Common.{◌≡◌, ◌≢◌, ℕ, ◌+◌, ◌-◌, ◌%◌, ◌^◌, ◌<◌, ◌≤◌, ℤ, pos, ◌+ℤ◌, ◌-ℤ◌, Bool, true, false, not, Some, None, refl, sym, ap, subst, ◌∙◌, inl, inr, arith}
 use Rattle.std.specs.Prelude.{◌==◌, nat_le, nat_lt, if◌then◌else◌}
 use Rattle.std.proofs.lemmas.Bool.{cases_eq, cases_lt, eqb-true, ltb-true, leb-true, eq-eqb}
 use Rattle.std.proofs.lemmas.Int.{ints}
 use Rattle.std.proofs.lemmas.Nat.{trailing_le}
 use Rattle.std.specs.Int.Count.{count_trailing_zeros}
 use Rattle.cyc_words.specs.Word.{IsWord, signed, sign_extended, add_of, sub_of}
+use Rattle.cyc_words.proofs.Booleans.{and_left, and_right}
 use Rattle.cyc_words.proofs.WordLemmas.{sign_extended_low, sign_extended_high, signed_low, signed_high, IsWord-add_of, IsWord-sub_of}
 use Rattle.cyc_plain.specs.declared.instruction.Operand.{Operand}
 use Rattle.cyc_plain.specs.declared.instruction.Operand.TheVariants as operands
@@ -13,10 +14,6 @@ use Rattle.cyc_plain.specs.State.{Words}
 use Rattle.cyc_plain.specs.Step.{operand_word}
 use Rattle.cyc_plain.proofs.MemoryLaws.{or_either}
 use Rattle.cyc_select.specs.Numbers.{fits_signed, half_of, signed_half, negated_half, next_half, low_half, is_zero_word, is_plain_divisor, shift_amount, power_of}
-
-and_both : (a b : Bool) → (a && b) ≡ true → (a ≡ true) × (b ≡ true)
-and_both true b holds = (refl, holds)
-and_both false b holds = absurd (let e : false ≡ true = holds in cc)
 
 pub fits_is : (word : ℕ) → IsWord word → fits_signed word ≡ true → sign_extended (word % 2 ^ 16) ≡ word
 fits_is word is_word fits = elim (or_either (nat_lt word (2 ^ 15)) (nat_le (2 ^ 32 - 2 ^ 15) word) fits) [
@@ -105,8 +102,7 @@ module _ (slots : Words) where
   pub divisor_is : (o : Operand) → is_plain_divisor o ≡ true → (operand_word slots o ≢ 0) × (operand_word slots o ≢ 2 ^ 32 - 1)
   divisor_is (operands.Slot number) is = absurd (let e : false ≡ true = is in cc)
   divisor_is (operands.Word word) is =
-      let both = and_both (not (word == 0)) (not (word == 2 ^ 32 - 1)) is in
-      ((λ same. not_same word 0 same both.0), (λ same. not_same word (2 ^ 32 - 1) same both.1))
+      ((λ same. not_same word 0 same (and_left _ (not (word == 2 ^ 32 - 1)) is)), (λ same. not_same word (2 ^ 32 - 1) same (and_right (not (word == 0)) _ is)))
     where
       not_same : (a b : ℕ) → a ≡ b → not (a == b) ≡ true → ⊥
       not_same a b same other = absurd (let e : false ≡ true = sym (ap not (eq-eqb a b same)) ∙ other in cc)
