@@ -87,12 +87,12 @@ module _ (code : Labelled) (exchanged : List Line) (number : ℕ) (first second 
   same_matches (labelled.Ended ending output input) t is outside = is
   same_matches (labelled.Stopped output input) t is outside = is
 
-  same_output : (s t : labelled.State) → Matches s t → labelled.output_of t ≡ labelled.output_of s
-  same_output (labelled.Running c) t (inl (is, outside)) = ap labelled.output_of is
-  same_output (labelled.Running c) t (inr (d, is, between)) =
-      ap labelled.output_of is ∙ ap (λ (e : Configuration). e.output) between.second_done ∙ ap (λ (e : Configuration). e.output) (sym between.first_done)
-  same_output (labelled.Ended ending output input) t is = ap labelled.output_of is
-  same_output (labelled.Stopped output input) t is = ap labelled.output_of is
+  same_seen : (s t : labelled.State) → Matches s t → labelled.seen_of t ≡ labelled.seen_of s
+  same_seen (labelled.Running c) t (inl (is, outside)) = ap labelled.seen_of is
+  same_seen (labelled.Running c) t (inr (d, is, between)) =
+      ap labelled.seen_of is ∙ ap (λ (e : Configuration). labelled.seen_of (labelled.Running e)) between.second_done ∙ ap (λ (e : Configuration). labelled.seen_of (labelled.Running e)) (sym between.first_done)
+  same_seen (labelled.Ended ending output input) t is = ap labelled.seen_of is
+  same_seen (labelled.Stopped output input) t is = ap labelled.seen_of is
 
   same_ending : (s t : labelled.State) (ending : Ending) → Matches s t → labelled.status_of s ≡ Ended ending → labelled.status_of t ≡ Ended ending
   same_ending (labelled.Running c) t ending matches ended = absurd (running_ended ending ended)
@@ -104,7 +104,7 @@ module _ (code : Labelled) (exchanged : List Line) (number : ℕ) (first second 
     Matches = Matches;
     weight = λ s. 0;
     own = λ line. line ∷ [];
-    outputs = same_output;
+    alike = same_seen;
     endings = same_ending;
   }
 

@@ -25,6 +25,7 @@ use Rattle.cyc_machine.specs.State as machines
 use Rattle.cyc_machine.specs.State.{text_base, text_end, data_base, stack_base, store_base, words_per_page, text_at, place_of, is_within, Place, InText, InGlobals, InStack, InStore, Nowhere, is_dead, word_number, register}
 use Rattle.cyc_machine.specs.Step.{Action, Does, Acts, Service, GetByte, PutByte, EndReturned, EndUncaught, Asks, EndFull, refused_by, told_by, answered, with_store, cause_of, first_of, loads, stores, after, performs, calls, asked, address_of, is_aligned, is_nowhere, is_text}
 use Rattle.cyc_machine.specs.Run.{World, told}
+use Rattle.cyc_machine.specs.WorldMachine.{seen_of}
 use Rattle.cyc_select.specs.Labelled.{is_ordinary}
 use Rattle.cyc_select.specs.Machine.{Configuration, machine_of, memory_of, world_of, from_world}
 use Rattle.cyc_asm.specs.Text.{text_of}
@@ -167,7 +168,7 @@ module _ (words : List ℕ) (inside : text_base + 4 * length words ≤ text_end)
   abbrev pub Shown : (next : ℕ) → World → World → Type 0
   Shown next above below =
       ((above.machine.phase ≡ phases.Running) × (below ≡ world_at words (from_world above 0) next (add_of next 4) false))
-      ⊎ ((end : End) × (above.machine.phase ≡ phases.Over end) × (below.machine.phase ≡ phases.Over end) × (below.output ≡ above.output))
+      ⊎ ((end : End) × (above.machine.phase ≡ phases.Over end) × (below.machine.phase ≡ phases.Over end) × (seen_of below ≡ seen_of above))
 
   -- the action above tells an event too, and leaves a world that the one below shows
   abbrev pub Matched : (at next : ℕ) (in_slot : Bool) → Action → (event : Event) → machines.State → Type 0
@@ -232,14 +233,14 @@ module _ (words : List ℕ) (inside : text_base + 4 * length words ≤ text_end)
       → Shown next (told (world_of c) (Ended end) (machines.over (machine_of c) end)) (told (world_here at next in_slot) event s)
   ended at next in_slot end event s acts =
       let same = told_same at next in_slot event (Ended end) s (machines.over (world_here at next in_slot).machine end) acts.0 acts.1 in
-      inr (end, refl, ap (λ (w : World). w.machine.phase) same, ap (λ (w : World). w.output) same)
+      inr (end, refl, ap (λ (w : World). w.machine.phase) same, ap seen_of same)
 
   -- with the store's answer
   gone_on : (at next : ℕ) (in_slot : Bool) (answer : Answer) (store : StoreState) (event : Event) (s : machines.State) → event ≡ told_by answer → s ≡ answered (with_store (world_here at next in_slot).machine store) answer
       → Shown next (told (world_of c) (told_by answer) (answered (with_store (machine_of c) store) answer)) (told (world_here at next in_slot) event s)
   gone_on at next in_slot (Refused why) store event s same_event same_state =
       let same = told_same at next in_slot event (Ended (refused_by why)) s _ same_event same_state in
-      inr (refused_by why, refl, ap (λ (w : World). w.machine.phase) same, ap (λ (w : World). w.output) same)
+      inr (refused_by why, refl, ap (λ (w : World). w.machine.phase) same, ap seen_of same)
   gone_on at next in_slot Done store event s same_event same_state = inl (refl, told_same at next in_slot event Ran s _ same_event same_state)
   gone_on at next in_slot (Opened handle) store event s same_event same_state = inl (refl, told_same at next in_slot event Ran s _ same_event same_state)
   gone_on at next in_slot (OpenedLexical handle mark) store event s same_event same_state = inl (refl, told_same at next in_slot event Ran s _ same_event same_state)

@@ -10,7 +10,7 @@ use Rattle.cyc_machine.specs.declared.event.End.{End}
 use Rattle.cyc_machine.specs.declared.phase.Phase.{Phase}
 use Rattle.cyc_machine.specs.declared.phase.Phase.TheVariants as phases
 use Rattle.cyc_machine.specs.State.{words_per_call, stack_end}
-use Rattle.cyc_machine.proofs.RunLaws.{Goes-over, Goes-rests, Goes-output}
+use Rattle.cyc_machine.proofs.RunLaws.{Goes-over, Goes-rests, Goes-output, Goes-input}
 use Rattle.cyc_words.specs.Simulation.{Ended, IsLawful}
 use Rattle.cyc_words.proofs.Simulation.{simulates, running_ended}
 use Rattle.cyc_select.specs.Labelled.{Labelled}
@@ -30,7 +30,7 @@ over_of (phases.Over end) ending ended = (end, refl)
 -- what was printed stays printed, and a run that is over stays as it is
 pub lawful : IsLawful world_machine
 lawful = record {
-  grows = Goes-output;
+  grows = λ old new goes. (Goes-output old new goes, Goes-input old new goes);
   stays = λ old new ending ended goes. let (end, over) = over_of old.machine.phase ending ended in Goes-over old new end over goes;
   rests = λ w ending ended. let (end, over) = over_of w.machine.phase ending ended in Goes-rests w end over;
 }

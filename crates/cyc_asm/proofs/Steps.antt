@@ -6,8 +6,10 @@ use Rattle.std.proofs.lemmas.Int.{ints}
 use Rattle.std.proofs.lemmas.Option.{slice_get_within}
 use Rattle.cyc_words.specs.Ending.{Ending}
 use Rattle.cyc_words.specs.Word.{add_of, signed}
+use Rattle.cyc_words.specs.Seen.{showing}
 use Rattle.cyc_words.specs.Simulation.{Machine, Running, Ended, Failed, Matching, IsOnTheWay, IsMatchedStep, IsStepped, Steps, Comes}
 use Rattle.cyc_words.proofs.Simulation.{running_ended}
+use Rattle.cyc_words.proofs.SeenLemmas.{seen_same}
 use Rattle.cyc_words.proofs.Matching.{by_one, way_before}
 use Rattle.cyc_words.proofs.Booleans.{and_right, and_left, not_not}
 use Rattle.cyc_isa.specs.Effect.{branch_target, jump_target, return_address}
@@ -28,7 +30,7 @@ use Rattle.cyc_machine.specs.State as machines
 use Rattle.cyc_machine.specs.State.{text_end, with_register}
 use Rattle.cyc_machine.specs.Step.{Action, Acts, Does, cause_of, after, executes, performs}
 use Rattle.cyc_machine.specs.Run.{World, told, Goes, ending_of}
-use Rattle.cyc_machine.specs.WorldMachine.{world_machine, status_in, status_at}
+use Rattle.cyc_machine.specs.WorldMachine.{world_machine, status_in, status_at, seen_of}
 use Rattle.cyc_machine.proofs.StepLaws.{executes-performs, Step-action}
 use Rattle.cyc_machine.proofs.ShapeLaws.{Goes-shape}
 use Rattle.cyc_select.specs.declared.code.Condition.{Condition}
@@ -163,21 +165,21 @@ module _ (code : Labelled) (addresses : ℕ → ℕ) (words : List ℕ) (text : 
 
   abbrev pub Matches : labelled.State → World → Type 0
   Matches (labelled.Running c) w = (length c.stack ≤ 1048576) × MatchesAs (filling code.lines c.line) c w
-  Matches (labelled.Ended ending output input) w = (status_in w.machine.phase ≡ Ended ending) × (w.output ≡ output)
+  Matches (labelled.Ended ending output input) w = (status_in w.machine.phase ≡ Ended ending) × (seen_of w ≡ showing output input)
   Matches (labelled.Stopped output input) w = ⊥
 
-  matched_output : (o : Option Instr) (c : Configuration) (w : World) → MatchesAs o c w → w.output ≡ c.output
-  matched_output None c w is = ap (λ (w : World). w.output) is
-  matched_output (Some i) c w (line, mid) = ap (λ (w : World). w.output) mid.is ∙ ap (λ (c : Configuration). c.output) (sym mid.did)
+  matched_seen : (o : Option Instr) (c : Configuration) (w : World) → MatchesAs o c w → seen_of w ≡ labelled.seen_of (labelled.Running c)
+  matched_seen None c w is = ap seen_of is
+  matched_seen (Some i) c w (line, mid) = ap seen_of mid.is ∙ ap (λ (c : Configuration). labelled.seen_of (labelled.Running c)) (sym mid.did)
 
   -- the matching at a line that is no branch or jump whose slot is filled
   at_empty : (c : Configuration) (w : World) → filling code.lines c.line ≡ None → w ≡ placed c → MatchesAs (filling code.lines c.line) c w
   at_empty c w empty is = subst (λ (o : Option Instr). MatchesAs o c w) (sym empty) is
 
-  pub same_output : (s : labelled.State) (t : World) → Matches s t → t.output ≡ labelled.output_of s
-  same_output (labelled.Running c) t (small, is) = matched_output (filling code.lines c.line) c t is
-  same_output (labelled.Ended ending output input) t (ended, is) = is
-  same_output (labelled.Stopped output input) t matches = absurd matches
+  pub same_seen : (s : labelled.State) (t : World) → Matches s t → seen_of t ≡ labelled.seen_of s
+  same_seen (labelled.Running c) t (small, is) = matched_seen (filling code.lines c.line) c t is
+  same_seen (labelled.Ended ending output input) t (ended, is) = is
+  same_seen (labelled.Stopped output input) t matches = absurd matches
 
   pub same_ending : (s : labelled.State) (t : World) (ending : Ending) → Matches s t → labelled.status_of s ≡ Ended ending → status_in t.machine.phase ≡ Ended ending
   same_ending (labelled.Running c) t ending matches ended = absurd (running_ended ending ended)
@@ -189,7 +191,7 @@ module _ (code : Labelled) (addresses : ℕ → ℕ) (words : List ℕ) (text : 
     Matches = Matches;
     weight = λ s. 0;
     own = own addresses;
-    outputs = same_output;
+    alike = same_seen;
     endings = same_ending;
   }
 
@@ -289,7 +291,7 @@ module _ (code : Labelled) (addresses : ℕ → ℕ) (words : List ℕ) (text : 
 
       by : (e : Event) (t : machines.State) → (e ≡ events.Ran) × (t ≡ after (machine_of c) i) → Shown words text.inside c small next (told (world_of c) e t) u → u ≡ world_at words (did c i) next (add_of next 4) false
       by e t ran (inl (running, shown)) = shown ∙ ap (λ (v : World). world_at words (from_world v 0) next (add_of next 4) false) (same_told e t ran)
-      by e t ran (inr (end, over, over_below, output)) =
+      by e t ran (inr (end, over, over_below, seen)) =
           let runs : phases.Running ≡ phases.Over end = sym (after_runs c i movable) ∙ ap (λ (v : World). v.machine.phase) (sym (same_told e t ran)) ∙ over in
           absurd (running_over end runs)
 
@@ -323,8 +325,8 @@ module _ (code : Labelled) (addresses : ℕ → ℕ) (words : List ℕ) (text : 
       behind : add_of here 4 ≡ here + 4
       behind = let inside = low in omega arith
 
-      on_the_way : (w : World) → w.output ≡ c.output → status_in w.machine.phase ≡ Running → Way w
-      on_the_way w output running = way_before above world_machine matching (labelled.Running c) w running output
+      on_the_way : (w : World) → seen_of w ≡ labelled.seen_of (labelled.Running c) → status_in w.machine.phase ≡ Running → Way w
+      on_the_way w seen running = way_before above world_machine matching (labelled.Running c) w running seen
 
       -- the step is made, and the world is where it leads
       arrived : (places : List ℕ) (c' : Configuration) (target : ℕ) → May line (labelled.Running c') → length c'.stack ≤ 1048576 → filling code.lines c'.line ≡ None → target ≡ addresses c'.line
@@ -350,7 +352,7 @@ module _ (code : Labelled) (addresses : ℕ → ℕ) (words : List ℕ) (text : 
               (in_own addresses c.line count 1 (here + 4) next (omega (arith, many)) (omega arith), tt),
             );
             comes = through words c c' here target i at slot multiple output input does Way (Goal (here ∷ (here + 4) ∷ [])) []
-                (on_the_way _ refl refl) (on_the_way _ output refl)
+                (on_the_way _ refl refl) (on_the_way _ (seen_same c'.output c.output c'.input c.input output input) refl)
                 (arrived (here ∷ (here + 4) ∷ []) c' target may few empty is (omega arith));
           })
 
@@ -499,15 +501,15 @@ module _ (code : Labelled) (addresses : ℕ → ℕ) (words : List ℕ) (text : 
           let same : c.line + 1 ≡ suc c.line = omega arith in
           behind (lines.Ordinary i) found fine ∙ sym next_line ∙ ap addresses (sym same)
 
-      ending_or_trap : (above_world u : World) (end : End) (o : Option Ending) → ending_of end ≡ o → u.machine.phase ≡ phases.Over end → u.output ≡ above_world.output
+      ending_or_trap : (above_world u : World) (end : End) (o : Option Ending) → ending_of end ≡ o → u.machine.phase ≡ phases.Over end → seen_of u ≡ seen_of above_world
           → labelled.Performs c i (labelled.closed above_world (ending_of end)) → Result (lines.Ordinary i) u
-      ending_or_trap above_world u end (Some ending) is over output performs =
+      ending_or_trap above_world u end (Some ending) is over seen performs =
           let may = subst (λ o. labelled.Performs c i (labelled.closed above_world o)) is performs in (
             labelled.Ended ending above_world.output above_world.input,
             step_of (lines.Ordinary i) found fine _ (may_perform _ may),
-            (ap status_in over ∙ ap status_at is, output),
+            (ap status_in over ∙ ap status_at is, seen),
           )
-      ending_or_trap above_world u end None is over output performs =
+      ending_or_trap above_world u end None is over seen performs =
           let may = subst (λ o. labelled.Performs c i (labelled.closed above_world o)) is performs in
           absurd (fine _ (may_perform _ may) refl)
 
@@ -524,8 +526,8 @@ module _ (code : Labelled) (addresses : ℕ → ℕ) (words : List ℕ) (text : 
               (is ∙ ap (λ (a : ℕ). world_at words (from_world above_world (c.line + 1)) a (add_of a 4) false) shown_next),
         ),
       )
-      shown behind_it u above_world goes performs (inr (end, over, over_below, output)) =
-          ending_or_trap above_world u end (ending_of end) refl over_below output
+      shown behind_it u above_world goes performs (inr (end, over, over_below, seen)) =
+          ending_or_trap above_world u end (ending_of end) refl over_below seen
           (subst (λ (p : Phase). labelled.Performs c i (labelled.settled above_world (c.line + 1) p)) over performs)
 
       goes_as : filling code.lines (suc c.line) ≡ None → IsAt words here i → cause_of (machine_of c) i ≡ None → (u : World) → Goes (placed c) u → Result (lines.Ordinary i) u
@@ -628,7 +630,7 @@ module _ (code : Labelled) (addresses : ℕ → ℕ) (words : List ℕ) (text : 
       matches_here = (small, subst (λ (o : Option Instr). MatchesAs o c w) (sym some) (line, mid))
 
       way_here : Way w
-      way_here = way_before above world_machine matching (labelled.Running c) w (ap (λ (x : World). status_in x.machine.phase) mid.is) (same_output (labelled.Running c) w matches_here)
+      way_here = way_before above world_machine matching (labelled.Running c) w (ap (λ (x : World). status_in x.machine.phase) mid.is) (same_seen (labelled.Running c) w matches_here)
 
       module _ (from : ℕ) (place : here ≡ from + 4) (slot : IsAt words (from + 4) i) where
         slot_here : IsAt words here i

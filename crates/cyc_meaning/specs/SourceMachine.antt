@@ -1,8 +1,9 @@
 -- The source as a machine, for what is said of any machine: with given limits a program has one run for each input.
 use Rattle.std.specs.Prelude.{◌≡◌, ℕ}
+use Rattle.cyc_words.specs.Seen.{Seen, showing}
 use Rattle.cyc_words.specs.Simulation.{Machine, Status, Running, Ended, Failed}
 use Rattle.cyc_types.specs.TypedTrees.{Program}
-use Rattle.cyc_meaning.specs.State.{State, output_of, status_of}
+use Rattle.cyc_meaning.specs.State.{State, output_of, input_of, status_of}
 use Rattle.cyc_meaning.specs.State as meaning
 use Rattle.cyc_meaning.specs.Run.{limited_step}
 
@@ -13,6 +14,10 @@ status_in (meaning.HasEnded ending) = Ended ending
 status_in meaning.IsDead = Failed
 status_in meaning.IsWrong = Failed
 
+-- all that was printed, and what is still to be read
+abbrev pub seen_of : State → Seen
+seen_of s = showing (output_of s) (input_of s)
+
 -- A source program with limits. It has no code, so all its states are in one place.
 abbrev pub source_machine : Program → (pages calls : ℕ) → Machine
 source_machine source pages calls = record {
@@ -20,6 +25,6 @@ source_machine source pages calls = record {
   Place = Unit {0};
   Step = λ old new. new ≡ limited_step source pages calls old;
   place = λ s. tt;
-  output = output_of;
+  seen = seen_of;
   status = λ s. status_in (status_of s);
 }

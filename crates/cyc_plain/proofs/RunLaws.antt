@@ -1,5 +1,5 @@
 -- Laws of the plain machine.
-use Rattle.std.proofs.Common.{◌≡◌, ℕ, zero, suc, ◌%◌, ◌≤◌, Bool, true, false, List, [], ◌∷◌, ◌++◌, drop, Option, Some, None, refl, sym, ap, subst, ◌∙◌, arith, append_assoc}
+use Rattle.std.proofs.Common.{◌≡◌, ℕ, zero, suc, ◌%◌, ◌≤◌, Bool, true, false, List, [], ◌∷◌, ◌++◌, drop, Option, Some, None, refl, sym, ap, subst, ◌∙◌, arith}
 use Rattle.std.specs.Prelude.{◌==◌, if◌then◌else◌}
 use Rattle.std.proofs.lemmas.Bool.{le-leb, and_from}
 use Rattle.cyc_words.specs.Ending.{Ending, Uncaught, Full}
@@ -282,7 +282,7 @@ over_steps program pages calls choice (Stuck output input) ending ended = absurd
 
 pub lawful : (program : Program) (pages calls : ℕ) → IsLawful (machine program pages calls)
 lawful program pages calls = record {
-  grows = λ old new stepped. (limited_steps program pages calls old new stepped).0;
+  grows = limited_steps program pages calls;
   stays = λ old new ending ended stepped. stepped.2 ∙ over_steps program pages calls stepped.0 old ending ended;
   rests = λ s ending ended. (zeros, zeros_allowed program s (over_asks program s ending ended) (over_calls program s ending ended), sym (over_steps program pages calls zeros s ending ended));
 }
@@ -293,14 +293,10 @@ pub ended_stays : (program : Program) (pages calls n : ℕ) (old new : State) (e
 ended_stays program pages calls n old new ending ended run = Run-stays (machine program pages calls) (lawful program pages calls) n old new ending ended run
 
 pub output_grows : (program : Program) (pages calls n : ℕ) (old new : State) → Run (machine program pages calls) n old new → IsPrefix (output_of old) (output_of new)
-output_grows program pages calls n old new run = Run-grows (machine program pages calls) (lawful program pages calls) n old new run
+output_grows program pages calls n old new run = (Run-grows (machine program pages calls) (lawful program pages calls) n old new run).0
 
 pub input_shrinks : (program : Program) (pages calls n : ℕ) (old new : State) → Run (machine program pages calls) n old new → (read : List ℕ) × (input_of old ≡ read ++ input_of new)
-input_shrinks program pages calls zero old new run = ([], sym (ap input_of run))
-input_shrinks program pages calls (suc n) old new (mid, stepped, rest) =
-    let first = (limited_steps program pages calls old mid stepped).1 in
-    let later = input_shrinks program pages calls n mid new rest in
-    (first.0 ++ later.0, first.1 ∙ ap (λ (l : List ℕ). first.0 ++ l) later.1 ∙ sym (append_assoc first.0 later.0 (input_of new)))
+input_shrinks program pages calls n old new run = (Run-grows (machine program pages calls) (lawful program pages calls) n old new run).1
 
 -- there is a step where nothing is called, where a function is that has room, and where the store refuses
 pub goes_on : (program : Program) (pages calls : ℕ) (old : State) → asked program old ≡ None → called program old ≡ None → (new : State) × Step program pages calls old new

@@ -4,6 +4,7 @@ use Rattle.std.specs.Prelude.{ℕ, suc, ◌+◌, ◌-◌, ◌==◌, ◌&&◌, na
 use Rattle.std.specs.List.{AllByRecursion}
 use Rattle.cyc_words.specs.Word.{IsWord}
 use Rattle.cyc_words.specs.Ending.{Ending}
+use Rattle.cyc_words.specs.Seen.{Seen, showing}
 use Rattle.cyc_words.specs.Simulation as simulation
 use Rattle.cyc_store.specs.State as stores
 use Rattle.cyc_store.specs.State.{StoreState}
@@ -69,6 +70,9 @@ abbrev pub input_of : State → List ℕ
 input_of (Running c) = c.input
 input_of (Ended ending output input) = input
 input_of (Stuck output input) = input
+
+abbrev pub seen_of : State → Seen
+seen_of s = showing (output_of s) (input_of s)
 
 abbrev pub status_of : State → simulation.Status
 status_of (Running c) = simulation.Running

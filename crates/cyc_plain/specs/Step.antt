@@ -19,7 +19,7 @@ use Rattle.cyc_plain.specs.Program.{Program, CodePlace, routine_at}
 use Rattle.cyc_plain.specs.declared.limits.TheConstants.{RECORD_WORDS}
 use Rattle.cyc_words.specs.Simulation.{Machine}
 use Rattle.cyc_plain.specs.Memory.{IsBelow, memory_at, with_memory}
-use Rattle.cyc_plain.specs.State.{Words, AreWords, put, copied, Handler, Open, Caught, Activation, Frame, Configuration, State, Running, Ended, Stuck, output_of, input_of, status_of, place_of, demand, depth}
+use Rattle.cyc_plain.specs.State.{Words, AreWords, put, copied, Handler, Open, Caught, Activation, Frame, Configuration, State, Running, Ended, Stuck, output_of, input_of, seen_of, status_of, place_of, demand, depth}
 
 -- What a step may choose: the words that are in the slots of a new call before they are written, the address of the first of
 -- them, and what the store chooses where it is called.
@@ -343,7 +343,7 @@ machine program pages calls = record {
   Place = CodePlace;
   Step = Step program pages calls;
   place = place_of;
-  output = output_of;
+  seen = seen_of;
   status = status_of;
 }
 

@@ -1,8 +1,9 @@
 -- The labelled machine is lawful: what was printed stays printed, and a run that has ended stays as it is.
-use Rattle.std.proofs.Common.{◌≡◌, ℕ, ◌+◌, Bool, true, false, List, [], ◌∷◌, Option, Some, None, slice_get, refl, sym, ap, subst, ◌∙◌, inl, inr}
+use Rattle.std.proofs.Common.{◌≡◌, ℕ, ◌+◌, Bool, true, false, List, [], ◌∷◌, ◌++◌, drop, Option, Some, None, slice_get, refl, sym, ap, subst, ◌∙◌, inl, inr}
 use Rattle.cyc_words.specs.Ending.{Ending}
-use Rattle.cyc_words.specs.Prefix.{IsPrefix}
+use Rattle.cyc_words.specs.Seen.{showing, ComesTo}
 use Rattle.cyc_words.proofs.PrefixLemmas.{IsPrefix-refl, IsPrefix-append}
+use Rattle.cyc_words.proofs.SeenLemmas.{ComesTo-refl}
 use Rattle.cyc_isa.specs.declared.instr.Instr.{Instr}
 use Rattle.cyc_machine.specs.State as machines
 use Rattle.cyc_machine.specs.Run.{World, told, ending_of}
@@ -16,48 +17,52 @@ use Rattle.cyc_select.specs.declared.code.Line.{Line}
 use Rattle.cyc_select.specs.declared.code.Line.TheVariants as lines
 use Rattle.cyc_select.specs.Labelled.{Labelled, is_ordinary}
 use Rattle.cyc_select.specs.Machine as labelled
-use Rattle.cyc_select.specs.Machine.{Configuration, State, Running, Stopped, world_of, settled, closed, Performs, PerformsOrdinary, Executes, ExecutesAt, Step, machine, output_of, status_of}
+use Rattle.cyc_select.specs.Machine.{Configuration, State, Running, Stopped, world_of, settled, closed, Performs, PerformsOrdinary, Executes, ExecutesAt, Step, machine, seen_of, status_of}
+
+one_read : (input : List ℕ) → (read : List ℕ) × (input ≡ read ++ drop 1 input)
+one_read [] = ([], refl)
+one_read (b ∷ input) = (b ∷ [], refl)
 
 abbrev Grows : Configuration → State → Type 0
-Grows c new = IsPrefix c.output (output_of new)
+Grows c new = ComesTo (showing c.output c.input) (seen_of new)
 
-closed_output : (w : World) (ending : Option Ending) → output_of (closed w ending) ≡ w.output
-closed_output w (Some ending) = refl
-closed_output w None = refl
+closed_seen : (w : World) (ending : Option Ending) → seen_of (closed w ending) ≡ showing w.output w.input
+closed_seen w (Some ending) = refl
+closed_seen w None = refl
 
-settled_output : (w : World) (line : ℕ) (phase : Phase) → output_of (settled w line phase) ≡ w.output
-settled_output w line phases.Running = refl
-settled_output w line phases.Waiting = refl
-settled_output w line (phases.Over end) = closed_output w (ending_of end)
+settled_seen : (w : World) (line : ℕ) (phase : Phase) → seen_of (settled w line phase) ≡ showing w.output w.input
+settled_seen w line phases.Running = refl
+settled_seen w line phases.Waiting = refl
+settled_seen w line (phases.Over end) = closed_seen w (ending_of end)
 
-told_grows : (w : World) (event : Event) (s : machines.State) → IsPrefix w.output (told w event s).output
-told_grows w Ran s = IsPrefix-refl w.output
-told_grows w WantsByte s = IsPrefix-refl w.output
-told_grows w (Puts byte) s = IsPrefix-append w.output (byte ∷ [])
-told_grows w (Ended end) s = IsPrefix-refl w.output
-told_grows w NoMemory s = IsPrefix-refl w.output
+told_grows : (w : World) (event : Event) (s : machines.State) → ComesTo (showing w.output w.input) (showing (told w event s).output (told w event s).input)
+told_grows w Ran s = ComesTo-refl (showing w.output w.input)
+told_grows w WantsByte s = (IsPrefix-refl w.output, one_read w.input)
+told_grows w (Puts byte) s = (IsPrefix-append w.output (byte ∷ []), ([], refl))
+told_grows w (Ended end) s = ComesTo-refl (showing w.output w.input)
+told_grows w NoMemory s = ComesTo-refl (showing w.output w.input)
 
 ordinary_grows : (b : Bool) (c : Configuration) (i : Instr) (new : State) → PerformsOrdinary b c i new → Grows c new
 ordinary_grows true c i new (event, s, acts, is) =
-    subst (λ (out : List ℕ). IsPrefix c.output out) (sym (ap output_of is ∙ settled_output (told (world_of c) event s) (c.line + 1) (told (world_of c) event s).machine.phase)) (told_grows (world_of c) event s)
-ordinary_grows false c i new is = subst (Grows c) (sym is) (IsPrefix-refl c.output)
+    subst (ComesTo (showing c.output c.input)) (sym (ap seen_of is ∙ settled_seen (told (world_of c) event s) (c.line + 1) (told (world_of c) event s).machine.phase)) (told_grows (world_of c) event s)
+ordinary_grows false c i new is = subst (Grows c) (sym is) (ComesTo-refl (showing c.output c.input))
 
 executes_grows : (code : Labelled) (addresses : ℕ → ℕ) (c : Configuration) (line : Line) (new : State) → Executes code addresses c line new → Grows c new
 executes_grows code addresses c (lines.Ordinary i) new does = ordinary_grows (is_ordinary i) c i new does
-executes_grows code addresses c (lines.Branch condition label) new is = subst (Grows c) (sym is) (IsPrefix-refl c.output)
-executes_grows code addresses c (lines.Jump label) new is = subst (Grows c) (sym is) (IsPrefix-refl c.output)
-executes_grows code addresses c (lines.Call label) new is = subst (Grows c) (sym is) (IsPrefix-refl c.output)
-executes_grows code addresses c lines.Return new (inl (line, point, lies, is)) = subst (Grows c) (sym is) (IsPrefix-refl c.output)
-executes_grows code addresses c lines.Return new (inr (nowhere, is)) = subst (Grows c) (sym is) (IsPrefix-refl c.output)
+executes_grows code addresses c (lines.Branch condition label) new is = subst (Grows c) (sym is) (ComesTo-refl (showing c.output c.input))
+executes_grows code addresses c (lines.Jump label) new is = subst (Grows c) (sym is) (ComesTo-refl (showing c.output c.input))
+executes_grows code addresses c (lines.Call label) new is = subst (Grows c) (sym is) (ComesTo-refl (showing c.output c.input))
+executes_grows code addresses c lines.Return new (inl (line, point, lies, is)) = subst (Grows c) (sym is) (ComesTo-refl (showing c.output c.input))
+executes_grows code addresses c lines.Return new (inr (nowhere, is)) = subst (Grows c) (sym is) (ComesTo-refl (showing c.output c.input))
 
 line_grows : (code : Labelled) (addresses : ℕ → ℕ) (c : Configuration) (line : Option Line) (new : State) → ExecutesAt code addresses c line new → Grows c new
 line_grows code addresses c (Some line) new does = executes_grows code addresses c line new does
-line_grows code addresses c None new is = subst (Grows c) (sym is) (IsPrefix-refl c.output)
+line_grows code addresses c None new is = subst (Grows c) (sym is) (ComesTo-refl (showing c.output c.input))
 
-step_grows : (code : Labelled) (addresses : ℕ → ℕ) (old new : State) → Step code addresses old new → IsPrefix (output_of old) (output_of new)
+step_grows : (code : Labelled) (addresses : ℕ → ℕ) (old new : State) → Step code addresses old new → ComesTo (seen_of old) (seen_of new)
 step_grows code addresses (Running c) new step = line_grows code addresses c (slice_get code.lines c.line) new step
-step_grows code addresses (labelled.Ended ending output input) new is = subst (λ (s : State). IsPrefix output (output_of s)) (sym is) (IsPrefix-refl output)
-step_grows code addresses (Stopped output input) new is = subst (λ (s : State). IsPrefix output (output_of s)) (sym is) (IsPrefix-refl output)
+step_grows code addresses (labelled.Ended ending output input) new is = subst (λ (s : State). ComesTo (showing output input) (seen_of s)) (sym is) (ComesTo-refl (showing output input))
+step_grows code addresses (Stopped output input) new is = subst (λ (s : State). ComesTo (showing output input) (seen_of s)) (sym is) (ComesTo-refl (showing output input))
 
 ended_stays : (code : Labelled) (addresses : ℕ → ℕ) (old new : State) (ending : Ending) → status_of old ≡ simulation.Ended ending → Step code addresses old new → new ≡ old
 ended_stays code addresses (Running c) new ending ended step = absurd (let e : simulation.Running ≡ simulation.Ended ending = ended in cc)

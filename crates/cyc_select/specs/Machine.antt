@@ -14,6 +14,7 @@ use Rattle.cyc_machine.specs.Run.{World, told, ending_of}
 use Rattle.cyc_machine.specs.declared.event.Event.{Event}
 use Rattle.cyc_machine.specs.declared.phase.Phase.{Phase}
 use Rattle.cyc_machine.specs.declared.phase.Phase.TheVariants as phases
+use Rattle.cyc_words.specs.Seen.{Seen, showing}
 use Rattle.cyc_words.specs.Simulation as simulation
 use Rattle.cyc_select.specs.Labelled.{Labelled, is_ordinary}
 use Rattle.cyc_select.specs.declared.code.Condition.{Condition}
@@ -152,6 +153,14 @@ output_of (Running c) = c.output
 output_of (Ended ending output input) = output
 output_of (Stopped output input) = output
 
+abbrev pub input_of : State → List ℕ
+input_of (Running c) = c.input
+input_of (Ended ending output input) = input
+input_of (Stopped output input) = input
+
+abbrev pub seen_of : State → Seen
+seen_of s = showing (output_of s) (input_of s)
+
 abbrev pub status_of : State → simulation.Status
 status_of (Running c) = simulation.Running
 status_of (Ended ending output input) = simulation.Ended ending
@@ -164,7 +173,7 @@ machine code addresses = record {
   Place = ℕ;
   Step = Step code addresses;
   place = line_of;
-  output = output_of;
+  seen = seen_of;
   status = status_of;
 }
 

@@ -53,4 +53,4 @@ pub const NEAR_GLOBALS: usize = 16_384;
 pub const START_LINES: usize = 6;
 
 /// How many words the start has at most.
-pub const MAX_START_WORDS: usize = 4096;
+pub const MAX_START_WORDS: usize = 7;

@@ -15,7 +15,7 @@ use Rattle.cyc_store.specs.Services.{Call}
 use Rattle.cyc_plain.specs.declared.instruction.Instruction.{Instruction}
 use Rattle.cyc_plain.specs.declared.instruction.Instruction.TheVariants as instructions
 use Rattle.cyc_plain.specs.Program.{Routine, Program, CodePlace, no_routine, routine_at}
-use Rattle.cyc_plain.specs.State.{Activation, Frame, Configuration, State, Running, Ended, Stuck, output_of, status_of, place_of}
+use Rattle.cyc_plain.specs.State.{Activation, Frame, Configuration, State, Running, Ended, Stuck, seen_of, status_of, place_of}
 use Rattle.cyc_plain.specs.Memory.{pins, is_pinned, global_at, slot_at, word_or, word_waiting, put_or, with_waiting, Range, OfGlobals, OfStore, OfSlots, range_of, word_in, memory_at, with_global, with_slot, with_word, with_memory}
 use Rattle.cyc_plain.specs.Step.{Choice, operand_word, IsAllowed, MayLie, MayServe, returns, finishes, loads, saves, loads_byte, saves_byte, advanced, call_of, callee_of, called, performed, executed, instruction_at, step, limited, limited_step, Step, start, machine}
 use Rattle.cyc_plain.proofs.RunLaws.{lawful, limited_either}
@@ -247,7 +247,7 @@ module _ (program simplified : Program) (are : AreReplaced program simplified) w
     Matches = Matches;
     weight = λ s. 0;
     own = λ place. place ∷ [];
-    outputs = λ s t matches. ap output_of matches.0;
+    alike = λ s t matches. ap seen_of matches.0;
     endings = λ s t ending matches ended. ap status_of matches.0 ∙ ended;
   }
 

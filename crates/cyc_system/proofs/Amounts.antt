@@ -18,12 +18,18 @@ use Rattle.cyc_system.specs.Front.{names_in, IsAcceptedText}
 symbols_few : (text : List ℕ) (p : Program) (a : IsAcceptedText text p) → length (symbols_of a.tokens) ≤ max_tokens
 symbols_few text p a = let tokens = length-map a.tokens (symbol_of (distinct_texts (texts_in a.tokens))) in omega (arith, tokens, a.has_tokens.within.count)
 
--- the typed program of a text weighs no more than the text may have tokens
-pub accepted_light : (text : List ℕ) (p : Program) → IsAcceptedText text p → program_weight p ≤ max_tokens
-accepted_light text p a =
+-- the typed program of a text weighs no more than the text has tokens
+pub accepted_weight : (text : List ℕ) (p : Program) (a : IsAcceptedText text p) → program_weight p ≤ length a.tokens
+accepted_weight text p a =
     let tree = program_lighter (names_in a.tokens) a.tree p a.typed in
     let symbols = tree_weight-length (symbols_of a.tokens) a.tree a.has_tree.has in
-    omega (arith, tree, symbols, symbols_few text p a)
+    let tokens = length-map a.tokens (symbol_of (distinct_texts (texts_in a.tokens))) in
+    omega (arith, tree, symbols, tokens)
+
+-- and no more than a text may have
+pub accepted_light : (text : List ℕ) (p : Program) → IsAcceptedText text p → program_weight p ≤ max_tokens
+accepted_light text p a =
+    omega (arith, accepted_weight text p a, a.has_tokens.within.count)
 
 -- its structs have few fields, the numbers of its exceptions are words, and arithmetic on pointers stands alone
 pub accepted_of_text : (text : List ℕ) (p : Program) → IsAcceptedText text p → IsOfTextProgram p

@@ -1,18 +1,22 @@
 -- The image that the chain makes is one of the program.
-use Rattle.std.proofs.Common.{◌≡◌, ℕ, ◌≤◌, ◌<◌, List, length, Option, refl, sym, ap, subst, ◌∙◌, arith, Ok}
+use Rattle.std.proofs.Common.{◌≡◌, ℕ, ◌*◌, ◌≤◌, ◌<◌, List, [], ◌∷◌, length, Option, refl, sym, ap, subst, ◌∙◌, arith, Ok}
+use Rattle.std.specs.Prelude.{sum_by}
 use Rattle.std.specs.List.{AllByRecursion}
+use Rattle.std.proofs.lemmas.List.Sums.{sum_by-cons}
 use Rattle.cyc_words.specs.Word.{IsWord}
 use Rattle.cyc_elf.specs.Layout.{layout}
 use Rattle.cyc_elf.specs.Reading.{reading}
 use Rattle.cyc_machine.specs.State.{globals_length}
 use Rattle.cyc_machine.specs.Run.{World}
 use Rattle.cyc_machine.specs.Start.{start_world}
-use Rattle.cyc_types.specs.TypedTrees.{Program}
+use Rattle.cyc_types.specs.TypedTrees.{Function, Program}
+use Rattle.cyc_types.specs.Weight.{function_weight}
+use Rattle.cyc_syntax.specs.Weight.{sum_of}
 use Rattle.cyc_meaning.specs.Run.{start}
 use Rattle.cyc_words.specs.Simulation.{Preserves}
-use Rattle.cyc_plain.specs.Program.{Program as PlainProgram}
+use Rattle.cyc_plain.specs.Program.{Routine, Program as PlainProgram, size}
 use Rattle.cyc_soundness.specs.Sound.{IsSound}
-use Rattle.cyc_lower.specs.Lowered.{IsLowered}
+use Rattle.cyc_lower.specs.Lowered.{AreLoweredFunctions, IsLowered, size_per_weight}
 use Rattle.cyc_meaning.specs.SourceMachine.{source_machine}
 use Rattle.cyc_select.specs.Labelled.{Labelled, IsCode}
 use Rattle.cyc_select.specs.Selected.{IsCodeOf}
@@ -25,6 +29,14 @@ use Rattle.cyc_system.specs.ProgramImage.{program_image, HasForm}
 use Rattle.cyc_system.proofs.Composition.{chain_preserves}
 use Rattle.cyc_system.proofs.Preservation.{never_fails}
 use Rattle.cyc_system.proofs.ProgramImages.{text_words-image, image_form, image_loads, image_starts}
+
+-- ---- it is small
+
+lowered_small : (hs : List Function) (rs : List Routine) → AreLoweredFunctions hs rs → sum_by size rs ≤ size_per_weight * sum_of function_weight hs
+lowered_small [] [] are = omega arith
+lowered_small [] (r ∷ rs) are = absurd are
+lowered_small (h ∷ hs) [] are = absurd are
+lowered_small (h ∷ hs) (r ∷ rs) (is, are) = omega (arith, sum_by-cons size r rs, is.small, lowered_small hs rs are)
 
 -- ---- it does what the program means
 
@@ -56,6 +68,7 @@ module _ (p : Program) (lowered : PlainProgram) (code : Labelled) (addresses : �
     form = subst (λ (n : ℕ). HasForm n (program_image words code.globals note)) (ap length globals ∙ is.globals) (image_form words code.globals note);
     loads = image_loads words code.globals note some text.inside few fit fit_globals;
     does = does;
+    few = omega (arith, text_words-image words code.globals note some text.inside few fit fit_globals, text.few, selected.few_words, lowered_small p.functions lowered.functions is.functions);
   }
 
 -- the same, for words and globals that the image was made of

@@ -3,7 +3,8 @@ use Rattle.std.proofs.Common.{◌≡◌, ℕ, refl, suc, zero, ◌+◌, ◌-◌,
 use Rattle.std.specs.Prelude.{MatchBool}
 use Rattle.std.specs.List.{AllByRecursion}
 use Rattle.cyc_words.proofs.DeviceLemmas.{Appends-nil}
-use Rattle.cyc_words.proofs.PrefixLemmas.{IsPrefix-nil, IsPrefix-trans}
+use Rattle.cyc_words.proofs.SeenLemmas.{ComesTo-trans}
+use Rattle.std.specs.Io.KnownBytes.{Keeps}
 use Rattle.cyc_elf.specs.declared.fault.ElfFault.{ElfFault}
 use Rattle.cyc_elf.specs.Image.{ImageContents}
 use Rattle.cyc_elf.specs.Reading.{reading}
@@ -13,15 +14,16 @@ use Rattle.cyc_machine.specs.Bounds.{Bounds, AreAllowed}
 use Rattle.cyc_machine.specs.Run.{World, Run, end_of}
 use Rattle.cyc_machine.specs.Start.{has_outside, start_world}
 use Rattle.cyc_store.specs.State.{StoreState}
-use Rattle.cyc_machine.proofs.RunLaws.{Goes-rests, Run-over, Run-output, Run-append, Run-split, over-end_of}
+use Rattle.cyc_machine.proofs.RunLaws.{Goes-rests, Run-over, Run-output, Run-input, Run-append, Run-split, over-end_of}
 use Rattle.cyc_types.specs.TypedTrees.{Program}
-use Rattle.cyc_meaning.specs.State.{output_of}
+use Rattle.cyc_meaning.specs.SourceMachine.{seen_of}
+use Rattle.cyc_machine.specs.WorldMachine.{seen_of as seen_in}
 use Rattle.cyc_system.specs.declared.report.Report.{Report}
 use Rattle.cyc_system.specs.declared.report.RunFault.{RunFault}
 use Rattle.cyc_system.specs.declared.report.RunFault.TheVariants.{Elf, Load, Read, Write, Memory}
 use Rattle.cyc_system.specs.declared.report.Stop.{Stop}
 use Rattle.cyc_system.specs.declared.report.Stop.TheVariants as stops
-use Rattle.cyc_system.specs.Engine.{Devices, Rests, Tells, Executes, Stops, Runs, Refuses, Starts, Answers, AnswersAnew}
+use Rattle.cyc_system.specs.Engine.{Devices, Rests, Tells, Leaves, Executes, Stops, Runs, Refuses, Starts, Answers, AnswersAnew}
 use Rattle.cyc_system.specs.FullPreservation.{text_words, limited, AreAlike, IsImageOf}
 use Rattle.cyc_system.specs.CompiledRuns.{IsEndOf, IsAsFar, AnswersAs, RunsAs}
 use Rattle.cyc_system.proofs.Engines.{counted_run}
@@ -50,6 +52,18 @@ stopped_at stops.Spent budget count w end (none, all) over = absurd (let same : 
 input_told : (told : Option (List ℕ)) (input bytes : List ℕ) → told ≡ Some input → Tells told bytes → bytes ≡ input
 input_told told input bytes is tells = sym (let same : input ≡ bytes = subst (λ (o : Option (List ℕ)). Tells o bytes) is tells in same)
 
+-- and has then just these left
+told_left : (told new : Option (List ℕ)) (input rest : List ℕ) → told ≡ Some input → Leaves told new rest → new ≡ Some rest
+told_left None new input rest is leaves = absurd (let e : None ≡ Some input = is in cc)
+told_left (Some told) None input rest is leaves = absurd leaves
+told_left (Some told) (Some left) input rest is leaves = ap (λ (l : List ℕ). Some l) leaves
+
+-- or all of them, where it was not used
+told_kept : (told new : Option (List ℕ)) (input : List ℕ) → told ≡ Some input → Keeps told new → new ≡ Some input
+told_kept None new input is keeps = absurd (let e : None ≡ Some input = is in cc)
+told_kept (Some told) None input is keeps = absurd keeps
+told_kept (Some told) (Some left) input is keeps = ap (λ (l : List ℕ). Some l) keeps ∙ is
+
 -- ---- against the program
 
 module _ (p : Program) (image : ImageContents) (limits : Bounds) (store : StoreState) (input : List ℕ) (alike : AreAlike p image limits store input) (grows : Bool) (budget : ℕ) (old new : Devices) where
@@ -57,13 +71,16 @@ module _ (p : Program) (image : ImageContents) (limits : Bounds) (store : StoreS
   started = start_world image limits store input
 
   -- what is answered before anything is read or written
-  kept : (result : Result Report RunFault) → result ≡ Err Memory → Rests old new → RunsAs p limits input (text_words image) budget old new result
-  kept result is (read, silent) =
+  kept : old.remaining ≡ Some input → (result : Result Report RunFault) → result ≡ Err Memory → Rests old new → RunsAs p limits input (text_words image) budget old new result
+  kept tells result is (unread, silent) =
+      let (steps, (seen, ends)) = alike.behind 0 (start_world image limits store input) refl in
       subst (RunsAs p limits input (text_words image) budget old new) (sym is) (record {
         output = [];
+        rest = input;
         written = Appends-nil old.written new.written silent;
-        steps = 0;
-        printed = IsPrefix-nil (output_of (limited p limits input 0));
+        left = told_kept old.remaining new.remaining input tells unread;
+        steps = steps;
+        seen = seen;
         answers = tt;
       })
 
@@ -73,29 +90,37 @@ module _ (p : Program) (image : ImageContents) (limits : Bounds) (store : StoreS
     run = subst (λ (bytes : List ℕ). Run count (start_world image limits store bytes) w) (input_told old.remaining input x.input tells x.told) (counted_run count (start_world image limits store x.input) w x.counted)
 
     -- what was written, whatever is answered
-    so_far : (result : Result Report RunFault) → AnswersAs p limits input (text_words image) budget w.output result → RunsAs p limits input (text_words image) budget old new result
+    so_far : (result : Result Report RunFault) → AnswersAs p limits input (text_words image) budget (seen_in w) result → RunsAs p limits input (text_words image) budget old new result
     unfolding started
     so_far result answers =
-        let (steps, (printed, ends)) = alike.behind count w run in
-        record { output = w.output; written = x.written; steps = steps; printed = printed; answers = answers }
+        let (steps, (seen, ends)) = alike.behind count w run in
+        record {
+          output = w.output;
+          rest = w.input;
+          written = x.written;
+          left = told_left old.remaining new.remaining input w.input tells x.unread;
+          steps = steps;
+          seen = seen;
+          answers = answers;
+        }
 
-    is_end : (stop : Stop) → Stops stop budget count w → IsEndOf p limits input w.output stop
+    is_end : (stop : Stop) → Stops stop budget count w → IsEndOf p limits input (seen_in w) stop
     unfolding started
     is_end (stops.End end) ended =
-        let (steps, (printed, ends)) = alike.behind count w run in
-        let ((ending, shown, has), same) = ends end ended in
-        (steps, ending, shown, has, sym same)
+        let (steps, (seen, ends)) = alike.behind count w run in
+        let (ending, shown, has) = ends end ended in
+        (steps, ending, shown, has, seen)
     is_end stops.Spent spent = tt
 
-    is_as_far : (stop : Stop) → count ≤ budget → Stops stop budget count w → (n : ℕ) → (n + 1) * text_words image ≤ budget → IsAsFar (limited p limits input n) w.output stop
+    is_as_far : (stop : Stop) → count ≤ budget → Stops stop budget count w → (n : ℕ) → (n + 1) * text_words image ≤ budget → IsAsFar (limited p limits input n) (seen_in w) stop
     unfolding started
     is_as_far stop few stopped n enough =
         let here = (n + 1) * text_words image in
         let whole : Run (here + (budget - here)) started w =
         subst (λ (k : ℕ). Run k started w) (let all : budget ≡ here + (budget - here) = omega (arith, enough) in all) (whole_run stop budget count started w run few stopped) in
         let (v, first, rest) = Run-split here (budget - here) started w whole in
-        let (printed, ends) = alike.ahead n v first in (
-          IsPrefix-trans (output_of (limited p limits input n)) v.output w.output printed (Run-output (budget - here) v w rest),
+        let (seen, ends) = alike.ahead n v first in (
+          ComesTo-trans (seen_of (limited p limits input n)) (seen_in v) (seen_in w) seen (Run-output (budget - here) v w rest, Run-input (budget - here) v w rest),
           λ ending has.
               let ((end, over, shown), same) = ends ending has in
               let rests : w ≡ v = Run-over (budget - here) v w end (over-end_of v end over) rest in
@@ -112,7 +137,7 @@ module _ (p : Program) (image : ImageContents) (limits : Bounds) (store : StoreS
   runs_as tells (Err Memory) (count, w, x, below, not_over, wants) = so_far tells count w x (Err Memory) tt
 
   starts_as : old.remaining ≡ Some input → (result : Result Report RunFault) → Starts grows (start_world image limits store) budget old new result → RunsAs p limits input (text_words image) budget old new result
-  starts_as tells result (inl (memory, rests)) = kept result memory rests
+  starts_as tells result (inl (memory, rests)) = kept tells result memory rests
   starts_as tells result (inr runs) = runs_as tells result runs
 
   pub answers_as : old.remaining ≡ Some input → has_outside image ≡ false → (result : Result Report RunFault) → Answers grows store (Ok image) limits budget old new result

@@ -4,7 +4,7 @@ use Rattle.std.specs.Prelude.{flat_map}
 use Rattle.std.specs.List.{AllByRecursion}
 use Rattle.std.proofs.lemmas.Grind.{flat_map-append}
 use Rattle.cyc_words.specs.Ending.{Ending}
-use Rattle.cyc_words.specs.Prefix.{IsPrefix}
+use Rattle.cyc_words.specs.Seen.{ComesTo}
 use Rattle.cyc_machine.specs.Bounds.{AreAllowed}
 use Rattle.cyc_machine.specs.State.{text_base}
 use Rattle.cyc_types.specs.TypedTrees.{Program}
@@ -18,7 +18,7 @@ use Rattle.cyc_plain.proofs.RunLaws.{lawful}
 use Rattle.cyc_plain.specs.Program.{Program as PlainProgram, places_of}
 use Rattle.cyc_plain.specs.Step as plain
 use Rattle.cyc_lower.specs.Lowered.{FollowsSource}
-use Rattle.cyc_meaning.specs.SourceMachine.{source_machine, status_in}
+use Rattle.cyc_meaning.specs.SourceMachine.{source_machine, seen_of, status_in}
 use Rattle.cyc_select.specs.Labelled.{Labelled}
 use Rattle.cyc_select.specs.Machine as labelled
 use Rattle.cyc_select.specs.Selected.{IsCodeOf}
@@ -37,7 +37,7 @@ ended_not_going s ending ended goes = let running : status_in (meaning.status_of
 
 pub source_lawful : (p : Program) (pages calls : ℕ) → IsLawful (source_machine p pages calls)
 source_lawful p pages calls = record {
-  grows = λ old new step. subst (λ s. IsPrefix (meaning.output_of old) (meaning.output_of s)) (sym step) (limited_step_goes_on p pages calls old).0;
+  grows = λ old new step. subst (λ s. ComesTo (seen_of old) (seen_of s)) (sym step) (limited_step_goes_on p pages calls old);
   stays = λ old new ending ended step. step ∙ over_limited p pages calls old (ended_not_going old ending ended);
   rests = λ s ending ended. sym (over_limited p pages calls s (ended_not_going s ending ended));
 }

@@ -97,13 +97,13 @@ module _ (p : Program) (image : ImageContents) (limits : Bounds) (store : StoreS
     (does : Preserves (source_machine p limits.pages limits.calls) world_machine (text_words image) (start p input) (start_world image limits store input)) where
   ahead : (n : ℕ) (w : World) → Run ((n + 1) * text_words image) (start_world image limits store input) w → IsAhead (limited p limits input n) w
   ahead n w run =
-      let (state, made, prefix, ends) = does.ahead n w (world_run ((n + 1) * text_words image) (start_world image limits store input) w run) in
+      let (state, made, seen, ends) = does.ahead n w (world_run ((n + 1) * text_words image) (start_world image limits store input) w run) in
       let is : state ≡ limited p limits input n = source_run p limits.pages limits.calls n (start p input) state made in
       subst (λ (s : meaning.State). IsAhead s w) is (
-        prefix,
+        seen,
         λ ending ended.
-            let (over, output) = ends ending (ap source_status ended) in
-            (end_shown w.machine.phase ending over, output),
+            let (over, same) = ends ending (ap source_status ended) in
+            (end_shown w.machine.phase ending over, same),
       )
 
   fine : (m : ℕ) (w : World) → Run m (start_world image limits store input) w → world_status w.machine.phase ≡ simulation.Failed → ⊥
@@ -111,15 +111,14 @@ module _ (p : Program) (image : ImageContents) (limits : Bounds) (store : StoreS
 
   behind : (m : ℕ) (w : World) → Run m (start_world image limits store input) w → (k : ℕ) × IsBehind w (limited p limits input k)
   behind m w run =
-      let (k, state, made, prefix, ends) = does.behind m w (world_run m (start_world image limits store input) w run) in
+      let (k, state, made, seen, ends) = does.behind m w (world_run m (start_world image limits store input) w run) in
       let is : state ≡ limited p limits input k = source_run p limits.pages limits.calls k (start p input) state made in (
         k,
         subst (λ (s : meaning.State). IsBehind w s) is (
-          prefix,
+          seen,
           λ end over.
               let (ending, shown, ended) = ending_shown w.machine.phase end over (fine m w run) in
-              let (source_ended, output) = ends ending ended in
-              ((ending, shown, has_ended (meaning.status_of state) ending source_ended), output),
+              (ending, shown, has_ended (meaning.status_of state) ending (ends ending ended)),
         ),
       )
 

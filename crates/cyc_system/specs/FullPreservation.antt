@@ -1,12 +1,13 @@
--- FULL PRESERVATION: what it means that a file does what a program means, and nothing else.
+-- FULL PRESERVATION: what it means that a file does what a program means, and nothing else: it prints what the program prints, and reads
+-- what the program reads, in the same order.
 --
 -- The program has one limited run for each input. The machine has many runs from an image, since its services may
 -- choose; each of them does what the program does. This project's own choice: the form of the promise, and its bound of
 -- so many instructions for each step of the program.
-use Rattle.std.specs.Prelude.{◌≡◌, ℕ, ◌+◌, ◌*◌, ◌/◌, ◌<◌, false, List, map, Some, Ok, sum_by, if◌then◌else◌}
+use Rattle.std.specs.Prelude.{◌≡◌, ℕ, ◌+◌, ◌*◌, ◌/◌, ◌<◌, ◌≤◌, false, List, map, Some, Ok, sum_by, if◌then◌else◌}
 use Rattle.std.specs.List.{AllByRecursion}
 use Rattle.cyc_words.specs.Ending.{Ending}
-use Rattle.cyc_words.specs.Prefix.{IsPrefix}
+use Rattle.cyc_words.specs.Seen.{ComesTo}
 use Rattle.cyc_elf.specs.Image.{ImageContents, padded}
 use Rattle.cyc_elf.specs.Layout.{layout}
 use Rattle.cyc_elf.specs.Reading.{reading}
@@ -19,13 +20,16 @@ use Rattle.cyc_machine.specs.declared.event.Cause.{Cause}
 use Rattle.cyc_machine.specs.declared.event.End.{End}
 use Rattle.cyc_machine.specs.declared.event.End.TheVariants.{Trap}
 use Rattle.cyc_types.specs.TypedTrees.{GlobalVariable, Program}
+use Rattle.cyc_types.specs.Weight.{program_weight}
+use Rattle.cyc_lower.specs.Lowered.{size_per_weight}
+use Rattle.cyc_select.specs.declared.constants.TheConstants.{MAX_START_WORDS}
 use Rattle.cyc_meaning.specs.State as meaning
 use Rattle.cyc_meaning.specs.State.{State, HasEnded}
 use Rattle.cyc_meaning.specs.Run.{start, limited_run}
 use Rattle.cyc_meaning.specs.FrameCount.{words_of_all}
 use Rattle.cyc_words.specs.Simulation.{Preserves}
-use Rattle.cyc_meaning.specs.SourceMachine.{source_machine}
-use Rattle.cyc_machine.specs.WorldMachine.{world_machine}
+use Rattle.cyc_meaning.specs.SourceMachine.{source_machine, seen_of}
+use Rattle.cyc_machine.specs.WorldMachine.{world_machine, seen_of as seen_in}
 use Rattle.cyc_system.specs.ProgramImage.{HasForm}
 
 -- how many words of text an image has
@@ -62,25 +66,25 @@ pub record IsImageOf (p : Program) (file : List ℕ) : Type 0 where
   pub form : HasForm (data_words p) image
   pub loads : IsLoadable image
   pub does : DoesTheSame p image
+  -- it is no longer than its text: so many words for each token that the program's spelling needs, and those of the start
+  pub few : text_words image ≤ MAX_START_WORDS + size_per_weight * program_weight p
 
 -- ---- the same in the words of the two runs
 
--- Within (n + 1) * T instructions the machine has printed at least what the program prints in n steps, and where the
--- program has ended, so has the machine: alike, and with equal output.
+-- Within (n + 1) * T instructions the machine has printed and read at least what the program prints and reads in n steps, and where the
+-- program has ended, so has the machine: alike, with equal output, and with as much of the input left.
 abbrev pub IsAhead : (program : State) → World → Type 0
 IsAhead s w =
-    IsPrefix (meaning.output_of s) w.output
+    ComesTo (seen_of s) (seen_in w)
     × ((ending : Ending) → meaning.status_of s ≡ HasEnded ending
-    → ((end : End) × (end_of w ≡ Some end) × (ending_of end ≡ Some ending)) × (w.output ≡ meaning.output_of s))
+    → ((end : End) × (end_of w ≡ Some end) × (ending_of end ≡ Some ending)) × (seen_in w ≡ seen_of s))
 
--- The machine has printed no more than the program, and where it has ended, so has the program: alike, and with equal
--- output.
+-- What the machine has printed, together with what it has left of its input, is what the program has in this state. And where the machine
+-- has ended, so has the program, alike.
 abbrev pub IsBehind : World → (program : State) → Type 0
 IsBehind w s =
-    IsPrefix w.output (meaning.output_of s)
-    × ((end : End) → end_of w ≡ Some end
-    → ((ending : Ending) × (ending_of end ≡ Some ending) × (meaning.status_of s ≡ HasEnded ending))
-    × (meaning.output_of s ≡ w.output))
+    (seen_in w ≡ seen_of s)
+    × ((end : End) → end_of w ≡ Some end → (ending : Ending) × (ending_of end ≡ Some ending) × (meaning.status_of s ≡ HasEnded ending))
 
 -- one run of the machine after another, against the one of the program
 pub record AreAlike (p : Program) (image : ImageContents) (limits : Bounds) (store : StoreState) (input : List ℕ) : Type 0 where

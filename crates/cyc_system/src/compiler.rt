@@ -121,8 +121,9 @@ pub fn compile_with_tokens(
 /// frame may need more than 256 words. Any growth may be refused for want of memory.
 pub fn compile_with(alloc: Global, text: &[u8], note: Option<(u32, u32)>) -> Result<Vec<u8>, Fault>
     requires { AreAllowedIfAny note }
-    // What is answered is an image that the machine can load, and that does what the program of the text means: it
-    // prints and ends as the program does within its limits, and does nothing else. What is refused is so by the front end, or its
+    // What is answered is an image that the machine can load, and that does what the program of the text means: at every
+    // point what it has printed, together with what it has left of its input, is what the program has within its limits after
+    // some number of steps, it ends as the program does, and does nothing else. What is refused is so by the front end, or its
     // program is too large.
     ensures decides { Decides (IsCompiledText text.now) (λ p file. IsImageOf p file.items) (IsRefusedAtLast text.now) (HasFaultAtLast text.now) result }
     // No step of any run of the program is dead or wrong, whatever its input, and without limits: none reaches a cell of a closed
@@ -137,8 +138,9 @@ pub fn compile_with(alloc: Global, text: &[u8], note: Option<(u32, u32)>) -> Res
 
 /// Compiles a text to an image that carries no limits, as the bytes of a file: `compile_with` with `None`.
 pub fn compile(alloc: Global, text: &[u8]) -> Result<Vec<u8>, Fault>
-    // What is answered is an image that the machine can load, and that does what the program of the text means: it
-    // prints and ends as the program does within its limits, and does nothing else. What is refused is so by the front end, or its
+    // What is answered is an image that the machine can load, and that does what the program of the text means: at every
+    // point what it has printed, together with what it has left of its input, is what the program has within its limits after
+    // some number of steps, it ends as the program does, and does nothing else. What is refused is so by the front end, or its
     // program is too large.
     ensures decides { Decides (IsCompiledText text.now) (λ p file. IsImageOf p file.items) (IsRefusedAtLast text.now) (HasFaultAtLast text.now) result }
     // No step of any run of the program is dead or wrong, whatever its input, and without limits: none reaches a cell of a closed

@@ -1,7 +1,7 @@
 //! Laws of the definitions in `specs/`. Each function does nothing: its contract is the law, and so it is proved with the
 //! crate.
 
-ghost use Rattle.std.specs.Prelude.{◌≡◌, ◌<◌, ◌↔◌, Bool, List, ℕ, Some, Ok, Result};
+ghost use Rattle.std.specs.Prelude.{◌≡◌, ◌<◌, ◌≤◌, ◌+◌, ◌*◌, ◌↔◌, length, Bool, List, ℕ, Some, Ok, Result};
 ghost use Rattle.std.specs.List.{AllByRecursion};
 ghost use Rattle.cyc_elf.specs.Image.{ImageContents};
 ghost use Rattle.cyc_elf.specs.Note.{AreLimits};
@@ -11,6 +11,8 @@ ghost use Rattle.cyc_store.specs.New.{IsNew};
 ghost use Rattle.cyc_machine.specs.Bounds.{Bounds, AreAllowed};
 ghost use Rattle.cyc_words.specs.declared.fault.Fault.{Fault};
 ghost use Rattle.cyc_types.specs.TypedTrees.{Program};
+ghost use Rattle.cyc_lower.specs.Lowered.{size_per_weight};
+ghost use Rattle.cyc_select.specs.declared.constants.TheConstants.{MAX_START_WORDS};
 ghost use Rattle.cyc_types.specs.Texts.{IsOfTextProgram};
 ghost use Rattle.cyc_soundness.specs.Sound.{IsSound};
 ghost use Rattle.cyc_system.specs.Front.{IsAcceptedText, IsRefusedText};
@@ -52,20 +54,27 @@ pub fn compiled_images_load()
     ensures { (p : Program) (file : List ℕ) → IsImageOf p file → (image : ImageContents) × (reading file ≡ Ok image) × IsLoadable image }
 {}
 
+/// The text of a compiled image has no more words than 100 for each token of the text that it was compiled of, and 7 for the start. So
+/// a run of n steps of the program takes at most (n + 1) * (7 + 100 * t) instructions, where t is the number of tokens.
+pub fn compiled_images_are_small()
+    ensures { (text : List ℕ) (p : Program) (file : List ℕ) → (a : IsAcceptedText text p) → (is : IsImageOf p file)
+        → text_words is.image ≤ MAX_START_WORDS + size_per_weight * length a.tokens }
+{}
+
 /// The ranges of the limits that an image may carry are those of every run's.
 pub fn note_limits_are_allowed()
     ensures { (limits : ℕ × ℕ) → AreLimits limits ↔ AreAllowed limits.0 limits.1 }
 {}
 
 /// An image that does what a program means: each run of the machine is, in what is seen of it, the program's limited run, and none
-/// ends with a trap.
+/// ends with a trap. What is seen is all that was printed, together with what is left of the input.
 pub fn images_run_alike()
     ensures { (p : Program) (image : ImageContents) → DoesTheSame p image
         → (limits : Bounds) (store : StoreState) (input : List ℕ) → AreAllowed limits.pages limits.calls → IsNew limits.pages store
         → AllByRecursion (λ b. b < 256) input → AreAlike p image limits store input }
 {}
 
-/// `compile` and then `run`, or `run_with` over any store that is new: what is written and answered for a text that was compiled is as
+/// `compile` and then `run`, or `run_with` over any store that is new: what is written, read and answered for a text that was compiled is as
 /// the limited run of the text's program says, for all limits, for each input that the reader tells, and each budget. With T words of
 /// text, a budget of (n + 1) * T lets the run come as far as the program comes in n steps.
 pub fn compiled_programs_run()

@@ -3,6 +3,7 @@ pub mod WordLemmas
 pub mod BytesLemmas
 pub mod WordBytesLemmas
 pub mod PrefixLemmas
+pub mod SeenLemmas
 pub mod EndingLemmas
 pub mod DeviceLemmas
 pub mod Decisions
@@ -13,4 +14,5 @@ pub mod Numbers
 -- machines that do what others do
 pub mod Simulation
 pub mod Matching
+pub mod SimulationExamples
 pub mod Prices

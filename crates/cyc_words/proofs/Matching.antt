@@ -1,24 +1,24 @@
 -- How a step is matched: by no step below, by one, or by two.
-use Rattle.std.proofs.Common.{◌≡◌, ℕ, ◌<◌, List, [], ◌∷◌, refl, sym, subst, arith}
+use Rattle.std.proofs.Common.{◌≡◌, ◌<◌, List, [], ◌∷◌, refl, sym, subst, arith}
 use Rattle.std.specs.Prelude.{Contains}
-use Rattle.cyc_words.specs.Prefix.{IsPrefix}
-use Rattle.cyc_words.proofs.PrefixLemmas.{IsPrefix-refl}
+use Rattle.cyc_words.specs.Seen.{ComesTo}
+use Rattle.cyc_words.proofs.SeenLemmas.{ComesTo-refl}
 use Rattle.cyc_words.specs.Simulation.{Running, Machine, Matching, IsOnTheWay, IsMatchedStep, IsStepped}
 
 module _ (above below : Machine) (m : Matching above below) where
   -- on the way before anything of the step is seen, and after all of it is
-  pub way_before : (s : above.State) (t : below.State) → below.status t ≡ Running → below.output t ≡ above.output s → IsOnTheWay above below s t
-  way_before s t running output = record {
+  pub way_before : (s : above.State) (t : below.State) → below.status t ≡ Running → below.seen t ≡ above.seen s → IsOnTheWay above below s t
+  way_before s t running seen = record {
     goes_on = running;
-    ahead = subst (λ (out : List ℕ). IsPrefix (above.output s) out) (sym output) (IsPrefix-refl (above.output s));
-    behind = (0, s, refl, subst (λ (out : List ℕ). IsPrefix out (above.output s)) (sym output) (IsPrefix-refl (above.output s)));
+    ahead = subst (ComesTo (above.seen s)) (sym seen) (ComesTo-refl (above.seen s));
+    behind = (0, s, refl, seen);
   }
 
-  pub way_after : (s next : above.State) (t : below.State) → above.Step s next → IsPrefix (above.output s) (above.output next) → below.status t ≡ Running → below.output t ≡ above.output next → IsOnTheWay above below s t
-  way_after s next t step grows running output = record {
+  pub way_after : (s next : above.State) (t : below.State) → above.Step s next → ComesTo (above.seen s) (above.seen next) → below.status t ≡ Running → below.seen t ≡ above.seen next → IsOnTheWay above below s t
+  way_after s next t step grows running seen = record {
     goes_on = running;
-    ahead = subst (λ (out : List ℕ). IsPrefix (above.output s) out) (sym output) grows;
-    behind = (1, next, (next, step, refl), subst (λ (out : List ℕ). IsPrefix out (above.output next)) (sym output) (IsPrefix-refl (above.output next)));
+    ahead = subst (ComesTo (above.seen s)) (sym seen) grows;
+    behind = (1, next, (next, step, refl), seen);
   }
 
   -- a step above, whose result the state below matches
@@ -42,5 +42,5 @@ module _ (above below : Machine) (m : Matching above below) where
     places = below.place t ∷ [];
     distinct = (tt, tt);
     inside = (inside, tt);
-    comes = (refl, way_before s t running (m.outputs s t matches), λ u step. matched_by_some s u (below.place t) [] (goes u step));
+    comes = (refl, way_before s t running (m.alike s t matches), λ u step. matched_by_some s u (below.place t) [] (goes u step));
   }

@@ -5,9 +5,9 @@ use Rattle.std.specs.Prelude.{◌⊎◌, sum_by, flat_map}
 use Rattle.std.proofs.lemmas.Bool.{cases_lt}
 use Rattle.std.proofs.lemmas.List.Sums.{sum_by-append, sum_by-cons}
 use Rattle.cyc_words.specs.Ending.{Ending}
-use Rattle.cyc_words.specs.Prefix.{IsPrefix}
-use Rattle.cyc_words.proofs.PrefixLemmas.{IsPrefix-refl, IsPrefix-trans}
-use Rattle.cyc_words.specs.Simulation.{Status, Running, Ended, Failed, Machine, Run, Path, IsLawful, NeverFails, MayPrint, IsUnderWay, IsOver, Follows, Preserves, Comes, IsOnTheWay, Matching, IsMatchedStep, Steps}
+use Rattle.cyc_words.specs.Seen.{ComesTo}
+use Rattle.cyc_words.proofs.SeenLemmas.{ComesTo-refl, ComesTo-trans}
+use Rattle.cyc_words.specs.Simulation.{Status, Running, Ended, Failed, Machine, Run, Path, IsLawful, NeverFails, MayShow, IsUnderWay, IsOver, Follows, Preserves, Comes, IsOnTheWay, Matching, IsMatchedStep, Steps}
 use Rattle.cyc_words.proofs.Prices.{sum_by-distinct, sum_by-flat_map, sum_by-one, sum_by-at_most}
 
 -- ---- runs and paths of one machine
@@ -44,10 +44,10 @@ Run-split m (suc i) j s u run =
     (t, (mid, step, first), second)
 
 -- laws of whole runs
-pub Run-grows : (m : Machine) → IsLawful m → (n : ℕ) (s t : m.State) → Run m n s t → IsPrefix (m.output s) (m.output t)
-Run-grows m lawful zero s t run = subst (λ x. IsPrefix (m.output s) (m.output x)) (sym run) (IsPrefix-refl (m.output s))
+pub Run-grows : (m : Machine) → IsLawful m → (n : ℕ) (s t : m.State) → Run m n s t → ComesTo (m.seen s) (m.seen t)
+Run-grows m lawful zero s t run = subst (λ x. ComesTo (m.seen s) (m.seen x)) (sym run) (ComesTo-refl (m.seen s))
 Run-grows m lawful (suc n) s t (mid, step, rest) =
-    IsPrefix-trans (m.output s) (m.output mid) (m.output t) (lawful.grows s mid step) (Run-grows m lawful n mid t rest)
+    ComesTo-trans (m.seen s) (m.seen mid) (m.seen t) (lawful.grows s mid step) (Run-grows m lawful n mid t rest)
 
 pub Run-stays : (m : Machine) → IsLawful m → (n : ℕ) (s t : m.State) (ending : Ending) → m.status s ≡ Ended ending → Run m n s t → t ≡ s
 Run-stays m lawful zero s t ending ended run = run
@@ -136,7 +136,7 @@ module _ (above below : Machine) (m : Matching above below) (steps : Steps above
   stops : (places : List above.Place) (state : above.State) (met : List below.Place) (q : below.Place) (back : List below.Place) (now : below.State)
       → IsInside places state met (q ∷ back) → below.place now ≡ q → IsOnTheWay above below state now → Shown met now
   stops places state met q back now inside stands way =
-      let (n, later, run, prints) = way.behind in
+      let (n, later, run, shows) = way.behind in
       inl (record {
         places = places;
         state = state;
@@ -144,7 +144,7 @@ module _ (above below : Machine) (m : Matching above below) (steps : Steps above
         running = inside.running;
         goes_on = way.goes_on;
         ahead = way.ahead;
-        behind = (length places + n, later, Run-append above (length places) n start state later (Run-from_path above places start state inside.path) run, prints);
+        behind = (length places + n, later, Run-append above (length places) n start state later (Run-from_path above places start state inside.path) run, shows);
         cost = λ price.
             let first = sum_by-cons price q back in
             let equal : price (below.place now) ≡ price q = ap price stands in
@@ -211,7 +211,7 @@ module _ (above below : Machine) (m : Matching above below) (steps : Steps above
         ending = ending;
         ended = ended;
         over = ap below.status same ∙ over;
-        output = ap below.output same ∙ m.outputs state here matched.matches;
+        seen = ap below.seen same ∙ m.alike state here matched.matches;
       })
 
   turns : (n : ℕ) → Continues n → (w : ℕ) (places : List above.Place) (state : above.State) (met : List below.Place) (here : below.State) (rest : List below.Place) (now : below.State)
@@ -264,15 +264,11 @@ module _ (above below : Machine) (m : Matching above below) (steps : Steps above
 
 -- ---- passes in a row
 
--- what a run shows may be printed above
-may_print : (above below : Machine) (before : List below.Place) (own : above.Place → List below.Place) (start : above.State) (met : List below.Place) (now : below.State)
-    → IsUnderWay above below before own start met now ⊎ IsOver above below start now → MayPrint above start (below.output now)
-may_print above below before own start met now (inl u) = u.behind
-may_print above below before own start met now (inr o) =
-    (length o.places, o.state, Run-from_path above o.places start o.state o.path, subst (λ (out : List ℕ). IsPrefix out (above.output o.state)) (sym o.output) (IsPrefix-refl (above.output o.state)))
-
-MayPrint-less : (m : Machine) (start : m.State) (less more : List ℕ) → IsPrefix less more → MayPrint m start more → MayPrint m start less
-MayPrint-less m start less more prefix (n, s, run, prints) = (n, s, run, IsPrefix-trans less more (m.output s) prefix prints)
+-- what a run shows may be seen above
+may_show : (above below : Machine) (before : List below.Place) (own : above.Place → List below.Place) (start : above.State) (met : List below.Place) (now : below.State)
+    → IsUnderWay above below before own start met now ⊎ IsOver above below start now → MayShow above start (below.seen now)
+may_show above below before own start met now (inl u) = u.behind
+may_show above below before own start met now (inr o) = (length o.places, o.state, Run-from_path above o.places start o.state o.path, o.seen)
 
 module _ (above middle below : Machine) (before_middle : List middle.Place) (own_middle : above.Place → List middle.Place) (before_below : List below.Place) (own_below : middle.Place → List below.Place) (start : above.State) (between : middle.State) (from : below.State) where
   abbrev Lower : List below.Place → below.State → Type 0
@@ -293,7 +289,7 @@ module _ (above middle below : Machine) (before_middle : List middle.Place) (own
 
   goes : Follows above middle before_middle own_middle start between → (met : List below.Place) (now : below.State) → (u : IsUnderWay middle below before_below own_below between met now) → Upper u.places u.state → Whole met now
   goes first met now u (inl v) =
-      let (n, later, run, prints) = u.behind in
+      let (n, later, run, shows) = u.behind in
       let (places, long, path) = Path-from_run middle n between later run in
       inl (record {
         places = v.places;
@@ -301,9 +297,8 @@ module _ (above middle below : Machine) (before_middle : List middle.Place) (own
         path = v.path;
         running = v.running;
         goes_on = u.goes_on;
-        ahead = IsPrefix-trans (above.output v.state) (middle.output u.state) (below.output now) v.ahead u.ahead;
-        behind = MayPrint-less above start (below.output now) (middle.output later) prints
-            (may_print above middle before_middle own_middle start places later (first.runs places later path));
+        ahead = ComesTo-trans (above.seen v.state) (middle.seen u.state) (below.seen now) v.ahead u.ahead;
+        behind = subst (MayShow above start) (sym shows) (may_show above middle before_middle own_middle start places later (first.runs places later path));
         cost = λ price.
             let lower = u.cost price in
             let upper = v.cost (λ (q : middle.Place). sum_by price (own_below q)) in
@@ -324,7 +319,7 @@ module _ (above middle below : Machine) (before_middle : List middle.Place) (own
         ending = w.ending;
         ended = w.ended;
         over = o.over ∙ sym o.ended ∙ w.over;
-        output = o.output ∙ w.output;
+        seen = o.seen ∙ w.seen;
       })
 
   together : Follows above middle before_middle own_middle start between → (met : List below.Place) (now : below.State) → Lower met now → Whole met now
@@ -347,27 +342,27 @@ fewer k n each less =
 module _ (above below : Machine) (laws : IsLawful above) (before : List below.Place) (own : above.Place → List below.Place) (start : above.State) (from : below.State) (follows : Follows above below before own start from) where
   -- the run above after n steps, where it is known after k: cut short, or at rest
   abbrev After : ℕ → below.State → Type 0
-  After n now = (state : above.State) × Run above n start state × IsPrefix (above.output state) (below.output now)
-      × ((ending : Ending) → above.status state ≡ Ended ending → (below.status now ≡ Ended ending) × (below.output now ≡ above.output state))
+  After n now = (state : above.State) × Run above n start state × ComesTo (above.seen state) (below.seen now)
+      × ((ending : Ending) → above.status state ≡ Ended ending → (below.status now ≡ Ended ending) × (below.seen now ≡ above.seen state))
 
-  cut : (n k : ℕ) → n ≤ k → (state : above.State) (now : below.State) → Run above k start state → IsPrefix (above.output state) (below.output now)
-      → ((ending : Ending) → above.status state ≡ Ended ending → (below.status now ≡ Ended ending) × (below.output now ≡ above.output state)) → After n now
-  cut n k long state now run prefix ends =
+  cut : (n k : ℕ) → n ≤ k → (state : above.State) (now : below.State) → Run above k start state → ComesTo (above.seen state) (below.seen now)
+      → ((ending : Ending) → above.status state ≡ Ended ending → (below.status now ≡ Ended ending) × (below.seen now ≡ above.seen state)) → After n now
+  cut n k long state now run ahead ends =
       let (mid, first, second) = Run-split above n (k - n) start state (subst (λ i. Run above i start state) (let e : k ≡ n + (k - n) = omega arith in e) run) in (
         mid,
         first,
-        IsPrefix-trans (above.output mid) (above.output state) (below.output now) (Run-grows above laws (k - n) mid state second) prefix,
+        ComesTo-trans (above.seen mid) (above.seen state) (below.seen now) (Run-grows above laws (k - n) mid state second) ahead,
         λ ending ended.
             let same : state ≡ mid = Run-stays above laws (k - n) mid state ending ended second in
-            let (over, output) = ends ending (ap above.status same ∙ ended) in
-            (over, output ∙ ap above.output same),
+            let (over, seen) = ends ending (ap above.status same ∙ ended) in
+            (over, seen ∙ ap above.seen same),
       )
 
-  ends_as : (now : below.State) (o : IsOver above below start now) (ending : Ending) → above.status o.state ≡ Ended ending → (below.status now ≡ Ended ending) × (below.output now ≡ above.output o.state)
-  ends_as now o ending ended = (o.over ∙ sym o.ended ∙ ended, o.output)
+  ends_as : (now : below.State) (o : IsOver above below start now) (ending : Ending) → above.status o.state ≡ Ended ending → (below.status now ≡ Ended ending) × (below.seen now ≡ above.seen o.state)
+  ends_as now o ending ended = (o.over ∙ sym o.ended ∙ ended, o.seen)
 
-  prefix_over : (now : below.State) (o : IsOver above below start now) → IsPrefix (above.output o.state) (below.output now)
-  prefix_over now o = subst (λ (out : List ℕ). IsPrefix (above.output o.state) out) (sym o.output) (IsPrefix-refl (above.output o.state))
+  ahead_over : (now : below.State) (o : IsOver above below start now) → ComesTo (above.seen o.state) (below.seen now)
+  ahead_over now o = subst (ComesTo (above.seen o.state)) (sym o.seen) (ComesTo-refl (above.seen o.state))
 
   -- a run below that is long enough has come so far
   comes_so_far : (each n : ℕ) → ((p : above.Place) → length before + length (own p) ≤ each) → (met : List below.Place) (now : below.State) → length met ≡ (n + 1) * each
@@ -397,29 +392,29 @@ module _ (above below : Machine) (laws : IsLawful above) (before : List below.Pl
       let k = length o.places in
       let run = Run-from_path above o.places start o.state o.path in
       elim (cases_lt n k) [
-        | inl short ↦ cut n k (omega arith) o.state now run (prefix_over now o) (ends_as now o)
+        | inl short ↦ cut n k (omega arith) o.state now run (ahead_over now o) (ends_as now o)
         | inr fine ↦ (
           o.state,
           subst (λ i. Run above i start o.state) (let e : k + (n - k) ≡ n = omega arith in e) (Run-append above k (n - k) start o.state o.state run (Run-rests above laws (n - k) o.state o.ending o.ended)),
-          prefix_over now o,
+          ahead_over now o,
           ends_as now o,
         )
       ]
 
   abbrev Before : below.State → Type 0
-  Before now = (n : ℕ) × (state : above.State) × Run above n start state × IsPrefix (below.output now) (above.output state)
-      × ((ending : Ending) → below.status now ≡ Ended ending → (above.status state ≡ Ended ending) × (above.output state ≡ below.output now))
+  Before now = (n : ℕ) × (state : above.State) × Run above n start state × (below.seen now ≡ above.seen state)
+      × ((ending : Ending) → below.status now ≡ Ended ending → above.status state ≡ Ended ending)
 
   behind : (met : List below.Place) (now : below.State) → IsUnderWay above below before own start met now ⊎ IsOver above below start now → Before now
   behind met now (inl u) =
-      let (n, state, run, prefix) = u.behind in
-      (n, state, run, prefix, λ ending ended. absurd (running_ended ending (sym u.goes_on ∙ ended)))
+      let (n, state, run, shows) = u.behind in
+      (n, state, run, shows, λ ending ended. absurd (running_ended ending (sym u.goes_on ∙ ended)))
   behind met now (inr o) = (
     length o.places,
     o.state,
     Run-from_path above o.places start o.state o.path,
-    subst (λ (out : List ℕ). IsPrefix out (above.output o.state)) (sym o.output) (IsPrefix-refl (above.output o.state)),
-    λ ending ended. (o.ended ∙ sym o.over ∙ ended, sym o.output),
+    o.seen,
+    λ ending ended. o.ended ∙ sym o.over ∙ ended,
   )
 
   fails_not : (met : List below.Place) (now : below.State) → IsUnderWay above below before own start met now ⊎ IsOver above below start now → below.status now ≡ Failed → ⊥

@@ -4,6 +4,7 @@ pub mod Bytes
 pub mod WordBytes
 pub mod Fault
 pub mod Prefix
+pub mod Seen
 pub mod Device
 pub mod Reader
 pub mod Writer

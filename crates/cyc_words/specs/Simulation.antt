@@ -8,7 +8,7 @@
 use Rattle.std.specs.Prelude.{◌≡◌, ◌≢◌, ℕ, zero, suc, ◌+◌, ◌*◌, ◌≤◌, ◌<◌, ◌⊎◌, List, [], ◌∷◌, length, sum_by, Contains}
 use Rattle.std.specs.List.{AllByRecursion}
 use Rattle.cyc_words.specs.Ending.{Ending}
-use Rattle.cyc_words.specs.Prefix.{IsPrefix}
+use Rattle.cyc_words.specs.Seen.{Seen, ComesTo}
 
 -- What a state of a run is: under way, ended, or failed: unable to go on, in a way that is no program's end.
 pub data Status : Type 0 where
@@ -22,7 +22,7 @@ pub record Machine : Type 1 where
   pub Place : Type 0
   pub Step : State → State → Type 0
   pub place : State → Place
-  pub output : State → List ℕ
+  pub seen : State → Seen
   pub status : State → Status
 
 -- from old, the machine may come to new by so many steps
@@ -35,9 +35,9 @@ abbrev pub Path : (m : Machine) → List m.Place → m.State → m.State → Typ
 Path m [] old new = new ≡ old
 Path m (p ∷ places) old new = (mid : m.State) × (m.place old ≡ p) × m.Step old mid × Path m places mid new
 
--- what was printed stays printed, and an ended run stays as it is
+-- what was printed stays printed and what was read stays read, and an ended run stays as it is
 pub record IsLawful (m : Machine) : Type 0 where
-  pub grows : (old new : m.State) → m.Step old new → IsPrefix (m.output old) (m.output new)
+  pub grows : (old new : m.State) → m.Step old new → ComesTo (m.seen old) (m.seen new)
   pub stays : (old new : m.State) (ending : Ending) → m.status old ≡ Ended ending → m.Step old new → new ≡ old
   pub rests : (s : m.State) (ending : Ending) → m.status s ≡ Ended ending → m.Step s s
 
@@ -45,9 +45,9 @@ pub record IsLawful (m : Machine) : Type 0 where
 abbrev pub NeverFails : (m : Machine) → m.State → Type 0
 NeverFails m start = (n : ℕ) (s : m.State) → Run m n start s → m.status s ≡ Failed → ⊥
 
--- from this state the machine may come to print this, and perhaps more
-abbrev pub MayPrint : (m : Machine) → m.State → List ℕ → Type 0
-MayPrint m start output = (n : ℕ) × (s : m.State) × Run m n start s × IsPrefix output (m.output s)
+-- from this state the machine may come to one where just this is seen
+abbrev pub MayShow : (m : Machine) → m.State → Seen → Type 0
+MayShow m start seen = (n : ℕ) × (s : m.State) × Run m n start s × (seen ≡ m.seen s)
 
 -- ---- what is shown of a pass
 
@@ -60,9 +60,9 @@ pub record IsUnderWay (above below : Machine) (before : List below.Place) (own :
   pub path : Path above places start state
   pub running : above.status state ≡ Running
   pub goes_on : below.status now ≡ Running
-  -- what is printed above is printed below, and that may come to be printed above
-  pub ahead : IsPrefix (above.output state) (below.output now)
-  pub behind : MayPrint above start (below.output now)
+  -- what is printed above is printed below, what is read above is read below, and just what is seen below may come to be seen above
+  pub ahead : ComesTo (above.seen state) (below.seen now)
+  pub behind : MayShow above start (below.seen now)
   -- All places met, with the one where it stands now, cost no more than the own places of the steps above, with the one
   -- that is under way. So a place is met at most once for each step that it is a place of.
   pub cost : (price : below.Place → ℕ)
@@ -77,7 +77,7 @@ pub record IsOver (above below : Machine) (start : above.State) (now : below.Sta
   pub ending : Ending
   pub ended : above.status state ≡ Ended ending
   pub over : below.status now ≡ Ended ending
-  pub output : below.output now ≡ above.output state
+  pub seen : below.seen now ≡ above.seen state
 
 -- Each run below is a run above, in this sense. In particular none fails.
 pub record Follows (above below : Machine) (before : List below.Place) (own : above.Place → List below.Place) (start : above.State) (from : below.State) : Type 0 where
@@ -88,14 +88,14 @@ pub record Follows (above below : Machine) (before : List below.Place) (own : ab
 
 -- Full preservation, with so many steps below for each step above, and as many before the first.
 pub record Preserves (above below : Machine) (each : ℕ) (start : above.State) (from : below.State) : Type 0 where
-  -- after that many steps, what is printed above is printed below, and an end above has come below too
+  -- after that many steps, what is printed above is printed below, what is read above is read below, and an end above has come below too
   pub ahead : (n : ℕ) (now : below.State) → Run below ((n + 1) * each) from now
-      → (state : above.State) × Run above n start state × IsPrefix (above.output state) (below.output now)
-      × ((ending : Ending) → above.status state ≡ Ended ending → (below.status now ≡ Ended ending) × (below.output now ≡ above.output state))
-  -- after any number of steps, nothing else is printed below than above, and an end below is one above
+      → (state : above.State) × Run above n start state × ComesTo (above.seen state) (below.seen now)
+      × ((ending : Ending) → above.status state ≡ Ended ending → (below.status now ≡ Ended ending) × (below.seen now ≡ above.seen state))
+  -- after any number of steps, what is seen below is what is seen above after some number of steps, and an end below is one above
   pub behind : (m : ℕ) (now : below.State) → Run below m from now
-      → (n : ℕ) × (state : above.State) × Run above n start state × IsPrefix (below.output now) (above.output state)
-      × ((ending : Ending) → below.status now ≡ Ended ending → (above.status state ≡ Ended ending) × (above.output state ≡ below.output now))
+      → (n : ℕ) × (state : above.State) × Run above n start state × (below.seen now ≡ above.seen state)
+      × ((ending : Ending) → below.status now ≡ Ended ending → above.status state ≡ Ended ending)
   pub never_fails : NeverFails below from
 
 -- ---- how a pass is proved
@@ -111,11 +111,11 @@ Comes m Way Goal [] s = Goal s
 Comes m Way Goal (p ∷ places) s =
     (m.place s ≡ p) × Way s × ((next : m.State) → m.Step s next → Comes m Way Goal places next)
 
--- on the way from a state that matches one above: not ended, and between what is printed above and may come to be
+-- on the way from a state that matches one above: not ended, and what is seen is what may come to be seen above
 pub record IsOnTheWay (above below : Machine) (state : above.State) (now : below.State) : Type 0 where
   pub goes_on : below.status now ≡ Running
-  pub ahead : IsPrefix (above.output state) (below.output now)
-  pub behind : MayPrint above state (below.output now)
+  pub ahead : ComesTo (above.seen state) (below.seen now)
+  pub behind : MayShow above state (below.seen now)
 
 -- A matching of states: related states look alike, and the weight of a state above bounds the steps that are matched by
 -- none below.
@@ -123,7 +123,7 @@ pub record Matching (above below : Machine) : Type 1 where
   pub Matches : above.State → below.State → Type 0
   pub weight : above.State → ℕ
   pub own : above.Place → List below.Place
-  pub outputs : (s : above.State) (t : below.State) → Matches s t → below.output t ≡ above.output s
+  pub alike : (s : above.State) (t : below.State) → Matches s t → below.seen t ≡ above.seen s
   pub endings : (s : above.State) (t : below.State) (ending : Ending) → Matches s t → above.status s ≡ Ended ending → below.status t ≡ Ended ending
 
 -- a step above is made, and matched again; where no step below was made, the weight has fallen

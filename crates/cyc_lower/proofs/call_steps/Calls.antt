@@ -40,7 +40,7 @@ use Rattle.cyc_objects.specs.Words.{Is}
 use Rattle.cyc_objects.specs.Related.{scopes}
 use Rattle.cyc_objects.proofs.Values.{Grows-row, Grows-handle, Is-grows}
 use Rattle.cyc_lower.proofs.relation.HeldValues.{IsIn, words_held, Holds, HoldsFrom, held, callers, homes, behind_records, row_of}
-use Rattle.cyc_lower.proofs.relation.Relation.{Shared, DataAt, DataIn, SharedAt, prints_only, gives_byte, StatementStack, LandsStack, PrintsStack, nowhere, behind_statement, Related, Matches, code_of, types_in, types_at, starts_at, parameters_in, parameters_at, bounds_in, bounds_at, called_at, returned_at, base_of, top, in_place, floor, HandlersStand, CountsBy, call_slots}
+use Rattle.cyc_lower.proofs.relation.Relation.{shared_seen, Shared, DataAt, DataIn, SharedAt, prints_only, gives_byte, StatementStack, LandsStack, PrintsStack, nowhere, behind_statement, Related, Matches, code_of, types_in, types_at, starts_at, parameters_in, parameters_at, bounds_in, bounds_at, called_at, returned_at, base_of, top, in_place, floor, HandlersStand, CountsBy, call_slots}
 use Rattle.cyc_lower.proofs.relation.Data.{words-reverse, Holds-rest, in_order, arguments_copied, data_declared, data_called, data_grows, HoldsFrom-grows, calls_counted}
 use Rattle.cyc_lower.proofs.relation.Accesses.{IsWell, is_fitting, is_declared, home_there}
 use Rattle.cyc_lower.proofs.relation.Matched.{IsMatched, above, below, matching, silently, by_one, by_two_known, shared_within, shared_way, steps_to, place_in, known}
@@ -108,7 +108,7 @@ module _ (source : Program) (pages calls : ℕ) where
       landed_word source pages calls (a % 256) (bit_and x 255) d k e next first (c.active.next + 1 + 1) (low_byte_of x ∙ ap (λ y. y % 256) is) shared_next facts holds refl lands in
       by_two_known source pages calls first refl shared (shared_within source pages calls k e next first shared_next)
       (way_after (above source pages calls) (below source pages calls) (matching source pages calls) s after (plain.Running first)
-      (steps_to source pages calls s after (plain.Running last) refl done) (IsPrefix-append w.output (a % 256 ∷ [])) refl shared_next.same_output)
+      (steps_to source pages calls s after (plain.Running last) refl done) (IsPrefix-append w.output (a % 256 ∷ []), ([], refl)) refl (shared_seen shared_next))
       write (λ choice. refl) low (λ same. omega (arith, same)) (λ choice. done)
 
   prints_value : (i : Kind) (v : Value) (k : List Entry) (e : Environment) (w : World) (c : Configuration) → IsStep source pages calls (Calling callees.Putchar (record { kind = i; value = v } ∷ [])) k e w c
@@ -261,7 +261,7 @@ module _ (source : Program) (pages calls : ℕ) where
               record {
                 next = Ended Full w.output w.input;
                 step = sym source_full;
-                matches = subst (Matches source pages calls (Ended Full w.output w.input)) (sym u_is) (refl, shared.same_output);
+                matches = subst (Matches source pages calls (Ended Full w.output w.input)) (sym u_is) (refl, shared_seen shared);
                 lighter = λ none. absurd (omega (arith, none));
               },
         );

@@ -41,7 +41,7 @@ use Rattle.cyc_objects.specs.Words.{Is}
 use Rattle.cyc_objects.proofs.Values.{Grows-row, Grows-handle}
 use Rattle.cyc_lower.proofs.relation.Sharing.{shared_declared, row_declared, shared_opened, shared_closed}
 use Rattle.cyc_lower.proofs.relation.HeldValues.{kept, Holds, held, callers, homes, behind_records, row_of, IsLocalRow}
-use Rattle.cyc_lower.proofs.relation.Relation.{CountsBy, opened_by, types_on, starts_on, types_at, starts_at, returned_at, Shared, DataAt, SharedAt, in_temporary, in_local, ValueStack, AheadStack, StatementStack, LandsStack, LoopAt, Related, EvaluatingAt, as_operand, for_effect, as_condition, in_operand, ahead, behind_statement, behind_call, behind_wrong, Below, IsLast, Arrives, in_place, by_jump, code_of, bounds_in, bounds_at, top, by_jumps, HandlersStand, DataIn, Matches, floor, call_slots}
+use Rattle.cyc_lower.proofs.relation.Relation.{shared_seen, CountsBy, opened_by, types_on, starts_on, types_at, starts_at, returned_at, Shared, DataAt, SharedAt, in_temporary, in_local, ValueStack, AheadStack, StatementStack, LandsStack, LoopAt, Related, EvaluatingAt, as_operand, for_effect, as_condition, in_operand, ahead, behind_statement, behind_call, behind_wrong, Below, IsLast, Arrives, in_place, by_jump, code_of, bounds_in, bounds_at, top, by_jumps, HandlersStand, DataIn, Matches, floor, call_slots}
 use Rattle.cyc_lower.proofs.relation.Data.{height-least, Holds-same, Holds-above, data_declared, data_returned, data_grows, held_by_caller, floor-least, handlers_same, calls_counted, handlers_beside}
 use Rattle.cyc_lower.proofs.value_steps.ValueWords.{int_at}
 use Rattle.cyc_lower.proofs.relation.Accesses.{IsWell, is_declared, is_closed, home_there}
@@ -548,7 +548,7 @@ module _ (source : Program) (pages calls : ℕ) where
   ends_main i (Int a) active [] globals store output input [] e w s well shared closed here is last =
       by_one source pages calls refl shared here
       (λ choice. finished (Ended (Returned (signed a)) w.output w.input) (record { active = active; frames = []; globals = globals; store = store; output = output; input = input }) s choice closed
-      (ap (λ x. Returned (signed x)) (int_at shared.tables i a active.slots s is), shared.same_output))
+      (ap (λ x. Returned (signed x)) (int_at shared.tables i a active.slots s is), shared_seen shared))
   ends_main i (Int a) active [] globals store output input (entry ∷ k) e w s well shared closed here is last = absurd last
   ends_main i (Int a) active (f ∷ frames) globals store output input k e w s well shared closed here is last = absurd last
   ends_main i v active frames globals store output input k e w s well shared closed here is last = absurd (well refl)

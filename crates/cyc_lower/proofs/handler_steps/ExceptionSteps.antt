@@ -46,10 +46,10 @@ use Rattle.cyc_lower.proofs.relation.Moves.{moved_slots, put_elsewhere, moves, m
 use Rattle.cyc_lower.proofs.relation.Stands.{CaughtAt, ItemsAt, ClausesAt, KeptAt, RestoredAt}
 use Rattle.cyc_lower.proofs.relation.Sharing.{shared_less, shared_declared, row_declared, shared_opened, shared_closed, shared_left}
 use Rattle.cyc_lower.proofs.relation.HeldValues.{behind_records, scopes_in, MayBeOpen, IsKept, IsIntact, held, callers, row_of}
-use Rattle.cyc_lower.proofs.relation.Relation.{HasScopes, SharedBy, HandlersStand, DataIn, types_at, starts_at, SharedAt, StatementStack, Matches, as_operand, behind_statement, in_place, by_jumps, code_of, bounds_at, floor, Arrives, DataAt, call_slots}
+use Rattle.cyc_lower.proofs.relation.Relation.{seen_in, shared_seen, HasScopes, SharedBy, HandlersStand, DataIn, types_at, starts_at, SharedAt, StatementStack, Matches, as_operand, behind_statement, in_place, by_jumps, code_of, bounds_at, floor, Arrives, DataAt, call_slots}
 use Rattle.cyc_lower.proofs.relation.Data.{handlers_beside, data_written, data_declared, data_returned, data_grows}
 use Rattle.cyc_lower.proofs.relation.Accesses.{is_declared, is_closed, home_there}
-use Rattle.cyc_lower.proofs.relation.Matched.{Inside, inside_by, inside_within, IsMatched, Executes, executes, by_places, known, elsewhere, output_way, silently, by_one, by_one_printed, by_two, place_in}
+use Rattle.cyc_lower.proofs.relation.Matched.{Inside, inside_by, inside_within, IsMatched, Executes, executes, by_places, known, elsewhere, seen_way, silently, by_one, by_one_seen, by_two, place_in}
 use Rattle.cyc_lower.proofs.region_steps.Closings.{closing_apart, closing_executes, shared_behind, settled}
 use Rattle.cyc_lower.proofs.region_steps.Scoped.{scopes_word}
 use Rattle.cyc_lower.proofs.handler_steps.Handling.{intact, closes_here, newest_open, caught_by, raised}
@@ -297,11 +297,11 @@ module _ (source : Program) (pages calls : ℕ) where
         data_written source t a.function a.base w.objects e.locals k a.slots told_slots later c.globals rest first 2 (omega (arith, first_is)) (λ n away. both_elsewhere a.slots first tag value n away) (facts, others)
 
     -- two instructions, and then those at these places
-    by_handler : (places : List CodePlace) → Inside source pages calls w resumed → c.output ≡ w.output
+    by_handler : (places : List CodePlace) → Inside source pages calls w resumed → plain.seen_of (plain.Running c) ≡ seen_in w
         → AllByRecursion (λ r. place_in source pages calls c ≢ r) places → AllByRecursion (λ r. place_in source pages calls thrown_to ≢ r) places → IsDistinct places
         → AllByRecursion (Contains (places_of (lower_program source))) places
         → Executes source pages calls old_state new_state places (plain.Running resumed) → IsMatched source pages calls old_state (plain.Running c)
-    by_handler places inside output apart_first apart_second distinct inside_all goes =
+    by_handler places inside seen apart_first apart_second distinct inside_all goes =
         let apart_two : place_in source pages calls c ≢ place_in source pages calls thrown_to =
         elsewhere source pages calls (place_in source pages calls c) (place_in source pages calls thrown_to) _ _ here opening (λ equal. let f : instructions.Throw x o ≡ instructions.Try (floor source a.function k) m = equal in cc) in
         let leads : (choice : Choice) → performed (lower_program source) choice c (instructions.Throw x o) ≡ plain.Running thrown_to =
@@ -310,15 +310,15 @@ module _ (source : Program) (pages calls : ℕ) where
         ((apart_two, apart_first), (apart_second, distinct)) (known source pages calls c _ here, (known source pages calls thrown_to _ opening, inside_all))
         (executes source pages calls old_state new_state c (instructions.Throw x o) (place_in source pages calls thrown_to ∷ places) here
         (λ choice. ap (plain_step.is_within pages calls) (leads choice) ∙ inside_within source pages calls w thrown_to inside)
-        (output_way source pages calls (Throwing tag value) (Handler handler ∷ k) e w c output)
+        (seen_way source pages calls (Throwing tag value) (Handler handler ∷ k) e w c seen)
         (λ choice. subst (Executes source pages calls old_state new_state (place_in source pages calls thrown_to ∷ places)) (sym (leads choice))
         (executes source pages calls old_state new_state thrown_to (instructions.Try (floor source a.function k) m) places opening
         (λ other. inside_within source pages calls w resumed inside)
-        (output_way source pages calls (Throwing tag value) (Handler handler ∷ k) e w thrown_to output)
+        (seen_way source pages calls (Throwing tag value) (Handler handler ∷ k) e w thrown_to seen)
         (λ other. goes))))
 
     inside_resumed : Inside source pages calls w c → Inside source pages calls w resumed
-    inside_resumed (output, few, fits, asked) = (output, few, omega (arith, fits, less), asked)
+    inside_resumed (seen, few, fits, asked) = (seen, few, omega (arith, fits, less), asked)
 
     -- and then the lexical regions are closed that were opened in the `try`
     by_restoring : (scopes : Option ℕ) → scopes_of source ≡ scopes → objects.scopes w.regions ≡ scopes_in k → (shared : SharedBy source scopes pages calls (Handler handler ∷ k) e w c)
@@ -326,13 +326,13 @@ module _ (source : Program) (pages calls : ℕ) where
         → RestoredAt (code_of source a.function) (bounds_at source a.function) (types_at source a.function) scopes (floor source a.function k + RECORD_WORDS) m p
         → IsKept scopes a.slots (floor source a.function k + RECORD_WORDS) (scopes_in k) → IsMatched source pages calls old_state (plain.Running c)
     by_restoring None is counted shared facts others end kept =
-        by_handler [] (inside_resumed (inside_by source None pages calls (Handler handler ∷ k) e w c shared)) shared.same_output tt tt tt tt
+        by_handler [] (inside_resumed (inside_by source None pages calls (Handler handler ∷ k) e w c shared)) (shared_seen shared) tt tt tt tt
         (subst (λ n. Matches source pages calls new_state (plain.Running (at resumed n))) (sym end)
         (shared_fewer None shared, written shared.tables facts others, (exits, out, q, clauses, over, stack, word, tag_is, value_is)))
     by_restoring (Some place) is counted shared facts others (ask, close) kept =
         let slot = floor source a.function k + RECORD_WORDS in
         let inside = inside_resumed (inside_by source (Some place) pages calls (Handler handler ∷ k) e w c shared) in
-        by_handler (place_in source pages calls resumed ∷ []) inside shared.same_output
+        by_handler (place_in source pages calls resumed ∷ []) inside (shared_seen shared)
         (closing_apart source pages calls resumed slot ask (place_in source pages calls c) _ here
         (λ equal. let f : instructions.Throw x o ≡ instructions.Ask (requests.CloseTo (operands.Slot slot)) = equal in cc))
         (closing_apart source pages calls resumed slot ask (place_in source pages calls thrown_to) _ opening
@@ -362,8 +362,8 @@ module _ (source : Program) (pages calls : ℕ) where
 
   pub throwing : (tag value : ℕ) (k : List Entry) (e : Environment) (w : World) (c : Configuration) → IsNested k e w → IsStep source pages calls (Throwing tag value) k e w c
   throwing tag value [] e w c nested well (shared, fits, word, x, o, here, x_is, o_is, a, rest, less, same, facts, (none, last)) =
-      by_one_printed source pages calls refl shared.same_output here
-      (λ choice. subst (Matches source pages calls (Ended (Uncaught tag (signed value)) w.output w.input)) (sym (thrown tag value c x o choice x_is o_is ∙ same ∙ beyond_all tag value c a rest none last)) (refl, shared.same_output))
+      by_one_seen source pages calls refl (shared_seen shared) here
+      (λ choice. subst (Matches source pages calls (Ended (Uncaught tag (signed value)) w.output w.input)) (sym (thrown tag value c x o choice x_is o_is ∙ same ∙ beyond_all tag value c a rest none last)) (refl, shared_seen shared))
   throwing tag value (Needs awaiting ∷ k) e w c nested well (shared, fits, word, x, o, here, x_is, o_is, a, rest, less, same, facts, stand) =
       silently source pages calls (Running (Throwing tag value) (Needs awaiting ∷ k) e w) (Running (Throwing tag value) k e w) (plain.Running c) refl
       (shared_less source (scopes_of source) pages calls awaiting k e w c shared, fits, word, x, o, here, x_is, o_is, a, rest, less, same, facts, caught_by source a rest k stand)

@@ -726,7 +726,7 @@ module _ (source : Program) (pages calls : ℕ) where
           (λ choice. saves_by (lower_program source) choice c2 wanted (operands.Slot z) 0 (operands.Slot (free + 3))
               ∙ ap (λ (i : Kind). saved_at (lower_program source) i c2 address word) (sym same) ∙ saves_it),
           omega arith,
-          record { output = refl; demand = demand_there source pages calls k e w c2 shared names facts_there object index address word cell v.value found there value machine; frames = like_long source c.frames after.frames (frames_there source pages calls k e w c2 shared names facts_there object index address word cell v.value found there value machine) },
+          record { seen = refl; demand = demand_there source pages calls k e w c2 shared names facts_there object index address word cell v.value found there value machine; frames = like_long source c.frames after.frames (frames_there source pages calls k e w c2 shared names facts_there object index address word cell v.value found there value machine) },
           tt,
         )
         count_up jump (shared_saved source pages calls k e w c2 shared names facts_there object index address word cell v.value found there value machine).related kept.same_pages kept.few_pages

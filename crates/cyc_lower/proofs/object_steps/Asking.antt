@@ -22,8 +22,8 @@ use Rattle.cyc_meaning.specs.Step.{step}
 use Rattle.cyc_meaning.specs.Run.{is_within, limited_step}
 use Rattle.cyc_plain.proofs.Straight.{behind-distinct}
 use Rattle.cyc_lower.specs.Lowering.{lower_program}
-use Rattle.cyc_lower.proofs.relation.Relation.{SharedAt, Matches, code_of}
-use Rattle.cyc_lower.proofs.relation.Matched.{IsMatched, Executes, by_places, shared_way, output_way, place_in, known}
+use Rattle.cyc_lower.proofs.relation.Relation.{seen_in, shared_seen, SharedAt, Matches, code_of}
+use Rattle.cyc_lower.proofs.relation.Matched.{IsMatched, Executes, by_places, shared_way, seen_way, place_in, known}
 
 -- ---- places that follow one another
 
@@ -38,7 +38,7 @@ past_pages pages n b over = ap (λ x. x && b) (false_from_ne_true (nat_le n page
 module _ (source : Program) (pages calls : ℕ) where
   -- The store is called, which serves the call, and then come instructions that stand behind.
   pub asks_then : (focus : Focus) (k : List Entry) (e : Environment) (w : World) (c : Configuration) (next : State) (request : Request) (count : ℕ)
-      → step source (Running focus k e w) ≡ next → c.output ≡ w.output
+      → step source (Running focus k e w) ≡ next → plain.seen_of (plain.Running c) ≡ seen_in w
       → At (code_of source c.active.function) c.active.next (instructions.Ask request)
       → AllByRecursion (Contains (places_of (lower_program source))) (places_behind c.active.function (c.active.next + 1) count)
       → refusal c.store (plain_step.call_in c.active.slots request) ≡ None
@@ -51,7 +51,7 @@ module _ (source : Program) (pages calls : ℕ) where
       by_places source pages calls (Running focus k e w) next (place_in source pages calls c) rest (plain.Running c) does
       (behind-distinct c.active.function c.active.next (suc count)) (known source pages calls c (instructions.Ask request) here, inside) (
         refl,
-        output_way source pages calls focus k e w c same,
+        seen_way source pages calls focus k e w c same,
         λ u stepped.
             let (choice, served, is) = step_serves (lower_program source) pages calls c request u here stepped free (λ choice served. (goes choice served).1) in
             subst (Executes source pages calls (Running focus k e w) next rest) (sym is) (goes choice served).0,
@@ -66,7 +66,7 @@ module _ (source : Program) (pages calls : ℕ) where
       → Matches source pages calls next (plain.Running (served_to choice c (plain_requests.destination_of request) (plain_step.call_in c.active.slots request)))
       × (plain_step.is_within pages calls (plain.Running (served_to choice c (plain_requests.destination_of request) (plain_step.call_in c.active.slots request))) ≡ true))
       → IsMatched source pages calls (Running focus k e w) (plain.Running c)
-  by_asking focus k e w c next request does shared here free goes = asks_then focus k e w c next request 0 does shared.same_output here tt free goes
+  by_asking focus k e w c next request does shared here free goes = asks_then focus k e w c next request 0 does (shared_seen shared) here tt free goes
 
   -- There is no room: both runs are full.
   pub by_full : (focus : Focus) (k : List Entry) (e : Environment) (w : World) (c : Configuration) (next : State) (request : Request)
@@ -87,7 +87,7 @@ module _ (source : Program) (pages calls : ℕ) where
           λ u stepped. record {
             next = Ended Full w.output w.input;
             step = sym source_full;
-            matches = subst (Matches source pages calls (Ended Full w.output w.input)) (sym (step_full (lower_program source) pages calls c request u here stepped full)) (refl, shared.same_output);
+            matches = subst (Matches source pages calls (Ended Full w.output w.input)) (sym (step_full (lower_program source) pages calls c request u here stepped full)) (refl, shared_seen shared);
             lighter = λ none. absurd (omega (arith, none));
           },
         );

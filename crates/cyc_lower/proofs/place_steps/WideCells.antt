@@ -72,7 +72,7 @@ abbrev IsAsFar : Parts → Parts → Type 0
 IsAsFar s others = (demand others.store ≡ demand s.store) × (length others.frames ≡ length s.frames)
 
 stage_quiet : (c : Configuration) (s others : Parts) (p q : ℕ) → IsAsFar s others → IsQuiet (stage c s p) (stage c others q)
-stage_quiet c s others p q far = record { output = refl; demand = far.0; frames = far.1 }
+stage_quiet c s others p q far = record { seen = refl; demand = far.0; frames = far.1 }
 
 -- ---- three stores
 

@@ -29,7 +29,7 @@ use Rattle.cyc_lower.specs.Lowering.{lower_program, scopes_of}
 use Rattle.cyc_lower.proofs.relation.Stands.{ClosedAt}
 use Rattle.cyc_lower.proofs.relation.HeldValues.{MayBeOpen, scopes_in}
 use Rattle.cyc_lower.proofs.relation.Relation.{HasScopes, store_by, silent, ScopesBy, SharedBy, SharedAt, Matches, code_of, bounds_at, types_at}
-use Rattle.cyc_lower.proofs.relation.Matched.{Inside, IsMatched, Executes, by_places, place_in, known, elsewhere, output_way, inside_within}
+use Rattle.cyc_lower.proofs.relation.Matched.{Inside, IsMatched, Executes, by_places, place_in, known, elsewhere, seen_way, inside_within}
 
 -- what is closed asks for no more pages
 pub fewer_pages : (s : StoreState) (mark : ℕ) (choice : services.Choice) → demand (served s (CloseTo mark) choice) ≤ demand s
@@ -54,7 +54,7 @@ module _ (source : Program) (pages calls : ℕ) where
       → Executes source pages calls (Running focus k e w) next (place_in source pages calls c ∷ []) (plain.Running c)
   closing_executes focus k e w next c slot many q (ask, end) inside marked more goes = (
     refl,
-    output_way source pages calls focus k e w c inside.0,
+    seen_way source pages calls focus k e w c inside.0,
     λ u stepped.
         let (choice, served_it, is) = step_serves (lower_program source) pages calls c (requests.CloseTo (operands.Slot slot)) u ask stepped free (λ chosen served_it. asked_within chosen) in
         subst (Executes source pages calls (Running focus k e w) next []) (sym is)

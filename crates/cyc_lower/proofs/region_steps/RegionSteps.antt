@@ -33,7 +33,7 @@ use Rattle.cyc_lower.proofs.slots.Slots.{slot_types-many}
 use Rattle.cyc_lower.proofs.slots.Widths.{Outside}
 use Rattle.cyc_lower.proofs.relation.Stands.{NamedAt, ClosedAt, ItemsAt}
 use Rattle.cyc_lower.proofs.relation.HeldValues.{homes, callers, scopes_in, MayBeOpen, IsIn, contents}
-use Rattle.cyc_lower.proofs.relation.Relation.{HasScopes, SharedAt, StatementStack, Matches, DataIn, code_of, bounds_in, bounds_at, types_in, types_at, floor, behind_statement, starts_at, in_operand, ValueStack}
+use Rattle.cyc_lower.proofs.relation.Relation.{shared_seen, HasScopes, SharedAt, StatementStack, Matches, DataIn, code_of, bounds_in, bounds_at, types_in, types_at, floor, behind_statement, starts_at, in_operand, ValueStack}
 use Rattle.cyc_lower.proofs.relation.Data.{data_written, data_grows, variables_grow}
 use Rattle.cyc_lower.proofs.relation.Matched.{IsMatched, silently, shared_within, known, inside_by}
 use Rattle.cyc_lower.proofs.relation.Paths.{runs}
@@ -175,13 +175,13 @@ module _ (source : Program) (pages calls : ℕ) where
             shared ask (refusal-lexical shared.related ∙ ap full_at over)
         | inr room ↦
             let free = refusal-lexical shared.related ∙ ap full_at room in
-            asks_then source pages calls Proceeding old e w c next (requests.OpenLexical (t + 1)) 1 refl shared.same_output ask
+            asks_then source pages calls Proceeding old e w c next (requests.OpenLexical (t + 1)) 1 refl (shared_seen shared) ask
             (known source pages calls (at c (c.active.next + 1)) _ move, tt) free
             (λ choice served_it.
             let a = asked k e w c shared facts nested free choice served_it place some in
             let b = marked k e w c shared facts nested free choice served_it place some in
             let within = shared_within source pages calls (CloseLexical (length w.regions) ∷ k) e new b (shared_marked k e w c shared facts nested free choice served_it place some) in (
-              runs source pages calls Proceeding old e w next a [] (instructions.Move t (operands.Slot (t + 2))) within shared.same_output tt move
+              runs source pages calls Proceeding old e w next a [] (instructions.Move t (operands.Slot (t + 2))) within (shared_seen shared) tt move
                   (λ later. named_at n js k e w c exits place m u q shared facts nested free choice served_it some named items close stack),
               within,
             ))
@@ -241,7 +241,7 @@ module _ (source : Program) (pages calls : ℕ) where
             shared ask (refusal-dynamic shared.related ∙ ap full_at over)
         | inr room_left ↦
             let free = refusal-dynamic shared.related ∙ ap full_at room_left in
-            asks_then source pages calls Proceeding old e w c next (requests.OpenDynamic t) 0 refl shared.same_output ask tt free
+            asks_then source pages calls Proceeding old e w c next (requests.OpenDynamic t) 0 refl (shared_seen shared) ask tt free
             (λ choice served_it.
             let after = served_to choice c t OpenDynamic in
             let grown = with_handle shared.tables (Some choice.handle) in

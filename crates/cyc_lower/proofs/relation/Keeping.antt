@@ -10,7 +10,7 @@ module _ (above below : Machine) (m : Matching above below) (Keeps : below.State
     Matches = λ s t. m.Matches s t × Keeps t;
     weight = m.weight;
     own = m.own;
-    outputs = λ s t both. m.outputs s t both.0;
+    alike = λ s t both. m.alike s t both.0;
     endings = λ s t ending both ended. m.endings s t ending both.0 ended;
   }
 
@@ -35,7 +35,7 @@ module _ (above below : Machine) (m : Matching above below) (Keeps : above.State
     Matches = λ s t. m.Matches s t × Keeps s;
     weight = m.weight;
     own = m.own;
-    outputs = λ s t both. m.outputs s t both.0;
+    alike = λ s t both. m.alike s t both.0;
     endings = λ s t ending both ended. m.endings s t ending both.0 ended;
   }
 

@@ -5,6 +5,7 @@ use Rattle.std.specs.List.{AllByRecursion}
 use Rattle.std.proofs.lemmas.Bool.{le-leb, and_from}
 use Rattle.std.proofs.lemmas.Option.{same_Some}
 use Rattle.cyc_words.specs.Ending.{Ending, Full}
+use Rattle.cyc_words.specs.Seen.{showing}
 use Rattle.cyc_types.specs.TypedTrees.{Program}
 use Rattle.cyc_meaning.specs.Values.{Operand as Kinded}
 use Rattle.cyc_plain.specs.declared.instruction.Operand.{Operand}
@@ -27,11 +28,11 @@ use Rattle.cyc_meaning.specs.Run.{is_within, limited_step}
 use Rattle.cyc_objects.specs.Tables.{Tables}
 use Rattle.cyc_objects.proofs.RegionLemmas.{counted-same}
 use Rattle.cyc_lower.specs.Lowering.{lower_program, scopes_of}
-use Rattle.cyc_meaning.specs.SourceMachine.{status_in, source_machine}
+use Rattle.cyc_meaning.specs.SourceMachine.{status_in, seen_of, source_machine}
 use Rattle.cyc_lower.proofs.relation.Weights.{weight}
 use Rattle.cyc_lower.proofs.relation.Data.{calls_counted, calls_left}
 use Rattle.cyc_lower.proofs.relation.HeldValues.{handling}
-use Rattle.cyc_lower.proofs.relation.Relation.{Lands, in_temporary, in_local, HandsOn, drops, leaves, copies, Prints, prints_only, gives_byte, SharedAt, SharedBy, opened_by, GivenAt, in_operand, nowhere, ahead, decided, with_left, in_parts, ProceedingAt, behind_statement, behind_call, behind_wrong, Related, Matches, code_of, DataFor}
+use Rattle.cyc_lower.proofs.relation.Relation.{seen_in, shared_seen, Lands, in_temporary, in_local, HandsOn, drops, leaves, copies, Prints, prints_only, gives_byte, SharedAt, SharedBy, opened_by, GivenAt, in_operand, nowhere, ahead, decided, with_left, in_parts, ProceedingAt, behind_statement, behind_call, behind_wrong, Related, Matches, code_of, DataFor}
 
 module _ (source : Program) where
   -- ---- where a value goes
@@ -51,15 +52,15 @@ module _ (source : Program) where
   by_prints (prints_only stack) first second = first stack
   by_prints (gives_byte d at stack) first second = second d stack
 
-  -- what is printed, and the limits of both
+  -- what is seen, and the limits of both
   abbrev pub Inside : (pages calls : ℕ) → World → Configuration → Type 0
-  Inside pages calls w c = (c.output ≡ w.output) × (demand c.store ≤ pages) × (suc (length c.frames) ≤ calls) × (demand_of (counted w.regions) w.classes ≤ pages)
+  Inside pages calls w c = (showing c.output c.input ≡ seen_in w) × (demand c.store ≤ pages) × (suc (length c.frames) ≤ calls) × (demand_of (counted w.regions) w.classes ≤ pages)
 
   pub inside_by : (closing : Option ℕ) (pages calls : ℕ) (k : List Entry) (e : Environment) (w : World) (c : Configuration) → SharedBy source closing pages calls k e w c → Inside pages calls w c
   inside_by None pages calls k e w c s =
-      (s.same_output, s.few_pages, s.fits, omega (arith, s.few_pages, ap (λ l. demand_of l c.store.classes) (sym (counted-same s.related.regions)) ∙ ap (demand_of (counted w.regions)) s.related.classes))
+      (shared_seen s, s.few_pages, s.fits, omega (arith, s.few_pages, ap (λ l. demand_of l c.store.classes) (sym (counted-same s.related.regions)) ∙ ap (demand_of (counted w.regions)) s.related.classes))
   inside_by (Some mark) pages calls k e w c s = (
-    s.same_output,
+    shared_seen s,
     omega (arith, s.counters.1.1.demand, s.same_pages),
     s.fits,
     omega (arith, s.few_pages, ap (λ l. demand_of l c.store.classes) (sym (counted-same s.related.regions)) ∙ ap (demand_of (counted w.regions)) s.related.classes),
@@ -153,15 +154,15 @@ module _ (source : Program) (pages calls : ℕ) where
 
   -- ---- the matching
 
-  pub outputs : (s : State) (t : plain.State) → Matches source pages calls s t → plain.output_of t ≡ output_of s
-  outputs (Running focus k e w) (plain.Running c) m = (inside_of source pages calls focus k e w c m).0
-  outputs (Running focus k e w) (plain.Ended ending output input) m = absurd m
-  outputs (Running focus k e w) (plain.Stuck output input) m = absurd m
-  outputs (Ended ending output input) (plain.Running c) m = absurd m
-  outputs (Ended ending output input) (plain.Ended same same_output same_input) m = m.1
-  outputs (Ended ending output input) (plain.Stuck same_output same_input) m = absurd m
-  outputs (Dead output input) t m = absurd m
-  outputs (Wrong output input) t m = absurd m
+  pub alike : (s : State) (t : plain.State) → Matches source pages calls s t → plain.seen_of t ≡ seen_of s
+  alike (Running focus k e w) (plain.Running c) m = (inside_of source pages calls focus k e w c m).0
+  alike (Running focus k e w) (plain.Ended ending output input) m = absurd m
+  alike (Running focus k e w) (plain.Stuck output input) m = absurd m
+  alike (Ended ending output input) (plain.Running c) m = absurd m
+  alike (Ended ending output input) (plain.Ended same same_output same_input) m = m.1
+  alike (Ended ending output input) (plain.Stuck same_output same_input) m = absurd m
+  alike (Dead output input) t m = absurd m
+  alike (Wrong output input) t m = absurd m
 
   pub endings : (s : State) (t : plain.State) (ending : Ending) → Matches source pages calls s t → status_in (status_of s) ≡ simulation.Ended ending → plain.status_of t ≡ simulation.Ended ending
   endings (Running focus k e w) t ending m ended = absurd (let f : simulation.Running ≡ simulation.Ended ending = ended in cc)
@@ -176,7 +177,7 @@ module _ (source : Program) (pages calls : ℕ) where
     Matches = Matches source pages calls;
     weight = weight;
     own = λ p. places_of (lower_program source);
-    outputs = outputs;
+    alike = alike;
     endings = endings;
   }
 
@@ -233,11 +234,11 @@ module _ (source : Program) (pages calls : ℕ) where
 
   -- on the way, as long as what is shared is as before
   pub shared_way : (focus : Focus) (k : List Entry) (e : Environment) (w : World) (c : Configuration) → SharedAt source pages calls k e w c → IsOnTheWay above below (Running focus k e w) (plain.Running c)
-  shared_way focus k e w c shared = way_before above below matching (Running focus k e w) (plain.Running c) refl shared.same_output
+  shared_way focus k e w c shared = way_before above below matching (Running focus k e w) (plain.Running c) refl (shared_seen shared)
 
   -- the same where memory is another than it was
-  pub output_way : (focus : Focus) (k : List Entry) (e : Environment) (w : World) (c : Configuration) → c.output ≡ w.output → IsOnTheWay above below (Running focus k e w) (plain.Running c)
-  output_way focus k e w c same = way_before above below matching (Running focus k e w) (plain.Running c) refl same
+  pub seen_way : (focus : Focus) (k : List Entry) (e : Environment) (w : World) (c : Configuration) → plain.seen_of (plain.Running c) ≡ seen_in w → IsOnTheWay above below (Running focus k e w) (plain.Running c)
+  seen_way focus k e w c same = way_before above below matching (Running focus k e w) (plain.Running c) refl same
 
   abbrev pub place_in : Configuration → CodePlace
   place_in c = record { function = c.active.function; index = c.active.next }
@@ -253,14 +254,14 @@ module _ (source : Program) (pages calls : ℕ) where
   elsewhere p q i j here there other same =
       other (same_Some i j (sym here ∙ ap (λ (place : CodePlace). slice_get (code_of source place.function) place.index) same ∙ there))
 
-  -- one instruction, where this is printed
-  pub by_one_printed : {focus : Focus} {k : List Entry} {e : Environment} {w : World} {c : Configuration} {next : State} {i : Instruction}
-      → step source (Running focus k e w) ≡ next → c.output ≡ w.output → At (code_of source c.active.function) c.active.next i
+  -- one instruction, where this is seen
+  pub by_one_seen : {focus : Focus} {k : List Entry} {e : Environment} {w : World} {c : Configuration} {next : State} {i : Instruction}
+      → step source (Running focus k e w) ≡ next → plain.seen_of (plain.Running c) ≡ seen_in w → At (code_of source c.active.function) c.active.next i
       → ((choice : Choice) → Matches source pages calls next (performed (lower_program source) choice c i))
       → IsMatched (Running focus k e w) (plain.Running c)
-  by_one_printed {focus} {k} {e} {w} {c} {next} {i} does output at goes =
+  by_one_seen {focus} {k} {e} {w} {c} {next} {i} does seen at goes =
       by_places (Running focus k e w) next (place_in c) [] (plain.Running c) does (tt, tt) (known c i at, tt)
-      (executes (Running focus k e w) next c i [] at (λ choice. matches_within_below next (performed (lower_program source) choice c i) (goes choice)) (output_way focus k e w c output) goes)
+      (executes (Running focus k e w) next c i [] at (λ choice. matches_within_below next (performed (lower_program source) choice c i) (goes choice)) (seen_way focus k e w c seen) goes)
 
   -- one instruction
   pub by_one : {focus : Focus} {k : List Entry} {e : Environment} {w : World} {c : Configuration} {next : State} {i : Instruction}
@@ -268,7 +269,7 @@ module _ (source : Program) (pages calls : ℕ) where
       → At (code_of source c.active.function) c.active.next i
       → ((choice : Choice) → Matches source pages calls next (performed (lower_program source) choice c i))
       → IsMatched (Running focus k e w) (plain.Running c)
-  by_one {focus} {k} {e} {w} {c} {next} {i} does shared at goes = by_one_printed does shared.same_output at goes
+  by_one {focus} {k} {e} {w} {c} {next} {i} does shared at goes = by_one_seen does (shared_seen shared) at goes
 
   -- two, of which the first is known, at any places
   pub by_two_places : {focus : Focus} {k : List Entry} {e : Environment} {w : World} {c : Configuration} {next : State} {i j : Instruction} (d : Configuration)

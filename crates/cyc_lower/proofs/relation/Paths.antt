@@ -17,7 +17,7 @@ use Rattle.cyc_words.proofs.Matching.{way_before}
 use Rattle.cyc_meaning.specs.State.{World, Environment, Entry, Focus, State, Running}
 use Rattle.cyc_meaning.specs.Step.{step}
 use Rattle.cyc_lower.specs.Lowering.{lower_program}
-use Rattle.cyc_lower.proofs.relation.Relation.{SharedAt, Matches, code_of}
+use Rattle.cyc_lower.proofs.relation.Relation.{seen_in, shared_seen, SharedAt, Matches, code_of}
 use Rattle.cyc_lower.proofs.relation.Matched.{above, below, matching, shared_within, matches_within_below, Executes, executes, by_places, place_in, known, IsMatched}
 
 -- an instruction, and where it leads
@@ -25,15 +25,15 @@ pub record Link : Type 0 where
   pub instruction : Instruction
   pub behind : Configuration
 
--- nothing is printed, and the limits are as far as before
+-- nothing is printed or read, and the limits are as far as before
 pub record IsQuiet (c d : Configuration) : Type 0 where
-  pub output : d.output ≡ c.output
+  pub seen : plain.seen_of (plain.Running d) ≡ plain.seen_of (plain.Running c)
   pub demand : demand d.store ≡ demand c.store
   pub frames : length d.frames ≡ length c.frames
 
 -- where only slots and the place in the code change
 pub is_quiet : (c : Configuration) (active : plain.Activation) → IsQuiet c (record c { active = active })
-is_quiet c active = record { output = refl; demand = refl; frames = refl }
+is_quiet c active = record { seen = refl; demand = refl; frames = refl }
 
 abbrev pub end_of : Configuration → List Link → Configuration
 end_of c [] = c
@@ -83,21 +83,21 @@ module _ (source : Program) (pages calls : ℕ) where
       ∙ (ap (λ (n : ℕ). nat_le (demand c.store) pages && nat_le (suc n) calls) quiet.frames ∙ within)
 
   pub runs : (focus : Focus) (k : List Entry) (e : Environment) (w : World) (next : State) (c : Configuration) (links : List Link) (i : Instruction)
-      → plain_step.is_within pages calls (plain.Running c) ≡ true → c.output ≡ w.output → IsPath source c links
+      → plain_step.is_within pages calls (plain.Running c) ≡ true → plain.seen_of (plain.Running c) ≡ seen_in w → IsPath source c links
       → At (code_of source (end_of c links).active.function) (end_of c links).active.next i
       → ((choice : Choice) → Matches source pages calls next (performed (lower_program source) choice (end_of c links) i))
       → Executes source pages calls (Running focus k e w) next (place_in source pages calls c ∷ path_places c links) (plain.Running c)
-  runs focus k e w next c [] i within output path last goes =
+  runs focus k e w next c [] i within seen path last goes =
       executes source pages calls (Running focus k e w) next c i [] last
       (λ choice. matches_within_below source pages calls next (performed (lower_program source) choice c i) (goes choice))
-      (way_before (above source pages calls) (below source pages calls) (matching source pages calls) (Running focus k e w) (plain.Running c) refl output) goes
-  runs focus k e w next c (l ∷ links) i within output (at, leads, on, quiet, path) last goes =
+      (way_before (above source pages calls) (below source pages calls) (matching source pages calls) (Running focus k e w) (plain.Running c) refl seen) goes
+  runs focus k e w next c (l ∷ links) i within seen (at, leads, on, quiet, path) last goes =
       let inside = stays_within c l.behind quiet within in
       executes source pages calls (Running focus k e w) next c l.instruction (place_in source pages calls l.behind ∷ path_places l.behind links) at
       (λ choice. ap (plain_step.is_within pages calls) (leads choice) ∙ inside)
-      (way_before (above source pages calls) (below source pages calls) (matching source pages calls) (Running focus k e w) (plain.Running c) refl output)
+      (way_before (above source pages calls) (below source pages calls) (matching source pages calls) (Running focus k e w) (plain.Running c) refl seen)
       (λ choice. subst (Executes source pages calls (Running focus k e w) next (place_in source pages calls l.behind ∷ path_places l.behind links)) (sym (leads choice))
-      (runs focus k e w next l.behind links i inside (quiet.output ∙ output) path last goes))
+      (runs focus k e w next l.behind links i inside (quiet.seen ∙ seen) path last goes))
 
   -- the instructions on a path, and one more
   pub by_path : (focus : Focus) (k : List Entry) (e : Environment) (w : World) (c : Configuration) (next : State) (links : List Link) (i : Instruction)
@@ -108,4 +108,4 @@ module _ (source : Program) (pages calls : ℕ) where
   by_path focus k e w c next links i does shared path last goes =
       by_places source pages calls (Running focus k e w) next (place_in source pages calls c) (path_places c links) (plain.Running c) does
       (are_distinct c links path) (are_known c links i path last)
-      (runs focus k e w next c links i (shared_within source pages calls k e w c shared) shared.same_output path last goes)
+      (runs focus k e w next c links i (shared_within source pages calls k e w c shared) (shared_seen shared) path last goes)

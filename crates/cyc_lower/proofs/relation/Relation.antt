@@ -1,6 +1,8 @@
 -- What a state of the source and one of the plain program have in common while the one is matched by the other.
 use Rattle.std.proofs.Common.{max, reverse, ◌≡◌, ◌⊎◌, ℕ, suc, ◌+◌, ◌*◌, ◌≤◌, ◌<◌, true, List, [], ◌∷◌, ◌++◌, length, Option, None, Some, slice_get, ◌^◌, false, Bool}
 use Rattle.cyc_words.specs.Word.{add_of, IsWord as IsNumber}
+use Rattle.cyc_words.specs.Seen.{Seen, showing}
+use Rattle.cyc_words.proofs.SeenLemmas.{seen_same}
 use Rattle.std.specs.Prelude.{if◌then◌else◌, option_map, not}
 use Rattle.cyc_types.specs.declared.typed.Kind.{Kind}
 use Rattle.cyc_types.specs.declared.typed.Kind.TheVariants as kinds
@@ -78,6 +80,15 @@ pub record Shared (pages calls : ℕ) (w : World) (regions : List ℕ) (counting
   pub fits : suc waiting ≤ calls
   -- the counters of arrays, and the lexical regions that are open
   pub counters : counting
+
+-- what is seen of a run that goes on
+abbrev pub seen_in : World → Seen
+seen_in w = showing w.output w.input
+
+-- it is the same for both
+pub shared_seen : {pages calls : ℕ} {w : World} {regions : List ℕ} {counting : Type 0} {plain_output plain_input : List ℕ} {store : StoreState} {waiting : ℕ} → Shared pages calls w regions counting plain_output plain_input store waiting
+    → showing plain_output plain_input ≡ seen_in w
+shared_seen {pages} {calls} {w} {regions} {counting} {plain_output} {plain_input} s = seen_same plain_output w.output plain_input w.input s.same_output s.same_input
 
 -- While lexical regions are left the source closes one at a step, and the store all at the end: it is ahead of what is matched by so many
 -- regions as are still open.
@@ -778,5 +789,5 @@ module _ (source : Program) where
 
   abbrev pub Matches : (pages calls : ℕ) → State → plain.State → Type 0
   Matches pages calls (Running focus k e w) (plain.Running c) = Related pages calls focus k e w c
-  Matches pages calls (Ended ending output input) (plain.Ended same same_output same_input) = (same ≡ ending) × (same_output ≡ output)
+  Matches pages calls (Ended ending output input) (plain.Ended same same_output same_input) = (same ≡ ending) × (showing same_output same_input ≡ showing output input)
   Matches pages calls s t = ⊥

@@ -33,14 +33,14 @@ use Rattle.cyc_objects.specs.Tables.{Tables}
 use Rattle.cyc_objects.specs.Words.{Points, Is}
 use Rattle.cyc_lower.proofs.relation.Sharing.{shared_written, shared_beside}
 use Rattle.cyc_lower.proofs.relation.HeldValues.{IsWord, IsIn, Holds, held, contents, callers, IsCharAt}
-use Rattle.cyc_lower.proofs.relation.Relation.{types_on, starts_on, types_at, starts_at, in_temporary, in_local, drops, leaves, copies, DataIn, SharedAt, StoreAt, ValueStack, DroppedStack, AheadStack, LandsStack, HandsOnStack, in_operand, nowhere, ahead, Related, Matches, code_of, bounds_at, top, floor, base_of}
+use Rattle.cyc_lower.proofs.relation.Relation.{seen_in, shared_seen, types_on, starts_on, types_at, starts_at, in_temporary, in_local, drops, leaves, copies, DataIn, SharedAt, StoreAt, ValueStack, DroppedStack, AheadStack, LandsStack, HandsOnStack, in_operand, nowhere, ahead, Related, Matches, code_of, bounds_at, top, floor, base_of}
 use Rattle.cyc_lower.proofs.object_steps.Handles.{kept_holds}
 use Rattle.cyc_lower.proofs.relation.Data.{IsWord-is, one_word, height-least, Holds-above, data_assigned, data_assigned_global, floor-least, handlers_beside, Is-same}
 use Rattle.cyc_lower.proofs.relation.Accesses.{IsWell, is_stored, written_here, written_elsewhere, written_length}
 use Rattle.cyc_lower.proofs.place_steps.PlaceWords.{stays, cell_kind, word_is}
 use Rattle.cyc_lower.proofs.place_steps.CellWrites.{cell_is_there, with_word, saves_there, shared_saved, data_saved, above_there, frames_there, word_stays}
 use Rattle.cyc_lower.proofs.relation.Weights.{weight}
-use Rattle.cyc_lower.proofs.relation.Matched.{IsMatched, silently, by_one, by_two, shared_within, by_two_known, output_way}
+use Rattle.cyc_lower.proofs.relation.Matched.{IsMatched, silently, by_one, by_two, shared_within, by_two_known, seen_way}
 use Rattle.cyc_lower.proofs.relation.Paths.{Link, IsPath, end_of, by_path}
 use Rattle.cyc_lower.proofs.place_steps.WideCells.{store_links, stored, store_path, all_path, store_last, shared_stored, data_stored, IsStanding, above_stored, frames_stored, value_stays}
 use Rattle.cyc_lower.proofs.value_steps.Evaluations.{landed_moved, object_of_same}
@@ -127,13 +127,13 @@ module _ (source : Program) (pages calls : ℕ) where
 
   -- the same where memory is another then
   hands_saved : {i : Instruction} (v : Kinded) (before : List Entry) (k : List Entry) (e : Environment) (w0 w : World) (c d : Configuration)
-      → step source (Running (Given v) before e w0) ≡ Running (Given v) k e w → SharedAt source pages calls before e w0 c → plain_step.is_within pages calls (plain.Running d) ≡ true → d.output ≡ w0.output
+      → step source (Running (Given v) before e w0) ≡ Running (Given v) k e w → SharedAt source pages calls before e w0 c → plain_step.is_within pages calls (plain.Running d) ≡ true → plain.seen_of (plain.Running d) ≡ seen_in w0
       → At (code_of source c.active.function) c.active.next i → ((choice : Choice) → performed (lower_program source) choice c i ≡ plain.Running d) → c.active.next ≢ d.active.next
       → Handed v k e w d → IsMatched source pages calls (Running (Given v) before e w0) (plain.Running c)
   hands_saved {i} v before k e w0 w c d does shared within_d same here first other (at_once related) =
       by_one source pages calls does shared here (λ choice. subst (Matches source pages calls (Running (Given v) k e w)) (sym (first choice)) related)
   hands_saved {i} v before k e w0 w c d does shared within_d same here first other (by_copy j at goes) =
-      by_two_known source pages calls d does shared within_d (output_way source pages calls (Given v) before e w0 d same) here first at other goes
+      by_two_known source pages calls d does shared within_d (seen_way source pages calls (Given v) before e w0 d same) here first at other goes
 
   hands_at_once : (v : Kinded) (before : List Entry) (k : List Entry) (e : Environment) (w0 w : World) (c : Configuration)
       → step source (Running (Given v) before e w0) ≡ Running (Given v) k e w → SharedAt source pages calls before e w0 c
@@ -246,7 +246,7 @@ module _ (source : Program) (pages calls : ℕ) where
       = λ choice. saves_by (lower_program source) choice c v.kind (operands.Slot free) 0 o ∙ ap (λ (i : Kind). saved_at (lower_program source) i c address word) (sym same) ∙ saves_it in
       let kept : SharedAt source pages calls k e next after = shared_saved source pages calls k e w c shared names facts object offset address word at v.value found points is_word fits in
       let facts_kept : DataIn source shared.tables after.active.slots k e next after = data_saved source pages calls k e w c shared names facts object offset address word at v.value found points is_word fits in
-      hands_saved v (Needs (StoreCell peek (Thin object offset)) ∷ k) k e w next c after gives shared (shared_within source pages calls k e next after kept) shared.same_output here saved
+      hands_saved v (Needs (StoreCell peek (Thin object offset)) ∷ k) k e w next c after gives shared (shared_within source pages calls k e next after kept) (shared_seen shared) here saved
       (λ equal. omega (arith, equal))
       (handed v o k e next after q end (
         kept,

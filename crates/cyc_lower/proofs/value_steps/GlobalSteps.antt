@@ -117,7 +117,7 @@ module _ (source : Program) where
       ((here, (λ choice. refl), omega arith, is_quiet c (with_loaded c first d).active, path), omega (arith, end))
 
   global_quiet : (c : Configuration) (first w : ℕ) → IsQuiet c (with_global c first w)
-  global_quiet c first w = record { output = refl; demand = refl; frames = refl }
+  global_quiet c first w = record { seen = refl; demand = refl; frames = refl }
 
   save_path : (c : Configuration) (words first n q : ℕ) → EachAt (code_of source c.active.function) store_word words first n c.active.next q
       → IsPath source c (save_links c words first n) × (c.active.next + words ≡ q)

@@ -1,6 +1,6 @@
 -- Walks: stretches of a run of labelled code through lines whose numbers rise.
 use Rattle.std.proofs.Common.{◌≡◌, ◌≢◌, ℕ, suc, ◌+◌, ◌-◌, ◌<◌, ◌≤◌, ◌%◌, drop, Bool, true, List, [], ◌∷◌, ◌++◌, length, Option, Some, None, slice_get, refl, sym, ap, subst, ◌∙◌, arith, inl, inr}
-use Rattle.std.specs.Prelude.{if◌then◌else◌, Contains}
+use Rattle.std.specs.Prelude.{◌⊎◌, if◌then◌else◌, Contains}
 use Rattle.std.specs.List.{AllByRecursion, range_with_len}
 use Rattle.std.proofs.lemmas.List.FromFn.{get_or-range_with_len, length-range_with_len}
 use Rattle.cyc_machine.specs.declared.constants.TheConstants.{RETURN_ADDRESS}
@@ -32,7 +32,7 @@ use Rattle.cyc_select.specs.Labelled.{Labelled, IsFormed, IsFormedLine, is_ordin
 use Rattle.cyc_words.specs.Ending.{Ending, Returned, Uncaught, Full}
 use Rattle.cyc_words.specs.Word.{IsWord, signed}
 use Rattle.cyc_isa.specs.Decoding.{trap_code_of}
-use Rattle.cyc_select.specs.Machine.{Configuration, State, Running, Ended, Step, Executes, ExecutesAt, Performs, PerformsOrdinary, machine, status_of, output_of, linked, at, word_in, holds_of, IsReturnPoint}
+use Rattle.cyc_select.specs.Machine.{Configuration, State, Running, Ended, Step, Executes, ExecutesAt, Performs, PerformsOrdinary, machine, status_of, output_of, input_of, linked, at, word_in, holds_of, IsReturnPoint}
 use Rattle.cyc_select.specs.Selection.{ordinary, syscall, service_number}
 use Rattle.cyc_select.proofs.relation.Cells.{IsLive}
 use Rattle.cyc_select.proofs.effects.Views.{Contents, saved_in, View, Width, OneWord, OneByte, load_op, store_op, word_place, loaded_part, stored_word, does_r, does_w, IsSafe, IsWritable, moved, answered_r, view_at, view_seen, view_put, view_answered}
@@ -196,37 +196,44 @@ safe_ordinary globals stack (MultiplyDivide op left right) r safe = refl
 safe_ordinary globals stack (Arithmetic op destination left right) r safe = refl
 
 module _ (code : Labelled) (formed : IsFormed code) (addresses : ℕ → ℕ) (globals stack : ℕ) where
-  -- under way, with this printed
-  abbrev pub Quiet : List ℕ → State → Type 0
-  Quiet out t = (status_of t ≡ simulation.Running) × (output_of t ≡ out)
+  -- under way, with this printed and this left to read; or it is late on the way already
+  abbrev pub Quiet : (out rest : List ℕ) → (Late : State → Type 0) → State → Type 0
+  Quiet out rest Late t = ((status_of t ≡ simulation.Running) × (output_of t ≡ out) × (input_of t ≡ rest)) ⊎ Late t
 
-  -- Each run from here meets so many places at least, which rise from one line to another, and comes to the goal.
-  pub record Walk (least lo hi : ℕ) (out : List ℕ) (Goal : State → Type 0) (t : State) : Type 0 where
+  -- Each run from here meets so many places at least, which rise from one line to another, and comes to the goal. Nothing is read before
+  -- it is late.
+  pub record Walk (least lo hi : ℕ) (out : List ℕ) (Late Goal : State → Type 0) (t : State) : Type 0 where
     pub places : List ℕ
     pub enough : least ≤ length places
     pub rises : Rises lo hi places
-    pub comes : Comes (machine code addresses) (Quiet out) Goal places t
+    pub comes : Comes (machine code addresses) (Quiet out (input_of t) Late) Goal places t
 
-  pub walk_end : (lo hi : ℕ) (out : List ℕ) (Goal : State → Type 0) (t : State) → lo ≤ hi → Goal t → Walk 0 lo hi out Goal t
+  pub walk_end : {Late : State → Type 0} (lo hi : ℕ) (out : List ℕ) (Goal : State → Type 0) (t : State) → lo ≤ hi → Goal t → Walk 0 lo hi out Late Goal t
   walk_end lo hi out Goal t below goal = record { places = []; enough = omega arith; rises = below; comes = goal }
 
-  pub walk_step : (n lo hi : ℕ) (out : List ℕ) (Goal : State → Type 0) (c : Configuration) (u : State) → lo ≤ c.line → c.output ≡ out
-      → ((next : State) → Step code addresses (Running c) next → next ≡ u) → Walk n (suc c.line) hi out Goal u → Walk (suc n) lo hi out Goal (Running c)
-  walk_step n lo hi out Goal c u from output only rest = record {
+  pub walk_step : {Late : State → Type 0} (n lo hi : ℕ) (out : List ℕ) (Goal : State → Type 0) (c : Configuration) (u : State) → lo ≤ c.line → c.output ≡ out → input_of u ≡ c.input
+      → ((next : State) → Step code addresses (Running c) next → next ≡ u) → Walk n (suc c.line) hi out Late Goal u → Walk (suc n) lo hi out Late Goal (Running c)
+  walk_step {Late} n lo hi out Goal c u from output unread only rest = record {
     places = c.line ∷ rest.places;
     enough = omega (arith, rest.enough);
     rises = (from, rest.rises);
-    comes = (refl, (refl, output), λ next step. subst (λ (t : State). Comes (machine code addresses) (Quiet out) Goal rest.places t) (sym (only next step)) rest.comes);
+    comes = (
+      refl,
+      inl (refl, output, refl),
+      λ next step.
+          subst (λ (t : State). Comes (machine code addresses) (Quiet out c.input Late) Goal rest.places t) (sym (only next step))
+          (subst (λ (left : List ℕ). Comes (machine code addresses) (Quiet out left Late) Goal rest.places u) unread rest.comes),
+    );
   }
 
-  pub walk_few : (m n lo hi : ℕ) (out : List ℕ) (Goal : State → Type 0) (t : State) → m ≤ n → Walk n lo hi out Goal t → Walk m lo hi out Goal t
+  pub walk_few : {Late : State → Type 0} (m n lo hi : ℕ) (out : List ℕ) (Goal : State → Type 0) (t : State) → m ≤ n → Walk n lo hi out Late Goal t → Walk m lo hi out Late Goal t
   walk_few m n lo hi out Goal t fewer walk = record { places = walk.places; enough = omega (arith, walk.enough); rises = walk.rises; comes = walk.comes }
 
   rises_from : (lo from hi : ℕ) (places : List ℕ) → lo ≤ from → Rises from hi places → Rises lo hi places
   rises_from lo from hi [] below rises = omega arith
   rises_from lo from hi (p ∷ places) below (first, rest) = ((omega arith), rest)
 
-  pub walk_from : (n lo from hi : ℕ) (out : List ℕ) (Goal : State → Type 0) (t : State) → lo ≤ from → Walk n from hi out Goal t → Walk n lo hi out Goal t
+  pub walk_from : {Late : State → Type 0} (n lo from hi : ℕ) (out : List ℕ) (Goal : State → Type 0) (t : State) → lo ≤ from → Walk n from hi out Late Goal t → Walk n lo hi out Late Goal t
   walk_from n lo from hi out Goal t below walk = record { places = walk.places; enough = walk.enough; rises = rises_from lo from hi walk.places below walk.rises; comes = walk.comes }
 
   -- The run stands at this line, and registers and memory are these.
@@ -263,10 +270,10 @@ module _ (code : Labelled) (formed : IsFormed code) (addresses : ℕ → ℕ) (g
   moved_now k out input r w c i now fits view = record { view = view; r_words = does_words_r i r w fits now.r_words now.w_words; w_words = does_words_w i r w now.r_words now.w_words; at_line = ap (λ (n : ℕ). n + 1) now.at_line; output = now.output; input = now.input }
 
   -- A stretch of safe instructions. (The view of what is left does not depend on what is next.)
-  pub walk_block : (is : List Instr) (n k lo hi : ℕ) (out input : List ℕ) (Goal : State → Type 0) (r : Words) (w : Contents) (c : Configuration)
+  pub walk_block : {Late : State → Type 0} (is : List Instr) (n k lo hi : ℕ) (out input : List ℕ) (Goal : State → Type 0) (r : Words) (w : Contents) (c : Configuration)
       → Now k out input r w c → Stands code k (ordinary is) → AreSafe globals stack is r w → lo ≤ k
-      → ((d : Configuration) → Now (k + length is) out input (after_r is r w) (after_w is r w) d → Walk n (k + length is) hi out Goal (Running d))
-      → Walk (length is + n) lo hi out Goal (Running c)
+      → ((d : Configuration) → Now (k + length is) out input (after_r is r w) (after_w is r w) d → Walk n (k + length is) hi out Late Goal (Running d))
+      → Walk (length is + n) lo hi out Late Goal (Running c)
   walk_block [] n k lo hi out input Goal r w c now stands safe from goes =
       walk_few (0 + n) n lo hi out Goal (Running c) (omega arith)
       (walk_from n lo (k + 0) hi out Goal (Running c) (omega arith) (goes c (now_at k (k + 0) out input r w c (omega arith) now)))
@@ -275,7 +282,7 @@ module _ (code : Labelled) (formed : IsFormed code) (addresses : ℕ → ℕ) (g
       let view = moved_view globals stack c r w now.view i safe in
       let fits = (holds_at (IsFormedLine (length code.lines)) code.lines k (lines.Ordinary i) formed stands).1 in
       walk_few (suc (length is) + n) (suc (length is + n)) lo hi out Goal (Running c) (omega arith)
-      (walk_step (length is + n) lo hi out Goal c (Running (moved c i)) (omega (arith, from, now.at_line)) now.output (λ next step. performed globals stack c r w now.view i next safe (performs_now k out input r w c i next now stands ordinary_one step))
+      (walk_step (length is + n) lo hi out Goal c (Running (moved c i)) (omega (arith, from, now.at_line)) now.output refl (λ next step. performed globals stack c r w now.view i next safe (performs_now k out input r w c i next now stands ordinary_one step))
       (walk_from (length is + n) (suc c.line) (k + 1) hi out Goal (Running (moved c i)) (omega (arith, now.at_line))
       (walk_block is n (k + 1) (k + 1) hi out input Goal (does_r i r w) (does_w i r w) (moved c i) (moved_now k out input r w c i now fits view) rest others (omega arith)
       (λ d later.
@@ -285,14 +292,14 @@ module _ (code : Labelled) (formed : IsFormed code) (addresses : ℕ → ℕ) (g
   -- ---- words of live blocks
 
   -- one comes to a register
-  pub walk_load : (width : Width) (n k lo hi : ℕ) (out input : List ℕ) (Goal : State → Type 0) (r : Words) (w : Contents) (c : Configuration) (target base : Register) (offset word : ℕ)
+  pub walk_load : {Late : State → Type 0} (width : Width) (n k lo hi : ℕ) (out input : List ℕ) (Goal : State → Type 0) (r : Words) (w : Contents) (c : Configuration) (target base : Register) (offset word : ℕ)
       → Now k out input r w c → slice_get code.lines k ≡ Some (lines.Ordinary (Memory (load_op width) target base offset)) → lo ≤ k → IsWritable target.number
       → IsLive w.store (word_place width (memory_address (r base.number) offset)) word → IsWord word
-      → ((d : Configuration) → Now (k + 1) out input (put r target.number (loaded_part width (memory_address (r base.number) offset) word)) w d → Walk n (suc k) hi out Goal (Running d))
-      → Walk (suc n) lo hi out Goal (Running c)
+      → ((d : Configuration) → Now (k + 1) out input (put r target.number (loaded_part width (memory_address (r base.number) offset) word)) w d → Walk n (suc k) hi out Late Goal (Running d))
+      → Walk (suc n) lo hi out Late Goal (Running c)
   walk_load width n k lo hi out input Goal r w c target base offset word now stands from writable live is_word rest =
       let i : Instr = Memory (load_op width) target base offset in
-      walk_step n lo hi out Goal c (Running (moved c i)) (omega (arith, from, now.at_line)) now.output
+      walk_step n lo hi out Goal c (Running (moved c i)) (omega (arith, from, now.at_line)) now.output refl
       (λ next step. loads_live globals stack c r w now.view width target base offset word next live (performs_now k out input r w c i next now stands refl step))
       (walk_from n (suc c.line) (suc k) hi out Goal (Running (moved c i)) (omega (arith, now.at_line))
       (rest (moved c i) (record {
@@ -305,14 +312,14 @@ module _ (code : Labelled) (formed : IsFormed code) (addresses : ℕ → ℕ) (g
       })))
 
   -- one is written
-  pub walk_save : (width : Width) (n k lo hi : ℕ) (out input : List ℕ) (Goal : State → Type 0) (r : Words) (w : Contents) (c : Configuration) (source base : Register) (offset old : ℕ)
+  pub walk_save : {Late : State → Type 0} (width : Width) (n k lo hi : ℕ) (out input : List ℕ) (Goal : State → Type 0) (r : Words) (w : Contents) (c : Configuration) (source base : Register) (offset old : ℕ)
       → Now k out input r w c → slice_get code.lines k ≡ Some (lines.Ordinary (Memory (store_op width) source base offset)) → lo ≤ k
       → IsLive w.store (word_place width (memory_address (r base.number) offset)) old
-      → ((d : Configuration) → Now (k + 1) out input r (saved_in w (word_place width (memory_address (r base.number) offset)) (stored_word width (memory_address (r base.number) offset) old (r source.number))) d → Walk n (suc k) hi out Goal (Running d))
-      → Walk (suc n) lo hi out Goal (Running c)
+      → ((d : Configuration) → Now (k + 1) out input r (saved_in w (word_place width (memory_address (r base.number) offset)) (stored_word width (memory_address (r base.number) offset) old (r source.number))) d → Walk n (suc k) hi out Late Goal (Running d))
+      → Walk (suc n) lo hi out Late Goal (Running c)
   walk_save width n k lo hi out input Goal r w c source base offset old now stands from live rest =
       let i : Instr = Memory (store_op width) source base offset in
-      walk_step n lo hi out Goal c (Running (moved c i)) (omega (arith, from, now.at_line)) now.output
+      walk_step n lo hi out Goal c (Running (moved c i)) (omega (arith, from, now.at_line)) now.output refl
       (λ next step. stores_live globals stack c r w now.view width source base offset old next live (performs_now k out input r w c i next now stands refl step))
       (walk_from n (suc c.line) (suc k) hi out Goal (Running (moved c i)) (omega (arith, now.at_line))
       (rest (moved c i) (record {
@@ -334,48 +341,48 @@ module _ (code : Labelled) (formed : IsFormed code) (addresses : ℕ → ℕ) (g
       ap (λ (x : ℕ). branch_taken op x (word_in c right.number)) (now.view.reg left.number left.in_range) ∙ ap (branch_taken op (r left.number)) (now.view.reg right.number right.in_range)
   holds_now k out input r w c now (conditions.Sign op source) = ap (branch_zero_taken op) (now.view.reg source.number source.in_range)
 
-  pub walk_branch : (n k lo hi : ℕ) (out input : List ℕ) (Goal : State → Type 0) (r : Words) (w : Contents) (c : Configuration) (condition : Condition) (label target : ℕ)
+  pub walk_branch : {Late : State → Type 0} (n k lo hi : ℕ) (out input : List ℕ) (Goal : State → Type 0) (r : Words) (w : Contents) (c : Configuration) (condition : Condition) (label target : ℕ)
       → Now k out input r w c → slice_get code.lines k ≡ Some (lines.Branch condition label) → lo ≤ k
       → (if holds_of r condition then label else k + 1) ≡ target
-      → ((d : Configuration) → Now target out input r w d → Walk n (suc k) hi out Goal (Running d))
-      → Walk (suc n) lo hi out Goal (Running c)
+      → ((d : Configuration) → Now target out input r w d → Walk n (suc k) hi out Late Goal (Running d))
+      → Walk (suc n) lo hi out Late Goal (Running c)
   walk_branch n k lo hi out input Goal r w c condition label target now stands from goes_to rest =
       let there : (if holds_of (word_in c) condition then label else c.line + 1) ≡ target =
       ap (λ (b : Bool). if b then label else c.line + 1) (holds_now k out input r w c now condition)
       ∙ (ap (λ (x : ℕ). if holds_of r condition then label else x + 1) now.at_line ∙ goes_to) in
-      walk_step n lo hi out Goal c (Running (at c target)) (omega (arith, from, now.at_line)) now.output
+      walk_step n lo hi out Goal c (Running (at c target)) (omega (arith, from, now.at_line)) now.output refl
       (λ next step.
       executes_line c (lines.Branch condition label) next (stands_now k out input r w c (lines.Branch condition label) now stands) step
       ∙ ap (λ (x : ℕ). Running (at c x)) there)
       (walk_from n (suc c.line) (suc k) hi out Goal (Running (at c target)) (omega (arith, now.at_line)) (rest (at c target) (at_now k target out input r w c now)))
 
-  pub walk_jump : (n k lo hi : ℕ) (out input : List ℕ) (Goal : State → Type 0) (r : Words) (w : Contents) (c : Configuration) (label : ℕ)
+  pub walk_jump : {Late : State → Type 0} (n k lo hi : ℕ) (out input : List ℕ) (Goal : State → Type 0) (r : Words) (w : Contents) (c : Configuration) (label : ℕ)
       → Now k out input r w c → slice_get code.lines k ≡ Some (lines.Jump label) → lo ≤ k
-      → ((d : Configuration) → Now label out input r w d → Walk n (suc k) hi out Goal (Running d))
-      → Walk (suc n) lo hi out Goal (Running c)
+      → ((d : Configuration) → Now label out input r w d → Walk n (suc k) hi out Late Goal (Running d))
+      → Walk (suc n) lo hi out Late Goal (Running c)
   walk_jump n k lo hi out input Goal r w c label now stands from rest =
-      walk_step n lo hi out Goal c (Running (at c label)) (omega (arith, from, now.at_line)) now.output
+      walk_step n lo hi out Goal c (Running (at c label)) (omega (arith, from, now.at_line)) now.output refl
       (λ next step. executes_line c (lines.Jump label) next (stands_now k out input r w c (lines.Jump label) now stands) step)
       (walk_from n (suc c.line) (suc k) hi out Goal (Running (at c label)) (omega (arith, now.at_line)) (rest (at c label) (at_now k label out input r w c now)))
 
-  pub walk_call : (n k lo hi : ℕ) (out input : List ℕ) (Goal : State → Type 0) (r : Words) (w : Contents) (c : Configuration) (label : ℕ)
+  pub walk_call : {Late : State → Type 0} (n k lo hi : ℕ) (out input : List ℕ) (Goal : State → Type 0) (r : Words) (w : Contents) (c : Configuration) (label : ℕ)
       → Now k out input r w c → slice_get code.lines k ≡ Some (lines.Call label) → lo ≤ k → IsWord (addresses (k + 1))
-      → ((d : Configuration) → Now label out input (put r RETURN_ADDRESS (addresses (k + 1))) w d → Walk n (suc k) hi out Goal (Running d))
-      → Walk (suc n) lo hi out Goal (Running c)
+      → ((d : Configuration) → Now label out input (put r RETURN_ADDRESS (addresses (k + 1))) w d → Walk n (suc k) hi out Late Goal (Running d))
+      → Walk (suc n) lo hi out Late Goal (Running c)
   walk_call n k lo hi out input Goal r w c label now stands from word rest =
       let view = view_put globals stack c r w now.view RETURN_ADDRESS (addresses (c.line + 1)) (addresses (k + 1)) label (omega arith) refl (ap (λ (x : ℕ). addresses (x + 1)) now.at_line) in
-      walk_step n lo hi out Goal c (Running (at (linked addresses c) label)) (omega (arith, from, now.at_line)) now.output
+      walk_step n lo hi out Goal c (Running (at (linked addresses c) label)) (omega (arith, from, now.at_line)) now.output refl
       (λ next step. executes_line c (lines.Call label) next (stands_now k out input r w c (lines.Call label) now stands) step)
       (walk_from n (suc c.line) (suc k) hi out Goal (Running (at (linked addresses c) label)) (omega (arith, now.at_line))
       (rest (at (linked addresses c) label) (record { view = view; r_words = put_words r RETURN_ADDRESS (addresses (k + 1)) now.r_words word; w_words = now.w_words; at_line = refl; output = now.output; input = now.input })))
 
-  pub walk_return : (n k lo hi : ℕ) (out input : List ℕ) (Goal : State → Type 0) (r : Words) (w : Contents) (c : Configuration) (line : ℕ)
+  pub walk_return : {Late : State → Type 0} (n k lo hi : ℕ) (out input : List ℕ) (Goal : State → Type 0) (r : Words) (w : Contents) (c : Configuration) (line : ℕ)
       → AreAddresses code addresses → Now k out input r w c → slice_get code.lines k ≡ Some lines.Return → lo ≤ k → IsReturnPoint code line → r RETURN_ADDRESS ≡ addresses line
-      → ((d : Configuration) → Now line out input r w d → Walk n (suc k) hi out Goal (Running d))
-      → Walk (suc n) lo hi out Goal (Running c)
+      → ((d : Configuration) → Now line out input r w d → Walk n (suc k) hi out Late Goal (Running d))
+      → Walk (suc n) lo hi out Late Goal (Running c)
   walk_return n k lo hi out input Goal r w c line lie now stands from point is_address rest =
       let holds : word_in c RETURN_ADDRESS ≡ addresses line = now.view.reg RETURN_ADDRESS (omega arith) ∙ is_address in
-      walk_step n lo hi out Goal c (Running (at c line)) (omega (arith, from, now.at_line)) now.output
+      walk_step n lo hi out Goal c (Running (at c line)) (omega (arith, from, now.at_line)) now.output refl
       (λ next step. elim (executes_line c lines.Return next (stands_now k out input r w c lines.Return now stands) step) [
         | inl (other, found, lies, is) ↦ is ∙ ap (λ (x : ℕ). Running (at c x)) (lie.apart other line found.inside point.inside (lies ∙ holds))
         | inr (nowhere, is) ↦ absurd (nowhere line point (sym holds))
@@ -388,24 +395,42 @@ module _ (code : Labelled) (formed : IsFormed code) (addresses : ℕ → ℕ) (g
       → Step code addresses (Running c) next → Performs c syscall next
   syscall_now k out input r w c next now stands step = performs_now k out input r w c syscall next now stands refl step
 
-  pub walk_get : (n k lo hi : ℕ) (out input : List ℕ) (Goal : State → Type 0) (r : Words) (w : Contents) (c : Configuration)
+  -- behind it the walk is late
+  pub walk_get : {Late : State → Type 0} (n k lo hi : ℕ) (out input : List ℕ) (Goal : State → Type 0) (r : Words) (w : Contents) (c : Configuration)
       → Now k out input r w c → slice_get code.lines k ≡ Some (lines.Ordinary syscall) → lo ≤ k → r 2 ≡ 1 → IsWord (byte_of input)
-      → ((d : Configuration) → Now (k + 1) out (drop 1 input) (put r 2 (byte_of input)) w d → Walk n (suc k) hi out Goal (Running d))
-      → Walk (suc n) lo hi out Goal (Running c)
-  walk_get n k lo hi out input Goal r w c now stands from number word rest =
+      → ((t : State) → status_of t ≡ simulation.Running → output_of t ≡ out → input_of t ≡ drop 1 input → Late t)
+      → ((d : Configuration) → Now (k + 1) out (drop 1 input) (put r 2 (byte_of input)) w d → Walk n (suc k) hi out Late Goal (Running d))
+      → Walk (suc n) lo hi out Late Goal (Running c)
+  walk_get {Late} n k lo hi out input Goal r w c now stands from number word late rest =
       let view = view_put globals stack c r w now.view 2 (byte_of c.input) (byte_of input) (c.line + 1) (omega arith) refl (ap byte_of now.input) in
-      walk_step n lo hi out Goal c (Running (given_byte c)) (omega (arith, from, now.at_line)) now.output
-      (λ next step. gets_byte c (trap_code_of 0) next (now.view.reg 2 (omega arith) ∙ number) (syscall_now k out input r w c next now stands step))
-      (walk_from n (suc c.line) (suc k) hi out Goal (Running (given_byte c)) (omega (arith, now.at_line))
-      (rest (given_byte c) (record { view = view_seen globals stack _ _ w view (c.line + 1) c.output (drop 1 c.input); r_words = put_words r 2 (byte_of input) now.r_words word; w_words = now.w_words; at_line = ap (λ (x : ℕ). x + 1) now.at_line; output = now.output; input = ap (drop 1) now.input })))
+      let behind : Walk n (suc k) hi out Late Goal (Running (given_byte c)) =
+      rest (given_byte c) (record { view = view_seen globals stack _ _ w view (c.line + 1) c.output (drop 1 c.input); r_words = put_words r 2 (byte_of input) now.r_words word; w_words = now.w_words; at_line = ap (λ (x : ℕ). x + 1) now.at_line; output = now.output; input = ap (drop 1) now.input }) in
+      record {
+        places = k ∷ behind.places;
+        enough = omega (arith, behind.enough);
+        rises = (from, behind.rises);
+        comes = (
+          now.at_line,
+          inl (refl, now.output, refl),
+          λ next step.
+              subst (λ (t : State). Comes (machine code addresses) (Quiet out c.input Late) Goal behind.places t)
+              (sym (gets_byte c (trap_code_of 0) next (now.view.reg 2 (omega arith) ∙ number) (syscall_now k out input r w c next now stands step)))
+              (comes_map (machine code addresses) (Quiet out (drop 1 c.input) Late) Goal (Quiet out c.input Late) Goal behind.places (Running (given_byte c))
+              (λ t shown. inr (is_late t shown)) (λ t goal. goal) behind.comes),
+        );
+      }
+    where
+      is_late : (t : State) → Quiet out (drop 1 c.input) Late t → Late t
+      is_late t (inl (running, output, left)) = late t running output (left ∙ ap (drop 1) now.input)
+      is_late t (inr already) = already
 
   -- the goal is reached as soon as a byte is printed, or the run has ended
-  pub walk_put : (k lo hi : ℕ) (out input : List ℕ) (Goal : State → Type 0) (r : Words) (w : Contents) (c : Configuration)
+  pub walk_put : {Late : State → Type 0} (k lo hi : ℕ) (out input : List ℕ) (Goal : State → Type 0) (r : Words) (w : Contents) (c : Configuration)
       → Now k out input r w c → slice_get code.lines k ≡ Some (lines.Ordinary syscall) → lo ≤ k → suc k ≤ hi → r 2 ≡ 2
       → ((d : Configuration) → Now (k + 1) (out ++ r 4 % 256 ∷ []) input r w d → Goal (Running d))
-      → Walk 1 lo hi out Goal (Running c)
+      → Walk 1 lo hi out Late Goal (Running c)
   walk_put k lo hi out input Goal r w c now stands from below number rest =
-      walk_step 0 lo hi out Goal c (Running (printed_byte c)) (omega (arith, from, now.at_line)) now.output
+      walk_step 0 lo hi out Goal c (Running (printed_byte c)) (omega (arith, from, now.at_line)) now.output refl
       (λ next step. puts_byte c (trap_code_of 0) next (now.view.reg 2 (omega arith) ∙ number) (syscall_now k out input r w c next now stands step))
       (walk_end (suc c.line) hi out Goal (Running (printed_byte c)) (omega (arith, below, now.at_line))
       (rest (printed_byte c) (record {
@@ -423,32 +448,32 @@ module _ (code : Labelled) (formed : IsFormed code) (addresses : ℕ → ℕ) (g
       ap (λ (e : Ending). Ended e c.output c.input) same
       ∙ (ap (λ (l : List ℕ). Ended ended l c.input) now.output ∙ ap (λ (l : List ℕ). Ended ended out l) now.input)
 
-  pub walk_returned : (k lo hi : ℕ) (out input : List ℕ) (Goal : State → Type 0) (r : Words) (w : Contents) (c : Configuration)
+  pub walk_returned : {Late : State → Type 0} (k lo hi : ℕ) (out input : List ℕ) (Goal : State → Type 0) (r : Words) (w : Contents) (c : Configuration)
       → Now k out input r w c → slice_get code.lines k ≡ Some (lines.Ordinary syscall) → lo ≤ k → suc k ≤ hi → r 2 ≡ 3
-      → Goal (Ended (Returned (signed (r 4))) out input) → Walk 1 lo hi out Goal (Running c)
+      → Goal (Ended (Returned (signed (r 4))) out input) → Walk 1 lo hi out Late Goal (Running c)
   walk_returned k lo hi out input Goal r w c now stands from below number goal =
-      walk_step 0 lo hi out Goal c (Ended (Returned (signed (r 4))) out input) (omega (arith, from, now.at_line)) now.output
+      walk_step 0 lo hi out Goal c (Ended (Returned (signed (r 4))) out input) (omega (arith, from, now.at_line)) now.output (sym now.input)
       (λ next step.
       ends_returned c (trap_code_of 0) next (now.view.reg 2 (omega arith) ∙ number) (syscall_now k out input r w c next now stands step)
       ∙ ended_as k out input r w c _ _ now (ap (λ (x : ℕ). Returned (signed x)) (now.view.reg 4 (omega arith))))
       (walk_end (suc c.line) hi out Goal _ (omega (arith, below, now.at_line)) goal)
 
-  pub walk_uncaught : (k lo hi : ℕ) (out input : List ℕ) (Goal : State → Type 0) (r : Words) (w : Contents) (c : Configuration)
+  pub walk_uncaught : {Late : State → Type 0} (k lo hi : ℕ) (out input : List ℕ) (Goal : State → Type 0) (r : Words) (w : Contents) (c : Configuration)
       → Now k out input r w c → slice_get code.lines k ≡ Some (lines.Ordinary syscall) → lo ≤ k → suc k ≤ hi → r 2 ≡ 4
-      → Goal (Ended (Uncaught (r 4) (signed (r 5))) out input) → Walk 1 lo hi out Goal (Running c)
+      → Goal (Ended (Uncaught (r 4) (signed (r 5))) out input) → Walk 1 lo hi out Late Goal (Running c)
   walk_uncaught k lo hi out input Goal r w c now stands from below number goal =
-      walk_step 0 lo hi out Goal c (Ended (Uncaught (r 4) (signed (r 5))) out input) (omega (arith, from, now.at_line)) now.output
+      walk_step 0 lo hi out Goal c (Ended (Uncaught (r 4) (signed (r 5))) out input) (omega (arith, from, now.at_line)) now.output (sym now.input)
       (λ next step.
       ends_uncaught c (trap_code_of 0) next (now.view.reg 2 (omega arith) ∙ number) (syscall_now k out input r w c next now stands step)
       ∙ ended_as k out input r w c _ _ now
       (ap (λ (x : ℕ). Uncaught x (signed (word_in c 5))) (now.view.reg 4 (omega arith)) ∙ ap (λ (x : ℕ). Uncaught (r 4) (signed x)) (now.view.reg 5 (omega arith))))
       (walk_end (suc c.line) hi out Goal _ (omega (arith, below, now.at_line)) goal)
 
-  pub walk_full : (k lo hi : ℕ) (out input : List ℕ) (Goal : State → Type 0) (r : Words) (w : Contents) (c : Configuration)
+  pub walk_full : {Late : State → Type 0} (k lo hi : ℕ) (out input : List ℕ) (Goal : State → Type 0) (r : Words) (w : Contents) (c : Configuration)
       → Now k out input r w c → slice_get code.lines k ≡ Some (lines.Ordinary syscall) → lo ≤ k → suc k ≤ hi → r 2 ≡ 11
-      → Goal (Ended Full out input) → Walk 1 lo hi out Goal (Running c)
+      → Goal (Ended Full out input) → Walk 1 lo hi out Late Goal (Running c)
   walk_full k lo hi out input Goal r w c now stands from below number goal =
-      walk_step 0 lo hi out Goal c (Ended Full out input) (omega (arith, from, now.at_line)) now.output
+      walk_step 0 lo hi out Goal c (Ended Full out input) (omega (arith, from, now.at_line)) now.output (sym now.input)
       (λ next step.
       ends_full c (trap_code_of 0) next (now.view.reg 2 (omega arith) ∙ number) (syscall_now k out input r w c next now stands step)
       ∙ ended_as k out input r w c _ _ now refl)
@@ -466,21 +491,21 @@ module _ (code : Labelled) (formed : IsFormed code) (addresses : ℕ → ℕ) (g
   lines_rise (i ∷ is) lo k hi from below = (from, lines_rise is (suc k) (k + 1) hi (omega arith) (omega (arith, below)))
 
   -- safe instructions at the end of a stretch
-  pub comes_block : (is : List Instr) (k : ℕ) (out input : List ℕ) (Goal : State → Type 0) (r : Words) (w : Contents) (c : Configuration)
+  pub comes_block : (Late : State → Type 0) (is : List Instr) (k : ℕ) (out input : List ℕ) (Goal : State → Type 0) (r : Words) (w : Contents) (c : Configuration)
       → Now k out input r w c → Stands code k (ordinary is) → AreSafe globals stack is r w
       → ((d : Configuration) → Now (k + length is) out input (after_r is r w) (after_w is r w) d → Goal (Running d))
-      → Comes (machine code addresses) (Quiet out) Goal (lines_from k is) (Running c)
-  comes_block [] k out input Goal r w c now stands safe goes = goes c (now_at k (k + 0) out input r w c (omega arith) now)
-  comes_block (i ∷ is) k out input Goal r w c now (stands, rest) (safe, others) goes =
+      → Comes (machine code addresses) (Quiet out input Late) Goal (lines_from k is) (Running c)
+  comes_block Late [] k out input Goal r w c now stands safe goes = goes c (now_at k (k + 0) out input r w c (omega arith) now)
+  comes_block Late (i ∷ is) k out input Goal r w c now (stands, rest) (safe, others) goes =
       let ordinary_one = safe_ordinary globals stack i r safe in
       let view = moved_view globals stack c r w now.view i safe in
       let fits = (holds_at (IsFormedLine (length code.lines)) code.lines k (lines.Ordinary i) formed stands).1 in (
         now.at_line,
-        (refl, now.output),
+        inl (refl, now.output, now.input),
         λ next step.
-            subst (Comes (machine code addresses) (Quiet out) Goal (lines_from (k + 1) is))
+            subst (Comes (machine code addresses) (Quiet out input Late) Goal (lines_from (k + 1) is))
             (sym (performed globals stack c r w now.view i next safe (performs_now k out input r w c i next now stands ordinary_one step)))
-            (comes_block is (k + 1) out input Goal (does_r i r w) (does_w i r w) (moved c i) (moved_now k out input r w c i now fits view) rest others
+            (comes_block Late is (k + 1) out input Goal (does_r i r w) (does_w i r w) (moved c i) (moved_now k out input r w c i now fits view) rest others
             (λ d later. goes d (now_at (k + 1 + length is) (k + suc (length is)) out input _ _ d (omega arith) later))),
       )
 
@@ -509,19 +534,19 @@ module _ (code : Labelled) (formed : IsFormed code) (addresses : ℕ → ℕ) (g
     numbered = now.view.reg 2 (omega arith) ∙ number
 
     -- The store serves the call. The places behind it do not depend on what it chooses.
-    pub walk_served : (n : ℕ) (places : List ℕ) → refusal store call ≡ None
+    pub walk_served : {Late : State → Type 0} (n : ℕ) (places : List ℕ) → refusal store call ≡ None
         → ((choice : services.Choice) → services.IsAllowed store call choice → HasAnswerWords (services.answer store call choice)) → n ≤ length places → Rises (suc k) hi places
         → ((choice : services.Choice) → services.IsAllowed store call choice → (d : Configuration)
         → Now (k + 1) out input (answered_r (services.answer store call choice) r) (record w { store = services.served store call choice }) d
-        → Comes (machine code addresses) (Quiet out) Goal places (Running d))
-        → Walk (suc n) lo hi out Goal (Running c)
-    walk_served n places free words enough rises rest = record {
+        → Comes (machine code addresses) (Quiet out input Late) Goal places (Running d))
+        → Walk (suc n) lo hi out Late Goal (Running c)
+    walk_served {Late} n places free words enough rises rest = record {
       places = k ∷ places;
       enough = omega (arith, enough);
       rises = (from, rises);
-      comes = (
+      comes = subst (λ (left : List ℕ). Comes (machine code addresses) (Quiet out left Late) Goal (k ∷ places) (Running c)) (sym now.input) (
         now.at_line,
-        (refl, now.output),
+        inl (refl, now.output, now.input),
         λ next step.
             let (choice, allowed, is) = store_serves c (trap_code_of 0) next request numbered (refused ∙ free) (syscall_now k out input r w c next now stands step) in
             let may : services.IsAllowed store call choice =
@@ -542,7 +567,7 @@ module _ (code : Labelled) (formed : IsFormed code) (addresses : ℕ → ℕ) (g
               output = now.output;
               input = now.input;
             } in
-            subst (Comes (machine code addresses) (Quiet out) Goal places) (sym is)
+            subst (Comes (machine code addresses) (Quiet out input Late) Goal places) (sym is)
             (rest choice may left
             (now_is (k + 1) out input (answered_r given r) (record w { store = services.served store call choice }) (answered_r (services.answer store call choice) r) (record w { store = services.served store call choice }) left
             (ap (λ (a : Answer). answered_r a r) answer_is) refl behind)),
@@ -550,9 +575,9 @@ module _ (code : Labelled) (formed : IsFormed code) (addresses : ℕ → ℕ) (g
     }
 
     -- there is no room for what it would come to
-    pub walk_no_room : suc k ≤ hi → refusal store call ≡ Some services.Full → Goal (Ended Full out input) → Walk 1 lo hi out Goal (Running c)
+    pub walk_no_room : {Late : State → Type 0} → suc k ≤ hi → refusal store call ≡ Some services.Full → Goal (Ended Full out input) → Walk 1 lo hi out Late Goal (Running c)
     walk_no_room below full goal =
-        walk_step 0 lo hi out Goal c (Ended Full out input) (omega (arith, from, now.at_line)) now.output
+        walk_step 0 lo hi out Goal c (Ended Full out input) (omega (arith, from, now.at_line)) now.output (sym now.input)
         (λ next step.
         store_is_full c (trap_code_of 0) next request numbered (refused ∙ full) (syscall_now k out input r w c next now stands step)
         ∙ ended_as k out input r w c _ _ now refl)

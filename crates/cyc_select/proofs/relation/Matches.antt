@@ -6,6 +6,7 @@ use Rattle.std.proofs.lemmas.Bool.{and_from, le-leb}
 use Rattle.cyc_select.specs.declared.constants.TheConstants.{LOWEST, FRAME}
 use Rattle.cyc_machine.specs.declared.constants.TheConstants.{RETURN_ADDRESS}
 use Rattle.cyc_words.specs.Word.{IsWord}
+use Rattle.cyc_words.specs.Simulation as simulation
 use Rattle.cyc_isa.specs.Effect.{memory_address}
 use Rattle.cyc_machine.specs.State.{globals_length, words_per_call}
 use Rattle.cyc_store.specs.State.{demand}
@@ -34,6 +35,11 @@ use Rattle.cyc_select.proofs.relation.Values.{Caches, caches_past, made_caches}
 -- the registers of what a function returns
 abbrev pub result_register : ℕ → ℕ
 result_register k = slice_index (2 ∷ 3 ∷ 5 ∷ []) k
+
+-- A step of the plain machine is made, as far as one can see it, and the lines of its place are not yet done.
+abbrev pub After : (program : Program) (pages calls : ℕ) → Configuration → State → Type 0
+After program pages calls c t =
+    (labelled.status_of t ≡ simulation.Running) × (next : states.State) × Step program pages calls (states.Running c) next × (labelled.seen_of t ≡ states.seen_of next)
 
 module _ (program : Program) (well : IsWellFormed program) (frames : List Frame) (fit : AreFrames program frames) (code : Labelled) (formed : IsFormed code) (addresses : ℕ → ℕ) (pages calls : ℕ) (few : calls ≤ 4096) where
   abbrev pub At : ℕ → (out input : List ℕ) → (r : Words) (w : Contents) → labelled.Configuration → Type 0

@@ -56,30 +56,30 @@ placed OfCell w a word = written w a word
 
 module _ (code : Labelled) (formed : IsFormed code) (addresses : ℕ → ℕ) (globals stack : ℕ) where
   -- the lines by which a word of the data range or the stack comes to a register, or is written
-  cell_read : (width : Width) (n k lo hi : ℕ) (out input : List ℕ) (Goal : State → Type 0) (r : Words) (w : Contents) (c : labelled.Configuration) (target base : Register) (offset : ℕ)
+  cell_read : {Late : State → Type 0} (width : Width) (n k lo hi : ℕ) (out input : List ℕ) (Goal : State → Type 0) (r : Words) (w : Contents) (c : labelled.Configuration) (target base : Register) (offset : ℕ)
       → Now code formed addresses globals stack k out input r w c → slice_get code.lines k ≡ Some (lines.Ordinary (Memory (load_op width) target base offset)) → lo ≤ k → IsWritable target.number → IsCell globals stack (word_place width (memory_address (r base.number) offset))
-      → ((d : labelled.Configuration) → Now code formed addresses globals stack (k + 1) out input (put r target.number (loaded_part width (memory_address (r base.number) offset) (w.words (word_place width (memory_address (r base.number) offset))))) w d → Walk code formed addresses globals stack n (k + 1) hi out Goal (Running d))
-      → Walk code formed addresses globals stack (1 + n) lo hi out Goal (Running c)
+      → ((d : labelled.Configuration) → Now code formed addresses globals stack (k + 1) out input (put r target.number (loaded_part width (memory_address (r base.number) offset) (w.words (word_place width (memory_address (r base.number) offset))))) w d → Walk code formed addresses globals stack n (k + 1) hi out Late Goal (Running d))
+      → Walk code formed addresses globals stack (1 + n) lo hi out Late Goal (Running c)
   cell_read OneWord n k lo hi out input Goal r w c target base offset now stands from writable cell rest =
       walk_block code formed addresses globals stack (Memory LoadWord target base offset ∷ []) n k lo hi out input Goal r w c now (stands, tt) ((writable, cell), tt) from rest
   cell_read OneByte n k lo hi out input Goal r w c target base offset now stands from writable cell rest =
       walk_block code formed addresses globals stack (Memory LoadByte target base offset ∷ []) n k lo hi out input Goal r w c now (stands, tt) ((writable, cell), tt) from rest
 
-  cell_written : (width : Width) (n k lo hi : ℕ) (out input : List ℕ) (Goal : State → Type 0) (r : Words) (w : Contents) (c : labelled.Configuration) (source base : Register) (offset : ℕ)
+  cell_written : {Late : State → Type 0} (width : Width) (n k lo hi : ℕ) (out input : List ℕ) (Goal : State → Type 0) (r : Words) (w : Contents) (c : labelled.Configuration) (source base : Register) (offset : ℕ)
       → Now code formed addresses globals stack k out input r w c → slice_get code.lines k ≡ Some (lines.Ordinary (Memory (store_op width) source base offset)) → lo ≤ k → IsCell globals stack (word_place width (memory_address (r base.number) offset))
-      → ((d : labelled.Configuration) → Now code formed addresses globals stack (k + 1) out input r (written w (word_place width (memory_address (r base.number) offset)) (stored_word width (memory_address (r base.number) offset) (w.words (word_place width (memory_address (r base.number) offset))) (r source.number))) d → Walk code formed addresses globals stack n (k + 1) hi out Goal (Running d))
-      → Walk code formed addresses globals stack (1 + n) lo hi out Goal (Running c)
+      → ((d : labelled.Configuration) → Now code formed addresses globals stack (k + 1) out input r (written w (word_place width (memory_address (r base.number) offset)) (stored_word width (memory_address (r base.number) offset) (w.words (word_place width (memory_address (r base.number) offset))) (r source.number))) d → Walk code formed addresses globals stack n (k + 1) hi out Late Goal (Running d))
+      → Walk code formed addresses globals stack (1 + n) lo hi out Late Goal (Running c)
   cell_written OneWord n k lo hi out input Goal r w c source base offset now stands from cell rest =
       walk_block code formed addresses globals stack (Memory StoreWord source base offset ∷ []) n k lo hi out input Goal r w c now (stands, tt) (cell, tt) from rest
   cell_written OneByte n k lo hi out input Goal r w c source base offset now stands from cell rest =
       walk_block code formed addresses globals stack (Memory StoreByte source base offset ∷ []) n k lo hi out input Goal r w c now (stands, tt) (cell, tt) from rest
 
   -- one comes to a register
-  pub walk_read : (width : Width) (sort : Sort) (n k lo hi : ℕ) (out input : List ℕ) (Goal : State → Type 0) (r : Words) (w : Contents) (c : labelled.Configuration) (target base : Register) (offset word : ℕ)
+  pub walk_read : {Late : State → Type 0} (width : Width) (sort : Sort) (n k lo hi : ℕ) (out input : List ℕ) (Goal : State → Type 0) (r : Words) (w : Contents) (c : labelled.Configuration) (target base : Register) (offset word : ℕ)
       → Now code formed addresses globals stack k out input r w c → slice_get code.lines k ≡ Some (lines.Ordinary (Memory (load_op width) target base offset)) → lo ≤ k → IsWritable target.number
       → IsWordAt sort globals stack w (word_place width (memory_address (r base.number) offset)) word
-      → ((d : labelled.Configuration) → Now code formed addresses globals stack (k + 1) out input (put r target.number (loaded_part width (memory_address (r base.number) offset) word)) w d → Walk code formed addresses globals stack n (suc k) hi out Goal (Running d))
-      → Walk code formed addresses globals stack (suc n) lo hi out Goal (Running c)
+      → ((d : labelled.Configuration) → Now code formed addresses globals stack (k + 1) out input (put r target.number (loaded_part width (memory_address (r base.number) offset) word)) w d → Walk code formed addresses globals stack n (suc k) hi out Late Goal (Running d))
+      → Walk code formed addresses globals stack (suc n) lo hi out Late Goal (Running c)
   walk_read width OfBlock n k lo hi out input Goal r w c target base offset word now stands from writable (live, is_word) rest =
       walk_load code formed addresses globals stack width n k lo hi out input Goal r w c target base offset word now stands from writable live is_word rest
   walk_read width OfCell n k lo hi out input Goal r w c target base offset word now stands from writable (cell, is) rest =
@@ -91,11 +91,11 @@ module _ (code : Labelled) (formed : IsFormed code) (addresses : ℕ → ℕ) (g
       (ap (λ (v : ℕ). put r target.number (loaded_part width (memory_address (r base.number) offset) v)) is) refl later))))
 
   -- one is written
-  pub walk_write : (width : Width) (sort : Sort) (n k lo hi : ℕ) (out input : List ℕ) (Goal : State → Type 0) (r : Words) (w : Contents) (c : labelled.Configuration) (source base : Register) (offset old : ℕ)
+  pub walk_write : {Late : State → Type 0} (width : Width) (sort : Sort) (n k lo hi : ℕ) (out input : List ℕ) (Goal : State → Type 0) (r : Words) (w : Contents) (c : labelled.Configuration) (source base : Register) (offset old : ℕ)
       → Now code formed addresses globals stack k out input r w c → slice_get code.lines k ≡ Some (lines.Ordinary (Memory (store_op width) source base offset)) → lo ≤ k
       → IsWordAt sort globals stack w (word_place width (memory_address (r base.number) offset)) old
-      → ((d : labelled.Configuration) → Now code formed addresses globals stack (k + 1) out input r (placed sort w (word_place width (memory_address (r base.number) offset)) (stored_word width (memory_address (r base.number) offset) old (r source.number))) d → Walk code formed addresses globals stack n (suc k) hi out Goal (Running d))
-      → Walk code formed addresses globals stack (suc n) lo hi out Goal (Running c)
+      → ((d : labelled.Configuration) → Now code formed addresses globals stack (k + 1) out input r (placed sort w (word_place width (memory_address (r base.number) offset)) (stored_word width (memory_address (r base.number) offset) old (r source.number))) d → Walk code formed addresses globals stack n (suc k) hi out Late Goal (Running d))
+      → Walk code formed addresses globals stack (suc n) lo hi out Late Goal (Running c)
   walk_write width OfBlock n k lo hi out input Goal r w c source base offset old now stands from (live, is_word) rest =
       walk_save code formed addresses globals stack width n k lo hi out input Goal r w c source base offset old now stands from live rest
   walk_write width OfCell n k lo hi out input Goal r w c source base offset old now stands from (cell, is) rest =

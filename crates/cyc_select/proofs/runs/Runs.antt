@@ -25,9 +25,10 @@ use Rattle.cyc_plain.specs.State.{Words, Configuration}
 use Rattle.cyc_plain.specs.Step as steps
 use Rattle.cyc_plain.specs.Step.{IsAllowed, call_of, instruction_at, operand_word, performed, executed, gives, finishes, step, is_within, Step, callee_of}
 use Rattle.cyc_plain.specs.WellFormed.{IsOperand, IsWellFormed, IsInRange, IsTryInRange, is_return, HasWords, IsOfWord, HasWord}
-use Rattle.cyc_words.proofs.Matching.{way_before}
+use Rattle.cyc_words.proofs.SeenLemmas.{seen_same}
+use Rattle.cyc_words.proofs.Matching.{way_before, way_after}
 use Rattle.cyc_plain.proofs.Placed.{holds_at, routine_in, below_of_get, goes_behind}
-use Rattle.cyc_plain.proofs.RunLaws.{limited-within, zeros, zeros_allowed, zeros_at, stuck_within}
+use Rattle.cyc_plain.proofs.RunLaws.{lawful, limited-within, zeros, zeros_allowed, zeros_at, stuck_within}
 use Rattle.cyc_plain.proofs.Steps.{function_known}
 use Rattle.cyc_frame.specs.Layout.{AreFrames, frame_at}
 use Rattle.cyc_frame.specs.Frame.{Frame}
@@ -49,7 +50,7 @@ use Rattle.cyc_select.proofs.relation.Values.{Caches}
 use Rattle.cyc_select.proofs.effects.Views.{Contents}
 use Rattle.cyc_select.proofs.effects.Walks.{Stands, stands_front, stands_back, stands_until, Rises, rising_distinct, rising_inside, comes_map, Quiet, Walk, walk_end}
 use Rattle.cyc_select.proofs.relation.Standing.{IsNewest, keeps_back, Standing, behind_line}
-use Rattle.cyc_select.proofs.relation.Matches.{At, Ready, Matches, Reached, Passed, weight}
+use Rattle.cyc_select.proofs.relation.Matches.{After, At, Ready, Matches, Reached, Passed, weight}
 use Rattle.cyc_select.proofs.steps.Simple.{address_goes, move_goes, unary_goes, binary_goes, divide_goes, jump_goes, branch_goes, read_goes, write_goes, load_global_goes, count_lexical_goes, store_global_goes, uncaught_goes}
 use Rattle.cyc_select.proofs.steps.Accesses.{move_words_goes, load_goes, store_goes, load_byte_goes, store_byte_goes}
 use Rattle.cyc_select.proofs.steps.Requests.{ask_goes}
@@ -215,7 +216,7 @@ module _ (program : Program) (well : IsWellFormed program) (words : HasWords pro
     here = instruction_line program frames c.active.function c.active.next
 
     abbrev Goes : ℕ → Type 0
-    Goes count = Walk code formed addresses globals_length (words_per_call * calls) 1 here (here + count) c.output (Reached program well frames fit code formed addresses pages calls few c) (Running run)
+    Goes count = Walk code formed addresses globals_length (words_per_call * calls) 1 here (here + count) c.output (After program pages calls c) (Reached program well frames fit code formed addresses pages calls few c) (Running run)
 
     abbrev IsAt : Instruction → Type 0
     IsAt i = instruction_at program (states.place_of (states.Running c)) ≡ Some i
@@ -347,13 +348,17 @@ module _ (program : Program) (well : IsWellFormed program) (words : HasWords pro
   abbrev below_machine : simulation.Machine
   below_machine = machine code addresses
 
-  pub outputs_same : (s : states.State) (t : State) → Matches program well frames fit code formed addresses pages calls few s t → labelled.output_of t ≡ states.output_of s
-  outputs_same (states.Running c) t (inl ready) = ap labelled.output_of ready.is ∙ ready.now.output
-  outputs_same (states.Running c) t (inr (inl back)) = ap labelled.output_of back.is ∙ back.now.output
-  outputs_same (states.Running c) t (inr (inr (inl landed))) = ap labelled.output_of landed.is ∙ landed.now.output
-  outputs_same (states.Running c) t (inr (inr (inr entered))) = ap labelled.output_of entered.is ∙ entered.now.output
-  outputs_same (states.Ended ending out input) t is = ap labelled.output_of is
-  outputs_same (states.Stuck out input) t is = absurd is
+  now_seen : (c : Configuration) (line : ℕ) (r : Words) (w : Contents) (run : labelled.Configuration) (t : State) → t ≡ Running run
+      → At program well frames fit code formed addresses pages calls few line c.output c.input r w run → labelled.seen_of t ≡ states.seen_of (states.Running c)
+  now_seen c line r w run t is now = ap labelled.seen_of is ∙ seen_same run.output c.output run.input c.input now.output now.input
+
+  pub seen_alike : (s : states.State) (t : State) → Matches program well frames fit code formed addresses pages calls few s t → labelled.seen_of t ≡ states.seen_of s
+  seen_alike (states.Running c) t (inl ready) = now_seen c _ ready.r ready.w ready.run t ready.is ready.now
+  seen_alike (states.Running c) t (inr (inl back)) = now_seen c _ back.r back.w back.run t back.is back.now
+  seen_alike (states.Running c) t (inr (inr (inl landed))) = now_seen c _ landed.r landed.w landed.run t landed.is landed.now
+  seen_alike (states.Running c) t (inr (inr (inr entered))) = now_seen c _ entered.r entered.w entered.run t entered.is entered.now
+  seen_alike (states.Ended ending out input) t is = ap labelled.seen_of is
+  seen_alike (states.Stuck out input) t is = absurd is
 
   pub endings_same : (s : states.State) (t : State) (ending : Ending) → Matches program well frames fit code formed addresses pages calls few s t → states.status_of s ≡ simulation.Ended ending → labelled.status_of t ≡ simulation.Ended ending
   endings_same (states.Running c) t ending matches ended = absurd (let e : simulation.Running ≡ simulation.Ended ending = ended in cc)
@@ -365,7 +370,7 @@ module _ (program : Program) (well : IsWellFormed program) (words : HasWords pro
     Matches = Matches program well frames fit code formed addresses pages calls few;
     weight = weight program well frames fit code formed addresses pages calls few;
     own = own_of program frames;
-    outputs = outputs_same;
+    alike = seen_alike;
     endings = endings_same;
   }
 
@@ -386,12 +391,20 @@ module _ (program : Program) (well : IsWellFormed program) (words : HasWords pro
   made true c places u enough (next, goes, matches, lighter) = record { next = next; step = goes; matches = matches; lighter = λ none. lighter }
   made false c places u enough (next, goes, matches) = record { next = next; step = goes; matches = matches; lighter = λ none. absurd (omega (arith, none, enough)) }
 
+  -- on the way the step is seen to be made, or not yet
+  on_the_way : (c : Configuration) (run : labelled.Configuration) (u : State) → run.input ≡ c.input → Quiet code formed addresses globals_length (words_per_call * calls) c.output run.input (After program pages calls c) u
+      → IsOnTheWay above below_machine (states.Running c) u
+  on_the_way c run u unread (inl (running, output, left)) =
+      way_before above below_machine matching (states.Running c) u running (seen_same (labelled.output_of u) c.output (labelled.input_of u) c.input output (left ∙ unread))
+  on_the_way c run u unread (inr (running, next, made, seen)) =
+      way_after above below_machine matching (states.Running c) next u made ((lawful program pages calls).grows (states.Running c) next made) running seen
+
   -- a walk through own lines is a matched step
-  stepped : (idle : Bool) (c : Configuration) (t : State) (run : labelled.Configuration) (lo : ℕ) (i : Instruction) → instruction_at program (states.place_of (states.Running c)) ≡ Some i
+  stepped : (idle : Bool) (c : Configuration) (t : State) (run : labelled.Configuration) (lo : ℕ) (i : Instruction) → run.input ≡ c.input → instruction_at program (states.place_of (states.Running c)) ≡ Some i
       → instruction_line program frames c.active.function c.active.next - previous_count program frames c.active.function (routine_at program c.active.function).code c.active.next ≤ lo → t ≡ Running run
-      → Walk code formed addresses globals_length (words_per_call * calls) (least_of idle) lo (end_of c i) c.output (Comes_to idle c) (Running run)
+      → Walk code formed addresses globals_length (words_per_call * calls) (least_of idle) lo (end_of c i) c.output (After program pages calls c) (Comes_to idle c) (Running run)
       → IsStepped above below_machine matching (states.Running c) t
-  stepped idle c t run lo i at from is walk =
+  stepped idle c t run lo i unread at from is walk =
       let function : ℕ = c.active.function in
       let index : ℕ = c.active.next in
       let count : ℕ = place_count program frames c.active.function c.active.next i in
@@ -406,9 +419,9 @@ module _ (program : Program) (well : IsWellFormed program) (words : HasWords pro
         places = walk.places;
         distinct = rising_distinct lo (instruction_line program frames c.active.function c.active.next + count) walk.places walk.rises;
         inside = rising_inside _ _ lo walk.places from (subst (λ (n : ℕ). Rises lo n walk.places) top walk.rises);
-        comes = comes_map below_machine (Quiet code formed addresses globals_length (words_per_call * calls) c.output) (Comes_to idle c)
+        comes = comes_map below_machine (Quiet code formed addresses globals_length (words_per_call * calls) c.output run.input (After program pages calls c)) (Comes_to idle c)
             (IsOnTheWay above below_machine (states.Running c)) (IsMatchedStep above below_machine matching (states.Running c) walk.places) walk.places (Running run)
-            (λ u quiet. way_before above below_machine matching (states.Running c) u quiet.0 quiet.1)
+            (λ u quiet. on_the_way c run u unread quiet)
             (λ u comes. made idle c walk.places u walk.enough comes)
             walk.comes;
       })
@@ -416,13 +429,13 @@ module _ (program : Program) (well : IsWellFormed program) (words : HasWords pro
   -- from the first of its lines, or from where it would have some
   ready_goes : (idle : Bool) (c : Configuration) (t : State) → Never c → (ready : Ready program well frames fit code formed addresses pages calls few c t) (i : Instruction) → instruction_at program (states.place_of (states.Running c)) ≡ Some i
       → is_idle (frame_at frames c.active.function) c.active.next i ≡ idle
-      → Walk code formed addresses globals_length (words_per_call * calls) (least_of idle) (instruction_line program frames c.active.function c.active.next) (end_of c i) c.output (Comes_to idle c) (Running ready.run)
+      → Walk code formed addresses globals_length (words_per_call * calls) (least_of idle) (instruction_line program frames c.active.function c.active.next) (end_of c i) c.output (After program pages calls c) (Comes_to idle c) (Running ready.run)
   ready_goes true c t never ready i at idle =
       walk_end code formed addresses globals_length (words_per_call * calls) (instruction_line program frames c.active.function c.active.next) (end_of c i) c.output (Comes_to true c) (Running ready.run) (omega arith)
       (subst (Comes_to true c) ready.is (passes program well frames fit code formed addresses pages calls few c t ready i at idle))
   ready_goes false c t never ready i at busy =
       let line : ℕ = instruction_line program frames c.active.function c.active.next in
-      subst (λ (b : Bool). Walk code formed addresses globals_length (words_per_call * calls) 1 line (line + (if b then 0 else body_count program frames c.active.function i)) c.output (Comes_to false c) (Running ready.run)) (sym busy)
+      subst (λ (b : Bool). Walk code formed addresses globals_length (words_per_call * calls) 1 line (line + (if b then 0 else body_count program frames c.active.function i)) c.output (After program pages calls c) (Comes_to false c) (Running ready.run)) (sym busy)
       (instruction_goes c never ready.run ready.r ready.w ready.base ready.back ready.now ready.standing ready.caches i at busy
       (in_range_of c.active.function c.active.next i at) (word_of_it c.active.function c.active.next i at)
       (stands_front code line (body program frames c.active.function line i) (behind program frames c.active.function i) (body_stands program well frames fit code stand long c.active.function c.active.next i at busy)))
@@ -452,24 +465,24 @@ module _ (program : Program) (well : IsWellFormed program) (words : HasWords pro
     where
       -- where its own lines are next
       then_goes : (idle : Bool) → is_idle (frame_at frames c.active.function) c.active.next i ≡ idle → (u : State) → Ready program well frames fit code formed addresses pages calls few c u
-          → Walk code formed addresses globals_length (words_per_call * calls) (least_of idle) (instruction_line program frames c.active.function c.active.next) (end_of c i) c.output (Comes_to idle c) u
+          → Walk code formed addresses globals_length (words_per_call * calls) (least_of idle) (instruction_line program frames c.active.function c.active.next) (end_of c i) c.output (After program pages calls c) (Comes_to idle c) u
       then_goes idle is u ready =
-          subst (Walk code formed addresses globals_length (words_per_call * calls) (least_of idle) (instruction_line program frames c.active.function c.active.next) (end_of c i) c.output (Comes_to idle c)) (sym ready.is)
+          subst (Walk code formed addresses globals_length (words_per_call * calls) (least_of idle) (instruction_line program frames c.active.function c.active.next) (end_of c i) c.output (After program pages calls c) (Comes_to idle c)) (sym ready.is)
           (ready_goes idle c u never ready i at is)
 
       go : (idle : Bool) → is_idle (frame_at frames c.active.function) c.active.next i ≡ idle → Matches program well frames fit code formed addresses pages calls few (states.Running c) t → IsStepped above below_machine matching (states.Running c) t
-      go idle is (inl ready) = stepped idle c t ready.run (instruction_line program frames c.active.function c.active.next) i at (omega arith) ready.is (ready_goes idle c t never ready i at is)
+      go idle is (inl ready) = stepped idle c t ready.run (instruction_line program frames c.active.function c.active.next) i ready.now.input at (omega arith) ready.is (ready_goes idle c t never ready i at is)
       go idle is (inr (inr (inr entered))) =
-          stepped idle c t entered.run (function_line program frames c.active.function) i at
+          stepped idle c t entered.run (function_line program frames c.active.function) i entered.now.input at
           (entry_before c.active.function c.active.next entered.first) entered.is
           (entered_goes program well frames fit code formed addresses pages calls few c t entered (stand_saving c.active.function entered.standing.known) (least_of idle) (end_of c i) (Comes_to idle c) (then_goes idle is))
       go idle is (inr (inr (inl landed))) =
           let place : instruction_at program (states.place_of (states.Running c)) ≡ Some (plain.Try landed.first landed.handler) = landed.opened in
-          stepped false c t landed.run (instruction_line program frames c.active.function c.active.next + 3) (plain.Try landed.first landed.handler) place (omega arith) landed.is
+          stepped false c t landed.run (instruction_line program frames c.active.function c.active.next + 3) (plain.Try landed.first landed.handler) landed.now.input place (omega arith) landed.is
           (catch_goes program well frames fit code formed addresses pages calls few lie c range_of lands_at t landed (caught_stands c.active.function c.active.next landed.first landed.handler landed.opened))
       go idle is (inr (inl back)) =
           let in_range = in_range_of c.active.function back.index (plain.Call back.callee back.arguments back.count back.result) back.call in
-          stepped idle c t back.run (behind_line program frames c.active.function back.index back.callee back.arguments back.count back.result) i at
+          stepped idle c t back.run (behind_line program frames c.active.function back.index back.callee back.arguments back.count back.result) i back.now.input at
           (before_it c.active.function back.index back.callee back.arguments back.count back.result c.active.next back.next back.call) back.is
           (behind_goes program well frames fit code formed addresses pages calls few c t back (behind_stands c.active.function back.index back.callee back.arguments back.count back.result back.call) in_range.result_in_range (few_results back.callee)
           (least_of idle) (end_of c i) (Comes_to idle c) (then_goes idle is))

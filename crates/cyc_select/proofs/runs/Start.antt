@@ -25,6 +25,7 @@ use Rattle.cyc_plain.specs.Step as steps
 use Rattle.cyc_plain.specs.Step.{instruction_at}
 use Rattle.cyc_plain.specs.WellFormed.{IsWellFormed, HasWords}
 use Rattle.cyc_plain.proofs.WordLaws.{bytes_are_words}
+use Rattle.cyc_words.proofs.SeenLemmas.{seen_same}
 use Rattle.cyc_words.proofs.Matching.{way_before}
 use Rattle.cyc_words.proofs.Simulation.{simulates}
 use Rattle.cyc_frame.specs.Layout.{AreFrames, frame_at}
@@ -282,7 +283,7 @@ module _ (program : Program) (well : IsWellFormed program) (words : HasWords pro
     middle = refl;
   }
 
-  first_walk : Walk code formed addresses globals_length (words_per_call * calls) START_LINES 0 START_LINES [] (Matches program well frames fit code formed addresses pages calls few (steps.start program (main_place program frames) store input)) (Running run)
+  first_walk : Walk code formed addresses globals_length (words_per_call * calls) START_LINES 0 START_LINES [] (λ (t : State). ⊥) (Matches program well frames fit code formed addresses pages calls few (steps.start program (main_place program frames) store input)) (Running run)
   first_walk =
       walk_few code formed addresses globals_length (words_per_call * calls) START_LINES (5 + 1) 0 START_LINES [] _ (Running run) (omega arith)
       (walk_block code formed addresses globals_length (words_per_call * calls) first 1 0 0 START_LINES [] input _ r w run now
@@ -311,8 +312,15 @@ module _ (program : Program) (well : IsWellFormed program) (words : HasWords pro
       let below_machine = machine code addresses in
       let m = matching program well words frames fit code formed addresses lie pages calls few stand stand_saving long in
       let places_are : first_walk.places ≡ range_with_len 0 START_LINES = rising_all 0 START_LINES first_walk.places first_walk.rises first_walk.enough in
-      let comes = comes_map below_machine (Quiet code formed addresses globals_length (words_per_call * calls) []) (Matches program well frames fit code formed addresses pages calls few (steps.start program (main_place program frames) store input))
+      let comes = comes_map below_machine (Quiet code formed addresses globals_length (words_per_call * calls) [] input (λ (t : State). ⊥)) (Matches program well frames fit code formed addresses pages calls few (steps.start program (main_place program frames) store input))
       (IsOnTheWay above below_machine (steps.start program (main_place program frames) store input)) (Matches program well frames fit code formed addresses pages calls few (steps.start program (main_place program frames) store input)) first_walk.places (Running run)
-      (λ u quiet. way_before above below_machine m (steps.start program (main_place program frames) store input) u quiet.0 quiet.1) (λ u matches. matches) first_walk.comes in
+      on_the_way (λ u matches. matches) first_walk.comes in
       simulates above below_machine m (all_steps program well words frames fit code formed addresses lie pages calls few stand stand_saving long) (lawful code addresses) (range_with_len 0 START_LINES) (steps.start program (main_place program frames) store input) never (Running run) refl
       (subst (λ (ps : List ℕ). Comes below_machine (IsOnTheWay above below_machine (steps.start program (main_place program frames) store input)) (Matches program well frames fit code formed addresses pages calls few (steps.start program (main_place program frames) store input)) ps (Running run)) places_are comes)
+    where
+      on_the_way : (u : State) → Quiet code formed addresses globals_length (words_per_call * calls) [] input (λ (t : State). ⊥) u
+          → IsOnTheWay (steps.machine program pages calls) (machine code addresses) (steps.start program (main_place program frames) store input) u
+      on_the_way u (inl (running, output, left)) =
+          way_before (steps.machine program pages calls) (machine code addresses) (matching program well words frames fit code formed addresses lie pages calls few stand stand_saving long)
+          (steps.start program (main_place program frames) store input) u running (seen_same (labelled.output_of u) [] (labelled.input_of u) input output left)
+      on_the_way u (inr late) = absurd late

@@ -39,7 +39,7 @@ use Rattle.cyc_select.proofs.emission.Counts.{length_operand, length_address, le
 use Rattle.cyc_select.proofs.values.Halves.{fits_is}
 use Rattle.cyc_select.proofs.relation.Held.{operand_held, operand_is_word}
 use Rattle.cyc_select.proofs.layout.Lines.{line_next}
-use Rattle.cyc_select.proofs.relation.Matches.{At, Reached, reached, result_register, within}
+use Rattle.cyc_select.proofs.relation.Matches.{After, At, Reached, reached, result_register, within}
 use Rattle.cyc_select.proofs.steps.Moves.{is_ahead, moved, moved_copied, are_moved}
 use Rattle.cyc_select.proofs.steps.Returns.{same_slots, stored}
 use Rattle.cyc_select.proofs.steps.Simple.{Agrees, gets, gives_made}
@@ -181,7 +181,7 @@ module _ (program : Program) (well : IsWellFormed program) (frames : List Frame)
   slots = (routine_at program c.active.function).slots
 
   abbrev Goes : (least lo hi : ℕ) → State → Type 0
-  Goes least lo hi t = Walk code formed addresses globals_length (words_per_call * calls) least lo hi c.output (Reached program well frames fit code formed addresses pages calls few c) t
+  Goes least lo hi t = Walk code formed addresses globals_length (words_per_call * calls) least lo hi c.output (After program pages calls c) (Reached program well frames fit code formed addresses pages calls few c) t
 
   abbrev AtNow : ℕ → (output input : List ℕ) → Words → Contents → labelled.Configuration → Type 0
   AtNow line output input q m d = At program well frames fit code formed addresses pages calls few line output input q m d

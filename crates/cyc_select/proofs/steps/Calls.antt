@@ -39,7 +39,7 @@ use Rattle.cyc_select.proofs.effects.Views.{Contents}
 use Rattle.cyc_select.proofs.effects.Walks.{Stands, stands_front, stands_back, after_r, after_w, Walk, walk_end, walk_few, walk_block, walk_branch, walk_call, walk_full}
 use Rattle.cyc_select.proofs.steps.Copies.{Copied, copied_all}
 use Rattle.cyc_select.proofs.relation.Standing.{frame_size, Holds, Chain, IsNewest, Standing, behind_line, IsBack, keeps_back, saves_at, lies, chain_kept, slot_inside, word_cell, AreBased, based_here, slots_fit}
-use Rattle.cyc_select.proofs.relation.Matches.{At, Reached, reached, within}
+use Rattle.cyc_select.proofs.relation.Matches.{After, At, Reached, reached, within}
 
 pub length_ordinary : (is : List Instr) → length (ordinary is) ≡ length is
 length_ordinary [] = refl
@@ -76,7 +76,7 @@ module _ (program : Program) (well : IsWellFormed program) (frames : List Frame)
   its = frame_at frames callee
 
   abbrev Goes : (least lo hi : ℕ) → State → Type 0
-  Goes least lo hi t = Walk code formed addresses globals_length (words_per_call * calls) least lo hi c.output (Reached program well frames fit code formed addresses pages calls few c) t
+  Goes least lo hi t = Walk code formed addresses globals_length (words_per_call * calls) least lo hi c.output (After program pages calls c) (Reached program well frames fit code formed addresses pages calls few c) t
 
   abbrev AtLine : ℕ → (q : Words) (m : Contents) → labelled.Configuration → Type 0
   AtLine line q m d = At program well frames fit code formed addresses pages calls few line c.output c.input q m d

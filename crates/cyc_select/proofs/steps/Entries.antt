@@ -16,13 +16,13 @@ use Rattle.cyc_select.proofs.layout.Lines.{line_first}
 use Rattle.cyc_select.proofs.effects.Views.{written}
 use Rattle.cyc_select.proofs.effects.Walks.{Stands, Walk, now_at, walk_few, walk_from, walk_block}
 use Rattle.cyc_select.proofs.relation.Standing.{Standing, return_address, return_cell, standing_return}
-use Rattle.cyc_select.proofs.relation.Matches.{Ready, Entered}
+use Rattle.cyc_select.proofs.relation.Matches.{After, Ready, Entered}
 
 module _ (program : Program) (well : IsWellFormed program) (frames : List Frame) (fit : AreFrames program frames) (code : Labelled) (formed : IsFormed code) (addresses : ℕ → ℕ) (pages calls : ℕ) (few : calls ≤ 4096)
     (c : Configuration) (t : State) (e : Entered program well frames fit code formed addresses pages calls few c t)
     (stands : Stands code (function_line program frames c.active.function) (ordinary (saving_code (frame_at frames c.active.function))))
     (n hi : ℕ) (Goal : State → Type 0)
-    (rest : (u : State) → Ready program well frames fit code formed addresses pages calls few c u → Walk code formed addresses globals_length (words_per_call * calls) n (instruction_line program frames c.active.function c.active.next) hi c.output Goal u) where
+    (rest : (u : State) → Ready program well frames fit code formed addresses pages calls few c u → Walk code formed addresses globals_length (words_per_call * calls) n (instruction_line program frames c.active.function c.active.next) hi c.output (After program pages calls c) Goal u) where
   abbrev frame : Frame
   frame = frame_at frames c.active.function
 
@@ -36,7 +36,7 @@ module _ (program : Program) (well : IsWellFormed program) (frames : List Frame)
   there = memory_address (e.r 29) (4 * frame.return_address)
 
   abbrev Goes : ℕ → State → Type 0
-  Goes line t = Walk code formed addresses globals_length (words_per_call * calls) n line hi c.output Goal t
+  Goes line t = Walk code formed addresses globals_length (words_per_call * calls) n line hi c.output (After program pages calls c) Goal t
 
   pub entered_goes : Goes here (Running e.run)
   entered_goes = go frame.saves refl stands

@@ -32,7 +32,7 @@ use Rattle.cyc_select.proofs.values.Blocks.{lasting_same, safe_append}
 use Rattle.cyc_select.proofs.steps.Calls.{length_ordinary}
 use Rattle.cyc_select.proofs.relation.Cells.{IsCell}
 use Rattle.cyc_select.proofs.layout.Lines.{line_next}
-use Rattle.cyc_select.proofs.relation.Matches.{At, Landed, Reached, reached, within}
+use Rattle.cyc_select.proofs.relation.Matches.{After, At, Landed, Reached, reached, within}
 use Rattle.cyc_select.proofs.values.Operations.{add_small}
 use Rattle.cyc_select.proofs.steps.Requests.{are_stored}
 use Rattle.cyc_select.proofs.relation.Standing.{Lies, IsNewest, keeps_back, saves_at, Standing, lies, slot_inside, slot_address, slot_cell, slot_word_is, standing_registers, standing_handlers, standing_at, standing_slot}
@@ -55,7 +55,7 @@ module _ (program : Program) (well : IsWellFormed program) (frames : List Frame)
   here = instruction_line program frames c.active.function c.active.next
 
   abbrev Goes : (least lo hi : ℕ) → State → Type 0
-  Goes least lo hi t = Walk code formed addresses globals_length (words_per_call * calls) least lo hi c.output (Reached program well frames fit code formed addresses pages calls few c) t
+  Goes least lo hi t = Walk code formed addresses globals_length (words_per_call * calls) least lo hi c.output (After program pages calls c) (Reached program well frames fit code formed addresses pages calls few c) t
 
   abbrev IsAt : Instruction → Type 0
   IsAt i = instruction_at program (states.place_of (states.Running c)) ≡ Some i

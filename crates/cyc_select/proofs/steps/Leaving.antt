@@ -30,7 +30,7 @@ use Rattle.cyc_select.proofs.relation.Values.{Caches, among}
 use Rattle.cyc_select.proofs.effects.Views.{Contents}
 use Rattle.cyc_select.proofs.effects.Walks.{Stands, Walk, walk_few, walk_block}
 use Rattle.cyc_select.proofs.relation.Standing.{IsBack, keeps_back, Standing, behind_line, return_cell, return_address, standing_registers}
-use Rattle.cyc_select.proofs.relation.Matches.{At, Reached}
+use Rattle.cyc_select.proofs.relation.Matches.{After, At, Reached}
 use Rattle.cyc_select.proofs.steps.Returns.{loaded, returning_goes}
 
 -- a word is held as before where another register changes
@@ -64,7 +64,7 @@ module _ (program : Program) (well : IsWellFormed program) (frames : List Frame)
   ending = ending_count program c.active.function
 
   abbrev Goes : (least lo hi : ℕ) → State → Type 0
-  Goes least lo hi t = Walk code formed addresses globals_length (words_per_call * calls) least lo hi c.output (Reached program well frames fit code formed addresses pages calls few c) t
+  Goes least lo hi t = Walk code formed addresses globals_length (words_per_call * calls) least lo hi c.output (After program pages calls c) (Reached program well frames fit code formed addresses pages calls few c) t
 
   -- what is returned is wanted here
   returned_held : (slot : ℕ) → value ≤ slot → slot < value + results → HeldIn globals_length (words_per_call * calls) (value_register frame slot) frame (r FRAME) w r c.active.slots slot

@@ -27,7 +27,7 @@ use Rattle.cyc_select.proofs.steps.Copies.{is_free}
 use Rattle.cyc_select.proofs.emission.Counts.{length_spills}
 use Rattle.cyc_select.proofs.steps.Returns.{same_slots}
 use Rattle.cyc_select.proofs.relation.Standing.{Standing, behind_line, slot_address, slot_cell, standing_slot, keeps_back}
-use Rattle.cyc_select.proofs.relation.Matches.{At, Reached}
+use Rattle.cyc_select.proofs.relation.Matches.{After, At, Reached}
 use Rattle.cyc_select.proofs.relation.Values.{Caches, memory_kept, made_is, among}
 use Rattle.cyc_select.proofs.effects.Views.{Contents, written}
 use Rattle.cyc_select.proofs.effects.Walks.{Stands, stands_front, stands_back, after_r, after_w, after_r-append, after_w-append, AreSafe, Walk, now_at, now_is, walk_few, walk_from, walk_block}
@@ -217,7 +217,7 @@ module _ (program : Program) (well : IsWellFormed program) (frames : List Frame)
       let is = caches (arguments + slot) k has (0, (plain.Call callee arguments count result, at_i, among arguments count (arguments + slot) (omega arith) (omega (arith, below)))) in
       (right.low (arguments + slot) k has, right.high (arguments + slot) k has, is, subst IsWord is (now.r_words k))
 
-  pub call_goes : Walk code formed addresses globals_length (words_per_call * calls) 1 here (here + body_count program frames c.active.function (plain.Call callee arguments count result)) c.output (Reached program well frames fit code formed addresses pages calls few c) (Running run)
+  pub call_goes : Walk code formed addresses globals_length (words_per_call * calls) 1 here (here + body_count program frames c.active.function (plain.Call callee arguments count result)) c.output (After program pages calls c) (Reached program well frames fit code formed addresses pages calls few c) (Running run)
   call_goes =
       let hi : ℕ = here + body_count program frames c.active.function (plain.Call callee arguments count result) in
       let all = are_spilled program well frames fit addresses pages calls few c r base back (keeps_back frames c) callee s.known w arguments 0 count in_range.arguments_in_range s
@@ -232,6 +232,6 @@ module _ (program : Program) (well : IsWellFormed program) (frames : List Frame)
       let at_next = now_at code formed addresses globals_length (words_per_call * calls) (here + length before) spilled c.output c.input r m d (omega (arith, long))
       (now_is code formed addresses globals_length (words_per_call * calls) (here + length before) c.output c.input (after_r before r w) m r m d all.same refl later) in
       walk_from code formed addresses globals_length (words_per_call * calls) 1 (here + length before) spilled hi c.output _ (Running d) (omega (arith, long))
-      (subst (λ (n : ℕ). Walk code formed addresses globals_length (words_per_call * calls) 1 spilled n c.output (Reached program well frames fit code formed addresses pages calls few c) (Running d)) (let e : spilled + (5 + copies_count mine (frame_at frames callee) arguments 0 count) ≡ hi = omega arith in e)
+      (subst (λ (n : ℕ). Walk code formed addresses globals_length (words_per_call * calls) 1 spilled n c.output (After program pages calls c) (Reached program well frames fit code formed addresses pages calls few c) (Running d)) (let e : spilled + (5 + copies_count mine (frame_at frames callee) arguments 0 count) ≡ hi = omega arith in e)
       (calling_goes program well frames fit code formed addresses pages calls few lie c d r m base back spilled at_next all.standing callee arguments count result at_i in_range inside stands_next (omega arith)
       (λ slot below none. all.there slot below (at_slot slot ∙ none)) held_there))))

@@ -42,7 +42,7 @@ use Rattle.cyc_select.proofs.emission.Counts.{service_small, length_argument, le
 use Rattle.cyc_select.proofs.effects.Effects.{call_by}
 use Rattle.cyc_select.proofs.relation.Held.{operand_held}
 use Rattle.cyc_select.proofs.layout.Lines.{line_next}
-use Rattle.cyc_select.proofs.relation.Matches.{At, Reached, reached, within}
+use Rattle.cyc_select.proofs.relation.Matches.{After, At, Reached, reached, within}
 use Rattle.cyc_select.proofs.values.Operations.{add_small}
 use Rattle.cyc_select.proofs.relation.Standing.{Standing, slot_address, slot_cell, standing_at, standing_slot, standing_store, keeps_back}
 use Rattle.cyc_select.proofs.relation.Stores.{lexical_opened, lexical_besides, lexical_left, lexical_made, lexical_closed, marks_few, IsLaid, served_laid, served_words}
@@ -188,7 +188,7 @@ module _ (program : Program) (well : IsWellFormed program) (frames : List Frame)
   slots = (routine_at program c.active.function).slots
 
   abbrev Goes : (least lo hi : ℕ) → State → Type 0
-  Goes least lo hi t = Walk code formed addresses globals_length (words_per_call * calls) least lo hi c.output (Reached program well frames fit code formed addresses pages calls few c) t
+  Goes least lo hi t = Walk code formed addresses globals_length (words_per_call * calls) least lo hi c.output (After program pages calls c) (Reached program well frames fit code formed addresses pages calls few c) t
 
   abbrev IsAt : Instruction → Type 0
   IsAt i = instruction_at program (states.place_of (states.Running c)) ≡ Some i
@@ -531,7 +531,7 @@ module _ (program : Program) (well : IsWellFormed program) (frames : List Frame)
         0 (lines_from code formed addresses globals_length (words_per_call * calls) (called + 1) (counts ++ answers)) free (λ chosen allowed. served_words pages c.store call chosen allowed s.laid) (omega arith)
         (lines_rise code formed addresses globals_length (words_per_call * calls) (counts ++ answers) (suc called) (called + 1) hi (omega arith) (omega (arith, long, more, stored_few)))
         (λ chosen allowed e served_now.
-        comes_block code formed addresses globals_length (words_per_call * calls) (counts ++ answers) (called + 1) c.output c.input _ (answered_r (answer c.store call chosen) ready) (record w { store = served c.store call chosen }) e served_now last_lines.1.1
+        comes_block code formed addresses globals_length (words_per_call * calls) (After program pages calls c) (counts ++ answers) (called + 1) c.output c.input _ (answered_r (answer c.store call chosen) ready) (record w { store = served c.store call chosen }) e served_now last_lines.1.1
         (block_safe free chosen allowed (λ n. served_now.r_words n)) (λ f after. reaches free chosen allowed (λ n. served_now.r_words n) f after)))
 
     pub ask_goes : (performed program zeros c (plain.Ask request) ≡ states.Stuck c.output c.input → IsAllowed program (states.Running c) zeros → ⊥) → Goes 1 here hi (Running run)

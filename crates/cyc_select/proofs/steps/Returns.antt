@@ -42,7 +42,7 @@ use Rattle.cyc_select.proofs.effects.Views.{Contents, IsWritable, written}
 use Rattle.cyc_select.proofs.effects.Walks.{Stands, stands_front, stands_back, after_r, after_w, after_r-append, after_w-append, AreSafe, Walk, now_at, now_is, walk_end, walk_few, walk_from, walk_block, walk_branch, walk_return, walk_returned}
 use Rattle.cyc_select.proofs.emission.Counts.{length_results, length_registers}
 use Rattle.cyc_select.proofs.relation.Standing.{frame_size, Chain, IsNewest, keeps_back, saves_at, Standing, behind_line, lies, slot_address, slot_cell, slot_word_is, standing_registers, standing_slot, AreBased}
-use Rattle.cyc_select.proofs.relation.Matches.{At, Ready, Back, Reached, reached, within, result_register}
+use Rattle.cyc_select.proofs.relation.Matches.{After, At, Ready, Back, Reached, reached, within, result_register}
 
 -- ---- what a function returns, from slots into registers
 
@@ -209,7 +209,7 @@ module _ (program : Program) (well : IsWellFormed program) (frames : List Frame)
   results = (routine_at program c.active.function).results
 
   abbrev Goes : (least lo hi : ℕ) → State → Type 0
-  Goes least lo hi t = Walk code formed addresses globals_length (words_per_call * calls) least lo hi c.output (Reached program well frames fit code formed addresses pages calls few c) t
+  Goes least lo hi t = Walk code formed addresses globals_length (words_per_call * calls) least lo hi c.output (After program pages calls c) (Reached program well frames fit code formed addresses pages calls few c) t
 
   abbrev AtLine : ℕ → (q : Words) (m : Contents) → labelled.Configuration → Type 0
   AtLine line q m d = At program well frames fit code formed addresses pages calls few line c.output c.input q m d
@@ -602,8 +602,8 @@ module _ (program : Program) (well : IsWellFormed program) (frames : List Frame)
   returned_alone slot k has wanted unkept = brought.caches alone_returned slot k has wanted unkept ∙ slots_are slot
 
   pub behind_goes : (n hi : ℕ) (Goal : State → Type 0)
-      → ((u : State) → Ready program well frames fit code formed addresses pages calls few c u → Walk code formed addresses globals_length (words_per_call * calls) n (instruction_line program frames c.active.function c.active.next) hi c.output Goal u)
-      → Walk code formed addresses globals_length (words_per_call * calls) n (behind_line program frames c.active.function b.index b.callee b.arguments b.count b.result) hi c.output Goal (Running b.run)
+      → ((u : State) → Ready program well frames fit code formed addresses pages calls few c u → Walk code formed addresses globals_length (words_per_call * calls) n (instruction_line program frames c.active.function c.active.next) hi c.output (After program pages calls c) Goal u)
+      → Walk code formed addresses globals_length (words_per_call * calls) n (behind_line program frames c.active.function b.index b.callee b.arguments b.count b.result) hi c.output (After program pages calls c) Goal (Running b.run)
   behind_goes n hi Goal rest =
       let k : ℕ = behind_line program frames c.active.function b.index b.callee b.arguments b.count b.result in
       let again = reloaded globals_length (words_per_call * calls) program frames c.active.function right c.active.next given_r given_w c.active.slots

@@ -5,6 +5,8 @@ use Rattle.std.specs.List.{AllByRecursion}
 use Rattle.std.proofs.lemmas.Bool.{cases_eq, eq-eqb, ne_eqb, or_left, or_right}
 use Rattle.cyc_words.specs.Ending.{Ending, Uncaught}
 use Rattle.cyc_words.specs.Word.{IsWord, signed, add_of, sign_extended}
+use Rattle.cyc_words.specs.Simulation as simulation
+use Rattle.cyc_words.proofs.SeenLemmas.{seen_same}
 use Rattle.cyc_isa.specs.Effect.{branch_taken, branch_zero_taken, memory_address}
 use Rattle.cyc_isa.specs.declared.instr.Instr.{Instr}
 use Rattle.cyc_isa.specs.declared.instr.BranchOp.TheVariants as branch
@@ -64,7 +66,7 @@ use Rattle.cyc_select.proofs.relation.Values.{Caches, memory_kept, made_is, apar
 use Rattle.cyc_select.proofs.effects.Views.{Contents, written}
 use Rattle.cyc_select.proofs.effects.Walks.{Stands, stands_front, stands_back, stands_first, stands_behind, after_r, after_w, after_r-append, after_w-append, AreSafe, Walk, now_at, now_is, walk_end, walk_few, walk_from, walk_block, walk_branch, walk_jump, walk_get, walk_put, walk_uncaught}
 use Rattle.cyc_select.proofs.relation.Standing.{Standing, based_here, lies, slot_inside, slot_cell, global_cell, standing_global, standing_registers, standing_at, keeps_back}
-use Rattle.cyc_select.proofs.relation.Matches.{At, Reached, reached, reached_gives, reached_at, within}
+use Rattle.cyc_select.proofs.relation.Matches.{After, steps_to, At, Reached, reached, reached_gives, reached_at, within}
 use Rattle.cyc_select.proofs.values.Reaching.{reaches}
 
 module _ (program : Program) (well : IsWellFormed program) (frames : List Frame) (fit : AreFrames program frames) (code : Labelled) (formed : IsFormed code) (addresses : ℕ → ℕ) (pages calls : ℕ) (few : calls ≤ 4096)
@@ -86,7 +88,7 @@ module _ (program : Program) (well : IsWellFormed program) (frames : List Frame)
   Safe is r w = AreSafe globals_length (words_per_call * calls) is r w
 
   abbrev Goes : (least lo hi : ℕ) → State → Type 0
-  Goes least lo hi t = Walk code formed addresses globals_length (words_per_call * calls) least lo hi c.output (Reached program well frames fit code formed addresses pages calls few c) t
+  Goes least lo hi t = Walk code formed addresses globals_length (words_per_call * calls) least lo hi c.output (After program pages calls c) (Reached program well frames fit code formed addresses pages calls few c) t
 
   cell : (slot : ℕ) → slot < slots → IsCell globals_length (words_per_call * calls) (memory_address (r FRAME) (slot_offset frame slot))
   cell slot below = slot_cell program well frames fit addresses pages calls few c r w base back (keeps_back frames c) c.active.slots s slot below
@@ -685,7 +687,7 @@ module _ (program : Program) (well : IsWellFormed program) (frames : List Frame)
       walk_few code formed addresses globals_length (words_per_call * calls) 1 (1 + 1) here hi c.output _ (Running run) (omega arith)
       (walk_block code formed addresses globals_length (words_per_call * calls) (small 2 1 ∷ []) 1 here here hi c.output c.input _ r w run now (stands.0, tt) (refl, tt) (omega arith)
       (λ d later.
-      walk_get code formed addresses globals_length (words_per_call * calls) 0 (here + 1) (here + 1) hi c.output c.input _ (after_r (small 2 1 ∷ []) r w) w d later behind.0 (omega arith) (small_is 1 (omega arith)) (read_word c.input s.input)
+      walk_get code formed addresses globals_length (words_per_call * calls) 0 (here + 1) (here + 1) hi c.output c.input _ (after_r (small 2 1 ∷ []) r w) w d later behind.0 (omega arith) (small_is 1 (omega arith)) (read_word c.input s.input) has_read
       (λ e after.
       walk_few code formed addresses globals_length (words_per_call * calls) 0 1 (suc (here + 1)) hi c.output _ (Running e) (omega arith)
       (walk_from code formed addresses globals_length (words_per_call * calls) 1 (suc (here + 1)) (here + 1 + 1) hi c.output _ (Running e) (omega arith)
@@ -699,6 +701,19 @@ module _ (program : Program) (well : IsWellFormed program) (frames : List Frame)
         values_same = λ n low high other. put-other (put r 2 _) 2 n (byte_of c.input) (λ x. absurd (omega (arith, x, low))) ∙ put-other r 2 n _ (λ x. absurd (omega (arith, x, low)));
       })
       refl (read_word c.input s.input) (omega arith) (omega arith) behind.1)))))
+    where
+      next : Configuration
+      next = record c { active = record c.active { next = c.active.next + 1; slots = put c.active.slots destination (byte_of c.input) }; input = drop 1 c.input }
+
+      -- the byte is read, and is still to come into its slot
+      has_read : (t : State) → labelled.status_of t ≡ simulation.Running → labelled.output_of t ≡ c.output → labelled.input_of t ≡ drop 1 c.input → After program pages calls c t
+      has_read t running output left = (
+        running,
+        states.Running next,
+        steps_to program well frames fit code formed addresses pages calls few c zeros (plain.ReadByte destination) (states.Running next) (zeros_at program c (plain.ReadByte destination) at_i refl) at_i refl
+            (within program well frames fit code formed addresses pages calls few next s.laid.paged s.deep),
+        seen_same (labelled.output_of t) c.output (labelled.input_of t) (drop 1 c.input) output left,
+      )
 
   pub write_goes : (source : Operand) → IsAt (plain.WriteByte source) → IsThere source → Stands code here (body program frames c.active.function here (plain.WriteByte source)) → Goes 1 here (here + (load_count source + 2)) (Running run)
   write_goes source at_i there stands =

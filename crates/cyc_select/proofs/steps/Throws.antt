@@ -37,7 +37,7 @@ use Rattle.cyc_select.proofs.relation.Cells.{IsCell}
 use Rattle.cyc_select.proofs.values.Computing.{load_puts}
 use Rattle.cyc_select.proofs.emission.Counts.{length_load}
 use Rattle.cyc_select.proofs.relation.Held.{operand_held}
-use Rattle.cyc_select.proofs.relation.Matches.{At, Landed, Reached, reached, within}
+use Rattle.cyc_select.proofs.relation.Matches.{After, At, Landed, Reached, reached, within}
 use Rattle.cyc_select.proofs.values.Operations.{add_small, address_at}
 use Rattle.cyc_select.proofs.relation.Standing.{frame_size, Chain, Lies, IsRecord, IsNewest, IsBack, keeps_back, saves_at, Standing, lies, slot_inside, word_cell}
 use Rattle.cyc_select.proofs.relation.Values.{Caches, barred_kept, among}
@@ -59,7 +59,7 @@ module _ (program : Program) (well : IsWellFormed program) (frames : List Frame)
   here = instruction_line program frames c.active.function c.active.next
 
   abbrev Goes : (least lo hi : ℕ) → State → Type 0
-  Goes least lo hi t = Walk code formed addresses globals_length (words_per_call * calls) least lo hi c.output (Reached program well frames fit code formed addresses pages calls few c) t
+  Goes least lo hi t = Walk code formed addresses globals_length (words_per_call * calls) least lo hi c.output (After program pages calls c) (Reached program well frames fit code formed addresses pages calls few c) t
 
   abbrev IsAt : Instruction → Type 0
   IsAt i = instruction_at program (states.place_of (states.Running c)) ≡ Some i
