@@ -1,8 +1,6 @@
--- What the lowering promises of the plain program that it makes, and which texts it refuses.
-use Rattle.std.specs.Prelude.{◌≡◌, ℕ, ◌*◌, ◌≤◌, ◌<◌, List, [], ◌∷◌, Some, length, slice_get}
+-- What the lowering promises of the plain program that it makes, and what it accepts.
+use Rattle.std.specs.Prelude.{◌≡◌, ℕ, ◌*◌, ◌≤◌, ◌<◌, List, [], ◌∷◌, length}
 use Rattle.std.specs.List.{AllByRecursion}
-use Rattle.cyc_words.specs.declared.fault.Code.TheVariants.{TooManyFunctions}
-use Rattle.cyc_words.specs.declared.fault.Fault.{Fault}
 use Rattle.cyc_types.specs.TypedTrees.{Function, Program}
 use Rattle.cyc_types.specs.Weight.{function_weight}
 use Rattle.cyc_words.specs.Simulation.{NeverFails, Follows}
@@ -17,19 +15,12 @@ use Rattle.cyc_plain.specs.WellFormed.{IsWellFormed, HasWords}
 use Rattle.cyc_meaning.specs.Run.{start}
 use Rattle.cyc_meaning.specs.SourceMachine.{source_machine}
 use Rattle.cyc_meaning.specs.FrameCount.{frame_count, words_of_all}
+use Rattle.cyc_meaning.specs.Sizes.{max_functions, size_per_weight}
 use Rattle.cyc_lower.specs.Slots.{global_types}
 use Rattle.cyc_lower.specs.Lowering.{span_of_place}
 use Rattle.cyc_lower.specs.Words.{IsOfWordsProgram}
 use Rattle.cyc_lower.specs.Lowerable.{IsLowerableProgram}
-use Rattle.cyc_lower.specs.declared.limits.TheConstants.{MOST_FUNCTIONS}
 use Rattle.cyc_plain.specs.Memory.{IsBelow, slots_end}
-
--- ---- refusals
-
--- there are more, and this is the name of the first one too many
-abbrev pub HasTooMany : Program → Fault → Type 0
-HasTooMany p f = (h : Function) × (slice_get p.functions MOST_FUNCTIONS ≡ Some h)
-    × (f ≡ record { code = TooManyFunctions; line = h.place.line; column = h.place.column })
 
 -- ---- what the plain program does
 
@@ -41,10 +32,6 @@ FollowsSource source lowered pages calls base store input =
     → Follows (source_machine source pages calls) (machine lowered pages calls) [] (λ s. places_of lowered) (start source input) (plain.start lowered base store input)
 
 -- ---- what is promised
-
--- the most words of text that the code of a function has for each token that its spelling needs
-abbrev pub size_per_weight : ℕ
-size_per_weight = 100
 
 pub record IsLoweredFunction (h : Function) (r : Routine) : Type 0 where
   pub name : r.name ≡ span_of_place h.place
@@ -77,4 +64,4 @@ pub record CanBeLowered (source : Program) : Type 0 where
 
 -- What is accepted: a program with no more functions than there may be.
 abbrev pub IsAccepted : (given program : Program) → Type 0
-IsAccepted given program = (program ≡ given) × (length program.functions ≤ MOST_FUNCTIONS)
+IsAccepted given program = (program ≡ given) × (length program.functions ≤ max_functions)

@@ -5,7 +5,8 @@ ghost use Rattle.cyc_syntax.specs.TokenRule.{max_tokens};
 ghost use Rattle.cyc_types.specs.typing.WellTyped.{IsWellTypedProgram};
 ghost use Rattle.cyc_types.specs.Weight.{program_weight};
 ghost use Rattle.cyc_types.specs.TypedTreeView.{view_program};
-ghost use Rattle.cyc_lower.specs.Lowered.{CanBeLowered, HasTooMany, IsAccepted, IsLowered};
+ghost use Rattle.cyc_meaning.specs.Sizes.{HasTooMany};
+ghost use Rattle.cyc_lower.specs.Lowered.{CanBeLowered, IsAccepted, IsLowered};
 
 use crate::functions::lower_tree;
 use crate::limits::MOST_FUNCTIONS;

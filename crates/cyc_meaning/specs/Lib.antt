@@ -19,3 +19,4 @@ pub mod Nesting
 pub mod Variables
 pub mod SourceMachine
 pub mod FrameCount
+pub mod Sizes

@@ -11,7 +11,8 @@ use Rattle.cyc_syntax.specs.Symbols.{Symbol, texts_in, symbol_of, symbols_of}
 use Rattle.cyc_syntax.specs.Trees.{Declaration}
 use Rattle.cyc_parse.specs.Parsing.{Outcome, and_then, bind}
 use Rattle.cyc_parse.specs.Declarations.{program_of}
-use Rattle.cyc_parse.specs.Answers.{at_end, whole_program, end_of, IsRefused, IsAnswer}
+use Rattle.cyc_parse.specs.Faults.{end_of}
+use Rattle.cyc_parse.specs.Answers.{at_end, whole_program, IsRefused, IsAnswer}
 
 left_of : Outcome (List Declaration) → List Symbol
 left_of (Ok p) = p.1

@@ -8,10 +8,9 @@ use Rattle.cyc_syntax.specs.Grammar.{HasTree, IsWithinLimits}
 use Rattle.cyc_syntax.specs.Yields.{program}
 use Rattle.cyc_syntax.specs.declared.tree.Tree.{Tree}
 use Rattle.cyc_syntax.specs.TreeView.{view_declaration}
-use Rattle.cyc_parse.specs.Parsing.{Refusal}
+use Rattle.cyc_parse.specs.Faults.{Refusal, end_of, fault_of}
 use Rattle.cyc_parse.specs.Refusals.{BreaksFirst}
 use Rattle.cyc_parse.specs.Refusals as symbols
-use Rattle.cyc_parse.specs.Answers.{end_of, fault_of}
 
 abbrev pub declarations_of : Tree → List Declaration
 declarations_of tree = map view_declaration tree.declarations.items

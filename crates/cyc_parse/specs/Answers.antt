@@ -1,17 +1,15 @@
 -- What the parser answers for the tokens of a text: a tree, or a fault at its place.
 use Rattle.std.specs.Prelude.{◌≡◌, ◌⊎◌, ℕ, List, [], ◌∷◌, map, Result, Ok, Err}
-use Rattle.cyc_words.specs.declared.fault.Code.{Code}
-use Rattle.cyc_words.specs.declared.fault.Code.TheVariants as codes
 use Rattle.cyc_words.specs.declared.fault.Fault.{Fault}
 use Rattle.cyc_words.specs.Fault.{memory_fault}
 use Rattle.cyc_syntax.specs.Names.{distinct_texts}
 use Rattle.cyc_syntax.specs.Tokens.{Token}
-use Rattle.cyc_syntax.specs.TokenRule.{line_behind, column_behind}
 use Rattle.cyc_syntax.specs.Symbols.{Place, Symbol, texts_in, symbols_of}
 use Rattle.cyc_syntax.specs.Trees.{Declaration}
 use Rattle.cyc_syntax.specs.declared.tree.Tree.{Tree}
 use Rattle.cyc_syntax.specs.TreeView.{view_declaration}
-use Rattle.cyc_parse.specs.Parsing.{Parser, Reason, Unexpected, TooDeep, TooLong, Refusal, refuse, ◌>>=◌}
+use Rattle.cyc_parse.specs.Faults.{Refusal, end_of, fault_of}
+use Rattle.cyc_parse.specs.Parsing.{Parser, Unexpected, refuse, ◌>>=◌}
 use Rattle.cyc_parse.specs.Declarations.{program_of}
 
 -- nothing may be left
@@ -22,30 +20,6 @@ at_end a (t ∷ ts) = refuse Unexpected (t ∷ ts)
 -- a program, and nothing behind it
 abbrev pub whole_program : Parser (List Declaration)
 whole_program = program_of >>= at_end
-
--- the code of a refusal at the first of these symbols
-abbrev pub code_of : Reason → List Symbol → Code
-code_of Unexpected [] = codes.UnexpectedEnd
-code_of Unexpected (t ∷ ts) = codes.UnexpectedToken
-code_of TooDeep ts = codes.NestingTooDeep
-code_of TooLong ts = codes.ListTooLong
-
--- the place of the first of these symbols, or with none the end of the text
-abbrev pub place_at : Place → List Symbol → Place
-place_at end [] = end
-place_at end (t ∷ ts) = t.place
-
--- the place just past the last byte of a text
-abbrev pub end_of : List ℕ → Place
-end_of text = record { line = line_behind text; column = column_behind text }
-
--- the fault that a refusal is, in a text that ends at this place
-abbrev pub fault_of : Place → Refusal → Fault
-fault_of end refusal = record {
-  code = code_of refusal.reason refusal.left;
-  line = (place_at end refusal.left).line;
-  column = (place_at end refusal.left).column;
-}
 
 -- The symbols are refused with this fault, in a text that ends at this place.
 pub record IsRefused (end : Place) (symbols : List Symbol) (fault : Fault) : Type 0 where

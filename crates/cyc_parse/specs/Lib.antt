@@ -1,6 +1,7 @@
 -- what the contract of `parse` and the laws rest on
 pub mod Acceptance
 pub mod Refusals
+pub mod Faults
 -- what the functions inside the crate promise each other: the parser as functions on lists of symbols
 pub mod Parsing
 pub mod Types

@@ -10,20 +10,8 @@ use Rattle.cyc_syntax.specs.contracts.tokens.Sign as signs
 use Rattle.cyc_syntax.specs.declared.tokens.Sign.TheVariants as marks
 use Rattle.cyc_syntax.specs.Symbols.{Place, Terminal, Identifier, RegionName, Number, Character, Word, Mark, Symbol}
 use Rattle.cyc_syntax.specs.Trees.{Named}
-
--- why symbols are refused
-pub data Reason : Type 0 where
-  -- no program goes on with this symbol, or none ends here
-  Unexpected : Reason
-  -- the symbol stands too deep
-  TooDeep : Reason
-  -- a list is too long with the item that begins here
-  TooLong : Reason
-
--- a refusal stands at the first of the symbols that are left, or at the end of the text
-pub record Refusal : Type 0 where
-  pub reason : Reason
-  pub left : List Symbol
+pub use Rattle.cyc_parse.specs.Faults.{Reason, Unexpected, TooDeep, TooLong, Refusal}
+pub use Rattle.cyc_parse.specs.Refusals.{next, starts, region_of_terminal, begins_region}
 
 abbrev pub Outcome : Type 0 → Type 0
 Outcome A = Result (A × List Symbol) Refusal
@@ -53,11 +41,6 @@ pure a = λ ts. Ok (a, ts)
 
 abbrev pub refuse : {A : Type 0} → Reason → Parser A
 refuse why = λ ts. Err (record { reason = why; left = ts })
-
--- the terminal of the next symbol
-abbrev pub next : List Symbol → Option Terminal
-next [] = None
-next (t ∷ ts) = Some t.terminal
 
 -- the next symbol, whatever it is: gives its place
 abbrev pub advance : Parser Place
@@ -118,14 +101,6 @@ identifier_name (Character c) = None
 identifier_name (Word k) = None
 identifier_name (Mark s) = None
 
-abbrev pub region_of_terminal : Terminal → Option ℕ
-region_of_terminal (RegionName x) = Some x
-region_of_terminal (Identifier x) = None
-region_of_terminal (Number n) = None
-region_of_terminal (Character c) = None
-region_of_terminal (Word k) = None
-region_of_terminal (Mark s) = None
-
 abbrev pub named : ℕ → Place → Named
 named x p = record { name = x; place = p }
 
@@ -157,11 +132,6 @@ sees s ts = sees_terminal s (next ts)
 
 unfoldable pub if_sees : {A : Type 0} → Sign → Parser A → Parser A → Parser A
 if_sees s p q = λ ts. (if sees s ts then p else q) ts
-
--- whether what comes next begins so
-abbrev pub starts : (Terminal → Bool) → Option Terminal → Bool
-starts begins None = false
-starts begins (Some t) = begins t
 
 unfoldable pub if_starts : {A : Type 0} → (Terminal → Bool) → Parser A → Parser A → Parser A
 if_starts begins p q = λ ts. (if starts begins (next ts) then p else q) ts
@@ -201,9 +171,6 @@ abbrev pub separated : {A : Type 0} → ℕ → (Terminal → Bool) → Parser A
 separated room begins item = item >>= (λ x. more_items room begins item 63 >>= (λ xs. pure (x ∷ xs)))
 
 -- ---- lists of regions
-
-abbrev pub begins_region : Terminal → Bool
-begins_region t = is_some (region_of_terminal t)
 
 abbrev pub regions : ℕ → Parser (List Named)
 regions room = separated room begins_region (region_name room)

@@ -1,13 +1,13 @@
 -- What a refusal of the parser says of the symbols, in the grammar's words. (Which limits there are is this project's
 -- own choice.)
-use Rattle.std.specs.Prelude.{◌≡◌, ℕ, ◌≤◌, ◌<◌, Bool, List, [], ◌∷◌, ◌++◌, length}
+use Rattle.std.specs.Prelude.{◌≡◌, ℕ, ◌≤◌, ◌<◌, Bool, false, List, [], ◌∷◌, ◌++◌, length, Option, Some, None, is_some}
 use Rattle.std.specs.List.{AllByRecursion}
 use Rattle.cyc_syntax.specs.declared.tokens.Sign.TheVariants as signs
-use Rattle.cyc_syntax.specs.Symbols.{Mark, Symbol}
+use Rattle.cyc_syntax.specs.Symbols.{Terminal, Identifier, RegionName, Number, Character, Word, Mark, Symbol}
 use Rattle.cyc_syntax.specs.Trees.{Declaration}
 use Rattle.cyc_syntax.specs.Yields.{Leaf, Yield, program}
 use Rattle.cyc_syntax.specs.Grammar.{HasTree, IsWithin, max_nesting, max_items}
-use Rattle.cyc_parse.specs.Parsing.{Reason, Unexpected, TooDeep, TooLong, Refusal, next, starts, begins_region}
+use Rattle.cyc_parse.specs.Faults.{Reason, Unexpected, TooDeep, TooLong, Refusal}
 
 -- The limit that a leaf breaks. Where it breaks both, it is the nesting that is named.
 abbrev pub Breaks : Reason → Leaf → Type 0
@@ -25,6 +25,27 @@ pub record BreaksFirst (why : Reason) (leaves : Yield) (count : ℕ) : Type 0 wh
   pub place : length before ≡ count
   pub within : AllByRecursion IsWithin before
   pub breaks : Breaks why leaf
+
+-- the terminal of the next symbol
+abbrev pub next : List Symbol → Option Terminal
+next [] = None
+next (t ∷ ts) = Some t.terminal
+
+-- whether what comes next begins so
+abbrev pub starts : (Terminal → Bool) → Option Terminal → Bool
+starts begins None = false
+starts begins (Some t) = begins t
+
+abbrev pub region_of_terminal : Terminal → Option ℕ
+region_of_terminal (RegionName x) = Some x
+region_of_terminal (Identifier x) = None
+region_of_terminal (Number n) = None
+region_of_terminal (Character c) = None
+region_of_terminal (Word k) = None
+region_of_terminal (Mark s) = None
+
+abbrev pub begins_region : Terminal → Bool
+begins_region t = is_some (region_of_terminal t)
 
 -- whether a region comes next
 abbrev pub region_next : List Symbol → Bool

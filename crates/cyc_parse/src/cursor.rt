@@ -6,7 +6,7 @@ ghost use Rattle.cyc_parse.specs.declared.stop.Reason.TheVariants as reasons;
 ghost use Rattle.cyc_parse.specs.declared.stop.Stop.TheVariants.{Refused};
 ghost use Rattle.cyc_syntax.specs.TreeView.{place_of_span, view_name};
 ghost use Rattle.cyc_parse.specs.Code.{Gives, view_terminal, view_symbol, accepted};
-ghost use Rattle.cyc_parse.specs.Answers.{place_at};
+ghost use Rattle.cyc_parse.specs.Faults.{place_at};
 ghost use Rattle.cyc_parse.specs.Declarations.{number_value};
 ghost use Rattle.cyc_parse.specs.Steps.{behind};
 ghost use Rattle.cyc_parse.specs.Parsing.{next, sees, opens_regions, opens_low_byte, advance, take, sign, word, identifier, region_name};

@@ -13,10 +13,11 @@ use Rattle.cyc_types.specs.TypedTrees.{Function, Program}
 use Rattle.cyc_types.specs.Weight.{function_weight}
 use Rattle.cyc_syntax.specs.Weight.{sum_of}
 use Rattle.cyc_meaning.specs.Run.{start}
+use Rattle.cyc_meaning.specs.Sizes.{size_per_weight}
 use Rattle.cyc_words.specs.Simulation.{Preserves}
 use Rattle.cyc_plain.specs.Program.{Routine, Program as PlainProgram, size}
 use Rattle.cyc_soundness.specs.Sound.{IsSound}
-use Rattle.cyc_lower.specs.Lowered.{AreLoweredFunctions, IsLowered, size_per_weight}
+use Rattle.cyc_lower.specs.Lowered.{AreLoweredFunctions, IsLowered}
 use Rattle.cyc_meaning.specs.SourceMachine.{source_machine}
 use Rattle.cyc_select.specs.Labelled.{Labelled, IsCode}
 use Rattle.cyc_select.specs.Selected.{IsCodeOf}

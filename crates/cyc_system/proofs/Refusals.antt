@@ -6,9 +6,9 @@ use Rattle.cyc_words.specs.Decision.{Decides}
 use Rattle.cyc_words.specs.Fault.{memory_fault}
 use Rattle.cyc_types.specs.TypedTrees.{Program}
 use Rattle.cyc_plain.specs.Program.{Program as PlainProgram}
-use Rattle.cyc_lower.specs.declared.limits.TheConstants.{MOST_FUNCTIONS}
+use Rattle.cyc_meaning.specs.Sizes.{max_functions, HasTooMany}
 use Rattle.cyc_lower.specs.Lowered as lowering
-use Rattle.cyc_lower.specs.Lowered.{HasTooMany, IsLowered}
+use Rattle.cyc_lower.specs.Lowered.{IsLowered}
 use Rattle.cyc_frame.specs.Layout as frames
 use Rattle.cyc_frame.specs.Layout.{HasSmallFrames}
 use Rattle.cyc_system.specs.FullPreservation.{IsImageOf}
@@ -37,7 +37,7 @@ module _ {X : Type 0} (Image : Program → X → Type 0) (p : Program) where
     refuses = λ fault large. ⊎_elim (λ many. d.refuses fault many) (λ (few, frame). inl (d.accepts p (refl, few))) large;
   }
 
-  module _ (lowered : PlainProgram) (is : IsLowered p lowered) (few : length p.functions ≤ MOST_FUNCTIONS) (none : (f : Fault) → HasTooMany p f → ⊥) where
+  module _ (lowered : PlainProgram) (is : IsLowered p lowered) (few : length p.functions ≤ max_functions) (none : (f : Fault) → HasTooMany p f → ⊥) where
     -- what the layout refuses
     pub layout_refuses : {Y : Type 0} (Gives : PlainProgram → Y → Type 0) (f : Fault) → Decides (frames.IsAccepted lowered) Gives (frames.IsTooLarge lowered) (frames.IsTooLarge lowered) (Err f)
         → Decides (IsSmall p) Image (IsTooLarge p) (IsTooLarge p) (Err f)

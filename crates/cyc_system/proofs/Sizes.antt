@@ -6,7 +6,7 @@ use Rattle.cyc_types.specs.TypedTrees.{Function, Program}
 use Rattle.cyc_plain.specs.Program.{Routine, Program as PlainProgram, no_routine}
 use Rattle.cyc_meaning.specs.FrameCount.{frame_count}
 use Rattle.cyc_lower.specs.Lowered.{IsLoweredFunction, AreLoweredFunctions, IsLowered}
-use Rattle.cyc_frame.specs.declared.frame.TheConstants.{MOST_FRAME_WORDS}
+use Rattle.cyc_meaning.specs.Sizes.{max_frame_words}
 use Rattle.cyc_frame.specs.Layout.{HasSmallFrames}
 use Rattle.cyc_frame.specs.Layout as frames
 use Rattle.cyc_system.specs.Compiled.{HasLargeFrame, IsSmallEnough}
@@ -68,7 +68,7 @@ module _ (p : Program) (lowered : PlainProgram) (is : IsLowered p lowered) where
       let (h, at, made) = source_at p.functions lowered.functions k is.functions below in
       omega (arith, small.frames k h at, made.frame)
 
-  pub small_above : HasSmallFrames lowered → (k : ℕ) (g : Function) → slice_get p.functions k ≡ Some g → frame_count g ≤ MOST_FRAME_WORDS
+  pub small_above : HasSmallFrames lowered → (k : ℕ) (g : Function) → slice_get p.functions k ≡ Some g → frame_count g ≤ max_frame_words
   small_above small k g at =
       let (below, made) = lowered_at p.functions lowered.functions k g is.functions at in
       omega (arith, small k below, made.frame)

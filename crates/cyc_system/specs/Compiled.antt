@@ -5,9 +5,7 @@ use Rattle.cyc_words.specs.declared.fault.Fault.{Fault}
 use Rattle.cyc_words.specs.declared.fault.Code.TheVariants.{FrameTooLarge}
 use Rattle.cyc_types.specs.TypedTrees.{Function, Program}
 use Rattle.cyc_meaning.specs.FrameCount.{frame_count}
-use Rattle.cyc_lower.specs.declared.limits.TheConstants.{MOST_FUNCTIONS}
-use Rattle.cyc_lower.specs.Lowered.{HasTooMany}
-use Rattle.cyc_frame.specs.declared.frame.TheConstants.{MOST_FRAME_WORDS}
+use Rattle.cyc_meaning.specs.Sizes.{max_functions, max_frame_words, HasTooMany}
 use Rattle.cyc_system.specs.Front.{IsAcceptedText, IsRefusedText, HasFault}
 
 -- a function's frame may need more words than a frame may have, and this is the fault of the first such function
@@ -15,18 +13,18 @@ pub record HasLargeFrame (p : Program) (f : Fault) : Type 0 where
   pub number : ℕ
   pub function : Function
   pub is : slice_get p.functions number ≡ Some function
-  pub large : MOST_FRAME_WORDS < frame_count function
-  pub first : (k : ℕ) (g : Function) → k < number → slice_get p.functions k ≡ Some g → frame_count g ≤ MOST_FRAME_WORDS
+  pub large : max_frame_words < frame_count function
+  pub first : (k : ℕ) (g : Function) → k < number → slice_get p.functions k ≡ Some g → frame_count g ≤ max_frame_words
   pub fault : f ≡ record { code = FrameTooLarge; line = function.place.line; column = function.place.column }
 
 -- a program is too large, and this is its fault: the number of functions comes before their frames
 abbrev pub IsTooLarge : Program → Fault → Type 0
-IsTooLarge p f = HasTooMany p f ⊎ ((length p.functions ≤ MOST_FUNCTIONS) × HasLargeFrame p f)
+IsTooLarge p f = HasTooMany p f ⊎ ((length p.functions ≤ max_functions) × HasLargeFrame p f)
 
 -- it is not too large
 pub record IsSmallEnough (p : Program) : Type 0 where
-  pub functions : length p.functions ≤ MOST_FUNCTIONS
-  pub frames : (k : ℕ) (g : Function) → slice_get p.functions k ≡ Some g → frame_count g ≤ MOST_FRAME_WORDS
+  pub functions : length p.functions ≤ max_functions
+  pub frames : (k : ℕ) (g : Function) → slice_get p.functions k ≡ Some g → frame_count g ≤ max_frame_words
 
 -- this program, where it is not too large
 abbrev pub IsSmall : (given p : Program) → Type 0

@@ -21,12 +21,11 @@ use Rattle.cyc_machine.specs.declared.event.End.{End}
 use Rattle.cyc_machine.specs.declared.event.End.TheVariants.{Trap}
 use Rattle.cyc_types.specs.TypedTrees.{GlobalVariable, Program}
 use Rattle.cyc_types.specs.Weight.{program_weight}
-use Rattle.cyc_lower.specs.Lowered.{size_per_weight}
-use Rattle.cyc_select.specs.declared.constants.TheConstants.{MAX_START_WORDS}
 use Rattle.cyc_meaning.specs.State as meaning
 use Rattle.cyc_meaning.specs.State.{State, HasEnded}
 use Rattle.cyc_meaning.specs.Run.{start, limited_run}
 use Rattle.cyc_meaning.specs.FrameCount.{words_of_all}
+use Rattle.cyc_meaning.specs.Sizes.{size_per_weight, max_start_words}
 use Rattle.cyc_words.specs.Simulation.{Preserves}
 use Rattle.cyc_meaning.specs.SourceMachine.{source_machine, seen_of}
 use Rattle.cyc_machine.specs.WorldMachine.{world_machine, seen_of as seen_in}
@@ -67,7 +66,7 @@ pub record IsImageOf (p : Program) (file : List ℕ) : Type 0 where
   pub loads : IsLoadable image
   pub does : DoesTheSame p image
   -- it is no longer than its text: so many words for each token that the program's spelling needs, and those of the start
-  pub few : text_words image ≤ MAX_START_WORDS + size_per_weight * program_weight p
+  pub few : text_words image ≤ max_start_words + size_per_weight * program_weight p
 
 -- ---- the same in the words of the two runs
 

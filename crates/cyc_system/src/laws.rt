@@ -11,8 +11,7 @@ ghost use Rattle.cyc_store.specs.New.{IsNew};
 ghost use Rattle.cyc_machine.specs.Bounds.{Bounds, AreAllowed};
 ghost use Rattle.cyc_words.specs.declared.fault.Fault.{Fault};
 ghost use Rattle.cyc_types.specs.TypedTrees.{Program};
-ghost use Rattle.cyc_lower.specs.Lowered.{size_per_weight};
-ghost use Rattle.cyc_select.specs.declared.constants.TheConstants.{MAX_START_WORDS};
+ghost use Rattle.cyc_meaning.specs.Sizes.{size_per_weight, max_start_words};
 ghost use Rattle.cyc_types.specs.Texts.{IsOfTextProgram};
 ghost use Rattle.cyc_soundness.specs.Sound.{IsSound};
 ghost use Rattle.cyc_system.specs.Front.{IsAcceptedText, IsRefusedText};
@@ -58,7 +57,7 @@ pub fn compiled_images_load()
 /// a run of n steps of the program takes at most (n + 1) * (7 + 100 * t) instructions, where t is the number of tokens.
 pub fn compiled_images_are_small()
     ensures { (text : List ℕ) (p : Program) (file : List ℕ) → (a : IsAcceptedText text p) → (is : IsImageOf p file)
-        → text_words is.image ≤ MAX_START_WORDS + size_per_weight * length a.tokens }
+        → text_words is.image ≤ max_start_words + size_per_weight * length a.tokens }
 {}
 
 /// The ranges of the limits that an image may carry are those of every run's.

@@ -15,8 +15,8 @@ use Rattle.cyc_plain.specs.Program.{Program as PlainProgram, size}
 use Rattle.cyc_plain.specs.WellFormed.{IsPlain}
 use Rattle.cyc_syntax.specs.TokenRule.{max_tokens}
 use Rattle.cyc_lower.specs.Lowering.{lower_function, lower_program, globals_of, scopes_of}
-use Rattle.cyc_lower.specs.declared.limits.TheConstants.{MOST_FUNCTIONS}
-use Rattle.cyc_lower.specs.Lowered.{AreLoweredFunctions, CanBeLowered, HasTooMany, IsAccepted, IsLowered, size_per_weight}
+use Rattle.cyc_meaning.specs.Sizes.{max_functions, size_per_weight, HasTooMany}
+use Rattle.cyc_lower.specs.Lowered.{AreLoweredFunctions, CanBeLowered, IsAccepted, IsLowered}
 use Rattle.cyc_lower.proofs.sizes.Routines.{one_too_many}
 use Rattle.cyc_lower.proofs.relation.Fitting.{is_fitting_program}
 use Rattle.cyc_lower.proofs.sizes.Sizes.{function_size}
@@ -54,8 +54,8 @@ is_plain source well fit light = record {
 }
 
 -- too many functions are more than there may be
-pub too_many : (source : Program) (fault : Fault) → HasTooMany source fault → MOST_FUNCTIONS < length source.functions
-too_many source fault (h, there, is) = slice_get_within source.functions MOST_FUNCTIONS h there
+pub too_many : (source : Program) (fault : Fault) → HasTooMany source fault → max_functions < length source.functions
+too_many source fault (h, there, is) = slice_get_within source.functions max_functions h there
 
 -- ---- answers
 
@@ -78,7 +78,7 @@ pub refused : (source : Program) (fault : Fault) → (fault ≡ memory_fault) �
 refused source fault why =
     decides (IsAccepted source) IsLowered (HasTooMany source) (HasTooMany source) (is_decided source) (Err fault) tt why
 
-pub lowered : (source : Program) (plain : PlainProgram) → IsWellTypedProgram source → CanBeLowered source → length source.functions ≤ MOST_FUNCTIONS
+pub lowered : (source : Program) (plain : PlainProgram) → IsWellTypedProgram source → CanBeLowered source → length source.functions ≤ max_functions
     → plain ≡ lower_program source → Answers source (Ok plain)
 lowered source plain well fit few is =
     decides (IsAccepted source) IsLowered (HasTooMany source) (HasTooMany source) (is_decided source) (Ok plain)

@@ -14,8 +14,7 @@ use Rattle.cyc_lower.specs.Slots.{starts_from}
 use Rattle.cyc_lower.specs.ValueCode.{first_temporary, slot_types, blocks}
 use Rattle.cyc_lower.specs.ControlCode.{outside_loops}
 use Rattle.cyc_lower.specs.Lowering.{items_code, farthest, with_blocks, finished_code, function_code, raises_of, body_code, starts_with}
-use Rattle.cyc_lower.specs.declared.limits.TheConstants.{MOST_FUNCTIONS}
-use Rattle.cyc_lower.specs.Lowered.{HasTooMany}
+use Rattle.cyc_meaning.specs.Sizes.{max_functions, HasTooMany}
 use Rattle.cyc_frame_count.specs.Needs.{most_frame_count}
 use Rattle.cyc_lower.specs.Emission.{most_locals}
 use Rattle.cyc_lower.proofs.slots.Slots.{slots-few}
@@ -79,9 +78,9 @@ fault_is f c l k a b d =
     ∙ ap (λ (x : ℕ). record { code = c; line = x; column = f.column }) b
     ∙ ap (λ (x : ℕ). record { code = c; line = l; column = x }) d
 
-pub too_many : (t : TypedTree) (x : FunctionCode) (f : Fault) → MOST_FUNCTIONS < length t.functions.items → x ≡ get_or t.functions.items MOST_FUNCTIONS x
+pub too_many : (t : TypedTree) (x : FunctionCode) (f : Fault) → max_functions < length t.functions.items → x ≡ get_or t.functions.items max_functions x
     → f.code ≡ TooManyFunctions → f.line ≡ x.span.line → f.column ≡ x.span.column → HasTooMany (view_program t) f
-too_many t x f more at a b d = (view_function x, numbered_at view_function t.functions.items MOST_FUNCTIONS x more at, fault_is f TooManyFunctions x.span.line x.span.column a b d)
+too_many t x f more at a b d = (view_function x, numbered_at view_function t.functions.items max_functions x more at, fault_is f TooManyFunctions x.span.line x.span.column a b d)
 
 pub one_too_many : (p : Program) (f g : Fault) → HasTooMany p f → HasTooMany p g → f ≡ g
 one_too_many p f g (h, e, a) (k, d, b) =

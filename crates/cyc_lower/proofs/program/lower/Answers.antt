@@ -1,7 +1,7 @@
 use Rattle.std.proofs.Common.{◌<◌, ◌≤◌, inr, length, arith}
 use Rattle.std.proofs.lemmas.List.{length-map}
 use Rattle.cyc_types.specs.TypedTreeView.{view_function, view_program}
-use Rattle.cyc_lower.specs.declared.limits.TheConstants.{MOST_FUNCTIONS}
+use Rattle.cyc_meaning.specs.Sizes.{max_functions}
 use Rattle.cyc_lower.proofs.sizes.Lowerings.{lowered, refused}
 use Rattle.cyc_lower.proofs.sizes.NeedBounds.{small_frames}
 use Rattle.cyc_lower.proofs.sizes.Routines.{too_many}
@@ -10,7 +10,7 @@ use Rattle.cyc_lower.proofs.program.lower.Goals as goal
 pub returns-then-len-gt-MOST_FUNCTIONS : goal.returns-then-len-gt-MOST_FUNCTIONS
 returns-then-len-gt-MOST_FUNCTIONS c =
     let t = c.args.program.now.tree in
-    let more : MOST_FUNCTIONS < length t.functions.items = omega (arith, c.if-len-gt-MOST_FUNCTIONS.true, c.len.ensures, t.functions.ok.0) in
+    let more : max_functions < length t.functions.items = omega (arith, c.if-len-gt-MOST_FUNCTIONS.true, c.len.ensures, t.functions.ok.0) in
     refused (view_program t) c.new.result (inr (too_many t c.index.result.now c.new.result more c.index.ensures c.new.ensures.code c.new.ensures.line c.new.ensures.column))
 
 pub lower_tree-requires-clause-few : goal.lower_tree-requires-clause-few
@@ -19,6 +19,6 @@ lower_tree-requires-clause-few c = small_frames (view_program c.args.program.now
 pub returns : goal.returns
 returns c =
     let t = c.args.program.now.tree in
-    let few : length (view_program t).functions ≤ MOST_FUNCTIONS
+    let few : length (view_program t).functions ≤ max_functions
     = omega (arith, c.if-len-gt-MOST_FUNCTIONS.false, c.len.ensures, t.functions.ok.0, length-map t.functions.items view_function) in
     lowered (view_program t) c.in_ok-plain.plain c.requires.well_typed c.requires.can_be few c.in_ok-plain.ensures

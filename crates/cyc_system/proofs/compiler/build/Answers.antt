@@ -4,7 +4,7 @@ use Rattle.std.proofs.lemmas.Result.{err_from_is_err_and}
 use Rattle.cyc_types.specs.TypedTrees.{Program}
 use Rattle.cyc_types.specs.TypedTreeView.{view_program}
 use Rattle.cyc_plain.specs.Program.{Program as PlainProgram}
-use Rattle.cyc_lower.specs.declared.limits.TheConstants.{MOST_FUNCTIONS}
+use Rattle.cyc_meaning.specs.Sizes.{max_functions}
 use Rattle.cyc_soundness.specs.Sound.{IsSound}
 use Rattle.cyc_lower.specs.Lowered.{IsLowered}
 use Rattle.cyc_frame.specs.Layout.{AreFrames, HasSmallFrames}
@@ -23,7 +23,7 @@ returns-in_err-frames-clause-decides c =
     let (a, (same, few), is) = c.in_ok-plain.ensures.accepted in
     let e = err_from_is_err_and c.from_residual-in_err-frames.result c.from_residual-in_err-frames.ensures.1 in
     rw (e.1, e.2) (layout_refuses (λ q file. IsImageOf q file.items) p c.in_ok-plain.plain
-    (subst (λ (q : Program). IsLowered q c.in_ok-plain.plain) same is) (subst (λ (q : Program). length q.functions ≤ MOST_FUNCTIONS) same few)
+    (subst (λ (q : Program). IsLowered q c.in_ok-plain.plain) same is) (subst (λ (q : Program). length q.functions ≤ max_functions) same few)
     c.in_ok-plain.ensures.refuses _ c.in_err-frames.field-0.0 c.in_err-frames.ensures)
 
 -- the image of the program that was lowered to the plain one
@@ -38,7 +38,7 @@ returns-clause-decides c =
     let (a, (one, few), is) = c.in_ok-plain.ensures.accepted in
     let (l, (same, small), are) = c.in_ok-frames.ensures.accepted in
     let lowered = subst (λ (q : Program). IsLowered q c.in_ok-plain.plain) one is in
-    image_answers (λ q file. IsImageOf q file.items) p c.in_ok-plain.plain lowered (subst (λ (q : Program). length q.functions ≤ MOST_FUNCTIONS) one few)
+    image_answers (λ q file. IsImageOf q file.items) p c.in_ok-plain.plain lowered (subst (λ (q : Program). length q.functions ≤ max_functions) one few)
     c.in_ok-plain.ensures.refuses (subst HasSmallFrames same small) c.in_ok-frames.ensures.refuses
     c.compile_plain.result
     (image_there (λ q file. IsImageOf q file.items) p c.in_ok-plain.plain c.compile_plain.result c.requires.sound lowered c.compile_plain.ensures.image) c.compile_plain.ensures.refused
