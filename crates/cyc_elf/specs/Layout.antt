@@ -1,6 +1,7 @@
--- The one file that the writer makes of an image: the file header, the program headers, the segments'
--- bytes in order, each padded with zeros to whole words, and last the note, where the image has limits. There is nothing else,
--- so each field that points to a section table is 0.
+-- The one file that the writer makes of an image: the file header, the program headers, the segments' bytes in order, each
+-- padded with zeros to whole words, and last the note, where the image has limits. There is nothing else, so each field that
+-- points to a section table is 0. (The headers are those of the System V ABI; this one layout of them is this project's own
+-- choice.)
 use Rattle.std.specs.Prelude.{ℕ, ◌+◌, ◌-◌, ◌*◌, ◌^◌, ◌<◌, Option, Some, None, List, [], ◌∷◌, ◌++◌, length, replicate, All}
 use Rattle.std.specs.List.{flat_map}
 use Rattle.byteorder.specs.Endian.{big_bytes}

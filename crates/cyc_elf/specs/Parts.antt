@@ -1,5 +1,5 @@
--- What the parts of the reader answer. The reader's own contract cites none of this: `proofs/` shows that
--- the parts together answer as the rules do.
+-- What the parts of the reader answer. The reader's own contract cites none of this: `proofs/` shows that the parts
+-- together answer as the rules do. (This project's own choice.)
 use Rattle.std.specs.Prelude.{ℕ, ◌+◌, ◌^◌, ◌<◌, Bool, true, not, ◌&&◌, nat_le, ◌==◌, if◌then◌else◌, Option, Some, None, is_some, List, [], ◌∷◌, ◌++◌, map}
 use Rattle.std.specs.List.{list_any}
 use Rattle.cyc_elf.specs.declared.fault.ElfFault.{ElfFault}

@@ -1,5 +1,6 @@
--- Which image a file is, or what is wrong with it: the rules of the format in the order in which a broken
--- one is named, each with the fault that it is named by. Sums are of whole numbers and do not wrap.
+-- Which image a file is, or what is wrong with it: the rules of the format in the order in which a broken one is named,
+-- each with the fault that it is named by. Sums are of whole numbers and do not wrap. (What the fields mean is in the
+-- System V ABI; which images are refused, and the order of the rules, are this project's own choice.)
 use Rattle.std.specs.Prelude.{◌≡◌, ℕ, ◌+◌, ◌*◌, ◌%◌, ◌^◌, Bool, true, not, ◌&&◌, nat_lt, nat_le, nat_eq, ◌==◌, if◌then◌else◌, min, max, Option, Some, None, Result, Ok, Err, List, [], ◌∷◌, ◌++◌, length, map, filter, take, drop}
 use Rattle.std.specs.List.{list_any, starts_with}
 use Rattle.cyc_elf.specs.declared.fault.ElfFault.{ElfFault}

@@ -1,5 +1,5 @@
 -- The words in which the laws of the step are said: what is seen of it, by its focus and the control stack alone, what it
--- changes, and what stays.
+-- changes, and what stays. (This project's own choice.)
 use Rattle.std.specs.Prelude.{◌≡◌, ℕ, suc, ◌+◌, ◌%◌, Bool, true, false, if◌then◌else◌, List, [], ◌∷◌, ◌++◌, drop, Option, Some, slice_get}
 use Rattle.cyc_types.specs.declared.typed.Kind.{Kind}
 use Rattle.cyc_types.specs.declared.typed.Callee.TheVariants as callees

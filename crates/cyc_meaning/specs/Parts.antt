@@ -1,6 +1,7 @@
 -- Parts of which steps are made: what a step comes to, and reads, writes and makings with their checks. Shapes are checked as a program
 -- goes: a cell that is read or written has the kind that the tree says, and so has what is stored in it. Where no case applies the
--- outcome is `Wrong`, and where something closed or freed is touched it is `Dead`.
+-- outcome is `Wrong`, and where something closed or freed is touched it is `Dead`. (That a closed region is not accessed is the
+-- property of Grossman et al. 2002; the form of outcomes and the checks of shapes are this project's own choice.)
 use Rattle.std.specs.Prelude.{ℕ, ◌==◌, Bool, true, false, if◌then◌else◌, List, [], ◌∷◌, length, Option, Some, None, slice_get}
 use Rattle.cyc_words.specs.Ending.{Ending}
 use Rattle.cyc_types.specs.declared.typed.Kind.{Kind}

@@ -1,4 +1,5 @@
 -- The source as a machine, for what is said of any machine: with given limits a program has one run for each input.
+-- (This project's own choice.)
 use Rattle.std.specs.Prelude.{◌≡◌, ℕ}
 use Rattle.cyc_words.specs.Seen.{Seen, showing}
 use Rattle.cyc_words.specs.Simulation.{Machine, Status, Running, Ended, Failed}

@@ -1,4 +1,5 @@
 -- How the answers of the trait's methods are read. `None` is want of memory, which the relation of the services does not know.
+-- (This project's own choice.)
 use Rattle.std.specs.Prelude.{◌≡◌, ℕ, Bool, true, Option, Some, None, Result, Ok, Err}
 use Rattle.cyc_store.specs.State.{StoreState}
 use Rattle.cyc_store.specs.Services.{Call, Answer, Refused, Done, Opened, OpenedLexical, Allocated, refusal, Serves}

@@ -1,4 +1,5 @@
 -- Lists that are looked up by a number of each element's own, its key, so that nothing shifts where an element is taken out.
+-- (This project's own choice.)
 use Rattle.std.specs.Prelude.{◌≡◌, ℕ, ◌==◌, List, [], ◌∷◌, Option, Some, None, if◌then◌else◌}
 
 -- the first element with this number

@@ -1,4 +1,5 @@
--- What a list of calls of a store comes to: a run of the store relation over them, in order.
+-- What a list of calls of a store comes to: a run of the store relation over them, in order. (This project's own
+-- choice.)
 use Rattle.std.specs.Prelude.{◌≡◌, ℕ, ◌⊎◌, Bool, true, List, [], ◌∷◌, Option, Some, None}
 use Rattle.cyc_store.specs.State.{StoreState}
 use Rattle.cyc_store.specs.Services as services

@@ -1,4 +1,4 @@
--- The stores that a run may begin with.
+-- The stores that a run may begin with. (This project's own choice.)
 use Rattle.std.specs.Prelude.{◌≡◌, ℕ}
 use Rattle.cyc_store.specs.State.{Memory, AreWords, StoreState, start}
 

@@ -1,5 +1,6 @@
 -- The page model: blocks are laid out page by page. A page is free or has an owner, the handle of a region; its words are
--- filled from the first on, up to its fill mark. Nothing here says how pages and marks are kept.
+-- filled from the first on, up to its fill mark. Nothing here says how pages and marks are kept. (Pages that are filled
+-- in order are those of region allocators (Grossman et al. 2002); the model is this project's own choice.)
 use Rattle.std.specs.Prelude.{◌≡◌, ℕ, ◌+◌, ◌*◌, ◌<◌, ◌≤◌, ◌==◌, suc, nat_le, if◌then◌else◌, List, [], ◌∷◌, length, Option, Some, None}
 use Rattle.std.specs.List.{AllByRecursion}
 use Rattle.cyc_words.specs.Simulation.{IsDistinct}

@@ -1,4 +1,4 @@
--- Lists of calls of a store, one after another.
+-- Lists of calls of a store, one after another. (This project's own choice.)
 use Rattle.std.specs.Prelude.{◌≡◌, ℕ, Bool, List, [], ◌∷◌, Option, is_some}
 use Rattle.cyc_words.specs.Word.{IsWord}
 use Rattle.cyc_store.specs.State.{StoreState, word_at, saved}

@@ -1,5 +1,5 @@
 -- The page model with unique blocks: a page of a class is cut into slots of the class's size, and each slot has a live block
--- or none. All slots that no block is in are on the class's list of dead ones.
+-- or none. All slots that no block is in are on the class's list of dead ones. (This project's own choice.)
 use Rattle.std.specs.Prelude.{◌≡◌, ℕ, zero, suc, ◌+◌, ◌*◌, ◌^◌, ◌<◌, ◌≤◌, true, List, [], ◌∷◌, Option, None, Some, length, slice_index, set}
 use Rattle.std.specs.List.{AllByRecursion}
 use Rattle.cyc_words.specs.Demand.{greatest_class, class_of, blocks_in_page}

@@ -1,4 +1,4 @@
--- What is true of every store that began empty and was served.
+-- What is true of every store that began empty and was served. (This project's own choice.)
 use Rattle.std.specs.Prelude.{◌≡◌, ℕ, ◌≤◌, true, List, Some, length, slice_index}
 use Rattle.cyc_words.specs.Demand.{pages_for, greatest_class}
 use Rattle.cyc_store.specs.Lookup.{AreDistinct}

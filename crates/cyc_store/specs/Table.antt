@@ -1,4 +1,4 @@
--- The table of the pages of a store: what it reads at a page, and what the calls on it do.
+-- The table of the pages of a store: what it reads at a page, and what the calls on it do. (This project's own choice.)
 use Rattle.std.specs.Prelude.{◌≡◌, ℕ, zero, suc, ◌+◌, ◌*◌, ◌<◌, ◌≤◌, ◌⊎◌, Bool, false, ◌&&◌, nat_le, nat_lt, if◌then◌else◌, List, length, slice_index, slice_index_or, set}
 use Rattle.cyc_store.specs.declared.row.PageTable.{PageTable}
 use Rattle.cyc_store.specs.declared.row.Row.{Row}

@@ -1,5 +1,6 @@
 -- Which trees a list of symbols has: those of the grammar. `Yields` has the productions; here stand the conditions that
--- they put on the parts of a tree, and what it is to be spelled by a yield.
+-- they put on the parts of a tree, and what it is to be spelled by a yield. (The grammar is the Cyclone
+-- manual's; its levels of operators and the place of an `else` are C's; the limits are this project's own choice.)
 use Rattle.std.specs.Prelude.{◌≡◌, ℕ, suc, ◌≤◌, ◌<◌, Bool, true, false, List, [], ◌∷◌, Option}
 use Rattle.std.specs.List.{AllByRecursion}
 use Rattle.std.specs.Option.{IfSome}

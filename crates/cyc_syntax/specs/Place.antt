@@ -1,4 +1,4 @@
--- Where a place of the code stands.
+-- Where a place of the code stands. (That columns count bytes is this project's own choice.)
 use Rattle.std.specs.Prelude.{◌≡◌, ℕ, List}
 use Rattle.cyc_words.specs.declared.span.Span.{Span}
 use Rattle.cyc_syntax.specs.TokenRule.{line_behind, column_behind}

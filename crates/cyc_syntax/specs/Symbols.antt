@@ -1,5 +1,5 @@
 -- The symbols that the grammar reads: tokens whose names are numbers. A name has the number of its text in the list of
--- the distinct texts of a program's identifiers and region names, in first-seen order.
+-- the distinct texts of a program's identifiers and region names, in first-seen order. (This project's own choice.)
 use Rattle.std.specs.Prelude.{ℕ, List, [], ◌∷◌, map}
 use Rattle.cyc_syntax.specs.declared.tokens.Keyword.{Keyword}
 use Rattle.cyc_syntax.specs.declared.tokens.Sign.{Sign}

@@ -1,5 +1,6 @@
 -- Abstract syntax trees as the grammar and all later definitions speak of them: values with no memory behind them. A
--- name is a number. Lists of nodes are chains of constructors of their own.
+-- name is a number. Lists of nodes are chains of constructors of their own. (The form of trees is this project's own
+-- choice; what they stand for is in the Cyclone manual's grammar.)
 use Rattle.std.specs.Prelude.{ℕ, Bool, List, Option}
 use Rattle.cyc_syntax.specs.declared.tree.PointerKind.{PointerKind}
 use Rattle.cyc_syntax.specs.declared.tree.PrefixOperator.{PrefixOperator}

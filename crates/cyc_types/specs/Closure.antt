@@ -1,4 +1,5 @@
--- The outlives relation as tests that compute, and what a table of constraints keeps.
+-- The outlives relation as tests that compute, and what a table of constraints keeps. (The relation is that of Grossman
+-- et al. 2002; the tests are this project's own choice.)
 use Rattle.std.specs.Prelude.{◌≡◌, ℕ, Bool, true, false, ◌&&◌, ◌||◌, not, if◌then◌else◌, List, [], ◌∷◌, map, reverse, take, Option, Some, None}
 use Rattle.std.specs.List.{list_any, list_all}
 use Rattle.cyc_types.specs.declared.region.Region.{Region}

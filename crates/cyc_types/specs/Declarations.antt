@@ -1,4 +1,4 @@
--- What a typed statement declares: its locals and its regions, in order of their numbers.
+-- What a typed statement declares: its locals and its regions, in order of their numbers. (This project's own choice.)
 use Rattle.std.specs.Prelude.{ℕ, suc, ◌+◌, List, [], ◌∷◌, ◌++◌, Option, None, Some}
 use Rattle.cyc_types.specs.declared.region.Region.TheVariants as regions
 use Rattle.cyc_types.specs.Types.{Ty, Int, Handle, Key}

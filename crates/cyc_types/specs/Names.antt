@@ -1,4 +1,5 @@
 -- How the code finds what a region name stands for: in a table of what each name stands for now. A binding keeps what it hides.
+-- (This project's own choice.)
 use Rattle.std.specs.Prelude.{◌≡◌, ℕ, List, [], ◌∷◌, map, reverse, get_or, Option, None}
 use Rattle.cyc_types.specs.declared.region.Region.{Region}
 use Rattle.cyc_types.specs.declared.names.Binding.{Binding}

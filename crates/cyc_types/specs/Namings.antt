@@ -1,4 +1,4 @@
--- Names of regions as the code keeps them.
+-- Names of regions as the code keeps them. (This project's own choice.)
 use Rattle.std.specs.Prelude.{ℕ, List, [], ◌∷◌}
 use Rattle.cyc_types.specs.declared.region.Region.TheVariants.{Heap, Unique}
 use Rattle.cyc_types.specs.typing.Scopes.{RegionName}

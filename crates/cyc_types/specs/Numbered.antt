@@ -1,4 +1,4 @@
--- What a typed tree may name, by number, as later phases ask it of each form.
+-- What a typed tree may name, by number, as later phases ask it of each form. (This project's own choice.)
 use Rattle.std.specs.Prelude.{◌≡◌, ℕ, suc, ◌+◌, ◌<◌, List, [], ◌∷◌, Option, Some, map, length, slice_get}
 use Rattle.cyc_types.specs.declared.typed.Callee.{Callee}
 use Rattle.cyc_types.specs.declared.typed.Callee.TheVariants as callees

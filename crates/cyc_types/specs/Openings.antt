@@ -1,5 +1,5 @@
 -- Where the oldest open scope of a region stands, and open scopes through which no search is needed: at each whose region is outlived by
--- what is live, the region is new.
+-- what is live, the region is new. (This project's own choice.)
 use Rattle.std.specs.Prelude.{◌≡◌, ◌⊎◌, ◌<◌, ◌≤◌, ℕ, true, false, List, get_or, take, reverse, length}
 use Rattle.cyc_types.specs.declared.region.Region.{Region}
 use Rattle.cyc_types.specs.declared.region.Region.TheVariants.{Heap, Unique, Variable}

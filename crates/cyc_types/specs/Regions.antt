@@ -1,4 +1,5 @@
--- Regions: their equality as a test, and the substitution of region variables.
+-- Regions: their equality as a test, and the substitution of region variables. (Region variables, and what is put in
+-- their place, are those of Grossman et al. 2002.)
 use Rattle.std.specs.Prelude.{◌==◌, Bool, true, false, List, slice_index_or}
 use Rattle.std.specs.List.{list_any}
 use Rattle.cyc_types.specs.declared.region.Region.{Region}

@@ -1,4 +1,4 @@
--- How the code finds a struct by its name: in a table of the first struct of each name.
+-- How the code finds a struct by its name: in a table of the first struct of each name. (This project's own choice.)
 use Rattle.std.specs.Prelude.{ℕ, suc, nat_eq, if◌then◌else◌, List, [], ◌∷◌, Option, Some, None}
 use Rattle.cyc_types.specs.declared.structs.Entry.{Entry}
 use Rattle.cyc_types.specs.declared.structs.Known.{Known}

@@ -1,6 +1,6 @@
 -- WHAT TYPED PROGRAMS OF TEXTS HAVE beyond what the typing rules ask of a typed tree. A struct has few fields, since the lists of a text
 -- are short. The number of an exception is a word, since a text has few tokens. And arithmetic on pointers stands in chains of its own,
--- since `+` and `-` bind more closely than what compares.
+-- since `+` and `-` bind more closely than what compares. (This project's own choice.)
 use Rattle.std.specs.Prelude.{◌≡◌, ◌≤◌, Bool, true, false, not, ◌&&◌, List, [], ◌∷◌, Option, Some, None}
 use Rattle.cyc_words.specs.Word.{IsWord}
 use Rattle.cyc_syntax.specs.Grammar.{max_items}

@@ -3,7 +3,7 @@
 -- refuse there.
 --
 -- Nobody needs an environment of names or the type of an operand to say what a tree does: what a variable's value is used for, and
--- what an operator works on, are told apart by the nodes.
+-- what an operator works on, are told apart by the nodes. (The form of typed trees is this project's own choice.)
 use Rattle.std.specs.Prelude.{ℕ, Bool, List, Option, None, Some}
 use Rattle.cyc_syntax.specs.Symbols.{Place}
 use Rattle.cyc_types.specs.declared.region.Region.{Region}

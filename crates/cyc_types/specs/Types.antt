@@ -1,4 +1,6 @@
--- Types as all definitions speak of them: values with no memory behind them.
+-- Types as all definitions speak of them: values with no memory behind them. (Types, marks of pointers, handles and
+-- keys are Cyclone's, Grossman et al. 2002 and the User's Manual, 1.0; which of them there are is this project's own
+-- choice.)
 use Rattle.std.specs.Prelude.{ℕ, List, map, Option, None, Some}
 use Rattle.cyc_syntax.specs.declared.tree.PointerKind.{PointerKind}
 use Rattle.cyc_syntax.specs.declared.tree.PointerKind.TheVariants.{Nullable, NonNull, Fat}

@@ -1,7 +1,7 @@
--- The weight of a typed tree: how many tokens its spelling has at least, for the passes whose output is bounded by it. It counts as
--- the weight of an abstract syntax tree does. Brackets are gone, and so is what may have been left out: an `else` with an empty
--- statement, the value of a global that is 0 or null, the `void` of an empty list of parameters, labels, regions behind marks, effects and
--- constraints. Structs and exceptions count nothing: they have no code.
+-- The weight of a typed tree: how many tokens its spelling has at least, for the passes whose output is bounded by it. It counts as the
+-- weight of an abstract syntax tree does. Brackets are gone, and so is what may have been left out: an `else` with an empty statement, the
+-- value of a global that is 0 or null, the `void` of an empty list of parameters, labels, regions behind marks, effects and constraints.
+-- Structs and exceptions count nothing: they have no code. (This project's own choice.)
 use Rattle.std.specs.Prelude.{ℕ, zero, suc, ◌+◌, Option, None, Some}
 use Rattle.cyc_syntax.specs.Weight.{sum_of, separated_weight, optional_weight}
 use Rattle.cyc_types.specs.declared.typed.UnaryOperator.{UnaryOperator}

@@ -51,7 +51,7 @@ pub enum Code {
     NotOutlived = 25,
     /// The caller may not touch a region that the callee's effect names. Place: the callee's name.
     EffectNotCovered = 26,
-    /// A unique value is read in a place that others share, or `&` is taken of a unique variable or into a
+    /// A unique value is read in a place that others share, or `&` is taken of a place that has one or into a
     /// unique object. Place: the first token of the place that is read or taken.
     UniqueShared = 27,
     /// An expression stands where a place (an lvalue) is needed. Place: the first token of the expression.

@@ -1,5 +1,6 @@
 -- THE FLOW RULES of functions and of a program: at the start of a function its parameters hold values, and the end of one with a result
--- is never reached.
+-- is never reached. (As in `Expressions`: what a variable has to hold is Cyclone's, Grossman et al. 2002; codes and places are this
+-- project's own choice.)
 use Rattle.std.specs.Prelude.{not, List, [], ◌∷◌, ◌++◌, Option, Some, None}
 use Rattle.cyc_words.specs.declared.fault.Code.TheVariants as codes
 use Rattle.cyc_words.specs.declared.fault.Fault.{Fault}

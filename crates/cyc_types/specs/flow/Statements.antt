@@ -1,5 +1,6 @@
 -- THE FLOW RULES of statements, of items and of clauses. What is known is carried along in the order in which a program is run, with what
--- is known at the breaks that leave the loop around.
+-- is known at the breaks that leave the loop around. (As in `Expressions`: what a variable has to hold is Cyclone's, Grossman et al.
+-- 2002; locks, codes and places are this project's own choice.)
 use Rattle.std.specs.Prelude.{ℕ, List, [], ◌∷◌, ◌++◌, Option, Some, None}
 use Rattle.cyc_syntax.specs.Symbols.{Place}
 use Rattle.cyc_types.specs.TypedTrees.{Local, Global, Expression, Converted, Side, VariableSide, CellSide, Statement, Block, Empty, Evaluate, Swap, If, While, Return, Break, Continue, Throw, Try, Items, NoItems, MoreItems, Item, Execute, Declare, DeclareRegion, OpenRegion, DeclareAlias, DeclareKey, Clauses, NoClauses, Default, Case}

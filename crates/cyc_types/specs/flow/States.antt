@@ -1,4 +1,5 @@
--- What is known of each local where a typed tree stands: whether it holds a value.
+-- What is known of each local where a typed tree stands: whether it holds a value. (The three states are this project's
+-- own choice.)
 use Rattle.std.specs.Prelude.{ℕ, Bool, true, false, ◌&&◌, if◌then◌else◌, List, [], ◌∷◌, get_or, slice_set}
 
 -- In rising order: it may hold nothing, it holds a value that is lent out, it holds a value.

@@ -1,5 +1,6 @@
 -- A type as it is written becomes a type by total functions, with defaults for what is left out and for what is not known. What may be
--- wrong with it is told apart from that, by demands.
+-- wrong with it is told apart from that, by demands. (That a region may be left out is Cyclone's, Grossman et al. 2002; the defaults,
+-- the codes and their order are this project's own choice.)
 use Rattle.std.specs.Prelude.{ℕ, suc, Bool, true, false, nat_eq, not, ◌||◌, if◌then◌else◌, List, [], ◌∷◌, ◌++◌, map, replicate, length, Option, None, Some, is_some, unwrap_or}
 use Rattle.cyc_words.specs.declared.fault.Code.TheVariants as codes
 use Rattle.cyc_syntax.specs.declared.tree.PointerKind.{PointerKind}

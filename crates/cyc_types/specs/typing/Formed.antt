@@ -1,5 +1,6 @@
 -- WHICH REGIONS THE DECLARED TYPES OF A PROGRAM NAME: the type of a local only those that are declared before it, that of a global no
 -- variable, and that of a field the parameters of its struct. So no type leads to a region that is declared further on. No field is a key.
+-- (This project's own choice.)
 use Rattle.std.specs.Prelude.{◌≡◌, ℕ, suc, ◌+◌, ◌<◌, false, List, [], ◌∷◌}
 use Rattle.cyc_types.specs.declared.region.Region.{Region}
 use Rattle.cyc_types.specs.declared.region.Region.TheVariants as regions

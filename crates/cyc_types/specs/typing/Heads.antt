@@ -1,5 +1,6 @@
 -- The typing rules of the heads of declarations, and what the heads declare. The heads come in order, each in its parts as they are
--- written; all names of structs, functions and globals are known in the whole text.
+-- written; all names of structs, functions and globals are known in the whole text. (Effects and constraints are Cyclone's,
+-- Grossman et al. 2002; codes, places and their order are this project's own choice.)
 use Rattle.std.specs.Prelude.{ℕ, zero, suc, pred, Bool, true, false, not, nat_eq, ◌&&◌, ◌||◌, if◌then◌else◌, List, [], ◌∷◌, ◌++◌, map, length, Option, Some, None, option_map}
 use Rattle.std.specs.List.{list_any}
 use Rattle.cyc_words.specs.declared.fault.Code.TheVariants as codes

@@ -1,5 +1,5 @@
 -- The typing rules of a program: the heads of all its declarations in order, then `main`, which may be missing, then the bodies of its
--- functions in order.
+-- functions in order. (What `main` is, and the order, are this project's own choice.)
 use Rattle.std.specs.Prelude.{ℕ, suc, ◌+◌, ◌-◌, ◌%◌, ◌^◌, false, nat_eq, if◌then◌else◌, List, [], ◌∷◌, ◌++◌, map, length, Option, Some, None, codes as bytes}
 use Rattle.cyc_words.specs.declared.fault.Code.TheVariants as codes
 use Rattle.cyc_words.specs.declared.fault.Fault.{Fault}

@@ -1,5 +1,6 @@
 -- What names mean where an expression or a statement stands, and how a function's locals and regions are numbered. Identifiers and region
--- names are numbered alike; structs, exceptions, functions with globals, and regions are name spaces of their own.
+-- names are numbered alike; structs, exceptions, functions with globals, and regions are name spaces of their own. (Scopes of names are
+-- C's; the numbers are this project's own choice.)
 use Rattle.std.specs.Prelude.{ℕ, suc, ◌+◌, Bool, true, false, nat_eq, ◌&&◌, ◌||◌, if◌then◌else◌, List, [], ◌∷◌, ◌++◌, Option, None, Some}
 use Rattle.std.specs.List.{list_any}
 use Rattle.cyc_syntax.specs.Symbols.{Place}

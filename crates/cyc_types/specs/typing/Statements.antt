@@ -1,5 +1,6 @@
 -- The typing rules of statements, of items and of clauses. Statements come in order; in an item its parts do, as they are written, but the
--- initial value of a local comes before its name.
+-- initial value of a local comes before its name. (Lexical and dynamic regions and aliases are Cyclone's, Grossman et al. 2002 and the
+-- User's Manual, 1.0; codes, places and their order are this project's own choice.)
 use Rattle.std.specs.Prelude.{ℕ, suc, ◌+◌, Bool, true, false, not, nat_eq, ◌&&◌, ◌||◌, if◌then◌else◌, List, [], ◌∷◌, ◌++◌, Option, Some, None, is_some, option_map}
 use Rattle.std.specs.List.{list_any}
 use Rattle.cyc_words.specs.declared.fault.Code.TheVariants as codes

@@ -1,4 +1,6 @@
 -- Tests on types, each a `Bool`, and what a type has where a test says that it has it. What may be missing is made total by a default.
+-- (As in `Expressions`: types are Cyclone's, Grossman et al. 2002; what a test takes where a part is missing is this project's own
+-- choice.)
 use Rattle.std.specs.Prelude.{ℕ, Bool, true, false, nat_eq, not, ◌&&◌, ◌||◌, List, [], ◌∷◌, Option, Some, None}
 use Rattle.cyc_syntax.specs.declared.tree.PointerKind.{PointerKind}
 use Rattle.cyc_syntax.specs.declared.tree.PointerKind.TheVariants.{Nullable, NonNull, Fat}

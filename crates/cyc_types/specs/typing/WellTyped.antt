@@ -1,7 +1,8 @@
 -- THE JUDGEMENT ON TYPED TREES of the whole language: which tree is well typed where it stands, whatever text it came of. It speaks of
 -- fragments too, as the states of a run hold them: what is left of a chain, of arguments, of a block. What the typing rules derive is
 -- well typed. It says what a proof about runs needs, so also what the rules keep without a demand of its own: that numbers are fresh
--- where they are declared, and that a variable's own region is live there.
+-- where they are declared, and that a variable's own region is live there. (Typing, regions, effects and outlives are those of
+-- Grossman et al. 2002; the form of the judgement is this project's own choice.)
 use Rattle.std.specs.Prelude.{◌≡◌, ◌≢◌, ◌⊎◌, ℕ, suc, ◌+◌, ◌<◌, ◌≤◌, Bool, true, false, List, [], ◌∷◌, ◌++◌, Option, Some, None, Contains, length, map, slice_get}
 use Rattle.cyc_syntax.specs.declared.tree.PointerKind.{PointerKind}
 use Rattle.cyc_syntax.specs.declared.tree.PointerKind.TheVariants as marks
