@@ -11,7 +11,7 @@ MAN = $(DESTDIR)$(PREFIX)/share/man/man1
 help:
 	@echo 'make build    proves and builds the program, $(PROGRAM), crate by crate: half an hour to an hour the first time'
 	@echo 'make demo     builds it, and shows it at work on the texts in examples/'
-	@echo 'make try      compiles and runs the program in SOURCE with no proof: make try SOURCE=hello.cyc'
+	@echo 'make try      compiles and runs the program in SOURCE with no proof: make try SOURCE=examples/count.cyc'
 	@echo 'make quick    builds it with no proof, and runs the command-line suite, the whole-language cases, the examples and random'
 	@echo '              programs on that, in some minutes: for who changes something'
 	@echo 'make cases    builds it, and runs the command-line suite, the table of codes, the examples, random programs and images, and'
@@ -45,6 +45,7 @@ cases: build
 	@python3 tests/runners/codes.py
 	@python3 tests/runners/documents.py
 	@python3 tests/runners/examples.py
+	@python3 tests/runners/sessions.py
 	@python3 tests/runners/editors.py
 	@python3 tests/runners/refused.py
 	@python3 tests/runners/differential.py

@@ -55,6 +55,7 @@ add "traces" python3 tests/runners/run.py tests/traced/traced.cases
 add "codes" python3 tests/runners/codes.py
 add "documents" python3 tests/runners/documents.py
 add "examples" python3 tests/runners/examples.py
+add "sessions" python3 tests/runners/sessions.py
 add "editors" python3 tests/runners/editors.py
 add "refused allocations" python3 tests/runners/refused.py
 add "limits of memory" python3 tests/runners/memory.py
@@ -62,7 +63,7 @@ add "random programs" python3 tests/runners/differential.py
 add "images" python3 tests/runners/images.py
 echo "== costs"
 mkdir -p out
-python3 tests/runners/gate_table.py show "$costs" | tee out/gate.md
+python3 tests/runners/gate_table.py show "$costs" "$passed passed, $failed failed" | tee out/gate.md
 if [ -s "$faults" ]; then
   echo "== what failed"
   cat "$faults"

@@ -1,7 +1,7 @@
 #!/bin/sh
 # What can be tried in some minutes of a change, with no proof: builds the program unproved at the place that is named, and runs on it,
 # side by side, the command-line suite and the whole-language cases but for those with long files or many steps, the codes, the documents,
-# the examples, the syntax files and some random programs. The last line is `N passed, M failed` over all of it.
+# the examples, the sessions that documents show, the syntax files and some random programs. The last line is `N passed, M failed` over all of it.
 #
 #     sh tests/quick.sh PROGRAM
 set -u
@@ -56,8 +56,9 @@ begin "editors" python3 tests/runners/editors.py
 begin "documents" python3 tests/runners/documents.py
 begin "codes" on codes.py
 begin "examples" on examples.py
+begin "sessions" on sessions.py
 wait
-for name in "command line" "whole language" "codes" "documents" "examples" "editors" "random programs"; do
+for name in "command line" "whole language" "codes" "documents" "examples" "sessions" "editors" "random programs"; do
   add "$name"
 done
 echo "$passed passed, $failed failed"

@@ -1,29 +1,29 @@
 #!/usr/bin/env python3
-"""Looks over the documents: their lines, their code spans, and the files that they name.
+"""Looks over the documents: their lines, their code spans, the files that they name, and what they have from data.
 
     python3 tests/runners/documents.py [--write]
 
 Outside of tables and programs a line of a document has at most 120 characters, a code span ends on its line, and a path
-in a code span that begins with a folder of the repository leads to a file or a folder. --write fills the lines of the
-documents up to 120 characters, so that no code span is broken, and looks for nothing. The last line is `N passed, M
-failed`, of documents.
+in a code span that begins with a folder of the repository leads to a file or a folder. In the document of a crate all
+paths do, those from the crate's own folders and names of files that stand behind a path among them (`places.py`). What
+documents have from data, tables and numbers, is that of the data (`facts.py`). --write puts it there, fills the lines
+of the documents up to 120 characters, so that no code span is broken, and looks for nothing. The last line is
+`N passed, M failed`, of documents, of the list of crates, and of the sources that definitions name.
 """
 import argparse
 import os
 import re
 
+import facts
+import places
 import suite
+from facts import content
 
 WIDTH = 120
 FOLDERS = ("crates", "docs", "tests", "examples", "bench", "editors", "tools")
 # What the gate makes, and a clean clone has not.
 MADE = re.compile(r"crates/\w+/out\b")
 ITEM = re.compile(r" *(- |\d+\. )")
-
-
-def content(path):
-    with open(os.path.join(suite.ROOT, path), encoding="utf-8") as file:
-        return file.read()
 
 
 def documents():
@@ -63,11 +63,23 @@ def faults_of_line(line):
     return faults
 
 
-def faults_of(path):
+def faults_of_programs(lines):
+    """The programs that stand behind an item of a list as deep as others: they are text of the item then."""
+    faults, is_in_list, is_behind = [], False, False
+    for number, line in enumerate(lines, 1):
+        if is_in_list and is_behind and re.match(" {4,5}(?! )", line) and not ITEM.match(line):
+            faults.append(f"line {number}: a program behind an item of a list is text, unless it is indented by six spaces")
+        is_in_list = bool(ITEM.match(line)) or is_in_list and (not line.strip() or line.startswith(" ") or not is_behind)
+        is_behind = not line.strip()
+    return faults
+
+
+def faults_of(path, text):
     """What is wrong with a document. A program is indented by four spaces, or by six in a list."""
-    lines = content(path).split("\n")
-    return [f"line {number}: {fault}" for number, line in enumerate(lines, 1)
-            if not line.startswith("    ") for fault in faults_of_line(line)]
+    lines = text.split("\n")
+    faults = [f"line {number}: {fault}" for number, line in enumerate(lines, 1)
+              if not line.startswith("    ") for fault in faults_of_line(line)]
+    return faults + faults_of_programs(lines) + places.faults_of(path, text) + facts.faults_of(path, text)
 
 
 def is_text(line):
@@ -121,7 +133,7 @@ def filled_document(text):
 
 
 def write(path):
-    text = filled_document(content(path))
+    text = filled_document(facts.with_facts(path, content(path)))
     with open(os.path.join(suite.ROOT, path), "w", encoding="utf-8") as file:
         file.write(text)
 
@@ -133,7 +145,9 @@ def main():
         for path in documents():
             write(path)
     else:
-        suite.try_each(documents(), lambda path: path, faults_of)
+        things = [(path, lambda path=path: faults_of(path, content(path))) for path in documents()]
+        things += [("crates.txt", facts.faults_of_crates), ("the sources of definitions", facts.faults_of_sources)]
+        suite.try_each(things, lambda thing: thing[0], lambda thing: thing[1]())
 
 
 if __name__ == "__main__":

@@ -2,10 +2,13 @@
 """Says what the gate's parts cost: by crate, its proof, its tests and its wrong bodies.
 
     python3 tests/runners/gate_table.py measure RECORD TABLE NAME COMMAND [WORD ..]
-    python3 tests/runners/gate_table.py show RECORD
+    python3 tests/runners/gate_table.py show RECORD RESULT
+    python3 tests/runners/gate_table.py publish TABLE
 
 `measure` runs a command, ends as it ends, and appends to the file RECORD what it cost: the seconds on the clock, and those of
-processors, of the whole command and of the checks that the prover does in it. `show` prints the table of what was recorded.
+processors, of the whole command and of the checks that the prover does in it. `show` prints the table of what was recorded,
+with the commit that it is of and the RESULT, `N passed, M failed`. `publish` puts such a table into docs/FIGURES.md, if the gate went
+from its beginning to its end, nothing failed, and nothing was changed in the commit.
 While the command runs, the file TABLE has the table as far as it goes, so that a gate that is stopped leaves one.
 
 The prover's processes are looked at once a second. Their words say which crate each is of, and which part of the gate: of
@@ -14,6 +17,7 @@ a check that ends between two looks, what it did since the last one is not seen.
 import datetime
 import json
 import os
+import re
 import resource
 import subprocess
 import sys
@@ -206,12 +210,62 @@ def table(wholes, cores, day):
     return lines
 
 
+def commit():
+    """The commit that stands here, by what it says first, and whether anything was changed in it."""
+    said = [subprocess.run(["git", *words], capture_output=True, text=True).stdout.strip() for words in (["log", "-1", "--format=%s"], ["status", "--porcelain"])]
+    return f"The commit: {said[0]}" + (" (with changes)" if said[1] else "")
+
+
+FIGURES = os.path.join(os.path.dirname(os.path.abspath(__file__)), "..", "..", "docs", "FIGURES.md")
+# What docs/FIGURES.md has of a gate: all from the head of its part to the end of the table.
+PUBLISHED = re.compile(r"(?<=\n## The gate\n\n).*?\n(?=\n(?!\|)[^|]*\n## )", re.S)
+SAID = re.compile(r"""(?P<table>\| \| Proof .*?)\n
+Seconds of .*
+The whole gate: (?P<processors>[\d.]+) processor minutes in (?P<clock>[\d.]+) minutes, on (?P<cores>\d+) processors, (?P<day>\S+)\.
+The commit: (?P<commit>.*)
+(?P<passed>\d+) passed, 0 failed
+""", re.S)
+
+
+def published(shown):
+    """The part of docs/FIGURES.md that says what a gate took, of the table that it left; None where it does not show one whole gate."""
+    said = SAID.fullmatch(shown)
+    if not said or said["commit"].endswith(" (with changes)"):
+        return None
+    return f"""One gate, of one commit, in one go: `make test`, from nothing, on the commit "{said["commit"]}", on {said["day"]}, ended with
+{int(said["passed"]):,} passed, 0 failed, in {said["processors"]} processor minutes and {said["clock"]} on the clock, on {said["cores"]} processors. The table has
+the seconds of processors that each crate's parts took, and in brackets those on the clock while such a check ran; it is
+what the gate left in `out/gate.md` (`tests/runners/gate_table.py publish`).
+
+{said["table"]}
+"""
+
+
+def publish(path):
+    """Puts the table that a gate left into docs/FIGURES.md."""
+    with open(path, encoding="utf-8") as file:
+        part = published(file.read())
+    if part is None:
+        print(f"{path} is not of a gate that went to its end on a commit as it is, with nothing failed", file=sys.stderr)
+        return 1
+    with open(FIGURES, encoding="utf-8") as file:
+        text, count = PUBLISHED.subn(lambda _: part, file.read())
+    if count != 1:
+        print("docs/FIGURES.md has no place for it", file=sys.stderr)
+        return 1
+    with open(FIGURES, "w", encoding="utf-8") as file:
+        file.write(text)
+    return 0
+
+
 def main(words):
     if words[:1] == ["measure"] and len(words) > 4:
         return measure(words[1], words[2], words[3], words[4:])
-    if words[:1] == ["show"] and len(words) == 2:
-        print("\n".join(lines_now(recorded(words[1]))))
+    if words[:1] == ["show"] and len(words) == 3:
+        print("\n".join([*lines_now(recorded(words[1])), commit(), words[2]]))
         return 0
+    if words[:1] == ["publish"] and len(words) == 2:
+        return publish(words[1])
     print(__doc__, end="", file=sys.stderr)
     return 2
 

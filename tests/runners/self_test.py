@@ -2,7 +2,8 @@
 """Tries the tests' own tools: the suite's runner and that of images, on stand-ins for the program, pass and fail what they should; the
 table of what the gate costs, on looks at processes that are written here, has the sums worked by hand; wrong bodies are tried together
 where they may be, and what the prover says of them is judged as it should be; pairs of programs that do not print the same have no
-figures, and the others the right ones; and the reference answers the cases of the whole language, in tests/whole, and those of the
+figures, and the others the right ones; documents that say something else than the data, and sessions that show something else than is
+printed, are found; and the reference answers the cases of the whole language, in tests/whole, and those of the
 program that check texts, as they say.
 
     python3 tests/runners/self_test.py [TEXTS.json]
@@ -12,17 +13,22 @@ A file of texts with their verdicts, a list of objects with `text` and `expect`,
 import contextlib
 import json
 import os
+import re
 import subprocess
 import sys
 import tempfile
+import unittest.mock
 
 import suite  # first: it says where the references and the generators are
 import bodies
+import documents
+import facts
 import gate_table
 import images
 import in_trees
 import reference
 import run
+import sessions
 import wrong
 
 HERE = os.path.dirname(os.path.abspath(__file__))
@@ -779,12 +785,84 @@ def is_judge_right():
     return right
 
 
-def are_promises_told():
-    """Whether the document says of each wrong body what it would break."""
-    told = wrong.has_promises()
-    if not told:
-        print("the table of wrong bodies in docs/GUARANTEES.md is not that of the cases: python3 tests/runners/wrong.py --write makes it so")
-    return told
+# What is changed in a document, and has to be found there: a row of each table, numbers, paths and names of files, lines.
+DRIFTS = [
+    ("README.md", "| `cyc_lex` | the tokens", "| `cyc_lex` | all tokens"),
+    ("README.md", "The code stands in ", "The code stands in 1"),
+    ("docs/ARCHITECTURE.md", "| `cyc_lex` |", "| `cyc_lexer` |"),
+    ("docs/FIGURES.md", "\n| `cyc_words` | 5", "\n| `cyc_words` | 6"),
+    ("docs/FIGURES.md", "\n| `cyc_tracer` | 2", "\n| `cyc_tracer` | 3"),
+    ("docs/WRONG_BODIES.md", "\n| reader forgets its end |", "\n| reader forgets |"),
+    ("docs/GUARANTEES.md", "random programs of them: 1", "random programs of them: 2"),
+    ("docs/GUARANTEES.md", " small images, one of them", " images, one of them"),
+    ("docs/GUARANTEES.md", "`tests/runners/images.py`", "`tests/runners/pictures.py`"),
+    ("crates/cyc_select/README.md", "`proofs/relation/Cells`", "`proofs/Cells`"),
+    ("crates/cyc_select/README.md", "- Definitions: `Labelled`", "- Definitions: `Labels`"),
+    ("crates/cyc_lex/README.md", "`src/runs.rt`", "`src/walks.rt`"),
+    ("crates/cyc_lex/README.md", "`NameReading`", "`NamesReading`"),
+    ("crates/cyc_guard/README.md", "| `Held` |", "| `Holds` |"),
+    ("crates/cyc_check/README.md", "| `functions.rt` |", "| `function.rt` |"),
+    ("docs/LANGUAGE.md", "A loop that frees what it does not make again is emptier at its end than at its head:\n\n", ""),
+]
+
+
+def are_drifts_found():
+    """Whether a document that says something else than the data, or names what is not there, has a fault, and has none as it is."""
+    right = True
+    for path, old, new in DRIFTS:
+        text = facts.content(path)
+        if text.count(old) != 1 or documents.faults_of(path, text) or not documents.faults_of(path, text.replace(old, new)):
+            print(f"{path}: {old!r} stands there {text.count(old)} times, or is as well as {new!r}")
+            right = False
+    # A crate that is not listed, and a definition that names none of these sources.
+    listed = facts.crates()
+    with unittest.mock.patch.object(facts, "crates", lambda: listed[1:]), unittest.mock.patch.object(facts, "SOURCE", re.compile("System V")):
+        if not facts.faults_of_crates() or not facts.faults_of_sources():
+            print("a crate that is not in crates.txt, or a definition with no source, is not found")
+            right = False
+    return right
+
+
+# Lines that a session shows, and lines that are printed, with whether these are those.
+SHOWN_LINES = [
+    ("a", "a", True), ("a", "b", False), ("", "a", False), ("a", "", False), ("a", "a|b", False), ("a|..|d", "a|b|c|d", True),
+    ("a|..|d", "a|d", True), ("a|..|d", "a|b|c", False), ("a|..|d", "b|d", False), ("..", "", True),
+]
+
+
+def are_sessions_tried(folder):
+    """Whether what a session prints is compared, each command of a program that answers wrongly fails, and so does a document without one."""
+    right = all(sessions.is_shown(*(lines.split("|") for lines in pair)) == same for *pair, same in SHOWN_LINES)
+    program = os.path.join(folder, "wrong_program")
+    with open(program, "w", encoding="ascii") as file:
+        file.write("#!/bin/sh\necho wrong\nexit 3\n")
+    os.chmod(program, 0o755)
+    done = subprocess.run([sys.executable, os.path.join(HERE, "sessions.py"), "--program", program], capture_output=True, text=True)
+    failed = {line.removeprefix("FAILED ") for line in done.stdout.splitlines() if line.startswith("FAILED ")}
+    wanted = {f"{path}:{it.line}" for path in sessions.DOCUMENTS for it in sessions.commands_of(path) if sessions.runs_program(it)}
+    right = right and wanted <= failed and done.returncode == 1 and [name for name, _ in sessions.things_of("none", [], None)] == ["none"]
+    if not right:
+        print(f"sessions.py said\n{done.stdout}{done.stderr}")
+    return right
+
+
+# What a gate leaves, and what may stand there in the place of a part of it, where its table is not published.
+GATE_LEFT = f"""{COSTS}
+The commit: Words wrap
+1234 passed, 0 failed
+"""
+UNPUBLISHED = [("| | Proof", "Not finished.\n\n| | Proof"), (" 0 failed", " 1 failed"), ("wrap", "wrap (with changes)"), ("The commit: Words wrap\n", "")]
+
+
+def is_gate_published():
+    """Whether docs/FIGURES.md has a place for a gate's table, and takes that of a whole gate of one commit alone."""
+    part = gate_table.published(GATE_LEFT)
+    right = part is not None and '"Words wrap"' in part and "1,234 passed" in part and COSTS.split("\n\n")[0] in part
+    right = right and not any(gate_table.published(GATE_LEFT.replace(*change)) for change in UNPUBLISHED)
+    right = right and len(gate_table.PUBLISHED.findall(facts.content("docs/FIGURES.md"))) == 1
+    if not right:
+        print(f"of\n{GATE_LEFT}\nis published\n{part}")
+    return right
 
 
 # Stand-ins for the program and for gcc where bench/pairs.py compiles and runs pairs. An image is the number of its instructions, the
@@ -972,8 +1050,8 @@ def main():
     with tempfile.TemporaryDirectory() as folder:
         right = [is_runner_right(folder), is_judge_of_images_right(folder), is_table_right(), are_rounds_right(folder), are_missing_found(folder)]
         right += [are_lanes_right(), are_groups_right(folder), are_proofs_taken(folder), is_right_body_wanted(folder)]
-        right += [is_library_made(folder), is_first_run_kept(), is_judge_right(), are_promises_told()]
-        right.append(are_pairs_right(folder))
+        right += [is_library_made(folder), is_first_run_kept(), is_judge_right()]
+        right += [are_pairs_right(folder), are_drifts_found(), are_sessions_tried(folder), is_gate_published()]
     right += reference.with_room(lambda: [is_case_right(case) for case in cases] + [is_text_right(case) for case in texts])
     right += reference.with_room(lambda: [is_program_right(*one) for name in ("accepted", "refused") for one in in_trees.programs_in(name)])
     suite.end(right.count(True), right.count(False))

@@ -207,30 +207,6 @@ def all_cases():
     return [case for path in paths if os.path.exists(path) for case in cases_in(path)]
 
 
-def promises(cases):
-    """The lines of the table in `docs/GUARANTEES.md`, of wrong bodies and the promises that they test."""
-    lines = ["| Wrong body | Crate | What it would break |", "|---|---|---|"]
-    return lines + [f"| {case.name.replace('_', ' ')} | `{case.crate}` | {case.tests} |" for case in cases]
-
-
-GUARANTEES = os.path.join(suite.ROOT, "docs", "GUARANTEES.md")
-TABLE = re.compile(r"(?<=\n\n)\| Wrong body \| .*?(?=\n\n|\n?\Z)", re.DOTALL)
-
-
-def has_promises():
-    """Whether the table is that of the cases."""
-    with open(GUARANTEES, encoding="utf-8") as file:
-        return TABLE.findall(file.read()) == ["\n".join(promises(all_cases()))]
-
-
-def write_promises():
-    """Makes the table of the cases."""
-    with open(GUARANTEES, encoding="utf-8") as file:
-        text = file.read()
-    with open(GUARANTEES, "w", encoding="utf-8") as file:
-        file.write(TABLE.sub(lambda _: "\n".join(promises(all_cases())), text))
-
-
 # ---- functions that have none
 
 # All that is called by others is called in the end by this program.
@@ -720,12 +696,8 @@ def main():
     built = os.path.join(suite.ROOT, "crates")
     parser.add_argument("--built", default=built, metavar="FOLDER", help="the crates whose libraries are taken")
     parser.add_argument("--right", action="store_true", help="proves all functions as they stand first, also what `rt ci` has proved")
-    parser.add_argument("--write", action="store_true", help="makes the table in docs/GUARANTEES.md of the cases, and tries none")
     parser.add_argument("--missing", action="store_true", help="lists the public functions that have no wrong body, and tries none")
     options = parser.parse_args()
-    if options.write:
-        write_promises()
-        return 0
     if options.missing:
         return 1 if show_missing(options.crates) else 0
     cases = chosen(options)

@@ -1,0 +1,246 @@
+"""What documents have from the repository's data: tables, whole or in part, and numbers in their sentences.
+
+The data are `crates.txt`, the heads of the crates' own documents, their files, the cases of wrong bodies, the programs in `tests/sound`,
+and what the makers of images and of programs make. `tests/runners/documents.py` compares the documents with them, and puts them there.
+"""
+import collections
+import functools
+import os
+import random
+import re
+
+import suite  # first: it says where the references and the generators are
+import image_makers
+import in_trees
+import instruction_makers
+import machine
+import wrong
+
+FOLDERS = (("src", ".rt"), ("specs", ".antt"), ("proofs", ".antt"))
+# Numbers that stand in a sentence as words.
+WORDS = "no one two three four five six seven eight nine ten eleven twelve thirteen fourteen fifteen sixteen".split()
+# What the first lines of a crate's document say, in this order; what a crate of tests or figures has not is left out.
+FIELDS = ("Definitions", "Contract", "Proved")
+
+Head = collections.namedtuple("Head", ("what", *FIELDS))
+
+
+def content(path):
+    with open(os.path.join(suite.ROOT, path), encoding="utf-8") as file:
+        return file.read()
+
+
+# ---- crates
+
+
+def crates():
+    """The crates, in the order of the pipeline."""
+    return list(wrong.stands_on(suite.ROOT))
+
+
+def document_of(crate):
+    return f"crates/{crate}/README.md"
+
+
+def head_of(crate):
+    """What the head of a crate's document says: `# NAME: what it is`, and a list of what its fields are."""
+    text = content(document_of(crate))
+    title = re.match(rf"# {crate}: (.+)\n\n", text)
+    items = text[title.end():].split("\n\n")[0] if title else ""
+    found = dict(re.findall(r"^- (\w+): ((?:.|\n(?=  ))+)$", items, re.M))
+    if not title or list(found) not in (list(FIELDS), list(FIELDS[:2])):
+        raise ValueError(f"{document_of(crate)} does not begin with `# {crate}: ..` and a list of {', '.join(FIELDS)}")
+    return Head(title[1], *(" ".join(found[field].split()) if field in found else None for field in FIELDS))
+
+
+def rows_of_architecture():
+    for crate in crates():
+        head = head_of(crate)
+        yield f"`{crate}`", head.what, head.Definitions, head.Contract
+
+
+def rows_of_promises():
+    for crate in crates():
+        head = head_of(crate)
+        if head.Proved:
+            yield f"`{crate}`", head.Proved, head.Contract
+
+
+def lines_in(crate, folder, ending):
+    """The lines of a folder's files, tests apart."""
+    count = 0
+    for where, _, names in os.walk(os.path.join(suite.ROOT, "crates", crate, folder)):
+        for name in names:
+            if name.endswith(ending) and name != "tests.rt":
+                count += content(os.path.join(where, name)).count("\n")
+    return count
+
+
+def rows_of_sizes():
+    """Of each crate the lines of its code, definitions and proofs, and its wrong bodies; and of all together."""
+    bodies = collections.Counter(case.crate for case in wrong.all_cases())
+    total = [0] * (len(FOLDERS) + 1)
+    for crate in crates():
+        row = [lines_in(crate, *folder) for folder in FOLDERS] + [bodies[crate]]
+        total = [one + other for one, other in zip(total, row)]
+        yield f"`{crate}`", *(f"{number:,}" for number in row)
+    yield "all", *(f"{number:,}" for number in total)
+
+
+def rows_of_wrong_bodies():
+    for case in wrong.all_cases():
+        yield case.name.replace("_", " "), f"`{case.crate}`", case.tests.replace("|", "\\|")
+
+
+# A table by its first line, and its rows.
+Table = collections.namedtuple("Table", "document head rows")
+TABLES = [
+    Table("README.md", "| Crate | Proved | Contract |", rows_of_promises),
+    Table("docs/ARCHITECTURE.md", "| Crate | What it is | Definitions (`specs/`) | Contract |", rows_of_architecture),
+    Table("docs/FIGURES.md", "| Crate | Code | Definitions | Proofs | Wrong bodies |", rows_of_sizes),
+    Table("docs/WRONG_BODIES.md", "| Wrong body | Crate | What it would break |", rows_of_wrong_bodies),
+]
+
+
+# ---- numbers
+
+
+def wrong_rules():
+    """How many wrong rules of types and flow the theorem on dead accesses is tried over."""
+    return sum(case.crate == "cyc_soundness" and "cyc_types" in case.changed() for case in wrong.all_cases())
+
+
+def programs_of_sound(name):
+    return len(in_trees.programs_in(name))
+
+
+def small_images():
+    return [*image_makers.SMALL_IMAGES.values(), image_makers.DOUBLED]
+
+
+def random_images():
+    """How many random images a gate tries."""
+    return int(re.search(r'"--count", type=int, default=([\d_]+)', content("tests/runners/images.py"))[1])
+
+
+def has_open_end(made):
+    """Whether an image's run comes to where a store may choose how it goes on."""
+    try:
+        machine.Run(machine.Image(made.file), made.given, made.pages, made.calls, made.steps).end()
+    except machine.ImageFault:
+        return False
+    except machine.Open:
+        return True
+    return False
+
+
+@functools.cache
+def open_ends():
+    return sum(has_open_end(image_makers.made(random.Random(f"image 1 {number}"))) for number in range(random_images()))
+
+
+@functools.cache
+def results_of_instructions():
+    return sum(body.results for _, body in instruction_makers.programs())
+
+
+def files_in(folder, ending):
+    return sum(name.endswith(ending) for name in os.listdir(os.path.join(suite.ROOT, folder)))
+
+
+# A number in a sentence: its document, the words that it stands among, as a pattern with its place, and what it is.
+Number = collections.namedtuple("Number", "document pattern count")
+GUARANTEES, SOUNDNESS, FIGURES = "docs/GUARANTEES.md", document_of("cyc_soundness"), "docs/FIGURES.md"
+NUMBERS = [
+    Number("README.md", r"The code stands in (\w+) crates", lambda: len(crates())),
+    Number(GUARANTEES, r"(\w+) programs that the rules refuse, by premises", lambda: programs_of_sound("refused")),
+    Number(GUARANTEES, r"and (\w+) accepted ones to end", lambda: programs_of_sound("accepted")),
+    Number(GUARANTEES, r"(\w+) wrong rules are each put in the place", wrong_rules),
+    Number(GUARANTEES, r"(\w+) small images, one of them", lambda: len(small_images())),
+    Number(GUARANTEES, r"cut at each of their ([\w,]+) lengths", lambda: sum(map(len, small_images()))),
+    Number(GUARANTEES, r"set to 00, 7f and ff: ([\w,]+) files", lambda: sum(1 for _ in image_makers.spoiled())),
+    Number(GUARANTEES, r"random images: ([\w,]+) in each gate", random_images),
+    Number(GUARANTEES, r"Of seed 1, (\w+) runs come to a place", open_ends),
+    Number(GUARANTEES, r"(\w+) examples as they are compiled", lambda: files_in("examples", ".out")),
+    Number(GUARANTEES, r"and (\w+) random programs of them", lambda: instruction_makers.RANDOM_PROGRAMS),
+    Number(GUARANTEES, r"random programs of them: ([\w,]+) results", results_of_instructions),
+    Number(SOUNDNESS, r"has (\w+) programs that the rules accept", lambda: programs_of_sound("accepted")),
+    Number(SOUNDNESS, r"has (\w+) that the rules refuse", lambda: programs_of_sound("refused")),
+    Number(FIGURES, r"runs the (\w+) programs of `bench/unseen`", lambda: files_in("bench/unseen", "")),
+    Number(FIGURES, r"for the (\w+) that are programs of this language too", lambda: files_in("bench/unseen", ".cyc")),
+]
+
+
+def spelled(number, before):
+    """A number as it stands in a sentence, in words if it stands there in words and they are known."""
+    if before.isalpha() and number < len(WORDS):
+        return WORDS[number].capitalize() if before[0].isupper() else WORDS[number]
+    return f"{number:,}"
+
+
+def with_number(text, number):
+    """A text with a number put in its place, between whatever spaces and ends of lines."""
+    pattern = re.compile(number.pattern.replace(" ", r"\s+"))
+    found = pattern.findall(text)
+    if len(found) != 1:
+        raise ValueError(f"{number.document} has {len(found)} places that are as {number.pattern}")
+    at = pattern.search(text)
+    return text[:at.start(1)] + spelled(number.count(), at[1]) + text[at.end(1):]
+
+
+def with_table(text, table):
+    """A text with the rows of a table put in their place."""
+    parts = re.split(f"^{re.escape(table.head)}\n(?:\\|.*\n)+", text, flags=re.M)
+    if len(parts) != 2:
+        raise ValueError(f"{table.document} has {len(parts) - 1} tables that begin with {table.head}")
+    rule = "|" + "---|" * (table.head.count("|") - 1)
+    rows = [f"| {' | '.join(row)} |" for row in table.rows()]
+    return parts[0] + "\n".join([table.head, rule, *rows, ""]) + parts[1]
+
+
+def with_facts(path, text):
+    """The text of a document with all that it has from data."""
+    for table in TABLES:
+        if table.document == path:
+            text = with_table(text, table)
+    for number in NUMBERS:
+        if number.document == path:
+            text = with_number(text, number)
+    return text
+
+
+def faults_of(path, text):
+    """What a document says otherwise than the data."""
+    try:
+        wanted, got = with_facts(path, text).split("\n"), text.split("\n")
+    except ValueError as fault:
+        return [str(fault)]
+    faults = [suite.difference(f"line {number}", one, other)
+              for number, (one, other) in enumerate(zip(wanted, got), 1) if one != other]
+    if len(wanted) != len(got):
+        faults.append(f"it has {len(got)} lines, and would have {len(wanted)}")
+    # One line too many or too few makes all that follow differ.
+    return faults[:3]
+
+
+# The crates whose definitions a person reads against a public source, how a head names one, and the files that define nothing.
+DEFINING = ("cyc_syntax", "cyc_types", "cyc_meaning", "cyc_isa", "cyc_elf", "cyc_store", "cyc_machine")
+SOURCE = re.compile(r"own\s+choice|[Mm]anual|Grossman|System\s+V|MIPS32\s+architecture|C\s+and\s+Cyclone")
+DEFINES_NOTHING = re.compile(r"(Lib|\w*View|\w*Examples|Readings|[a-z_]+)\.antt")
+
+
+def faults_of_sources():
+    """The definitions that name no source in their comments."""
+    paths = [os.path.relpath(os.path.join(where, name), suite.ROOT)
+             for crate in DEFINING for where, _, names in os.walk(os.path.join(suite.ROOT, "crates", crate, "specs")) for name in names]
+    defining = [path for path in sorted(paths) if not DEFINES_NOTHING.fullmatch(os.path.basename(path))]
+    comments = {path: " ".join(re.findall(r"^ *-- ?(.*)$", content(path), re.M)) for path in defining}
+    return [f"{path} names no source" for path in defining if not SOURCE.search(comments[path])] if defining else ["there are no definitions"]
+
+
+def faults_of_crates():
+    """What `crates.txt` says otherwise than the folders."""
+    listed = crates()
+    there = [name for name in os.listdir(os.path.join(suite.ROOT, "crates"))
+             if os.path.exists(os.path.join(suite.ROOT, "crates", name, "src"))]
+    return [suite.difference("the crates", sorted(there), sorted(listed))] if sorted(there) != sorted(listed) else []
