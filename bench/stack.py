@@ -34,6 +34,7 @@ def numbered(text, count):
 # Each at its limit: 199 levels in the body of a function, or 60,000 tokens.
 TEXTS = {
     "brackets with all ten levels of operators": function("return " + nested(LEVELS, "1", ")") + ";"),
+    "elements with all ten levels of operators": function("int ?a = new {for i < 1 : 0}; return " + nested(LEVELS[:-1] + "a[", "1", "]") + ";"),
     "brackets behind products": function("return " + nested("1*(", "1", ")") + ";"),
     "brackets": function("return " + nested("(", "1", ")") + ";"),
     "prefix operators": function("return " + nested("-", "1", "") + ";"),
