@@ -1,6 +1,7 @@
 //! Devices that give and take bytes one at a time.
 
 ghost use Rattle.std.specs.Prelude.{◌≡◌, ◌||◌, ℕ, List, Bool, true, Option, is_err, IsTrue, IsErr, OnOk, OnErr, flat_map};
+ghost use Rattle.std.specs.Io.KnownBytes.{Keeps};
 ghost use Rattle.cyc_words.specs.Device.{Gives, Takes, TakesText, is_end};
 
 /// A device's one answer when it could not give or take a byte.
@@ -31,6 +32,11 @@ pub trait ByteIn {
         ensures stays { IsTrue (failed self.old) → IsErr result }
         ensures ends { ended self.new ≡ (is_end result || ended self.old) }
         ensures asks { asked_past_end self.new ≡ (ended self.old || asked_past_end self.old) };
+
+    /// Whether the next call of `next` is answered by what the device holds already. Where it is not, that call may wait.
+    fn is_ready(&self) -> bool {
+        false
+    }
 }
 
 /// A device that takes bytes.
@@ -48,6 +54,14 @@ pub trait ByteOut {
         ensures bytes { Takes (written self.old) byte result (written self.new) }
         ensures fails { failed self.new ≡ is_err result }
         ensures stays { IsTrue (failed self.old) → IsErr result };
+
+    /// Passes on what the device holds back of the bytes that it took, as before a call that waits for input.
+    ///
+    /// It leaves the told bytes. Where it fails, the next call of `put` answers so.
+    fn pass_on(&mut self)
+        ensures bytes { Keeps (written self.old) (written self.new) }
+        ensures fails { failed self.new ≡ failed self.old }
+    {}
 
     /// Takes the bytes of a text in order, up to the first failure.
     final fn put_all(&mut self, text: &[u8]) -> Result<(), Failed>
