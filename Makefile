@@ -15,7 +15,8 @@ help:
 	@echo 'make quick    builds it with no proof, and runs the command-line suite, the whole-language cases, the examples and random'
 	@echo '              programs on that, in some minutes: for who changes something'
 	@echo 'make cases    builds it, and runs the command-line suite, the table of codes, the examples, random programs and images, and'
-	@echo '              refuses its allocations in turn'
+	@echo '              refuses its allocations in turn. It and make quick end where a command is missing that they need, and name its'
+	@echo '              Debian package; sh tests/install.sh installs all, as make test does first'
 	@echo 'make bench    builds it, and prints figures of its speed and its stack beside qemu-mips, tcc and gcc, and of its code by pairs of'
 	@echo '              equal programs here and in C, in bench/pairs (Debian packages qemu-user, tcc, gcc and gcc-mips-linux-gnu)'
 	@echo 'make test     the gate: every proof, wrong body and test from nothing, and what `make cases` runs; hours. The last line'
@@ -32,18 +33,19 @@ try:
 	@sh examples/try.sh "$(SOURCE)"
 
 quick:
-	@sh tests/tools.sh
 	@sh tests/quick.sh "$(UNPROVED)"
 
-cases: build
+cases:
+	@sh tests/tools.sh
+	@$(MAKE) --no-print-directory build
 	@cd crates/cyc_runner && rt run >/dev/null
 	@cd crates/cyc_tracer && rt run >/dev/null
-	@sh tests/tools.sh
 	@python3 tests/runners/run.py
 	@python3 tests/runners/run.py --whole
 	@python3 tests/runners/run.py tests/traced/traced.cases
 	@python3 tests/runners/codes.py
 	@python3 tests/runners/documents.py
+	@python3 tests/runners/scripts.py
 	@python3 tests/runners/examples.py
 	@python3 tests/runners/sessions.py
 	@python3 tests/runners/editors.py

@@ -125,8 +125,7 @@ def main():
     if not os.access(options.program, os.X_OK):
         sys.exit(f"there is no program {options.program}: `make build` proves and builds it")
     if not shutil.which(options.gcc):
-        print(f"{options.gcc} is not here (Debian's gcc-mips-linux-gnu has it)")
-        return
+        sys.exit(f"there is no command {options.gcc}: Debian has it in gcc-mips-linux-gnu")
     names = options.names or sorted(file[:-4] for file in os.listdir(options.pairs) if file.endswith(".cyc"))
     counts, faults = {}, []
     # The counts are exact, however many runs go on side by side.

@@ -1,7 +1,7 @@
 #!/bin/sh
 # Shows the program at work: each command, what it prints, and its exit status.
 set -u
-cd "$(dirname "$0")"
+cd "$(dirname "$0")" || exit
 PATH="$(cd ../crates/cyclone/out && pwd):$PATH"
 room=$(mktemp -d)
 trap 'rm -rf "$room"' EXIT

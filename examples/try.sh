@@ -2,7 +2,7 @@
 # Compiles and runs the program in a source file, by a cyclone that is built with no proof: sh examples/try.sh SOURCE
 set -u
 source=$(realpath -- "$1") || exit 8
-cd "$(dirname "$0")/.."
+cd "$(dirname "$0")/.." || exit
 program=$PWD/out/unproved/cyclone
 room=$(mktemp -d)
 trap 'rm -rf "$room"' EXIT

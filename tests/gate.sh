@@ -1,10 +1,11 @@
 #!/usr/bin/env bash
 # The gate: every proof and test of the crates (rt ci), their wrong bodies, then the command-line suite, the examples, random
-# programs and images on the program that this has just proved and built. Before the last line stands what it cost, by crate and part, which
-# is in out/gate.md too, as far as it came also where the gate is stopped, and then what failed, in short: who sees only the end of
-# a long log sees that. The last line is `N passed, M failed` over all of it.
+# programs and images on the program that this has just proved and built. First it installs what they need, and ends where that cannot be
+# had. Before the last line stands what it cost, by crate and part, which is in out/gate.md too, as far as it came also where the gate is
+# stopped, and then what failed, in short: who sees only the end of a long log sees that. The last line is `N passed, M failed` over all
+# of it.
 set -u
-cd "$(dirname "$0")/.."
+cd "$(dirname "$0")/.." || exit
 log=$(mktemp)
 costs=$(mktemp)
 faults=$(mktemp)
@@ -13,7 +14,7 @@ passed=0
 failed=0
 
 # Runs a command, shows what it says, records what it costs, and adds up its last line `N passed, M failed`. A command that
-# fails without a count of failures, or says no count, is one failure.
+# fails without a count of failures, says no count or that of nothing, or leaves out a part, is one failure.
 add() {
   local name=$1 status count good bad
   shift
@@ -28,7 +29,7 @@ add() {
     bad=${count#*, }
     bad=${bad%% *}
   fi
-  if [ "$bad" -eq 0 ] && { [ "$status" -ne 0 ] || [ -z "$count" ]; }; then
+  if [ "$bad" -eq 0 ] && { [ "$status" -ne 0 ] || [ "$good" -eq 0 ]; }; then
     bad=1
     echo "$name: ended with status $status"
   fi
@@ -42,11 +43,16 @@ add() {
 # The lines of a log that say what failed, and those before a crate that is not proved, which say why: at most 24.
 faults_in() {
   grep -E -B 6 '^rt: [a-z_]+(: its tests are)? NOT PROVED$' "$1" | grep -v ': proved$' | head -n 14
-  grep -E '^FAILED |^rt: FAILED|^there is no program' "$1" | head -n 10
+  grep -E '^FAILED |^rt: FAILED|^there is no (program|command)' "$1" | head -n 10
 }
 
-sh tests/tools.sh || echo "tests/tools.sh: a tool of the suite could not be installed"
+if ! sh tests/install.sh; then
+  echo "tests/install.sh: what the tests need cannot be had, and nothing was tried"
+  echo "0 passed, 1 failed"
+  exit 1
+fi
 add "proofs" rt ci
+add "scripts" python3 tests/runners/scripts.py
 add "self tests" python3 tests/runners/self_test.py
 add "wrong bodies" python3 tests/runners/wrong.py
 add "command line" python3 tests/runners/run.py

@@ -1,11 +1,12 @@
 #!/bin/sh
 # What can be tried in some minutes of a change, with no proof: builds the program unproved at the place that is named, and runs on it,
 # side by side, the command-line suite and the whole-language cases but for those with long files or many steps, the codes, the documents,
-# the examples, the sessions that documents show, the syntax files and some random programs. The last line is `N passed, M failed` over all of it.
+# the scripts, the examples, the sessions that documents show, the syntax files and some random programs. Where a command is missing that
+# they need, it ends before. The last line is `N passed, M failed` over all of it.
 #
 #     sh tests/quick.sh PROGRAM
 set -u
-cd "$(dirname "$0")/.."
+cd "$(dirname "$0")/.." || exit
 program=$1
 passed=0
 failed=0
@@ -35,7 +36,7 @@ add() {
   good=${count%% passed*}
   bad=${count#*, }
   bad=${bad%% *}
-  if [ -z "$count" ] || { [ "$status" -ne 0 ] && [ "$bad" -eq 0 ]; }; then
+  if [ "${bad:-0}" -eq 0 ] && { [ "$status" -ne 0 ] || [ "${good:-0}" -eq 0 ]; }; then
     good=0
     bad=1
     echo "$1: ended with status $status"
@@ -44,6 +45,10 @@ add() {
   failed=$((failed + bad))
 }
 
+if ! sh tests/tools.sh gcc man pyflakes3 readelf shellcheck vim; then
+  echo "0 passed, 1 failed"
+  exit 1
+fi
 echo "The program is built with no proof, in a minute or two; then it is tried."
 if ! tools/unproved "$program"; then
   echo "0 passed, 1 failed"
@@ -54,11 +59,12 @@ begin "whole language" on run.py --whole --quick
 begin "random programs" on differential.py --count 12
 begin "editors" python3 tests/runners/editors.py
 begin "documents" python3 tests/runners/documents.py
+begin "scripts" python3 tests/runners/scripts.py
 begin "codes" on codes.py
 begin "examples" on examples.py
 begin "sessions" on sessions.py
 wait
-for name in "command line" "whole language" "codes" "documents" "examples" "sessions" "editors" "random programs"; do
+for name in "command line" "whole language" "codes" "documents" "scripts" "examples" "sessions" "editors" "random programs"; do
   add "$name"
 done
 echo "$passed passed, $failed failed"

@@ -1,16 +1,16 @@
 #!/bin/sh
-# Installs the tools of the suite that are missing: readelf, man, a C compiler, vim and qemu-mips, which are in Debian's packages
-# binutils, man-db, gcc, vim and qemu-user.
+# Names the commands of tools.txt that are missing, with the Debian packages that have them, and fails where one is. It installs nothing:
+# install.sh does.
+#
+#     sh tests/tools.sh [COMMAND ..]
 set -eu
-missing=""
-command -v readelf >/dev/null || missing="$missing binutils"
-command -v man >/dev/null || missing="$missing man-db"
-command -v cc >/dev/null || missing="$missing gcc libc6-dev"
-command -v vim >/dev/null || missing="$missing vim"
-command -v qemu-mips >/dev/null || missing="$missing qemu-user"
-[ -n "$missing" ] || exit 0
-as_root=""
-[ "$(id -u)" -eq 0 ] || as_root="sudo"
-$as_root apt-get update -qq
-# shellcheck disable=SC2086
-$as_root apt-get install -y -qq $missing >/dev/null
+cd "$(dirname "$0")"
+tools=${*:-$(grep -o '^[a-z][^ ]*' tools.txt)}
+status=0
+for tool in $tools; do
+  command -v "$tool" >/dev/null && continue
+  echo "there is no command $tool: Debian has it in $(sed -n "s/^$tool //p" tools.txt)"
+  status=1
+done
+[ "$status" -eq 0 ] || echo "sh tests/install.sh installs what is missing"
+exit "$status"

@@ -239,6 +239,7 @@ def main():
     usual = habits()
     files = [(FAULTS, faults_of_docstrings), (ADVICE, faults_of_advice), (LANGUAGE, faults_of_language)]
     program = suite.program_of(options, len(files) + 2 + len(found) + len(usual))
+    suite.need(["rt"], len(files) + 2 + len(found) + len(usual))
     with tempfile.TemporaryDirectory(prefix="cyclone-codes-") as folder:
         things = [(os.path.relpath(path), lambda compare=compare: compare(found)) for path, compare in files]
         things += [(os.path.relpath(HABITS_CODE), lambda: faults_of_habits(usual, found))]

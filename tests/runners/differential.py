@@ -217,6 +217,7 @@ def main():
     parser.add_argument("--texts")
     options = parser.parse_args()
     program = suite.program_of(options, len(list(programs_of(options))))
+    suite.need([] if options.check else ["gcc"], len(list(programs_of(options))))
     if options.texts:
         os.makedirs(options.texts, exist_ok=True)
     suite.end(*reference.with_room(lambda: try_all(options, program)))

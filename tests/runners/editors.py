@@ -147,6 +147,7 @@ def main():
             with open(os.path.join(EXAMPLES, name), encoding="latin-1") as file:
                 named.append((f"examples/{name}", file.read()))
     files = ((groups_in_vim, 0, "editors/vim"), (scopes_in_textmate, 1, "editors/textmate"))
+    suite.need(["vim"], len(named) * len(files))
     with tempfile.TemporaryDirectory(prefix="editors-") as folder:
         things = [(f"{name} in {where}", lambda one=(text, reader, column): faults_of(*one, folder))
                   for name, text in named for reader, column, where in files]

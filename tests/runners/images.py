@@ -1,7 +1,9 @@
 #!/usr/bin/env python3
-"""Images that hardly a compiler writes, run and listed, beside what tests/references/machine.py says; and instructions beside qemu-mips.
+"""Images that hardly a compiler writes, run and listed, beside what tests/references/machine.py says; and instructions beside qemu-mips
+and objdump.
 
     python3 tests/runners/images.py [--program PATH] [--runner PATH] [--count N] [--seed N] [--part NAME]
+                                    [--without-qemu] [--without-objdump]
 
 Four parts, of which --part takes one alone:
 
@@ -9,8 +11,8 @@ Four parts, of which --part takes one alone:
 - random: words of instructions, calls of a store of few pages, changed and random headers, with limits and without; `--count` of them,
   and the same seed gives the same images;
 - compiled: the examples, as the program compiles them, and each with some of its words changed;
-- instructions: each one of the table with edge operands, and random programs of them, run by qemu-mips as Linux programs too; where
-  there is no qemu-mips, a line says so.
+- instructions: each one of the table with edge operands, and random programs of them, run by qemu-mips as Linux programs too, and listed
+  by mips-linux-gnu-objdump. Where one of these is not there the test fails, but where it is left out by name: then the last line says so.
 
 Each answer has to be one that the manual names, in its time, and no crash. Output, last line and status have to be the reference's,
 with just as many steps as the reference counts and with one less; and so each line of a listing. Where an answer hangs on what a store
@@ -20,7 +22,7 @@ Each image, those of instructions apart, is run over both stores too, by the pro
 `--program` than the one that is built, only where it is named): output, end and count are the same, or, where they hang on what a store
 is free to choose, both outputs begin as the reference's does.
 
-The last line is `N passed, M failed`, of images.
+The last line is `N passed, M failed`, of images, and behind it stands what was left out.
 """
 import collections
 import concurrent.futures
@@ -28,7 +30,6 @@ import itertools
 import os
 import random
 import re
-import shutil
 import subprocess
 import tempfile
 import threading
@@ -37,6 +38,7 @@ import suite  # first: it says where the references and the generators are
 import image_makers
 import instruction_makers
 import machine
+import objdump
 
 # A run of a thousand steps takes some milliseconds, a listing of LISTED_AT_MOST words too.
 SECONDS = 20
@@ -46,6 +48,9 @@ SHARE = 25
 EXAMPLES = os.path.join(suite.ROOT, "examples")
 RUNNER = os.path.join(suite.ROOT, "crates", "cyc_runner", "out", "cyc_runner")
 STORES = ("plain", "paged")
+# What instructions are held against, beside the reference.
+QEMU = "qemu-mips"
+BESIDE = (QEMU, objdump.OBJDUMP)
 INSTRUCTIONS_AT_MOST = 10_000_000
 CAUSES = [
     "reserved instruction", "unpredictable", "misaligned", "no such address", "dead cell", "write to text", "break", "bad service",
@@ -212,30 +217,36 @@ def try_images(program, runner, part, options, workers):
     return len(names), faults
 
 
-def try_program(program, has_qemu, name, body):
-    """A program of instructions by the reference, by qemu-mips and by the program, and its fault if they differ."""
-    output = instruction_makers.results(body)
+def try_program(program, beside, name, body):
+    """A program of instructions by the reference, by the program and by what stands beside them, and its fault if they differ."""
+    output, words = instruction_makers.results(body), instruction_makers.ours(body)
+    listed = "".join(machine.line_of(word, machine.TEXT + 4 * number) for number, word in enumerate(words))
+    files = {"linux": instruction_makers.executable(instruction_makers.linux(body)), "ours": instruction_makers.executable(words)}
     with tempfile.TemporaryDirectory(prefix="cyclone-image-") as folder:
-        paths = [os.path.join(folder, end) for end in ("linux", "ours")]
-        for path, words in zip(paths, (instruction_makers.linux(body), instruction_makers.ours(body))):
-            with open(path, "wb") as file:
-                file.write(instruction_makers.executable(words))
-            os.chmod(path, 0o755)
-        by_qemu = asked(["qemu-mips", paths[0]]) if has_qemu else (output, "", 0)
-        if by_qemu != (output, "", 0):
-            return suite.difference(f"{name}: qemu-mips, beside the reference", (output, "", 0), by_qemu)
-        run = [program, "run", paths[1], "--steps", str(INSTRUCTIONS_AT_MOST)]
-        fault = fault_of("run", (output, "returned 0", 0), asked(run))
-    return fault and f"{name}: {fault}"
+        paths = {end: os.path.join(folder, end) for end in (*files, "words")}
+        for end, content in (*files.items(), ("words", image_makers.bytes_of(words))):
+            with open(paths[end], "wb") as file:
+                file.write(content)
+            os.chmod(paths[end], 0o755)
+        answers = [
+            (QEMU, (output, "", 0), lambda: asked([QEMU, paths["linux"]])),
+            (objdump.OBJDUMP, listed, lambda: "".join(objdump.listing(paths["words"], machine.TEXT))),
+            ("run", (output, "returned 0", 0), lambda: asked([program, "run", paths["ours"], "--steps", str(INSTRUCTIONS_AT_MOST)])),
+            ("disasm", (listed.encode("ascii"), "done", 0), lambda: asked([program, "disasm", paths["ours"]])),
+        ]
+        for by, wanted, ask in answers:
+            got = wanted if by in BESIDE and by not in beside else ask()
+            if got != wanted:
+                return suite.difference(f"{name}: {by}, beside the reference", wanted, got)
+    return None
 
 
-def try_instructions(program, workers):
-    """Tries each program of instructions, beside qemu-mips where it is there."""
-    has_qemu = shutil.which("qemu-mips") is not None
+def try_instructions(program, beside, workers):
+    """Tries each program of instructions, beside these commands."""
     programs = list(instruction_makers.programs())
-    faults = list(workers.map(try_program, itertools.repeat(program), itertools.repeat(has_qemu), *zip(*programs)))
-    beside = "" if has_qemu else "; not beside qemu-mips, which is not here (Debian's package qemu-user)"
-    print(f"instructions, {len(programs)} programs with {sum(body.results for _, body in programs)} results{beside}")
+    faults = list(workers.map(try_program, itertools.repeat(program), itertools.repeat(beside), *zip(*programs)))
+    others = " and ".join(beside) or "nothing"
+    print(f"instructions, {len(programs)} programs with {sum(body.results for _, body in programs)} results, beside {others}")
     return len(programs), [fault for fault in faults if fault]
 
 
@@ -248,20 +259,28 @@ def main():
     parser.add_argument("--seed", type=int, default=1)
     parser.add_argument("--part", choices=PARTS)
     parser.add_argument("--runner", metavar="PATH")
+    parser.add_argument("--without-qemu", dest="left_out", action="append_const", const=QEMU, default=[])
+    parser.add_argument("--without-objdump", dest="left_out", action="append_const", const=objdump.OBJDUMP)
     options = parser.parse_args()
     program = suite.program_of(options, options.count)
+    parts = [options.part] if options.part else PARTS
+    beside = [command for command in BESIDE if command not in options.left_out]
+    if "instructions" in parts:
+        suite.need(beside, options.count)
     runner = options.runner or (RUNNER if options.program == parser.get_default("program") else None)
     if runner and not os.access(runner, os.X_OK):
         print(f"there is no program {runner}: `rt run` in its crate proves and builds it")
         suite.end(0, options.count)
     tried, failed = 0, 0
     with concurrent.futures.ProcessPoolExecutor() as workers:
-        for part in [options.part] if options.part else PARTS:
-            is_of_images = part != "instructions"
-            images, faults = try_images(program, runner, part, options, workers) if is_of_images else try_instructions(program, workers)
-            tried, failed = tried + images, failed + len(faults)
+        for part in parts:
+            if part == "instructions":
+                count, faults = try_instructions(program, beside, workers)
+            else:
+                count, faults = try_images(program, runner, part, options, workers)
+            tried, failed = tried + count, failed + len(faults)
             print("\n".join(f"FAILED {fault}" for fault in faults), end="\n" if faults else "")
-    suite.end(tried - failed, failed)
+    suite.end(tried - failed, failed, " and ".join(options.left_out))
 
 
 if __name__ == "__main__":

@@ -187,6 +187,7 @@ def main():
     if not os.access(options.runner, os.X_OK):
         print(f"there is no program {options.runner}: `rt run` in its crate proves and builds it")
         suite.end(0, 16)
+    suite.need(["cc"], 16)
     with tempfile.TemporaryDirectory(prefix="cyclone-refused-") as folder:
         library = os.path.join(folder, "refuse.so")
         subprocess.run(["cc", "-shared", "-fPIC", "-O1", "-o", library, os.path.join(HERE, "refuse.c")], check=True)

@@ -4,7 +4,11 @@
     python3 tests/runners/run.py [--program PATH] [--runner PATH] [--whole] [--quick] [FILE.cases ..]
 
 The last line is `N passed, M failed`. A case is a few lines; tests/README.md has the format. With --whole the cases are those of
-the whole language, in tests/whole. With --quick those with a file of more than 8,192 bytes, and those that are marked as slow, are left out, and it says how many.
+the whole language, in tests/whole. With --quick those with a file of more than 8,192 bytes, and those that are marked as slow, are left
+out, and it says how many.
+
+A case that could not fail, since it runs nothing, does not say how a command ends or has a name that nothing sets, is none: the test
+fails then, and where a command of tests/tools.txt that the cases run is not there.
 
 Each image that a case runs is run over both stores too, by the program of crates/cyc_runner (`--runner`; of another program than the
 default one only where it is named): they do the same.
@@ -28,10 +32,18 @@ LIMITS = {"--pages": "1024", "--calls": "4096", "--steps": str(2**64 - 1)}
 TEXT_FILE = "text.cyc"
 # What is long for --quick, in bytes.
 LONG = 8192
+# The names that the commands of a case find in their environment.
+ENVIRONMENT = {"CYCLONE", "ROOT", "PATH", "PWD", "TMPDIR"}
+# A command of a shell's line: its first word, or one behind what ends another.
+COMMAND = re.compile(r"(?:^|[|;&(])\s*([\w.-]+)")
 
 
 class BadCase(Exception):
-    """A line of a case file that means nothing."""
+    """A line of a case file that means nothing, or a case that cannot fail."""
+
+    def __init__(self, fault, line=None):
+        super().__init__(fault)
+        self.line = line
 
 
 def unescaped(text):
@@ -81,10 +93,28 @@ class Case:
 
     def __init__(self, path, line, name):
         self.place = f"{os.path.relpath(path)}:{line}"
+        self.line = line
         self.name = name
         self.actions = []
         self.longest = 0
         self.is_slow = False
+        # the names that a shell is to know, each with its line, and those that the case sets for it
+        self.asked = []
+        self.set = set()
+
+    def steps(self):
+        return [action for action in self.actions if isinstance(action, Step)]
+
+    def hold(self):
+        """Refuses a case that runs nothing, does not say how a command ends, or has a name that nothing sets."""
+        if not self.steps():
+            raise BadCase("the case runs no command", self.line)
+        for step in self.steps():
+            if step.status is None:
+                raise BadCase("no line `ends STATUS LINE` stands below the command", step.line)
+        for line, name in self.asked:
+            if name not in ENVIRONMENT | self.set:
+                raise BadCase(f"nothing sets ${name}", line)
 
 
 def repeated(value):
@@ -111,50 +141,67 @@ class Reader:
         self.cases = []
         self.step = None
 
-    def block(self):
+    def block(self, is_of_shell=False):
         """The indented lines that follow, without their indentation and with names put in."""
         lines = []
         while self.at < len(self.lines) and self.lines[self.at].startswith("    "):
             lines.append(self.lines[self.at][4:])
             self.at += 1
-        return self.with_names("\n".join(lines))
+        return self.with_names("\n".join(lines), is_of_shell)
 
-    def with_names(self, text):
-        names = {**self.shared, **self.own}
-        return re.sub(
-            r"\$(?:\{([A-Z][A-Z0-9_]*)\}|([A-Z][A-Z0-9_]*))",
-            lambda m: names.get(m.group(1) or m.group(2), m.group(0)),
-            text,
-        )
+    def with_names(self, text, is_of_shell=False):
+        """A text with names put in. Other names may stand in it where a shell reads it, and the case or its environment sets them."""
+        names, line = {**self.shared, **self.own}, self.at
+
+        def one(match):
+            name = match.group(1) or match.group(2)
+            if name not in names:
+                if not is_of_shell:
+                    raise BadCase(f"nothing sets ${name}")
+                self.cases[-1].asked.append((line, name))
+            return names.get(name, match.group(0))
+
+        if is_of_shell:
+            self.cases[-1].set.update(re.findall(r"\b([A-Z][A-Z0-9_]*) ?=", text))
+        return re.sub(r"\$(?:\{([A-Z][A-Z0-9_]*)\}|([A-Z][A-Z0-9_]*))", one, text)
 
     def read(self):
-        while self.at < len(self.lines):
-            line = self.lines[self.at]
-            self.at += 1
-            if line.strip() and not line.startswith("#"):
-                try:
+        """The cases, of which there is one at least."""
+        try:
+            while self.at < len(self.lines):
+                line = self.lines[self.at]
+                self.at += 1
+                if line.strip() and not line.startswith("#"):
                     self.take(line)
-                except (BadCase, ValueError) as error:
-                    raise SystemExit(f"{self.path}:{self.at}: {error}")
+            if not self.cases:
+                raise BadCase("there is no case")
+            self.cases[-1].hold()
+        except (BadCase, ValueError) as error:
+            line = getattr(error, "line", None) or self.at
+            raise BadCase(f"{os.path.relpath(self.path)}:{line}: {error}") from error
         return self.cases
 
     def take(self, line):
         word, _, rest = line.partition(" ")
         rest = rest.strip()
         if word == "==":
+            if self.cases:
+                self.cases[-1].hold()
             self.cases.append(Case(self.path, self.at, rest))
             self.own = {}
             self.step = None
         elif word == "let":
             name, _, value = rest.partition("=")
             scope = self.own if self.cases else self.shared
-            scope[name.strip()] = repeated(value.strip()) or self.block()
+            scope[name.strip()] = repeated(self.with_names(value.strip())) or self.block()
         elif not self.cases:
             raise BadCase("a case begins with a line `== NAME`")
         elif line == "slow":
             self.cases[-1].is_slow = True
+        elif word == "$" and not rest:
+            raise BadCase("a line `$ WORDS` names a command")
         elif word in (">", "$"):
-            self.step = Step(self.at, shlex.split(self.with_names(rest)), word == ">")
+            self.step = Step(self.at, shlex.split(self.with_names(rest, word == "$")), word == ">")
             self.cases[-1].actions.append(self.step)
         elif word == "?":
             self.check_text(rest)
@@ -185,7 +232,7 @@ class Reader:
         elif word == "out-has":
             step.output_has.append(unescaped(self.with_names(rest)))
         elif word == "err-has":
-            step.error_has.append(unescaped(rest) if rest else self.block().encode("latin-1"))
+            step.error_has.append(unescaped(self.with_names(rest)) if rest else self.block().encode("latin-1"))
         elif word == "ends":
             status, _, last = rest.partition(" ")
             step.status, step.last = int(status), last
@@ -260,14 +307,14 @@ def look_holds(reader, rest):
         except OSError as error:
             return f"the file {path} cannot be read: {error}"
         if content != wanted:
-            return f"the file {path}\n  wanted {suite.shown(wanted)}\n  is     {suite.shown(content)}"
+            return suite.difference(f"the file {path}", wanted, content)
 
     return act
 
 
 # The words that make, change or look at a file, and what each does.
 FILES = {
-    "file": lambda reader, rest: made(reader, rest, reader.block().encode("latin-1")),
+    "file": lambda reader, rest: made(reader, rest, reader.block(is_of_shell=True).encode("latin-1")),
     "bytes": make_bytes,
     "hex": lambda reader, rest: made(reader, rest, bytes.fromhex(reader.block())),
     "words": lambda reader, rest: made(reader, rest, image_of(reader.block().split())),
@@ -377,6 +424,13 @@ def faults_of(case, program, act=run_step, runner=None):
     return faults
 
 
+def tools_of(cases):
+    """The commands of tests/tools.txt that the cases run."""
+    steps = [step for case in cases for step in case.steps() if not step.is_program]
+    lines = [step.words[-1] if step.words[0] == "sh" else step.words[0] for step in steps]
+    return sorted({word for line in lines for word in COMMAND.findall(line)} & suite.packages().keys())
+
+
 def case_files(folder):
     return sorted(os.path.join(folder, name) for name in os.listdir(folder) if name.endswith(".cases"))
 
@@ -389,12 +443,17 @@ def main():
     parser.add_argument("files", nargs="*")
     options = parser.parse_args()
     files = options.files or case_files(WHOLE if options.whole else CASES)
-    cases = [case for path in files for case in Reader(path).read()]
+    try:
+        cases = [case for path in files for case in Reader(path).read()]
+    except BadCase as bad:
+        print(f"FAILED {bad}")
+        suite.end(0, 1)
     if options.quick:
         short = [case for case in cases if case.longest <= LONG and not case.is_slow]
         print(f"left out, with long files or many steps: {len(cases) - len(short)}")
         cases = short
     program = suite.program_of(options, len(cases))
+    suite.need(tools_of(cases), len(cases))
     runner = options.runner or (RUNNER if options.program == parser.get_default("program") else None)
     runner = runner and os.path.abspath(runner)
     if runner and not os.access(runner, os.X_OK):

@@ -26,6 +26,7 @@ import facts
 import gate_table
 import images
 import in_trees
+import needs
 import reference
 import run
 import sessions
@@ -173,12 +174,22 @@ ends 9 usage
 ends 0 done
 absent a
 == a file that holds something else
-bytes a x
+> make a x
+ends 0 done
 holds a y
 == a text that has no fault
 ? fault 1 at 1:1 | good
 == a file that is not there
+> silent
+ends 0
 holds a y
+== a command that is not there
+$ no_such_command
+ends 0
+== a command that is not there, before another
+$ sh -c 'no_such_command | wc -l'
+out-has 0
+ends 0
 """
 
 
@@ -930,8 +941,8 @@ def are_pairs_right(folder):
             file.write(script)
         os.chmod(path, 0o755)
         words += ["--" + option, path]
-    for name, images in (EQUAL_PAIRS | UNEQUAL_PAIRS).items():
-        write_pair(pairs, name, images)
+    for name, parts in (EQUAL_PAIRS | UNEQUAL_PAIRS).items():
+        write_pair(pairs, name, parts)
     with open(os.path.join(pairs, "not_in_c.cyc"), "w", encoding="ascii") as file:
         file.write("1\nreturned 0\n")
     right = True
@@ -955,7 +966,7 @@ def is_runner_right(folder):
     over = ["--runner", os.path.join(folder, "over_stores")]
     for cases, options, wanted in (
         (GOOD, [], ("6 passed, 0 failed", 0)),
-        (BAD, [], ("0 passed, 10 failed", 1)),
+        (BAD, [], ("0 passed, 12 failed", 1)),
         (STORES, [], ("3 passed, 0 failed", 0)),
         (STORES, over, ("2 passed, 1 failed", 1)),
     ):
@@ -1052,6 +1063,7 @@ def main():
         right += [are_lanes_right(), are_groups_right(folder), are_proofs_taken(folder), is_right_body_wanted(folder)]
         right += [is_library_made(folder), is_first_run_kept(), is_judge_right()]
         right += [are_pairs_right(folder), are_drifts_found(), are_sessions_tried(folder), is_gate_published()]
+        right += needs.tried(folder, os.path.join(folder, "stand_in"))
     right += reference.with_room(lambda: [is_case_right(case) for case in cases] + [is_text_right(case) for case in texts])
     right += reference.with_room(lambda: [is_program_right(*one) for name in ("accepted", "refused") for one in in_trees.programs_in(name)])
     suite.end(right.count(True), right.count(False))

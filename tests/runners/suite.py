@@ -1,7 +1,9 @@
-"""What the tests of the program share: the program, the stack that it is given, how it is run, and how a test ends."""
+"""What the tests of the program share: the program, the stack that it is given, the commands that they need, how it is run, how values that
+differ are shown, and how a test ends."""
 import argparse
 import os
 import resource
+import shutil
 import subprocess
 import sys
 
@@ -13,8 +15,11 @@ PROGRAM = os.path.join(ROOT, "crates", "cyclone", "out", "cyclone")
 SECONDS = 60
 # The stack of each program that is run, in MB of 2^20 bytes: half of what a shell gives.
 STACK = 4
-# A long value is shown by its two ends.
+# The commands that tests run beside the program, and the packages that have them.
+TOOLS = os.path.join(TESTS, "tools.txt")
+# A long value is shown by its two ends, and two that differ by so many bytes about the first place where they do.
 SHOWN = 400
+ABOUT = 60
 
 
 def shown(value):
@@ -42,8 +47,21 @@ def said(words):
 
 
 def difference(what, wanted, got):
-    """What is otherwise than wanted, in words."""
-    return f"{what}\n  wanted {shown(wanted)}\n  got    {shown(got)}"
+    """What is otherwise than wanted, in words, and where that begins."""
+    return f"{what}\n  wanted {shown(wanted)}\n  got    {shown(got)}{parting(wanted, got)}"
+
+
+def parting(wanted, got):
+    """What stands about the first place where two values differ; nothing where both are seen at a glance."""
+    if isinstance(wanted, (tuple, list)) and type(wanted) is type(got):
+        lengths = f"\n  {len(wanted)} parts, and {len(got)} in place of them" if len(wanted) != len(got) else ""
+        return next((parting(one, other) for one, other in zip(wanted, got) if one != other), lengths)
+    if not isinstance(wanted, (bytes, str)) or type(wanted) is not type(got) or max(len(wanted), len(got)) <= ABOUT:
+        return ""
+    at = len(os.path.commonprefix([wanted, got]))
+    place, start = f"at {at}", max(0, at - ABOUT // 2)
+    one, other = (value[start:start + ABOUT] for value in (wanted, got))
+    return f"\n  {place} wanted {one!r}\n  {'':{len(place)}} got    {other!r}"
 
 
 def command_line(doc):
@@ -52,6 +70,22 @@ def command_line(doc):
     parser.add_argument("--program", default=PROGRAM)
     parser.add_argument("--stack", type=int, default=STACK, metavar="MB", help="a program that is not optimised needs more than 4")
     return parser
+
+
+def packages():
+    """The commands that tests run beside the program, each with the packages in which Debian has it."""
+    with open(TOOLS, encoding="ascii") as file:
+        return dict(line.strip().split(" ", 1) for line in file if not line.startswith("#"))
+
+
+def need(tools, count):
+    """Ends the test where one of these commands is missing: all `count` failed."""
+    missing = [tool for tool in tools if not shutil.which(tool)]
+    for tool in missing:
+        there = packages().get(tool)
+        print(f"there is no command {tool}" + (f": Debian has it in {there}" if there else ""))
+    if missing:
+        end(0, count)
 
 
 def limit_stack(megabytes):
@@ -84,7 +118,8 @@ def try_each(things, name_of, faults_of):
     end(len(things) - failed, failed)
 
 
-def end(passed, failed):
-    """Ends the test: its last line, and a status that says whether all passed."""
-    print(f"{passed} passed, {failed} failed")
-    sys.exit(1 if failed else 0)
+def end(passed, failed, left_out=None):
+    """Ends the test: its last line, which names what was left out, and a status that says whether all passed. Where nothing was tried,
+    nothing passed."""
+    print(f"{passed} passed, {failed} failed" + (f"; left out: {left_out}" if left_out else ""))
+    sys.exit(0 if passed and not failed else 1)
