@@ -9,7 +9,8 @@ BIN = $(DESTDIR)$(PREFIX)/bin
 MAN = $(DESTDIR)$(PREFIX)/share/man/man1
 
 help:
-	@echo 'make build    proves and builds the program, $(PROGRAM), crate by crate: half an hour to an hour the first time'
+	@echo 'make build    proves and builds the program, $(PROGRAM), with a line for each crate: half an hour to an hour the first'
+	@echo '              time, and some seconds where make test has proved and built it of the same sources'
 	@echo 'make demo     builds it, and shows it at work on the texts in examples/'
 	@echo 'make try      compiles and runs the program in SOURCE with no proof: make try SOURCE=examples/count.cyc'
 	@echo 'make quick    builds it with no proof, and runs the command-line suite, the whole-language cases, the examples and random'
@@ -37,9 +38,7 @@ quick:
 
 cases:
 	@sh tests/tools.sh
-	@$(MAKE) --no-print-directory build
-	@cd crates/cyc_runner && rt run >/dev/null
-	@cd crates/cyc_tracer && rt run >/dev/null
+	@tools/build cyclone cyc_runner cyc_tracer
 	@python3 tests/runners/run.py
 	@python3 tests/runners/run.py --whole
 	@python3 tests/runners/run.py tests/traced/traced.cases

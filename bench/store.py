@@ -16,8 +16,8 @@ import sys
 import tempfile
 
 HERE = os.path.dirname(os.path.abspath(__file__))
-CRATE = os.path.join(HERE, "..", "crates", "cyc_bench")
-PROGRAM = os.path.join(CRATE, "out", "cyc_bench")
+BUILD = os.path.join(HERE, "..", "tools", "build")
+PROGRAM = os.path.join(HERE, "..", "crates", "cyc_bench", "out", "cyc_bench")
 CALLS = 2_000_000
 RUNS = 5
 SHORT_RUNS = 300
@@ -79,7 +79,7 @@ def least_of_short(place):
 
 
 def main():
-    subprocess.run(["rt", "run"], cwd=CRATE, check=True, stdout=subprocess.DEVNULL)
+    subprocess.run([BUILD, "cyc_bench"], check=True, stdout=subprocess.DEVNULL)
     with tempfile.TemporaryDirectory() as folder:
         program = os.path.join(folder, "store")
         subprocess.run(["gcc", "-O2", "-o", program, os.path.join(HERE, "store.c")], check=True)

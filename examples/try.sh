@@ -1,6 +1,14 @@
 #!/bin/sh
 # Compiles and runs the program in a source file, by a cyclone that is built with no proof: sh examples/try.sh SOURCE
 set -u
+if [ ! -f "$1" ]; then
+  echo "there is no file '$1': make try SOURCE=examples/hello.cyc tries that one" >&2
+  exit 8
+fi
+if ! command -v rt >/dev/null; then
+  echo "there is no command rt: README.md says what it is, and which version is needed" >&2
+  exit 8
+fi
 source=$(realpath -- "$1") || exit 8
 cd "$(dirname "$0")/.." || exit
 program=$PWD/out/unproved/cyclone

@@ -51,7 +51,10 @@ if ! sh tests/install.sh; then
   echo "0 passed, 1 failed"
   exit 1
 fi
+sources=$(python3 tools/sources.py look)
 add "proofs" rt ci
+# `make build` and `make demo` take what was proved and built here, while the sources are the same.
+[ "$failed" -ne 0 ] || python3 tools/sources.py note "$sources"
 add "scripts" python3 tests/runners/scripts.py
 add "self tests" python3 tests/runners/self_test.py
 add "wrong bodies" python3 tests/runners/wrong.py

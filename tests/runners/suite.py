@@ -9,8 +9,8 @@ import sys
 
 TESTS = os.path.dirname(os.path.dirname(os.path.abspath(__file__)))
 ROOT = os.path.dirname(TESTS)
-# Who imports this finds the references and the generators too.
-sys.path += [os.path.join(TESTS, "references"), os.path.join(TESTS, "generators")]
+# Who imports this finds the references, the generators and the tools too.
+sys.path += [os.path.join(TESTS, "references"), os.path.join(TESTS, "generators"), os.path.join(ROOT, "tools")]
 PROGRAM = os.path.join(ROOT, "crates", "cyclone", "out", "cyclone")
 SECONDS = 60
 # The stack of each program that is run, in MB of 2^20 bytes: half of what a shell gives.

@@ -37,6 +37,7 @@ from concurrent.futures import FIRST_COMPLETED, ThreadPoolExecutor, wait
 import suite  # first: it says where the references and the generators are
 import in_trees
 from bodies import HEAD, Bodies, traits_of
+from sources import in_order, stands_on
 
 CASES = os.path.join(suite.TESTS, "wrong")
 PARTS = ("src", "specs", "proofs")
@@ -61,31 +62,6 @@ def free_memory():
         except (OSError, ValueError):
             return free
     return min(free, held[0] - held[1])
-
-
-def stands_on(root):
-    """The crates, each with the names of what it stands on."""
-    found = {}
-    with open(os.path.join(root, "crates.txt"), encoding="utf-8") as file:
-        for line in file:
-            head, colon, names = line.partition("#")[0].partition(":")
-            if colon:
-                found[head.split()[0]] = names.split()
-    return found
-
-
-def in_order(crate, graph):
-    """The crates that a crate stands on, each behind those that it stands on itself, and the crate last."""
-    found = []
-
-    def visit(it):
-        for below in graph[it]:
-            if below in graph and below not in found:
-                visit(below)
-        found.append(it)
-
-    visit(crate)
-    return found
 
 
 # ---- cases
