@@ -12,26 +12,31 @@ its frame has 256 words, which changes nothing, and 257, which is refused. Besid
 program with one thing changed: what is checked of each is the code and its place.
 
 No run may come to what is closed or freed: then the reference itself is wrong, or the language's rules are. The same seed
-gives the same programs. The last line is `N passed, M failed`, of programs: `--count` of ints, and a quarter of that of each
-other profile.
+gives the same programs. Of each kind of difference the shortest text is made smaller for as long as the two answers differ in that
+way, and shown. The last line is `N passed, M failed`, of programs: `--count` of ints, and a quarter of that of each other profile.
 
 --check only asks what `check` says. --texts writes the programs to a folder, and each in C beside it. As `--program
 tests/references/in_c.py` answers like the program itself, the expectations for every profile can be held against gcc.
 """
 import os
 import random
+import subprocess
 import tempfile
 
 import suite  # first: it says where the references and the generators are
 import in_c
 import makers
 import reference
+import shrink
 from language import runs
 
 # A program whose evaluation takes more calls and passes of loops than this is not used.
 STEPS_AT_MOST = 10_000
 # How many texts that differ from a program in one thing are checked beside it.
 BROKEN_TEXTS = 4
+# Of how many kinds of differences a text is shown, and the seconds in which it is made smaller.
+KINDS_SHOWN = 3
+SHRINKING = 60
 
 
 class Wanted:
@@ -106,17 +111,28 @@ class Wanted:
         self.runs.append((given, ["--calls", str(calls), "--pages", str(pages)], (bytes(done.output), done.line, done.status)))
 
 
+def kind_of(expected, got):
+    """The kind of a difference: what the last lines say, without the values and places, and whether the outputs are the same."""
+    heads = [line.split(" at ")[0].split()[:2] for _, line, _ in (expected, got)]
+    return [head[:1] if head[:1] == ["returned"] else head for head in heads], expected[0] == got[0]
+
+
+class Useless(Exception):
+    """A text of which the same cannot be asked."""
+
+
 class Tried:
     """A program's answers, of which the first that is otherwise than wanted is kept."""
 
     def __init__(self, program, folder):
         self.program = program
         self.source, self.image, self.built = (os.path.join(folder, name) for name in ("main.cyc", "main.elf", "main"))
-        self.fault, self.text = None, None
+        # the first difference, its kind, the text that shows it, and what asks the same of another text
+        self.fault, self.kind, self.text, self.again = None, None, None, None
 
-    def want(self, what, expected, got):
+    def want(self, what, expected, got, again):
         if self.fault is None and got != expected:
-            self.fault = suite.difference(what, expected, got)
+            self.fault, self.kind, self.again = suite.difference(what, expected, got), kind_of(expected, got), again
 
     def given(self, text):
         if self.fault is None:
@@ -124,30 +140,96 @@ class Tried:
         with open(self.source, "w", encoding="latin-1") as file:
             file.write(text)
 
+    def answer(self, *words, given=b""):
+        return suite.answer([self.program, *words], given)
+
     def check(self, text, line="done"):
         self.given(text)
-        self.want("check", (b"", line, 0 if line == "done" else 2), suite.answer([self.program, "check", self.source]))
+        self.want("check", (b"", line, 0 if line == "done" else 2), self.answer("check", self.source), self.check_again)
+
+    def check_again(self, text):
+        line = reference.verdict(text)
+        return (b"", line, 0 if line == "done" else 2), self.answer("check", self.source)
 
     def compile(self, text, line="done", status=0):
         self.given(text)
-        self.want("compile", (b"", line, status), suite.answer([self.program, "compile", self.source, "-o", self.image]))
+        self.want("compile", (b"", line, status), self.answer("compile", self.source, "-o", self.image), self.compile_again)
+
+    def compile_again(self, text):
+        wanted = (b"", "done", 0)
+        try:
+            reference.Program(text).hold_to_sizes()
+        except reference.Refused as refused:
+            wanted = (b"", str(refused), 2)
+        return wanted, self.answer("compile", self.source, "-o", self.image)
 
     def run(self, given, options, expected):
-        got = suite.answer([self.program, "run", self.image, *options], given)
-        self.want(f"run {' '.join(options)} on {given}", expected, got)
+        got = self.answer("run", self.image, *options, given=given)
+        self.want(f"run {' '.join(options)} on {given}", expected, got, lambda text: self.run_again(text, given, options))
+
+    def run_again(self, text, given, options):
+        expected = self.evaluated(text, given, options)[1]
+        if self.answer("compile", self.source, "-o", self.image) != (b"", "done", 0):
+            raise Useless
+        return expected, self.answer("run", self.image, *options, given=given)
+
+    @staticmethod
+    def evaluated(text, given, options):
+        """Another program, and what its run has to give, if it is accepted and ends soon."""
+        program = reference.Program(text)
+        program.hold_to_sizes()
+        limits = {name[2:]: int(number) for name, number in zip(options[::2], options[1::2])}
+        done = reference.Run(program, given, steps=STEPS_AT_MOST, **limits)
+        line, status = done.end()
+        if line == "budget spent":
+            raise Useless
+        return program, (bytes(done.output), line, status)
 
     def run_in_c(self, program, ways):
         """The program in C, as gcc builds it, on each of these ways to run it."""
         in_c.build(program, None, self.built)
         for given, options, expected in ways:
-            self.want(f"in C, run {' '.join(options)} on {given}", expected, suite.answer([self.built, *options], given))
+            again = lambda text, given=given, options=options: self.run_in_c_again(text, given, options)
+            self.want(f"in C, run {' '.join(options)} on {given}", expected, suite.answer([self.built, *options], given), again)
+
+    def run_in_c_again(self, text, given, options):
+        program, expected = self.evaluated(text, given, options)
+        in_c.build(program, None, self.built)
+        return expected, suite.answer([self.built, *options], given)
 
     def run_some(self, given, steps, expected):
         """A run with a budget of steps, which ends as the whole run does or has printed a prefix of what that prints."""
-        got = suite.answer([self.program, "run", self.image, "--steps", str(steps)], given)
-        if got[1:] == ("budget spent", 7) and expected[0].startswith(got[0]):
-            return
-        self.want(f"run --steps {steps} on {given}", expected, got)
+        got = self.answer("run", self.image, "--steps", str(steps), given=given)
+        if not self.is_part(got, expected):
+            self.want(f"run --steps {steps} on {given}", expected, got, lambda text: self.run_some_again(text, given, steps))
+
+    def run_some_again(self, text, given, steps):
+        expected, _ = self.run_again(text, given, [])
+        got = self.answer("run", self.image, "--steps", str(steps), given=given)
+        return expected, expected if self.is_part(got, expected) else got
+
+    @staticmethod
+    def is_part(got, expected):
+        return got[1:] == ("budget spent", 7) and expected[0].startswith(got[0])
+
+    def asked_again(self, text):
+        """What is wanted of another text, where the answer was otherwise than wanted, and what it gives; None where that cannot be asked."""
+        with open(self.source, "w", encoding="latin-1") as file:
+            file.write(text)
+        try:
+            return self.again(text)
+        except (Useless, reference.Refused, runs.Dead, runs.Wrong, subprocess.SubprocessError):
+            return None
+
+    def shows(self, text):
+        """Whether another text has a difference of the same kind."""
+        answers = self.asked_again(text)
+        return answers is not None and answers[0] != answers[1] and kind_of(*answers) == self.kind
+
+    def shrunk(self, seconds):
+        """A small text with a difference of the same kind, and the difference."""
+        text = shrink.shrunk(self.text, self.shows, seconds)
+        return text, suite.difference("the two answers", *self.asked_again(text))
 
 
 def try_program(tried, wanted, only_check):
@@ -190,7 +272,7 @@ def programs_of(options):
 
 def try_all(options, program):
     """The numbers of programs that pass and that fail."""
-    passed, failed, shortest = 0, 0, None
+    passed, failed, shortest = 0, 0, {}
     with tempfile.TemporaryDirectory(prefix="cyclone-random-") as folder:
         for profile, number in programs_of(options):
             wanted, tried = Wanted(profile, options.seed, number), Tried(program, folder)
@@ -200,12 +282,22 @@ def try_all(options, program):
             passed += not tried.fault
             if tried.fault:
                 failed += 1
-                print(f"FAILED program {number} of {profile}, seed {options.seed}\n  " + tried.fault.replace("\n", "\n  "))
-                shortest = min(shortest or tried.text, tried.text, key=len)
-    if shortest:
-        print("the shortest of the texts that fail (--texts FOLDER writes all programs):")
-        print("\n".join("    " + line for line in shortest.splitlines()))
+                name = f"program {number} of {profile}, seed {options.seed}"
+                print(f"FAILED {name}\n  " + tried.fault.replace("\n", "\n  "))
+                found = shortest.setdefault(repr(tried.kind), (name, tried))
+                if len(tried.text) < len(found[1].text):
+                    shortest[repr(tried.kind)] = name, tried
+        for name, tried in sorted(shortest.values(), key=lambda it: len(it[1].text))[:KINDS_SHOWN]:
+            show_shrunk(name, tried)
     return passed, failed
+
+
+def show_shrunk(name, tried):
+    """Shows what is left of a text that fails, and the whole that it is of."""
+    text, difference = tried.shrunk(SHRINKING)
+    print(f"shrunk from {len(tried.text.splitlines())} lines of {name} (--texts FOLDER writes all programs):")
+    print("\n".join("    " + line for line in text.splitlines()))
+    print("  " + difference.replace("\n", "\n  "))
 
 
 def main():

@@ -3,8 +3,8 @@
 table of what the gate costs, on looks at processes that are written here, has the sums worked by hand; wrong bodies are tried together
 where they may be, and what the prover says of them is judged as it should be; pairs of programs that do not print the same have no
 figures, and the others the right ones; documents that say something else than the data, and sessions that show something else than is
-printed, are found; and the reference answers the cases of the whole language, in tests/whole, and those of the
-program that check texts, as they say.
+printed, are found; a random program with a planted difference is shrunk to a small one that shows it; and the reference answers the cases of
+the whole language, in tests/whole, and those of the program that check texts, as they say.
 
     python3 tests/runners/self_test.py [TEXTS.json]
 
@@ -21,6 +21,7 @@ import unittest.mock
 
 import suite  # first: it says where the references and the generators are
 import bodies
+import differential
 import documents
 import facts
 import gate_table
@@ -30,6 +31,7 @@ import needs
 import reference
 import run
 import sessions
+import shrink
 import wrong
 
 HERE = os.path.dirname(os.path.abspath(__file__))
@@ -1030,6 +1032,27 @@ def is_judge_of_images_right(folder):
     return right
 
 
+def is_shrinker_right(folder):
+    """Whether of a random program what is left that shows a planted difference is small, and shows it. The stand-in for the program, in this
+    process, makes images in which `/` stands for each `%`."""
+
+    def planted(words, given=b""):
+        write = lambda _, text, path: reference.write_text(None, text.replace("%", "/"), path)
+        return reference.answer(words[1:], lambda: given, write)
+
+    with unittest.mock.patch.object(suite, "answer", planted):
+        tried = differential.Tried("the stand-in", folder)
+        differential.try_program(tried, differential.Wanted("ints", 1, 0), False)
+        text, _ = tried.shrunk(differential.SHRINKING)
+        is_same = tried.shows(text) and not tried.shows(text.replace("%", "-"))
+    size = sum(1 for _ in shrink.tokens_of(shrink.tree_of(text)))
+    # The least program that prints or returns what an operator gives has 11 tokens.
+    if not is_same or size > 40 or reference.verdict(text) != "done":
+        print(f"a program with a planted difference was shrunk to {size} tokens:\n{text}")
+        return False
+    return True
+
+
 def is_text_right(case):
     """Whether the reference refuses a text as it should, with the limits of an image too."""
     try:
@@ -1064,6 +1087,7 @@ def main():
         right += [is_library_made(folder), is_first_run_kept(), is_judge_right()]
         right += [are_pairs_right(folder), are_drifts_found(), are_sessions_tried(folder), is_gate_published()]
         right += needs.tried(folder, os.path.join(folder, "stand_in"))
+        right.append(reference.with_room(lambda: is_shrinker_right(folder)))
     right += reference.with_room(lambda: [is_case_right(case) for case in cases] + [is_text_right(case) for case in texts])
     right += reference.with_room(lambda: [is_program_right(*one) for name in ("accepted", "refused") for one in in_trees.programs_in(name)])
     suite.end(right.count(True), right.count(False))
