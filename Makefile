@@ -45,6 +45,7 @@ cases:
 	@python3 tests/runners/codes.py
 	@python3 tests/runners/documents.py
 	@python3 tests/runners/scripts.py
+	@python3 tests/runners/trusted.py
 	@python3 tests/runners/examples.py
 	@python3 tests/runners/sessions.py
 	@python3 tests/runners/editors.py

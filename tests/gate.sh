@@ -63,6 +63,7 @@ add "whole language" python3 tests/runners/run.py --whole
 add "traces" python3 tests/runners/run.py tests/traced/traced.cases
 add "codes" python3 tests/runners/codes.py
 add "documents" python3 tests/runners/documents.py
+add "trusted" python3 tests/runners/trusted.py
 add "examples" python3 tests/runners/examples.py
 add "sessions" python3 tests/runners/sessions.py
 add "editors" python3 tests/runners/editors.py

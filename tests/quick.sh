@@ -60,11 +60,12 @@ begin "random programs" on differential.py --count 12
 begin "editors" python3 tests/runners/editors.py
 begin "documents" python3 tests/runners/documents.py
 begin "scripts" python3 tests/runners/scripts.py
+begin "trusted" python3 tests/runners/trusted.py
 begin "codes" on codes.py
 begin "examples" on examples.py
 begin "sessions" on sessions.py
 wait
-for name in "command line" "whole language" "codes" "documents" "scripts" "examples" "sessions" "editors" "random programs"; do
+for name in "command line" "whole language" "codes" "documents" "trusted" "scripts" "examples" "sessions" "editors" "random programs"; do
   add "$name"
 done
 echo "$passed passed, $failed failed"

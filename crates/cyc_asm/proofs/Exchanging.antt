@@ -5,7 +5,8 @@ use Rattle.std.specs.Prelude.{◌⊎◌, slice_get, sum_by, flat_map}
 use Rattle.std.proofs.lemmas.Bool.{cases_eq}
 use Rattle.std.proofs.lemmas.List.Sums.{sum_by-cons}
 use Rattle.cyc_words.specs.Ending.{Ending}
-use Rattle.cyc_words.specs.Simulation.{Machine, Running, Ended, Failed, Matching, IsStepped, IsUnderWay, IsOver, Steps, NeverFails, Follows}
+use Rattle.cyc_words.specs.Simulation.{Machine, Running, Ended, Failed, NeverFails}
+use Rattle.cyc_words.specs.Following.{Matching, IsStepped, IsUnderWay, IsOver, Steps, Follows}
 use Rattle.cyc_words.proofs.Simulation.{running_ended, simulates, in_a_row, follows-never_fails}
 use Rattle.cyc_words.proofs.Matching.{by_one}
 use Rattle.cyc_isa.specs.declared.instr.Instr.{Instr}

@@ -11,7 +11,7 @@ use Rattle.cyc_machine.specs.Run.{World, Goes, told}
 use Rattle.cyc_machine.specs.declared.event.Event.TheVariants.{Ran}
 use Rattle.cyc_machine.specs.declared.phase.Phase.TheVariants as phases
 use Rattle.cyc_machine.proofs.StepLaws.{action_of-instruction, Step-action}
-use Rattle.cyc_words.specs.Simulation.{Comes}
+use Rattle.cyc_words.specs.Following.{Comes}
 use Rattle.cyc_select.specs.Machine.{Configuration}
 use Rattle.cyc_asm.specs.Text.{text_of, IsAt, nothing}
 use Rattle.cyc_machine.specs.WorldMachine.{world_machine}

@@ -11,7 +11,8 @@ use Rattle.cyc_machine.specs.declared.phase.Phase.{Phase}
 use Rattle.cyc_machine.specs.declared.phase.Phase.TheVariants as phases
 use Rattle.cyc_machine.specs.State.{words_per_call, stack_end}
 use Rattle.cyc_machine.proofs.RunLaws.{Goes-over, Goes-rests, Goes-output, Goes-input}
-use Rattle.cyc_words.specs.Simulation.{Ended, IsLawful}
+use Rattle.cyc_words.specs.Simulation.{Ended}
+use Rattle.cyc_words.specs.Following.{IsLawful}
 use Rattle.cyc_words.proofs.Simulation.{simulates, running_ended}
 use Rattle.cyc_select.specs.Labelled.{Labelled}
 use Rattle.cyc_select.specs.Machine as labelled

@@ -7,7 +7,8 @@ use Rattle.std.proofs.lemmas.Option.{slice_get_within}
 use Rattle.cyc_words.specs.Ending.{Ending}
 use Rattle.cyc_words.specs.Word.{add_of, signed}
 use Rattle.cyc_words.specs.Seen.{showing}
-use Rattle.cyc_words.specs.Simulation.{Machine, Running, Ended, Failed, Matching, IsOnTheWay, IsMatchedStep, IsStepped, Steps, Comes}
+use Rattle.cyc_words.specs.Simulation.{Machine, Running, Ended, Failed}
+use Rattle.cyc_words.specs.Following.{Matching, IsOnTheWay, IsMatchedStep, IsStepped, Steps, Comes}
 use Rattle.cyc_words.proofs.Simulation.{running_ended}
 use Rattle.cyc_words.proofs.SeenLemmas.{seen_same}
 use Rattle.cyc_words.proofs.Matching.{by_one, way_before}

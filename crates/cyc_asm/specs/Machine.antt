@@ -4,7 +4,8 @@ use Rattle.cyc_store.specs.State.{StoreState}
 use Rattle.cyc_machine.specs.declared.constants.TheConstants.{MAX_CALLS}
 use Rattle.cyc_machine.specs.Start.{start_core}
 use Rattle.cyc_machine.specs.State.{text_base, words_per_call}
-use Rattle.cyc_words.specs.Simulation.{NeverFails, Follows}
+use Rattle.cyc_words.specs.Simulation.{NeverFails}
+use Rattle.cyc_words.specs.Following.{Follows}
 use Rattle.cyc_machine.specs.Run.{World}
 use Rattle.cyc_machine.specs.WorldMachine.{world_machine}
 use Rattle.cyc_machine.specs.declared.phase.Phase.TheVariants as phases

@@ -5,7 +5,7 @@ ghost use Rattle.std.specs.Prelude.{◌≡◌, ℕ, ◌+◌, List, ◌++◌, len
 ghost use Rattle.std.specs.List.{range_with_len, flat_map};
 ghost use Rattle.std.specs.List.Sorted.{IsPermutation};
 ghost use Rattle.cyc_isa.specs.Encoding.{word_of};
-ghost use Rattle.cyc_words.specs.Simulation.{IsLawful};
+ghost use Rattle.cyc_words.specs.Following.{IsLawful};
 ghost use Rattle.cyc_select.specs.Labelled.{Labelled};
 ghost use Rattle.cyc_select.specs.declared.code.Line.{Line};
 ghost use Rattle.cyc_asm.specs.Order.{arranged};

@@ -10,3 +10,5 @@ pub mod Appends
 pub mod Writes
 -- what is written is read as the same image
 pub mod Again
+-- a file that is read by computation
+pub mod Examples

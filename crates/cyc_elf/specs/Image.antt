@@ -1,4 +1,5 @@
--- What an image is: an entry, segments of memory and the limits of its runs, without where they lie in the program.
+-- What an image is: an entry, segments of memory and the limits of its runs, without where they lie in the program. (Segments are those
+-- of the System V ABI, chapter 5, "Program Header"; which of them make an image is this project's own choice.)
 use Rattle.std.specs.Prelude.{◌≡◌, ℕ, ◌+◌, ◌*◌, ◌/◌, ◌%◌, ◌^◌, ◌<◌, ◌≤◌, Option, List, length, map, All, Any, AllPairs, IfSome}
 use Rattle.cyc_elf.specs.declared.image.Segment.{Segment}
 use Rattle.cyc_elf.specs.declared.image.Image.{Image}

@@ -1,5 +1,5 @@
--- Which general registers an instruction reads and which it sets, by its row of the architecture's manual, volume II. HI
--- and LO, the memory and the program counter are no registers here.
+-- Which general registers an instruction reads and which it sets, by its row of the architecture's manual, volume II. HI and LO, the
+-- memory and the program counter are no registers here. (The MIPS32 architecture, volume II.)
 use Rattle.std.specs.Prelude.{ℕ, Bool, false, not, ◌==◌, ◌||◌, ◌&&◌}
 use Rattle.cyc_isa.specs.declared.instr.Instr.{Instr}
 use Rattle.cyc_isa.specs.declared.instr.Instr.TheVariants.{Immediate, LoadUpper, Memory, Branch, BranchZero, Jump, Shift, ShiftVariable, JumpRegister, JumpRegisterLink, Exception, MoveFrom, MultiplyDivide, Arithmetic}

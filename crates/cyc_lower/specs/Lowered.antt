@@ -3,7 +3,8 @@ use Rattle.std.specs.Prelude.{◌≡◌, ℕ, ◌*◌, ◌≤◌, ◌<◌, List,
 use Rattle.std.specs.List.{AllByRecursion}
 use Rattle.cyc_types.specs.TypedTrees.{Function, Program}
 use Rattle.cyc_types.specs.Weight.{function_weight}
-use Rattle.cyc_words.specs.Simulation.{NeverFails, Follows}
+use Rattle.cyc_words.specs.Simulation.{NeverFails}
+use Rattle.cyc_words.specs.Following.{Follows}
 use Rattle.cyc_store.specs.State.{StoreState}
 use Rattle.cyc_store.specs.New.{IsNew}
 use Rattle.cyc_store.specs.declared.range.TheConstants.{MOST_PAGES}

@@ -10,6 +10,7 @@ pub mod ListLemmas
 -- examples
 pub mod ExampleTrees
 pub mod Examples
+pub mod StepExamples
 pub mod HeapExamples
 pub mod ExceptionExamples
 pub mod UniqueExamples

@@ -1,7 +1,7 @@
 -- What a source program does in one step: a function of the state, by cases of the focus. A step does at most one of: an
 -- operation, a check, a conversion, a read or a write of one value, the making of one object, the opening or closing of one
 -- region, one call or return, one byte read or printed. Evaluation is left to right (this project's own choice,
--- where C leaves it open), and a value is converted as soon as it is evaluated.
+-- where ISO C leaves it open), and a value is converted as soon as it is evaluated.
 use Rattle.std.specs.Prelude.{ℕ, suc, ◌-◌, ◌%◌, ◌^◌, ◌==◌, ◌&&◌, Bool, true, false, if◌then◌else◌, List, [], ◌∷◌, ◌++◌, map, reverse, drop, length, Option, Some, None, slice_get, unwrap_or}
 use Rattle.cyc_words.specs.Word.{signed}
 use Rattle.cyc_words.specs.Ending.{Returned, Uncaught}

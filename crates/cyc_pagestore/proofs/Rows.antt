@@ -3,7 +3,7 @@ use Rattle.std.proofs.Common.{◌≡◌, ◌≢◌, ℕ, ◌<◌, List, [], ◌�
 use Rattle.std.specs.Prelude.{◌⊎◌}
 use Rattle.std.specs.List.{AllByRecursion}
 use Rattle.std.proofs.lemmas.Bool.{cases_eq}
-use Rattle.cyc_words.specs.Simulation.{IsDistinct}
+use Rattle.cyc_words.specs.Distinct.{IsDistinct}
 use Rattle.cyc_words.proofs.Numbers.{when_equal}
 use Rattle.cyc_store.specs.Table.{free_row, row_at}
 use Rattle.cyc_store.specs.Kept.{IsChain, IsOneOf}

@@ -1,7 +1,7 @@
 -- What a table of pages over a pool says, what its calls do, and how the pool says it.
 use Rattle.std.specs.Prelude.{◌≡◌, ℕ, ◌+◌, ◌*◌, ◌^◌, ◌<◌, ◌≤◌, ◌⊎◌, Bool, true, false, List, [], ◌∷◌, length, replicate, set, slice_index, slice_index_or}
 use Rattle.std.specs.List.{AllByRecursion}
-use Rattle.cyc_words.specs.Simulation.{IsDistinct}
+use Rattle.cyc_words.specs.Distinct.{IsDistinct}
 use Rattle.cyc_store.specs.Table.{free_row, row_at, given_rows, given_free, marked_between}
 use Rattle.cyc_store.specs.Kept.{IsChain, IsOneOf, numbers_from}
 use Rattle.cyc_store.specs.declared.row.Role.{Role}

@@ -16,7 +16,8 @@ use Rattle.cyc_parse.specs.Parsing.{Outcome, Refusal, and_then, bind}
 use Rattle.cyc_parse.specs.Declarations.{program_of}
 use Rattle.cyc_parse.specs.Faults.{end_of, fault_of}
 use Rattle.cyc_parse.specs.Answers.{at_end, whole_program, IsAnswer}
-use Rattle.cyc_parse.specs.Acceptance.{declarations_of, IsAccepted, IsRefused, BreaksLimit, IsFaulty}
+use Rattle.cyc_syntax.specs.TreeView.{declarations_of}
+use Rattle.cyc_parse.specs.Acceptance.{IsAccepted, IsRefused, BreaksLimit, IsFaulty}
 use Rattle.cyc_parse.proofs.Soundness.{program_of-sound, answered_weight}
 use Rattle.cyc_parse.proofs.Refused.{program_of-refused, within_limits_answered, first_limit_refused}
 

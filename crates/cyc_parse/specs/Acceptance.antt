@@ -1,19 +1,15 @@
--- Which tokens the parser accepts, and what it refuses where.
-use Rattle.std.specs.Prelude.{◌≡◌, ℕ, List, ◌∷◌, ◌++◌, length, map}
+-- Which tokens the parser accepts, and what it refuses where. (What a program is, is the Cyclone manual's grammar; limits, codes and
+-- places are this project's own choice.)
+use Rattle.std.specs.Prelude.{◌≡◌, ℕ, List, ◌∷◌, ◌++◌, length}
 use Rattle.cyc_words.specs.declared.fault.Fault.{Fault}
 use Rattle.cyc_syntax.specs.Tokens.{Token}
 use Rattle.cyc_syntax.specs.Symbols.{Symbol, symbols_of}
 use Rattle.cyc_syntax.specs.Trees.{Declaration}
 use Rattle.cyc_syntax.specs.Grammar.{HasTree, IsWithinLimits}
 use Rattle.cyc_syntax.specs.Yields.{program}
-use Rattle.cyc_syntax.specs.declared.tree.Tree.{Tree}
-use Rattle.cyc_syntax.specs.TreeView.{view_declaration}
 use Rattle.cyc_parse.specs.Faults.{Refusal, end_of, fault_of}
 use Rattle.cyc_parse.specs.Refusals.{BreaksFirst}
 use Rattle.cyc_parse.specs.Refusals as symbols
-
-abbrev pub declarations_of : Tree → List Declaration
-declarations_of tree = map view_declaration tree.declarations.items
 
 -- The tokens are accepted with these declarations: they are a tree of the tokens by the grammar, and all is within the
 -- limits.

@@ -17,7 +17,8 @@ use Rattle.cyc_plain.specs.declared.instruction.Instruction.TheVariants as instr
 use Rattle.cyc_plain.specs.Operators.{has_no_result, binary_result}
 use Rattle.cyc_plain.specs.Requests.{destination_of}
 use Rattle.cyc_words.specs.Simulation as simulation
-use Rattle.cyc_words.specs.Simulation.{Status, IsLawful, Run}
+use Rattle.cyc_words.specs.Simulation.{Status, Run}
+use Rattle.cyc_words.specs.Following.{IsLawful}
 use Rattle.cyc_plain.specs.Program.{Program, routine_at}
 use Rattle.cyc_plain.specs.State.{Words, AreWords, put, Handler, Open, Caught, Activation, Frame, Configuration, State, Running, Ended, Stuck, output_of, input_of, status_of, place_of}
 use Rattle.cyc_plain.specs.Memory.{IsBelow, Range, OfGlobals, OfStore, OfSlots, range_of, global_at, slot_at, memory_at, with_global, with_slot, with_word}

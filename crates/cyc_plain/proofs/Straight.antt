@@ -1,7 +1,8 @@
 -- Straight code runs to the configuration that it says, and meets no place twice.
 use Rattle.std.proofs.Common.{◌≡◌, ◌≢◌, ℕ, zero, suc, ◌+◌, ◌<◌, true, false, List, [], ◌∷◌, ◌++◌, length, Some, slice_get, refl, sym, ap, subst, ◌∙◌, arith, length-append, append_assoc}
 use Rattle.std.specs.List.{AllByRecursion}
-use Rattle.cyc_words.specs.Simulation.{Path, Comes, IsDistinct}
+use Rattle.cyc_words.specs.Distinct.{IsDistinct}
+use Rattle.cyc_words.specs.Following.{Path, Comes}
 use Rattle.cyc_store.specs.State.{StoreState}
 use Rattle.cyc_plain.specs.declared.instruction.Instruction.{Instruction}
 use Rattle.cyc_plain.specs.declared.instruction.Instruction.TheVariants as instructions

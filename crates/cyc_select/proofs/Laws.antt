@@ -12,7 +12,7 @@ use Rattle.cyc_machine.specs.declared.event.Event.TheVariants.{Ran, WantsByte, P
 use Rattle.cyc_machine.specs.declared.phase.Phase.{Phase}
 use Rattle.cyc_machine.specs.declared.phase.Phase.TheVariants as phases
 use Rattle.cyc_words.specs.Simulation as simulation
-use Rattle.cyc_words.specs.Simulation.{IsLawful}
+use Rattle.cyc_words.specs.Following.{IsLawful}
 use Rattle.cyc_select.specs.declared.code.Line.{Line}
 use Rattle.cyc_select.specs.declared.code.Line.TheVariants as lines
 use Rattle.cyc_select.specs.Labelled.{Labelled, is_ordinary}

@@ -4,7 +4,8 @@ use Rattle.std.specs.List.{AllByRecursion, range_with_len, flat_map}
 use Rattle.cyc_store.specs.State.{StoreState}
 use Rattle.cyc_store.specs.New.{IsNew}
 use Rattle.cyc_machine.specs.Bounds.{AreAllowed}
-use Rattle.cyc_words.specs.Simulation.{NeverFails, Follows}
+use Rattle.cyc_words.specs.Simulation.{NeverFails}
+use Rattle.cyc_words.specs.Following.{Follows}
 use Rattle.cyc_plain.specs.Memory.{IsBelow, slots_end}
 use Rattle.cyc_plain.specs.Program.{Program, CodePlace, routine_at, places_of, size}
 use Rattle.cyc_plain.specs.Step as plain

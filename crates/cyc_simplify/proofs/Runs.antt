@@ -4,7 +4,8 @@ use Rattle.std.specs.Prelude.{◌==◌, if◌then◌else◌}
 use Rattle.std.proofs.lemmas.Bool.{cases_lt}
 use Rattle.std.proofs.lemmas.List.{get_or_past}
 use Rattle.std.proofs.lemmas.Option.{slice_get_past}
-use Rattle.cyc_words.specs.Simulation.{Machine, Matching, Steps, NeverFails, Follows}
+use Rattle.cyc_words.specs.Simulation.{Machine, NeverFails}
+use Rattle.cyc_words.specs.Following.{Matching, Steps, Follows}
 use Rattle.cyc_words.proofs.Simulation.{running_ended, running_failed, simulates}
 use Rattle.cyc_words.proofs.Matching.{by_one}
 use Rattle.cyc_words.proofs.Lists.{slice_get_below}

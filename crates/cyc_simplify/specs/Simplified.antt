@@ -1,6 +1,7 @@
 -- What the simplification promises: a program like the one given, which does what that does.
 use Rattle.std.specs.Prelude.{◌≡◌, ℕ, ◌<◌, ◌≤◌, List, [], ◌∷◌, length}
-use Rattle.cyc_words.specs.Simulation.{NeverFails, Follows}
+use Rattle.cyc_words.specs.Simulation.{NeverFails}
+use Rattle.cyc_words.specs.Following.{Follows}
 use Rattle.cyc_store.specs.State.{StoreState}
 use Rattle.cyc_plain.specs.Program.{Routine, Program, routine_at, size}
 use Rattle.cyc_plain.specs.Step.{machine, start}

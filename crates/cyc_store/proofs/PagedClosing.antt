@@ -3,7 +3,7 @@ use Rattle.std.proofs.Common.{◌≡◌, ◌≢◌, ℕ, suc, ◌+◌, ◌<◌, 
 use Rattle.std.specs.List.{AllByRecursion}
 use Rattle.std.proofs.lemmas.Bool.{cases_eq}
 use Rattle.cyc_words.specs.Demand.{region_pages, demand_of}
-use Rattle.cyc_words.specs.Simulation.{IsDistinct}
+use Rattle.cyc_words.specs.Distinct.{IsDistinct}
 use Rattle.cyc_words.proofs.Numbers.{when_equal}
 use Rattle.cyc_store.specs.Lookup.{lookup, without, AreDistinct}
 use Rattle.cyc_store.specs.State.{Uniques, Home, handle_of, StoreState, sizes_of, sizes_in, demand}

@@ -1,7 +1,7 @@
 -- A new store is laid out in pages, and stays so where a region is opened and demand allows it.
 use Rattle.std.proofs.Common.{◌≡◌, ◌≢◌, ℕ, zero, suc, ◌+◌, ◌<◌, ◌≤◌, List, [], ◌∷◌, length, None, Some, refl, ap, ◌∙◌, arith}
 use Rattle.std.specs.List.{AllByRecursion}
-use Rattle.cyc_words.specs.Simulation.{IsDistinct}
+use Rattle.cyc_words.specs.Distinct.{IsDistinct}
 use Rattle.cyc_words.proofs.Numbers.{below_next}
 use Rattle.cyc_store.specs.State.{Memory, Sort, Heap, StoreState, start, demand, opened}
 use Rattle.cyc_store.specs.Kept.{numbers_from}

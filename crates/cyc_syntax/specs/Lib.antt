@@ -10,6 +10,7 @@ pub mod Symbols
 pub mod Trees
 pub mod Yields
 pub mod Grammar
+pub mod Sums
 pub mod Weight
 -- the trees of the code, seen as pure ones
 pub mod TreeView

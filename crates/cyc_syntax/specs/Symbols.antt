@@ -1,6 +1,7 @@
 -- The symbols that the grammar reads: tokens whose names are numbers. A name has the number of its text in the list of
 -- the distinct texts of a program's identifiers and region names, in first-seen order. (This project's own choice.)
 use Rattle.std.specs.Prelude.{ℕ, List, [], ◌∷◌, map}
+use Rattle.cyc_words.specs.declared.span.Span.{Span}
 use Rattle.cyc_syntax.specs.declared.tokens.Keyword.{Keyword}
 use Rattle.cyc_syntax.specs.declared.tokens.Sign.{Sign}
 use Rattle.cyc_syntax.specs.Names.{distinct_texts, number_of}
@@ -11,6 +12,10 @@ use Rattle.cyc_syntax.specs.Tokens as kinds
 pub record Place : Type 0 where
   pub line : ℕ
   pub column : ℕ
+
+-- where something of the code stands
+abbrev pub place_of_span : Span → Place
+place_of_span s = record { line = s.line; column = s.column }
 
 pub data Terminal : Type 0 where
   Identifier : ℕ → Terminal

@@ -1,5 +1,6 @@
--- The token rule: at each place of a text the longest token, space or comment stands there. It relates the bytes of a
--- text and the list of its tokens with their places (maximal munch, as C and Cyclone have it).
+-- The token rule: at each place of a text the longest token, space or comment stands there. It relates the bytes of a text and the list
+-- of its tokens with their places (maximal munch, as C and Cyclone have it). (ISO C, 6.4, "Lexical elements"; the limits are this
+-- project's own choice.)
 use Rattle.std.specs.Prelude.{◌≡◌, ◌≢◌, ℕ, ◌+◌, ◌<◌, ◌≤◌, List, [], ◌∷◌, ◌++◌, length, take, map, count_by, All}
 use Rattle.std.specs.List.{after_last}
 use Rattle.cyc_syntax.specs.Spelling.{is_line_feed, Piece, Lexeme, Space, Comment, OpenComment, Spells, SpellsToken}

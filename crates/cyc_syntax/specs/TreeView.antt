@@ -1,8 +1,8 @@
--- The view of the code's trees: the same tree, without where it lies in memory.
+-- The view of the code's trees: the same tree, without where it lies in memory. This project's own choice.
 use Rattle.std.specs.Prelude.{List, [], ◌∷◌, map, Option, Some, None, option_map}
 use Rattle.std.specs.declared.vec.Vec.{Vec}
 use Rattle.std.specs.declared.alloc.Global.{Global as Heap}
-use Rattle.cyc_words.specs.declared.span.Span.{Span}
+use Rattle.cyc_syntax.specs.declared.tree.Tree.{Tree}
 use Rattle.cyc_syntax.specs.declared.tree.Ident.{Ident}
 use Rattle.cyc_syntax.specs.declared.tree.Pointer.{Pointer as PointerCode}
 use Rattle.cyc_syntax.specs.declared.tree.BaseType.{BaseType as BaseTypeCode}
@@ -32,10 +32,8 @@ use Rattle.cyc_syntax.specs.declared.tree.Parameters.{Parameters as ParametersCo
 use Rattle.cyc_syntax.specs.declared.tree.Declaration.{Declaration as DeclarationCode}
 use Rattle.cyc_syntax.specs.declared.tree.Declaration.TheVariants as declaration
 use Rattle.cyc_syntax.specs.Symbols.{Place}
+pub use Rattle.cyc_syntax.specs.Symbols.{place_of_span}
 use Rattle.cyc_syntax.specs.Trees.{Named, Pointer, BaseType, Int, Char, Struct, Handle, Key, WrittenType, Expression, Number, Character, Null, HeapRegion, UniqueRegion, Variable, Call, Bracketed, NumberOfElements, LowByteOf, FreeUnique, FreeKey, Chained, Prefixed, New, RegionNew, Binary, Assign, Initial, Plain, Fields, Array, Expressions, NoExpressions, MoreExpressions, Postfixes, NoPostfixes, ThenIndex, ThenField, Operations, NoOperations, ThenOperation, Statement, Block, Labelled, Empty, Evaluate, Swap, If, IfElse, While, Return, Break, Continue, Throw, Try, Body, Braces, Items, NoItems, MoreItems, Item, Execute, Local, Region, Alias, DynamicRegion, Clauses, NoClauses, Default, Case, Member, Constructor, GlobalValue, Positive, Negative, Byte, NullPointer, Constraint, ParameterList, Void, Listed, Parameters, Declaration, StructType, Exceptions, Global, Function}
-
-abbrev pub place_of_span : Span → Place
-place_of_span s = record { line = s.line; column = s.column }
 
 abbrev pub view_name : Ident → Named
 view_name x = record { name = x.name.number; place = place_of_span x.span }
@@ -198,3 +196,7 @@ view_declaration (declaration.Struct s rs fs) = StructType (view_name s) (map vi
 view_declaration (declaration.Exceptions cs) = Exceptions (map view_constructor cs.items)
 view_declaration (declaration.Global t x v) = Global (view_type t) (view_name x) (option_map view_value v)
 view_declaration (declaration.Function t f ps b) = Function (option_map view_type t) (view_name f) (view_parameters ps) (view_block b)
+
+-- the declarations of a tree
+abbrev pub declarations_of : Tree → List Declaration
+declarations_of tree = map view_declaration tree.declarations.items

@@ -1,16 +1,8 @@
 -- The weight of a tree: how many tokens its spelling has. Brackets, separators and all. It is stated by recursion on
 -- the tree, apart from the productions, for the passes whose output is bounded by it. (This project's own choice.)
 use Rattle.std.specs.Prelude.{ℕ, ◌+◌, Bool, true, false, List, [], ◌∷◌, Option, Some, None}
+pub use Rattle.cyc_syntax.specs.Sums.{sum_of, separated_weight, optional_weight}
 use Rattle.cyc_syntax.specs.Trees.{Named, Pointer, BaseType, Int, Char, Struct, Handle, Key, WrittenType, Expression, Number, Character, Null, HeapRegion, UniqueRegion, Variable, Call, Bracketed, NumberOfElements, LowByteOf, FreeUnique, FreeKey, Chained, Prefixed, New, RegionNew, Binary, Assign, Initial, Plain, Fields, Array, Expressions, NoExpressions, MoreExpressions, Postfixes, NoPostfixes, ThenIndex, ThenField, Operations, NoOperations, ThenOperation, Statement, Block, Labelled, Empty, Evaluate, Swap, If, IfElse, While, Return, Break, Continue, Throw, Try, Body, Braces, Items, NoItems, MoreItems, Item, Execute, Local, Region, Alias, DynamicRegion, Clauses, NoClauses, Default, Case, Member, Constructor, GlobalValue, Positive, Negative, Byte, NullPointer, Constraint, ParameterList, Void, Listed, Parameters, Declaration, StructType, Exceptions, Global, Function}
-
-abbrev pub sum_of : {A : Type 0} → (A → ℕ) → List A → ℕ
-sum_of weight [] = 0
-sum_of weight (x ∷ xs) = weight x + sum_of weight xs
-
--- with a comma before each but the first
-abbrev pub separated_weight : {A : Type 0} → (A → ℕ) → List A → ℕ
-separated_weight weight [] = 0
-separated_weight weight (x ∷ xs) = weight x + sum_of (λ y. 1 + weight y) xs
 
 abbrev pub regions_weight : List Named → ℕ
 regions_weight rs = separated_weight (λ _. 1) rs
@@ -18,10 +10,6 @@ regions_weight rs = separated_weight (λ _. 1) rs
 abbrev pub region_list_weight : List Named → ℕ
 region_list_weight [] = 0
 region_list_weight (r ∷ rs) = 2 + regions_weight (r ∷ rs)
-
-abbrev pub optional_weight : {A : Type 0} → (A → ℕ) → Option A → ℕ
-optional_weight weight None = 0
-optional_weight weight (Some x) = weight x
 
 abbrev pub mark_weight : Pointer → ℕ
 mark_weight m = 1 + optional_weight (λ _. 1) m.region

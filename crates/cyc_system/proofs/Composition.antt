@@ -11,7 +11,8 @@ use Rattle.cyc_types.specs.TypedTrees.{Program}
 use Rattle.cyc_meaning.specs.State as meaning
 use Rattle.cyc_meaning.specs.Run.{start}
 use Rattle.cyc_meaning.proofs.RunLaws.{limited_step_goes_on, over_limited}
-use Rattle.cyc_words.specs.Simulation.{Machine, IsLawful, NeverFails, Follows, Preserves}
+use Rattle.cyc_words.specs.Simulation.{Machine, NeverFails, Preserves}
+use Rattle.cyc_words.specs.Following.{IsLawful, Follows}
 use Rattle.cyc_words.specs.Simulation as simulation
 use Rattle.cyc_words.proofs.Simulation.{in_a_row, follows-never_fails, follows-preserves}
 use Rattle.cyc_plain.proofs.RunLaws.{lawful}

@@ -14,3 +14,5 @@ pub mod CompiledRuns
 -- running and listing
 pub mod Engines
 pub mod Listings
+-- an image that is computed
+pub mod ImageExamples

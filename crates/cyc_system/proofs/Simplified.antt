@@ -2,7 +2,8 @@
 use Rattle.std.proofs.Common.{◌≡◌, ℕ, suc, ◌<◌, List, [], ◌∷◌, ◌++◌, length, refl, sym, ap, subst, ◌∙◌, arith}
 use Rattle.std.specs.Prelude.{flat_map, map, slice_index_or}
 use Rattle.std.specs.List.{range_with_len}
-use Rattle.cyc_words.specs.Simulation.{Machine, Follows}
+use Rattle.cyc_words.specs.Simulation.{Machine}
+use Rattle.cyc_words.specs.Following.{Follows}
 use Rattle.cyc_words.proofs.Simulation.{in_a_row, follows-never_fails}
 use Rattle.cyc_store.specs.State.{StoreState}
 use Rattle.cyc_types.specs.TypedTrees.{Function, Program}

@@ -1,4 +1,4 @@
--- Want of memory is one fault, wherever it comes from.
+-- Want of memory is one fault, wherever it comes from. This project's own choice.
 use Rattle.std.specs.Prelude.{Bool, true, false, Result, Err}
 use Rattle.cyc_elf.specs.declared.fault.ElfFault.{ElfFault}
 use Rattle.cyc_elf.specs.declared.fault.ElfFault.TheVariants as elf

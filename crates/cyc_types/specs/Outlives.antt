@@ -1,6 +1,6 @@
 -- The outlives relation between the regions of a function: where the first outlives the second, what points into the first may
--- stand where a pointer into the second is wanted. (The relation is Cyclone's; which pairs the scopes add is this project's own
--- choice.)
+-- stand where a pointer into the second is wanted. (The relation is that of Grossman et al. 2002; which pairs the scopes add is
+-- this project's own choice.)
 use Rattle.std.specs.Prelude.{◌≡◌, ◌≢◌, ◌⊎◌, Bool, true, false, not, ◌&&◌, List, [], ◌∷◌, ◌++◌, map, Contains}
 use Rattle.std.specs.List.{list_all}
 use Rattle.cyc_types.specs.declared.region.Region.{Region}

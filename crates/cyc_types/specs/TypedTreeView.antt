@@ -1,6 +1,6 @@
--- The view of the code's typed trees: the same tree, without where it lies in memory.
+-- The view of the code's typed trees: the same tree, without where it lies in memory. This project's own choice.
 use Rattle.std.specs.Prelude.{List, [], ◌∷◌, map, Option, None, Some, option_map}
-use Rattle.cyc_syntax.specs.TreeView.{place_of_span}
+use Rattle.cyc_syntax.specs.Symbols.{place_of_span}
 use Rattle.cyc_types.specs.TypeView.{view_ty, view_value_type}
 use Rattle.cyc_types.specs.declared.typed.Lvalue.{Lvalue as LvalueCode}
 use Rattle.cyc_types.specs.declared.typed.Lvalue.TheVariants as lvalue

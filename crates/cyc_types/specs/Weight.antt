@@ -3,7 +3,7 @@
 -- value of a global that is 0 or null, the `void` of an empty list of parameters, labels, regions behind marks, effects and constraints.
 -- Structs and exceptions count nothing: they have no code. (This project's own choice.)
 use Rattle.std.specs.Prelude.{ℕ, zero, suc, ◌+◌, Option, None, Some}
-use Rattle.cyc_syntax.specs.Weight.{sum_of, separated_weight, optional_weight}
+use Rattle.cyc_syntax.specs.Sums.{sum_of, separated_weight, optional_weight}
 use Rattle.cyc_types.specs.declared.typed.UnaryOperator.{UnaryOperator}
 use Rattle.cyc_types.specs.declared.typed.UnaryOperator.TheVariants as unary
 use Rattle.cyc_types.specs.TypedTrees.{Expression, Number, NullPointer, HeapRegion, Counter, Copy, Move, Peek, Load, AddressOf, AddressOfCell, NumberOfElements, FreeUnique, FreeKey, Call, Unary, Binary, Assign, Store, New, Dereference, Target, Member, Element, Placement, OnHeap, AsUnique, ByHandle, Initial, Plain, Fields, Array, Converted, Convert, Arguments, NoArguments, MoreArguments, Operations, NoOperations, ThenCompute, ThenTest, ThenPointer, ThenPointerPeek, Side, VariableSide, CellSide, Statement, Block, Empty, Evaluate, Swap, If, While, Return, Break, Continue, Throw, Try, Items, NoItems, MoreItems, Item, Execute, Declare, DeclareRegion, OpenRegion, DeclareAlias, DeclareKey, Clauses, NoClauses, Default, Case, Constant, Word, Null, GlobalVariable, Function, Program}

@@ -15,4 +15,5 @@ pub mod Numbers
 pub mod Simulation
 pub mod Matching
 pub mod SimulationExamples
+pub mod SeenExamples
 pub mod Prices

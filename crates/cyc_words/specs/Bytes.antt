@@ -1,4 +1,5 @@
--- A word as four bytes, the highest first (big-endian).
+-- A word as four bytes, the highest first (big-endian). (The order is that of the MIPS32 architecture, volume I, in its big-endian
+-- form.)
 use Rattle.std.specs.Prelude.{ℕ, ◌+◌, ◌*◌, ◌/◌, ◌%◌, ◌^◌, ◌<◌, List, [], ◌∷◌, slice_index}
 
 -- a number of 8 bits

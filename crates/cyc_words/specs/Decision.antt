@@ -1,5 +1,5 @@
--- The contract of a call that decides: what it accepts and with which answer, what it refuses and with which fault, each
--- both ways. Want of memory may come in place of either.
+-- The contract of a call that decides: what it accepts and with which answer, what it refuses and with which fault, each both ways. Want
+-- of memory may come in place of either. This project's own choice.
 use Rattle.std.specs.Prelude.{◌≡◌, ◌⊎◌, Result, IfOk, IfErr, MatchResult}
 use Rattle.cyc_words.specs.declared.fault.Fault.{Fault}
 use Rattle.cyc_words.specs.Fault.{memory_fault}

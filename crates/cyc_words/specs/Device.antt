@@ -1,4 +1,4 @@
--- What a call of a device does to the bytes that it tells. `None` tells nothing, and nothing is claimed then.
+-- What a call of a device does to the bytes that it tells. `None` tells nothing, and nothing is claimed then. This project's own choice.
 use Rattle.std.specs.Prelude.{ℕ, List, [], ◌∷◌, Bool, true, false, Option, None, Some, Result, Ok, Err}
 use Rattle.std.specs.Io.KnownBytes.{Consumes, Appends, Keeps, IsAtEnd}
 use Rattle.cyc_words.specs.Prefix.{IsPrefix}

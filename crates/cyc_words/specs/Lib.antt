@@ -12,4 +12,6 @@ pub mod Writer
 pub mod Decision
 pub mod Ending
 pub mod Demand
+pub mod Distinct
 pub mod Simulation
+pub mod Following

@@ -1,4 +1,4 @@
--- A list of bytes at the front of another: all that was printed by some moment, against all that will be.
+-- A list of bytes at the front of another: all that was printed by some moment, against all that will be. This project's own choice.
 use Rattle.std.specs.Prelude.{◌≡◌, ℕ, List, ◌++◌}
 
 -- ys is xs and then some rest

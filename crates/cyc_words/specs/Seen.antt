@@ -1,4 +1,4 @@
--- What is seen of a run from without, at some moment.
+-- What is seen of a run from without, at some moment. This project's own choice.
 use Rattle.std.specs.Prelude.{◌≡◌, ℕ, List, ◌++◌}
 use Rattle.cyc_words.specs.Prefix.{IsPrefix}
 

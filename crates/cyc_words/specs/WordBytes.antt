@@ -1,4 +1,5 @@
--- The bytes of a word by their places: the byte at the lowest address of a word, at place 0, is its highest one.
+-- The bytes of a word by their places: the byte at the lowest address of a word, at place 0, is its highest one. (The order is that of
+-- the MIPS32 architecture, volume I, in its big-endian form.)
 use Rattle.std.specs.Prelude.{ℕ, zero, suc, ◌+◌, ◌*◌, ◌/◌, ◌%◌}
 
 -- the byte at a place

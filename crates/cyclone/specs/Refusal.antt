@@ -6,7 +6,7 @@ use Rattle.cyc_syntax.specs.Tokens.{Token}
 use Rattle.cyc_syntax.specs.declared.tree.Tree.{Tree}
 use Rattle.cyc_lex.specs.Refusals as lexer
 use Rattle.cyc_parse.specs.Acceptance as parser
-use Rattle.cyc_parse.specs.Acceptance.{declarations_of}
+use Rattle.cyc_syntax.specs.TreeView.{declarations_of}
 use Rattle.cyc_system.specs.Front.{names_in}
 
 -- it is the checker's, of names, types or regions

@@ -1,7 +1,7 @@
 -- The steps of exceptions: a `try` is entered, an exception is thrown, and comes to the clauses of a handler.
 use Rattle.std.proofs.Common.{◌≡◌, ◌≢◌, ℕ, suc, ◌+◌, ◌≤◌, ◌<◌, Bool, true, false, List, [], ◌∷◌, length, Option, None, Some, refl, sym, ap, subst, ◌∙◌, arith, inl, inr}
 use Rattle.std.specs.List.{AllByRecursion}
-use Rattle.cyc_words.specs.Simulation.{IsDistinct}
+use Rattle.cyc_words.specs.Distinct.{IsDistinct}
 use Rattle.std.specs.Prelude.{Contains, ◌==◌, ◌%◌, ◌^◌, not, if◌then◌else◌}
 use Rattle.std.proofs.lemmas.Bool.{eq-eqb, eqb-true, false_from_ne_true}
 use Rattle.std.proofs.lemmas.Option.{same_Some}

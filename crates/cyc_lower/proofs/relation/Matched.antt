@@ -11,7 +11,9 @@ use Rattle.cyc_meaning.specs.Values.{Operand as Kinded}
 use Rattle.cyc_plain.specs.declared.instruction.Operand.{Operand}
 use Rattle.cyc_plain.specs.declared.instruction.Instruction.{Instruction}
 use Rattle.cyc_words.specs.Simulation as simulation
-use Rattle.cyc_words.specs.Simulation.{Machine, Matching, Comes, IsOnTheWay, IsMatchedStep, IsStepped, IsDistinct}
+use Rattle.cyc_words.specs.Simulation.{Machine}
+use Rattle.cyc_words.specs.Distinct.{IsDistinct}
+use Rattle.cyc_words.specs.Following.{Matching, Comes, IsOnTheWay, IsMatchedStep, IsStepped}
 use Rattle.cyc_plain.specs.Program.{CodePlace, places_of}
 use Rattle.cyc_store.specs.State.{demand}
 use Rattle.cyc_plain.specs.State as plain

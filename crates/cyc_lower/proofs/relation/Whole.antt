@@ -12,7 +12,8 @@ use Rattle.cyc_types.specs.Types.{Ty, words_of}
 use Rattle.cyc_types.specs.Types as types
 use Rattle.cyc_types.specs.typing.WellTyped.{IsWellTypedGlobal, AreWellTypedGlobals}
 use Rattle.cyc_words.specs.Simulation as simulation
-use Rattle.cyc_words.specs.Simulation.{Failed, Matching, Steps}
+use Rattle.cyc_words.specs.Simulation.{Failed}
+use Rattle.cyc_words.specs.Following.{Matching, Steps}
 use Rattle.cyc_store.specs.State.{StoreState}
 use Rattle.cyc_store.specs.New.{IsNew}
 use Rattle.cyc_store.specs.declared.range.TheConstants.{MOST_PAGES}

@@ -13,7 +13,9 @@ use Rattle.cyc_isa.specs.declared.instr.MoveFromOp.TheVariants.{High, Low}
 use Rattle.cyc_words.specs.WordBytes.{word_of}
 use Rattle.cyc_words.proofs.WordBytesLemmas.{byte-small, with_byte-word}
 use Rattle.cyc_words.specs.Simulation as simulation
-use Rattle.cyc_words.specs.Simulation.{Machine, Comes, IsDistinct}
+use Rattle.cyc_words.specs.Simulation.{Machine}
+use Rattle.cyc_words.specs.Distinct.{IsDistinct}
+use Rattle.cyc_words.specs.Following.{Comes}
 use Rattle.cyc_store.specs.State.{StoreState}
 use Rattle.cyc_store.specs.Services as services
 use Rattle.cyc_store.specs.Services.{Call, Answer, refusal}

@@ -19,7 +19,7 @@ use Rattle.cyc_plain.specs.declared.instruction.Operand.{Operand}
 use Rattle.cyc_plain.specs.Operators.{binary_result, has_no_result}
 use Rattle.cyc_plain.specs.Program.{Routine, Program, CodePlace, no_routine, routine_at}
 use Rattle.cyc_words.specs.Simulation as simulation
-use Rattle.cyc_words.specs.Simulation.{IsOnTheWay, Matching, IsMatchedStep, IsStepped, Steps}
+use Rattle.cyc_words.specs.Following.{IsOnTheWay, Matching, IsMatchedStep, IsStepped, Steps}
 use Rattle.cyc_plain.specs.State as states
 use Rattle.cyc_plain.specs.State.{Words, Configuration}
 use Rattle.cyc_plain.specs.Step as steps

@@ -19,7 +19,8 @@ use Rattle.cyc_machine.specs.State.{Place, InText, InGlobals, InStack, InStore, 
 use Rattle.cyc_plain.specs.declared.instruction.Instruction.{Instruction}
 use Rattle.cyc_plain.specs.Memory.{IsBelow, slots_end}
 use Rattle.cyc_plain.specs.Program.{Program, routine_at}
-use Rattle.cyc_words.specs.Simulation.{Comes, Follows, IsOnTheWay, NeverFails}
+use Rattle.cyc_words.specs.Simulation.{NeverFails}
+use Rattle.cyc_words.specs.Following.{Comes, Follows, IsOnTheWay}
 use Rattle.cyc_plain.specs.State.{Words, AreWords, Configuration}
 use Rattle.cyc_plain.specs.Step as steps
 use Rattle.cyc_plain.specs.Step.{instruction_at}

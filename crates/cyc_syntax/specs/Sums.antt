@@ -1,0 +1,15 @@
+-- The weights of lists and of what may be missing, from the weight of a part. This project's own choice: weight counts tokens.
+use Rattle.std.specs.Prelude.{ℕ, ◌+◌, List, [], ◌∷◌, Option, Some, None}
+
+abbrev pub sum_of : {A : Type 0} → (A → ℕ) → List A → ℕ
+sum_of weight [] = 0
+sum_of weight (x ∷ xs) = weight x + sum_of weight xs
+
+-- with a comma before each but the first
+abbrev pub separated_weight : {A : Type 0} → (A → ℕ) → List A → ℕ
+separated_weight weight [] = 0
+separated_weight weight (x ∷ xs) = weight x + sum_of (λ y. 1 + weight y) xs
+
+abbrev pub optional_weight : {A : Type 0} → (A → ℕ) → Option A → ℕ
+optional_weight weight None = 0
+optional_weight weight (Some x) = weight x

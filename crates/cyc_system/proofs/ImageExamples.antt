@@ -1,0 +1,44 @@
+-- What of `IsImageOf` can be computed, for an image of two words of text and one of data: its form, its words of text, that the machine
+-- has a place for it, its file, and that the file is read as the image. That it does what a program means is said of all runs.
+use Rattle.std.proofs.Common.{◌≡◌, ℕ, List, [], ◌∷◌, None, Ok, refl}
+use Rattle.cyc_elf.specs.Header.{field, program_header_at, headers_from}
+use Rattle.cyc_elf.specs.Note.{is_note, is_named, limits_at}
+use Rattle.cyc_elf.specs.Image.{ImageContents}
+use Rattle.cyc_elf.specs.Layout.{layout, file_header, program_header}
+use Rattle.cyc_elf.specs.Reading.{file_rules, own_rules, entry_rules, reading}
+use Rattle.cyc_system.specs.ProgramImage.{program_image, HasForm}
+use Rattle.cyc_system.specs.FullPreservation.{text_words, IsLoadable}
+
+-- `addiu $2, $0, 3` and `syscall`, and a global that holds 7
+abbrev image : ImageContents
+image = program_image (0x24020003 ∷ 0x0000000c ∷ []) (7 ∷ []) None
+
+its_form : HasForm 1 image
+its_form = record {
+  entry = refl;
+  segments = (record { address = refl; flags = refl; stored = refl }, record { address = refl; flags = refl; stored = refl; size = refl });
+}
+
+-- so no run of n steps of its program takes more than (n + 1) * 2 instructions
+its_text : text_words image ≡ 2
+its_text = refl
+
+it_is_loadable : IsLoadable image
+it_is_loadable = refl
+
+-- the file header, a program header for text and one for data, 8 bytes of text from 116 on, and 4 of data
+abbrev file : List ℕ
+file =
+    127 ∷ 69 ∷ 76 ∷ 70 ∷ 1 ∷ 2 ∷ 1 ∷ 0 ∷ 0 ∷ 0 ∷ 0 ∷ 0 ∷ 0 ∷ 0 ∷ 0 ∷ 0 ∷ 0 ∷ 2 ∷ 0 ∷ 8 ∷ 0 ∷ 0 ∷ 0 ∷ 1 ∷ 0 ∷ 64 ∷ 0 ∷ 0
+    ∷ 0 ∷ 0 ∷ 0 ∷ 52 ∷ 0 ∷ 0 ∷ 0 ∷ 0 ∷ 0 ∷ 0 ∷ 0 ∷ 0 ∷ 0 ∷ 52 ∷ 0 ∷ 32 ∷ 0 ∷ 2 ∷ 0 ∷ 0 ∷ 0 ∷ 0 ∷ 0 ∷ 0
+    ∷ 0 ∷ 0 ∷ 0 ∷ 1 ∷ 0 ∷ 0 ∷ 0 ∷ 116 ∷ 0 ∷ 64 ∷ 0 ∷ 0 ∷ 0 ∷ 64 ∷ 0 ∷ 0 ∷ 0 ∷ 0 ∷ 0 ∷ 8 ∷ 0 ∷ 0 ∷ 0 ∷ 8 ∷ 0 ∷ 0 ∷ 0 ∷ 5 ∷ 0 ∷ 0 ∷ 0 ∷ 4
+    ∷ 0 ∷ 0 ∷ 0 ∷ 1 ∷ 0 ∷ 0 ∷ 0 ∷ 124 ∷ 16 ∷ 0 ∷ 0 ∷ 0 ∷ 16 ∷ 0 ∷ 0 ∷ 0 ∷ 0 ∷ 0 ∷ 0 ∷ 4 ∷ 0 ∷ 0 ∷ 0 ∷ 4 ∷ 0 ∷ 0 ∷ 0 ∷ 6 ∷ 0 ∷ 0 ∷ 0 ∷ 4
+    ∷ 36 ∷ 2 ∷ 0 ∷ 3 ∷ 0 ∷ 0 ∷ 0 ∷ 12 ∷ 0 ∷ 0 ∷ 0 ∷ 7 ∷ []
+
+it_is_written : file ≡ layout image
+unfolding layout file_header program_header
+it_is_written = refl
+
+it_is_read : reading file ≡ Ok image
+unfolding reading file_rules own_rules entry_rules headers_from program_header_at field is_note is_named limits_at
+it_is_read = refl

@@ -1,0 +1,7 @@
+-- Lists in which nothing stands twice. This project's own choice.
+use Rattle.std.specs.Prelude.{◌≢◌, List, [], ◌∷◌}
+use Rattle.std.specs.List.{AllByRecursion}
+
+abbrev pub IsDistinct : {X : Type 0} → List X → Type 0
+IsDistinct [] = Unit {0}
+IsDistinct (x ∷ xs) = AllByRecursion (λ y. x ≢ y) xs × IsDistinct xs

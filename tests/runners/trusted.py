@@ -1,0 +1,444 @@
+#!/usr/bin/env python3
+"""Compares docs/TRUSTED.md with what the contracts of the public calls mean: the files of definitions that an auditor reads.
+
+    python3 tests/runners/trusted.py [--write]
+
+A contract means the definitions that its clauses name, by the `ghost use` lines of its file; those of the views of the types and of the
+traits in its signature; and what these files use in turn. A path through `specs.declared` or `specs.contracts` leads to a file of
+`src`, whose types and constants are read there, as the types and traits of the signature are. --write makes the tables of docs/TRUSTED.md of that. The head of each file that is read names its
+public source, or says that it is this project's own choice. A file of `specs` is one that such a contract means, or stands in
+`specs/inside`. The last line is `N passed, M failed`, of calls, files and crates.
+"""
+import argparse
+import functools
+import os
+import re
+import sys
+
+import suite
+
+PAGE = os.path.join(suite.ROOT, "docs", "TRUSTED.md")
+CRATES = os.path.join(suite.ROOT, "crates")
+# The public calls: the mark in the tables, the name, the crate, and whose method it is, if it is one.
+CALLS = (
+    ("a", "accept", "cyc_system", None),
+    ("c", "compile", "cyc_system", None),
+    ("c", "compile_with", "cyc_system", None),
+    ("r", "run", "cyc_system", None),
+    ("r", "run_with", "cyc_system", None),
+    ("d", "disassemble", "cyc_system", None),
+    ("m", "step", "cyc_machine", "Machine"),
+    ("p", "PageStore", "cyc_pagestore", None),
+    ("e", "read_image", "cyc_elf", None),
+)
+# The crates whose public contracts `specs/` is for.
+PUBLIC = ("cyc_system", "cyc_machine", "cyc_store", "cyc_elf", "cyc_isa")
+# Each public source, by the words that name it in the head of a file.
+SOURCES = (
+    ("Cyclone's manual", r"Cyclone (User's )?[Mm]anual|User's Manual"),
+    ("Grossman et al.", r"Grossman et al\."),
+    ("ISO C", r"ISO C\b"),
+    ("MIPS32", r"MIPS32 architecture"),
+    ("System V ABI", r"System V ABI"),
+    ("own choice", r"own choice"),
+)
+INSIDE = "inside"
+CALL_TABLE = "| Call | Mark | Files | Lines | Files of types | Lines |\n|---|---|---|---|---|---|\n"
+FILE_TABLE = "| File | Lines | Calls | What it says | Source |\n|---|---|---|---|---|\n"
+TYPE_TABLE = "| File | Lines | Calls | What is read there |\n|---|---|---|---|\n"
+
+
+@functools.lru_cache(maxsize=None)
+def content(path):
+    with open(path, encoding="utf-8") as file:
+        return file.read()
+
+
+def lines_of(path):
+    return content(path).count("\n")
+
+
+def named(path):
+    """A file as the page names it."""
+    return os.path.relpath(path, CRATES)
+
+
+def crate_of(path):
+    return named(path).split(os.sep)[0]
+
+
+@functools.lru_cache(maxsize=None)
+def crates():
+    """The crates in the order of crates.txt."""
+    lines = content(os.path.join(suite.ROOT, "crates.txt")).splitlines()
+    return [line.split(":")[0] for line in lines if line and not line.startswith("#")]
+
+
+def files_below(folder, ending):
+    """The files with this ending in a folder and below it, in order."""
+    found = []
+    for place, _, names in os.walk(folder):
+        found += [os.path.join(place, name) for name in names if name.endswith(ending)]
+    return sorted(found)
+
+
+def spec_modules(crate):
+    """The modules of a crate's `specs`, but for those that list others."""
+    folder = os.path.join(CRATES, crate, "specs")
+    return [path for path in files_below(folder, ".antt") if re.search(r"(?m)^(?!--|(pub )?mod |$)", content(path))]
+
+
+def path_of(words, folder, ending):
+    """The longest beginning of a path that is a file in this folder."""
+    for count in range(len(words), 0, -1):
+        path = os.path.join(folder, *words[:count]) + ending
+        if os.path.exists(path):
+            return path, words[count:]
+    return None, words
+
+
+@functools.lru_cache(maxsize=None)
+def target_of(path):
+    """The file of this repository that a path of a `use` line leads to, with what is behind it; None where it leads elsewhere."""
+    words = path.split(".")
+    if words[0] != "Rattle" or not os.path.isdir(os.path.join(CRATES, words[1])) or words[2:3] != ["specs"]:
+        return None, []
+    crate = os.path.join(CRATES, words[1])
+    if words[3] in ("declared", "contracts"):
+        return path_of(words[4:], os.path.join(crate, "src"), ".rt")
+    return path_of(words[3:], os.path.join(crate, "specs"), ".antt")
+
+
+@functools.lru_cache(maxsize=None)
+def uses_of(text):
+    """The `use` lines for definitions in a text: the path, the names that it takes, and the name that it gets."""
+    pattern = r"(?m)^ *(?:pub )?(?:ghost )?use (Rattle\.[^\s{;]*?)\.?(?:\{([^}]*)\})?(?: as ([^\s;]+))?;?$"
+    return [(path, [part.strip() for part in names.split(",") if part.strip()], name) for path, names, name in re.findall(pattern, text)]
+
+
+class Reading:
+    """What has to be read, as far as it is known: files of definitions, and the names that are read in files of types."""
+
+    def __init__(self):
+        self.specs = set()
+        self.types = {}
+
+    def add(self, path, names):
+        """Adds what a `use` line leads to, and all that is used there."""
+        file, rest = target_of(path)
+        if file is None:
+            return
+        if file.endswith(".rt"):
+            if rest[:1] == ["TheConstants"]:
+                read = names
+            else:
+                read = rest[:1] or [re.sub("^the_", "", name) for name in names[:1]]
+            self.types.setdefault(file, set()).update(read)
+        elif file not in self.specs:
+            self.specs.add(file)
+            for path, names, _ in uses_of(content(file)):
+                self.add(path, names)
+
+
+class Source:
+    """A file of Rust: its items, and where its names come from."""
+
+    def __init__(self, path):
+        self.path = path
+        self.text = content(path)
+        self.items = self.split()
+
+    def split(self):
+        """The items at the top of the file, each from its first line to the line before the next one."""
+        items, lines = [], self.text.split("\n")
+        for line in lines:
+            if re.match(r"(pub |ghost )?(const |unsafe )?(fn|struct|enum|trait|impl|const|use|mod|macro_rules|type)\b", line):
+                items.append([])
+            if items:
+                items[-1].append(line)
+        return ["\n".join(item) for item in items]
+
+    def named(self, words):
+        """The items that begin with these words."""
+        return [item for item in self.items if re.match(words, item)]
+
+
+@functools.lru_cache(maxsize=None)
+def source(path):
+    return Source(path)
+
+
+@functools.lru_cache(maxsize=None)
+def declaring(crate, name):
+    """The file of a crate that declares this type, trait or function, with the item."""
+    for path in files_below(os.path.join(CRATES, crate, "src"), ".rt"):
+        for item in source(path).named(rf"pub (const |unsafe )?(struct|enum|trait|fn) {name}\b"):
+            return path, item
+    return None, None
+
+
+def rust_uses(text):
+    """The crate, or None for its own, of each name that a file takes by a `use` line."""
+    found = {}
+    for path, names in re.findall(r"(?ms)^use ((?:\w+::)+)(\{[^}]*\}|\w+)[^;]*;", text):
+        crate = path.split("::")[0]
+        for name in re.findall(r"\w+", names):
+            found[name] = crate if os.path.isdir(os.path.join(CRATES, crate)) else None
+    return found
+
+
+def signature_of(text):
+    """A function's signature with its clauses, without its body: it ends with a bracket on a line that is no clause, or with a semicolon."""
+    lines = text.split("\n")
+    for count, line in enumerate(lines):
+        is_clause = line.lstrip().startswith(("requires", "ensures"))
+        if line.endswith(";") or line.endswith(("{", "{}")) and not is_clause:
+            return "\n".join(lines[:count + 1])
+    return text
+
+
+def functions_in(block, public):
+    """The signatures of the functions of an `impl` or a trait."""
+    found, lines = [], block.split("\n")
+    for count, line in enumerate(lines):
+        if re.match(r"    pub (const |unsafe )?fn " if public else r"    (pub )?(const |unsafe )?fn ", line):
+            found.append(signature_of("\n".join(lines[count:])))
+    return found
+
+
+def without_comments(text):
+    return re.sub(r"(?m)^ *//.*$", "", text)
+
+
+def read_names(reading, text, file, extra=""):
+    """Adds what the names in a text lead to, by the `ghost use` lines of its file and of the block it stands in."""
+    words = set(re.findall(r"(?<![\w.'])[\w'-]+", without_comments(text)))
+    for path, names, name in uses_of("\n".join(source(file).named("ghost use")) + "\n" + extra):
+        if name:
+            if name in words:
+                reading.add(path, names)
+        else:
+            taken = [part for part in names if re.split(" as ", part)[-1] in words]
+            if taken:
+                reading.add(path, taken)
+
+
+def read_contract(reading, signature, file, crate, seen, block=""):
+    """Adds what a signature with its clauses means."""
+    ghost = "\n".join(line for line in block.split("\n") if line.lstrip().startswith("ghost use"))
+    read_names(reading, signature, file, ghost)
+    takes = rust_uses(source(file).text)
+    for name in sorted(set(re.findall(r"\b[A-Z]\w*", without_comments(signature)))):
+        read_type(reading, takes.get(name) or crate, name, seen)
+
+
+def read_type(reading, crate, name, seen):
+    """Adds what a type's view means, or what a trait's methods promise. A name of another library adds nothing."""
+    file, item = declaring(crate, name)
+    if file is None or (crate, name) in seen:
+        return
+    seen.add((crate, name))
+    if not item.startswith("pub fn"):
+        reading.types.setdefault(file, set()).add(name)
+    if item.startswith("pub trait"):
+        for signature in functions_in(item, False):
+            read_contract(reading, signature, file, crate, seen, item)
+        read_names(reading, "\n".join(re.findall(r"(?m)^    ghost (?!use).*$", item)), file)
+    elif item.startswith(("pub struct", "pub enum")):
+        for place in files_below(os.path.join(CRATES, crate, "src"), ".rt"):
+            for view in source(place).named(rf"impl(<[^{{]*>)? Model for {name}\b"):
+                ghost = "\n".join(line for line in view.split("\n") if "ghost use" in line)
+                read_names(reading, "\n".join(re.findall(r"(?ms)^    ghost (?:Value|view) = .*?;$", view)), place, ghost)
+
+
+def methods_of(crate, name):
+    """The public methods of a type, each with its file and its block."""
+    for file in files_below(os.path.join(CRATES, crate, "src"), ".rt"):
+        for block in source(file).named(rf"impl(<[^{{]*>)? {name}\b"):
+            for signature in functions_in(block, True):
+                yield file, block, signature
+
+
+def read_traits(reading, crate, name, seen):
+    """Adds what the traits of this repository promise that a type implements."""
+    for file in files_below(os.path.join(CRATES, crate, "src"), ".rt"):
+        for block in source(file).named(rf"impl(<[^{{]*>)? \w+ for {name}\b"):
+            trait = re.search(r" (\w+) for ", block).group(1)
+            read_type(reading, rust_uses(source(file).text).get(trait) or crate, trait, seen)
+
+
+def reading_of(name, crate, owner=None):
+    """What a public call means; of a type, what its public methods do."""
+    reading, seen = Reading(), set()
+    file, item = declaring(crate, owner or name)
+    if item.startswith(("pub fn", "pub const fn", "pub unsafe fn")):
+        read_contract(reading, signature_of(item), file, crate, seen)
+        return reading
+    read_type(reading, crate, owner or name, seen)
+    for file, block, signature in methods_of(crate, owner or name):
+        if not owner or re.search(rf"\bfn {name}\b", signature):
+            read_contract(reading, block.split("\n")[0] + signature, file, crate, seen, block)
+    if not owner:
+        read_traits(reading, crate, name, seen)
+    return reading
+
+
+def public_names(crate):
+    """The names that a crate gives, and the files all of whose public functions it gives."""
+    top = content(os.path.join(CRATES, crate, "src", "lib.rt"))
+    names, files = [], []
+    for part in re.findall(r"(?ms)^pub use (?:\w+::)+(\{[^}]*\}|\w+);", top):
+        names += re.findall(r"\w+", part)
+    for name in re.findall(r"(?m)^pub mod (\w+);", top):
+        files.append(os.path.join(CRATES, crate, "src", name + ".rt"))
+    return names, files
+
+
+def public_reading():
+    """What all public contracts of the crates that `specs/` is for mean."""
+    reading = Reading()
+    for crate in PUBLIC:
+        names, files = public_names(crate)
+        for name in names:
+            if declaring(crate, name)[0]:
+                merge(reading, reading_of(name, crate))
+        for file in files:
+            for item in source(file).named(r"pub (const |unsafe )?(fn|struct|enum|trait) "):
+                name = re.search(r"(?:fn|struct|enum|trait) (\w+)", item).group(1)
+                if item.startswith("pub fn"):
+                    read_contract(reading, signature_of(item), file, crate, set())
+                else:
+                    merge(reading, reading_of(name, crate))
+    for _, name, crate, owner in CALLS:
+        merge(reading, reading_of(name, crate, owner))
+    return reading
+
+
+def merge(reading, more):
+    reading.specs |= more.specs
+    for file, names in more.types.items():
+        reading.types.setdefault(file, set()).update(names)
+
+
+def reading_order(files):
+    """Files of definitions in an order in which each comes behind those that it uses: crate by crate, as the pipeline has them."""
+    ordered = []
+
+    def place(file):
+        if file in ordered or file not in files:
+            return
+        for path, _, _ in uses_of(content(file)):
+            below = target_of(path)[0]
+            if below and below.endswith(".antt") and below != file and crate_of(below) == crate_of(file):
+                place(below)
+        ordered.append(file)
+
+    for crate in crates():
+        for file in sorted(file for file in files if crate_of(file) == crate):
+            place(file)
+    return ordered
+
+
+def head_of(file):
+    """The comment that a file begins with, as one line."""
+    head = []
+    for line in content(file).splitlines():
+        if not line.startswith("--"):
+            break
+        head.append(line[2:].strip())
+    return " ".join(head)
+
+
+def sentence_of(head):
+    """The first sentence of a head."""
+    return re.split(r"(?<=\.) +(?=[A-Z(`])", head)[0].strip()
+
+
+def sources_of(head):
+    """The public sources that a head names."""
+    return [name for name, words in SOURCES if re.search(words, head, re.I)]
+
+
+def tables():
+    """The three tables of the page, and the reading of each call."""
+    readings = [(mark, owner and f"{owner}::{name}" or name, reading_of(name, crate, owner)) for mark, name, crate, owner in CALLS]
+    calls = "".join(
+        f"| `{name}` | {mark} | {len(reading.specs)} | {sum(map(lines_of, reading.specs)):,} | {len(reading.types)} | {sum(map(lines_of, reading.types)):,} |\n"
+        for mark, name, reading in readings)
+    marks = list(dict.fromkeys(mark for mark, _, _ in readings))
+    union = Reading()
+    for _, _, reading in readings:
+        merge(union, reading)
+
+    def needed(file):
+        return "".join(mark for mark in marks if any(file in reading.specs or file in reading.types for other, _, reading in readings if other == mark))
+
+    files = ""
+    for file in reading_order(union.specs):
+        head = head_of(file)
+        files += f"| `{named(file)}` | {lines_of(file)} | {needed(file)} | {sentence_of(head)} | {', '.join(sources_of(head))} |\n"
+    types = ""
+    for file in sorted(union.types, key=lambda file: (crates().index(crate_of(file)), file)):
+        names = ", ".join(f"`{name}`" for name in sorted(union.types[file]))
+        types += f"| `{named(file)}` | {lines_of(file)} | {needed(file)} | {names} |\n"
+    return [(CALL_TABLE, calls), (FILE_TABLE, files), (TYPE_TABLE, types)], union
+
+
+def table_in(page, head):
+    """Where the rows of a table stand in the page."""
+    if head not in page:
+        return None
+    start = page.index(head) + len(head)
+    end = page.find("\n\n", start - 1)
+    return start, len(page) if end < 0 else end + 1
+
+
+def strangers():
+    """The files of `specs` that no public contract means and that do not stand in `inside`, and those that stand there though one does."""
+    meant = public_reading().specs
+    for crate in crates():
+        for file in spec_modules(crate):
+            within = f"{os.sep}specs{os.sep}{INSIDE}{os.sep}" in file
+            if (file in meant) == within:
+                yield file, within
+
+
+def main():
+    parser = argparse.ArgumentParser(description=__doc__.split("\n")[0])
+    parser.add_argument("--write", action="store_true")
+    asked = parser.parse_args()
+    made, union = tables()
+    page = content(PAGE)
+    if asked.write:
+        for head, rows in made:
+            start, end = table_in(page, head)
+            page = page[:start] + rows + page[end:]
+        with open(PAGE, "w", encoding="utf-8") as file:
+            file.write(page)
+        return
+    passed, faults = 0, []
+    for head, rows in made:
+        place = table_in(page, head)
+        there = page[slice(*place)].splitlines() if place else []
+        wanted = rows.splitlines()
+        faults += [f"docs/TRUSTED.md lacks: {row}" for row in wanted if row not in there]
+        faults += [f"docs/TRUSTED.md has too much: {row}" for row in there if row not in wanted]
+        passed += sum(row in there for row in wanted)
+        if sorted(there) == sorted(wanted) and there != wanted:
+            faults.append(f"docs/TRUSTED.md has rows in another order, from: {next(row for row, other in zip(there, wanted) if row != other)}")
+    for file in reading_order(union.specs):
+        if sources_of(head_of(file)):
+            passed += 1
+        else:
+            faults.append(f"{named(file)} names no public source in its head, and does not say that it is this project's own choice")
+    wrong = list(strangers())
+    faults += [f"{named(file)} {'is meant by a public contract, and stands inside' if within else 'is meant by no public contract'}" for file, within in wrong]
+    passed += sum(all(crate_of(file) != crate for file, _ in wrong) for crate in crates())
+    for fault in faults:
+        print(f"FAILED {fault}")
+    print(f"{passed} passed, {len(faults)} failed")
+    sys.exit(bool(faults))
+
+
+if __name__ == "__main__":
+    main()
