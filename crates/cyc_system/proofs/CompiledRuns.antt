@@ -3,7 +3,6 @@ use Rattle.std.proofs.Common.{◌≡◌, ℕ, refl, suc, zero, ◌+◌, ◌-◌,
 use Rattle.std.specs.Prelude.{MatchBool}
 use Rattle.std.specs.List.{AllByRecursion}
 use Rattle.cyc_words.proofs.DeviceLemmas.{Appends-nil}
-use Rattle.cyc_words.proofs.SeenLemmas.{ComesTo-trans}
 use Rattle.std.specs.Io.KnownBytes.{Keeps}
 use Rattle.cyc_elf.specs.declared.fault.ElfFault.{ElfFault}
 use Rattle.cyc_elf.specs.Image.{ImageContents}
@@ -14,9 +13,8 @@ use Rattle.cyc_machine.specs.Bounds.{Bounds, AreAllowed}
 use Rattle.cyc_machine.specs.Run.{World, Run, end_of}
 use Rattle.cyc_machine.specs.Start.{has_outside, start_world}
 use Rattle.cyc_store.specs.State.{StoreState}
-use Rattle.cyc_machine.proofs.RunLaws.{Goes-rests, Run-over, Run-output, Run-input, Run-append, Run-split, over-end_of}
+use Rattle.cyc_machine.proofs.RunLaws.{Goes-rests, Run-append, over-end_of}
 use Rattle.cyc_types.specs.TypedTrees.{Program}
-use Rattle.cyc_meaning.specs.SourceMachine.{seen_of}
 use Rattle.cyc_machine.specs.WorldMachine.{seen_of as seen_in}
 use Rattle.cyc_system.specs.declared.report.Report.{Report}
 use Rattle.cyc_system.specs.declared.report.RunFault.{RunFault}
@@ -27,7 +25,7 @@ use Rattle.cyc_system.specs.Engine.{Devices, Rests, Tells, Leaves, Executes, Sto
 use Rattle.cyc_system.specs.FullPreservation.{text_words, limited, AreAlike, IsImageOf}
 use Rattle.cyc_system.specs.CompiledRuns.{IsEndOf, IsAsFar, AnswersAs, RunsAs}
 use Rattle.cyc_system.proofs.Engines.{counted_run}
-use Rattle.cyc_system.proofs.Preservation.{are_alike}
+use Rattle.cyc_system.proofs.Preservation.{are_alike, keeps_up}
 
 -- ---- the machine, whatever it runs
 
@@ -115,16 +113,11 @@ module _ (p : Program) (image : ImageContents) (limits : Bounds) (store : StoreS
     is_as_far : (stop : Stop) → count ≤ budget → Stops stop budget count w → (n : ℕ) → (n + 1) * text_words image ≤ budget → IsAsFar (limited p limits input n) (seen_in w) stop
     unfolding started
     is_as_far stop few stopped n enough =
-        let here = (n + 1) * text_words image in
-        let whole : Run (here + (budget - here)) started w =
-        subst (λ (k : ℕ). Run k started w) (let all : budget ≡ here + (budget - here) = omega (arith, enough) in all) (whole_run stop budget count started w run few stopped) in
-        let (v, first, rest) = Run-split here (budget - here) started w whole in
-        let (seen, ends) = alike.ahead n v first in (
-          ComesTo-trans (seen_of (limited p limits input n)) (seen_in v) (seen_in w) seen (Run-output (budget - here) v w rest, Run-input (budget - here) v w rest),
+        let (seen, ends) = keeps_up p image limits store input alike n budget w enough (whole_run stop budget count started w run few stopped) in (
+          seen,
           λ ending has.
               let ((end, over, shown), same) = ends ending has in
-              let rests : w ≡ v = Run-over (budget - here) v w end (over-end_of v end over) rest in
-              (end, stopped_at stop budget count w end stopped (ap end_of rests ∙ over), shown),
+              (end, stopped_at stop budget count w end stopped over, shown),
         )
 
   runs_as : old.remaining ≡ Some input → (result : Result Report RunFault) → Runs grows (start_world image limits store) budget old new result → RunsAs p limits input (text_words image) budget old new result

@@ -11,6 +11,10 @@ pub mod Chains
 -- what the laws cite
 pub mod Preservation
 pub mod CompiledRuns
+pub mod KeepingUp
+pub mod Asking
+-- an example
+pub mod ReadsFirst
 -- running and listing
 pub mod Engines
 pub mod Listings

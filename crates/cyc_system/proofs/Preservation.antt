@@ -1,10 +1,15 @@
 -- Full preservation in the words of the two runs: the program's limited run, and the machine's runs.
-use Rattle.std.proofs.Common.{◌≡◌, ◌≢◌, ℕ, zero, suc, ◌+◌, ◌*◌, ◌<◌, List, Option, Some, None, refl, sym, ap, subst, ◌∙◌}
+use Rattle.std.proofs.Common.{◌≡◌, ◌≢◌, ℕ, zero, suc, ◌+◌, ◌-◌, ◌*◌, ◌<◌, ◌≤◌, List, Option, Some, None, refl, sym, ap, subst, ◌∙◌, arith}
 use Rattle.std.specs.List.{AllByRecursion}
 use Rattle.cyc_words.specs.Ending.{Ending, Full}
+use Rattle.cyc_words.specs.Prefix.{IsPrefix}
+use Rattle.cyc_words.specs.Seen.{Seen}
+use Rattle.cyc_words.proofs.PrefixLemmas.{IsPrefix-refl}
+use Rattle.cyc_words.proofs.SeenLemmas.{ComesTo-trans}
 use Rattle.cyc_elf.specs.Image.{ImageContents}
 use Rattle.cyc_machine.specs.Bounds.{Bounds, AreAllowed}
-use Rattle.cyc_machine.specs.Run.{World, Run, end_in, ending_of}
+use Rattle.cyc_machine.specs.Run.{World, Run, end_in, end_of, ending_of}
+use Rattle.cyc_machine.proofs.RunLaws.{Run-over, Run-output, Run-input, Run-split, over-end_of}
 use Rattle.cyc_store.specs.New.{IsNew}
 use Rattle.cyc_machine.specs.Start.{start_world}
 use Rattle.cyc_store.specs.State.{StoreState}
@@ -20,9 +25,9 @@ use Rattle.cyc_meaning.proofs.RunLaws.{limited_comes_to}
 use Rattle.cyc_soundness.specs.Sound.{IsSound}
 use Rattle.cyc_words.specs.Simulation as simulation
 use Rattle.cyc_words.specs.Simulation.{NeverFails, Preserves}
-use Rattle.cyc_meaning.specs.SourceMachine.{source_machine, status_in as source_status}
-use Rattle.cyc_machine.specs.WorldMachine.{world_machine, status_at, status_in as world_status}
-use Rattle.cyc_system.specs.FullPreservation.{text_words, limited, DoesTheSame, IsAhead, IsBehind, AreAlike}
+use Rattle.cyc_meaning.specs.SourceMachine.{source_machine, seen_of, status_in as source_status}
+use Rattle.cyc_machine.specs.WorldMachine.{world_machine, seen_of as seen_in, status_at, status_in as world_status}
+use Rattle.cyc_system.specs.FullPreservation.{text_words, limited, DoesTheSame, IsAhead, IsBehind, AreAlike, PrintsEnough, PrintsNoMore, PrintAlike}
 
 -- ---- the runs
 
@@ -134,3 +139,50 @@ pub are_alike : (p : Program) (image : ImageContents) → DoesTheSame p image
     → AllByRecursion (λ b. b < 256) input → AreAlike p image limits store input
 are_alike p image does limits store input allowed new bytes =
     alike_of p image limits store input (does limits store input allowed new bytes)
+
+-- ---- what is ahead stays so
+
+-- with more instructions
+stays_ahead : (s : meaning.State) (count : ℕ) (v w : World) → Run count v w → IsAhead s v → IsAhead s w
+stays_ahead s count v w run (seen, ends) = (
+  ComesTo-trans (seen_of s) (seen_in v) (seen_in w) seen (Run-output count v w run, Run-input count v w run),
+  λ ending ended.
+      let ((end, over, shown), same) = ends ending ended in
+      let rests : w ≡ v = Run-over count v w end (over-end_of v end over) run in
+      ((end, ap end_of rests ∙ over, shown), ap seen_in rests ∙ same),
+)
+
+pub keeps_up : (p : Program) (image : ImageContents) (limits : Bounds) (store : StoreState) (input : List ℕ) → AreAlike p image limits store input
+    → (n count : ℕ) (w : World) → (n + 1) * text_words image ≤ count → Run count (start_world image limits store input) w → IsAhead (limited p limits input n) w
+keeps_up p image limits store input alike n count w enough run =
+    let here = (n + 1) * text_words image in
+    let started = start_world image limits store input in
+    let all : count ≡ here + (count - here) = omega (arith, enough) in
+    let (v, first, rest) = Run-split here (count - here) started w (subst (λ (k : ℕ). Run k started w) all run) in
+    stays_ahead (limited p limits input n) (count - here) v w rest (alike.ahead n v first)
+
+-- ---- the output alone
+
+prints_enough : (s : meaning.State) (w : World) → IsAhead s w → PrintsEnough s w
+prints_enough s w ((printed, read), ends) = (
+  printed,
+  λ ending ended. let (over, same) = ends ending ended in (over, ap (λ (x : Seen). x.output) same),
+)
+
+prints_no_more : (w : World) (s : meaning.State) → IsBehind w s → PrintsNoMore w s
+prints_no_more w s (same, ends) =
+    let printed : w.output ≡ meaning.output_of s = ap (λ (x : Seen). x.output) same in (
+      subst (λ (out : List ℕ). IsPrefix w.output out) printed (IsPrefix-refl w.output),
+      λ end over. (ends end over, sym printed),
+    )
+
+pub print_alike : (p : Program) (image : ImageContents) → DoesTheSame p image
+    → (limits : Bounds) (store : StoreState) (input : List ℕ) → AreAllowed limits.pages limits.calls → IsNew limits.pages store
+    → AllByRecursion (λ b. b < 256) input → PrintAlike p image limits store input
+print_alike p image does limits store input allowed new bytes =
+    let alike = are_alike p image does limits store input allowed new bytes in
+    record {
+      enough = λ n w run. prints_enough (limited p limits input n) w (alike.ahead n w run);
+      no_more = λ m w run. let (k, is) = alike.behind m w run in (k, prints_no_more w (limited p limits input k) is);
+      never_traps = alike.never_traps;
+    }

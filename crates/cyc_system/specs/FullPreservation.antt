@@ -7,6 +7,7 @@
 use Rattle.std.specs.Prelude.{◌≡◌, ℕ, ◌+◌, ◌*◌, ◌/◌, ◌<◌, ◌≤◌, false, List, map, Some, Ok, sum_by, if◌then◌else◌}
 use Rattle.std.specs.List.{AllByRecursion}
 use Rattle.cyc_words.specs.Ending.{Ending}
+use Rattle.cyc_words.specs.Prefix.{IsPrefix}
 use Rattle.cyc_words.specs.Seen.{ComesTo}
 use Rattle.cyc_elf.specs.Image.{ImageContents, padded}
 use Rattle.cyc_elf.specs.Layout.{layout}
@@ -91,5 +92,31 @@ pub record AreAlike (p : Program) (image : ImageContents) (limits : Bounds) (sto
       → IsAhead (limited p limits input n) w
   pub behind : (m : ℕ) (w : World) → Run m (start_world image limits store input) w
       → (k : ℕ) × IsBehind w (limited p limits input k)
+  pub never_traps : (m : ℕ) (w : World) → Run m (start_world image limits store input) w
+      → (cause : Cause) → end_of w ≡ Some (Trap cause) → ⊥
+
+-- ---- what comes of it for the output alone
+
+-- Within (n + 1) * T instructions the machine has printed at least what the program prints in n steps, and where the program has ended,
+-- so has the machine: alike, and with equal output.
+abbrev pub PrintsEnough : (program : State) → World → Type 0
+PrintsEnough s w =
+    IsPrefix (meaning.output_of s) w.output
+    × ((ending : Ending) → meaning.status_of s ≡ HasEnded ending
+    → ((end : End) × (end_of w ≡ Some end) × (ending_of end ≡ Some ending)) × (w.output ≡ meaning.output_of s))
+
+-- The machine has printed no more than the program, and where it has ended, so has the program: alike, and with equal output.
+abbrev pub PrintsNoMore : World → (program : State) → Type 0
+PrintsNoMore w s =
+    IsPrefix w.output (meaning.output_of s)
+    × ((end : End) → end_of w ≡ Some end
+    → ((ending : Ending) × (ending_of end ≡ Some ending) × (meaning.status_of s ≡ HasEnded ending)) × (meaning.output_of s ≡ w.output))
+
+-- each run of the machine prints what the program prints, and ends as it does
+pub record PrintAlike (p : Program) (image : ImageContents) (limits : Bounds) (store : StoreState) (input : List ℕ) : Type 0 where
+  pub enough : (n : ℕ) (w : World) → Run ((n + 1) * text_words image) (start_world image limits store input) w
+      → PrintsEnough (limited p limits input n) w
+  pub no_more : (m : ℕ) (w : World) → Run m (start_world image limits store input) w
+      → (k : ℕ) × PrintsNoMore w (limited p limits input k)
   pub never_traps : (m : ℕ) (w : World) → Run m (start_world image limits store input) w
       → (cause : Cause) → end_of w ≡ Some (Trap cause) → ⊥

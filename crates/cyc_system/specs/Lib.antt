@@ -2,6 +2,7 @@
 pub mod Front
 pub mod Compiled
 pub mod FullPreservation
+pub mod Asking
 pub mod ProgramImage
 -- that of `note_of`, and what `compile_with` says of limits
 pub mod Notes

@@ -1,7 +1,7 @@
 //! Laws of the definitions in `specs/`. Each function does nothing: its contract is the law, and so it is proved with the
 //! crate.
 
-ghost use Rattle.std.specs.Prelude.{◌≡◌, ◌<◌, ◌≤◌, ◌+◌, ◌*◌, ◌↔◌, length, Bool, List, ℕ, Some, Ok, Result};
+ghost use Rattle.std.specs.Prelude.{◌≡◌, ◌<◌, ◌≤◌, ◌+◌, ◌*◌, ◌↔◌, ◌++◌, length, Bool, List, [], ◌∷◌, ℕ, Some, Ok, Result};
 ghost use Rattle.std.specs.List.{AllByRecursion};
 ghost use Rattle.cyc_elf.specs.Image.{ImageContents};
 ghost use Rattle.cyc_elf.specs.Note.{AreLimits};
@@ -9,14 +9,19 @@ ghost use Rattle.cyc_elf.specs.Reading.{reading};
 ghost use Rattle.cyc_store.specs.State.{StoreState};
 ghost use Rattle.cyc_store.specs.New.{IsNew};
 ghost use Rattle.cyc_machine.specs.Bounds.{Bounds, AreAllowed};
+ghost use Rattle.cyc_machine.specs.Run.{World, Run};
+ghost use Rattle.cyc_machine.specs.Start.{start_world};
+ghost use Rattle.cyc_words.specs.Seen.{showing};
 ghost use Rattle.cyc_words.specs.declared.fault.Fault.{Fault};
 ghost use Rattle.cyc_types.specs.TypedTrees.{Program};
 ghost use Rattle.cyc_meaning.specs.Sizes.{size_per_weight, max_start_words};
 ghost use Rattle.cyc_types.specs.Texts.{IsOfTextProgram};
+ghost use Rattle.cyc_meaning.specs.SourceMachine.{seen_of};
 ghost use Rattle.cyc_soundness.specs.Sound.{IsSound};
 ghost use Rattle.cyc_system.specs.Front.{IsAcceptedText, IsRefusedText};
 ghost use Rattle.cyc_system.specs.Compiled.{IsCompiledText};
-ghost use Rattle.cyc_system.specs.FullPreservation.{DoesTheSame, AreAlike, IsLoadable, IsImageOf, text_words};
+ghost use Rattle.cyc_system.specs.FullPreservation.{limited, DoesTheSame, IsAhead, AreAlike, PrintAlike, IsLoadable, IsImageOf, text_words};
+ghost use Rattle.cyc_system.specs.Asking.{RunWithin, AsksAtTheEnd};
 ghost use Rattle.cyc_system.specs.Engine.{Devices, Answers, AnswersAnew};
 ghost use Rattle.cyc_system.specs.CompiledRuns.{RunsAs};
 ghost use Rattle.cyc_system.specs.declared.report.Report.{Report};
@@ -53,11 +58,20 @@ pub fn compiled_images_load()
     ensures { (p : Program) (file : List ℕ) → IsImageOf p file → (image : ImageContents) × (reading file ≡ Ok image) × IsLoadable image }
 {}
 
-/// The text of a compiled image has no more words than 100 for each token of the text that it was compiled of, and 7 for the start. So
-/// a run of n steps of the program takes at most (n + 1) * (7 + 100 * t) instructions, where t is the number of tokens.
+/// The text of a compiled image has no more words than 100 for each token of the text that it was compiled of, and 7 for the start.
 pub fn compiled_images_are_small()
     ensures { (text : List ℕ) (p : Program) (file : List ℕ) → (a : IsAcceptedText text p) → (is : IsImageOf p file)
         → text_words is.image ≤ max_start_words + size_per_weight * length a.tokens }
+{}
+
+/// A compiled image keeps up with its program, in the numbers of its text: where the text has t tokens, n steps of the program take at most
+/// (n + 1) * (7 + 100 * t) instructions.
+pub fn compiled_images_keep_up()
+    ensures { (text : List ℕ) (p : Program) (file : List ℕ) → (a : IsAcceptedText text p) → (is : IsImageOf p file)
+        → (limits : Bounds) (store : StoreState) (input : List ℕ) → AreAllowed limits.pages limits.calls → IsNew limits.pages store
+        → AllByRecursion (λ b. b < 256) input
+        → (n count : ℕ) (w : World) → (n + 1) * (max_start_words + size_per_weight * length a.tokens) ≤ count
+        → Run count (start_world is.image limits store input) w → IsAhead (limited p limits input n) w }
 {}
 
 /// The ranges of the limits that an image may carry are those of every run's.
@@ -71,6 +85,25 @@ pub fn images_run_alike()
     ensures { (p : Program) (image : ImageContents) → DoesTheSame p image
         → (limits : Bounds) (store : StoreState) (input : List ℕ) → AreAllowed limits.pages limits.calls → IsNew limits.pages store
         → AllByRecursion (λ b. b < 256) input → AreAlike p image limits store input }
+{}
+
+/// For the output alone that says: within (n + 1) * T instructions the machine has printed at least what the limited run prints in n steps,
+/// and ended alike and with equal output if that has ended; whatever it has printed is a prefix of what the limited run prints, and where it
+/// has ended, so has the limited run: alike, and with equal output.
+pub fn images_print_alike()
+    ensures { (p : Program) (image : ImageContents) → DoesTheSame p image
+        → (limits : Bounds) (store : StoreState) (input : List ℕ) → AreAllowed limits.pages limits.calls → IsNew limits.pages store
+        → AllByRecursion (λ b. b < 256) input → PrintAlike p image limits store input }
+{}
+
+/// Where an image asks for a byte behind the end of its input for the first time, its program does too: with a byte more, whichever, the
+/// program reads that, and has printed then just what the image has. Up to there an image cannot know that the end has come.
+pub fn asks_only_what_is_asked()
+    ensures { (p : Program) (image : ImageContents) → DoesTheSame p image
+        → (limits : Bounds) (store : StoreState) (input : List ℕ) (b : ℕ) → AreAllowed limits.pages limits.calls → IsNew limits.pages store
+        → AllByRecursion (λ b. b < 256) input → b < 256
+        → (count : ℕ) (w : World) → RunWithin count (start_world image limits store input) w → AsksAtTheEnd w
+        → (k : ℕ) × (seen_of (limited p limits (input ++ b ∷ []) k) ≡ showing w.output []) }
 {}
 
 /// `compile` and then `run`, or `run_with` over any store that is new: what is written, read and answered for a text that was compiled is as

@@ -1,6 +1,7 @@
 -- What full preservation refuses of a machine that prints the right bytes: it reads before the program does, reads what the program never
--- asks for, prints before it reads where the program reads first, or never reads what the program reads.
-use Rattle.std.proofs.Common.{◌≡◌, ℕ, zero, suc, List, [], ◌∷◌, refl, ap}
+-- asks for, prints before it reads where the program reads first, never reads what the program reads, or asks at the end of the input where
+-- the program asks nothing.
+use Rattle.std.proofs.Common.{◌≡◌, ℕ, zero, suc, List, [], ◌∷◌, drop, refl, ap}
 use Rattle.cyc_words.specs.Ending.{Full}
 use Rattle.cyc_words.specs.Seen.{Seen, showing}
 use Rattle.cyc_words.specs.Simulation.{Status, Running, Ended, Machine, Preserves}
@@ -98,3 +99,10 @@ never_reads p =
     never zero seen = letter_none (output_same letter [] one one seen)
     never (suc zero) seen = letter_none (output_same letter [] one [] seen)
     never (suc (suc n)) seen = some_none (rest_same letter letter one [] seen)
+
+-- The program prints and never reads. The machine then asks for a byte more than is left of its input, whatever that is. Where nothing is left,
+-- nothing of it is seen; but up to there a machine cannot know what is left, and where there is a byte, it reads that.
+pub asks_at_the_end : (each : ℕ)
+    → ((input : List ℕ) → Preserves (playing (showing [] input) (showing letter input) (showing letter input)) (playing (showing [] input) (showing letter input) (showing letter (drop 1 input))) each 0 0)
+    → ⊥
+asks_at_the_end each p = reads_at_its_end each (p one)
