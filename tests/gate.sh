@@ -66,6 +66,7 @@ add "documents" python3 tests/runners/documents.py
 add "trusted" python3 tests/runners/trusted.py
 add "examples" python3 tests/runners/examples.py
 add "sessions" python3 tests/runners/sessions.py
+add "dialogs" python3 tests/runners/interactive.py
 add "editors" python3 tests/runners/editors.py
 add "refused allocations" python3 tests/runners/refused.py
 add "limits of memory" python3 tests/runners/memory.py

@@ -1,8 +1,8 @@
 #!/bin/sh
 # What can be tried in some minutes of a change, with no proof: builds the program unproved at the place that is named, and runs on it,
 # side by side, the command-line suite and the whole-language cases but for those with long files or many steps, the codes, the documents,
-# the scripts, the examples, the sessions that documents show, the syntax files and some random programs. Where a command is missing that
-# they need, it ends before. The last line is `N passed, M failed` over all of it.
+# the scripts, the examples, the dialogs, the sessions that documents show, the syntax files and some random programs. Where a command is
+# missing that they need, it ends before. The last line is `N passed, M failed` over all of it.
 #
 #     sh tests/quick.sh PROGRAM
 set -u
@@ -64,8 +64,9 @@ begin "trusted" python3 tests/runners/trusted.py
 begin "codes" on codes.py
 begin "examples" on examples.py
 begin "sessions" on sessions.py
+begin "dialogs" on interactive.py
 wait
-for name in "command line" "whole language" "codes" "documents" "trusted" "scripts" "examples" "sessions" "editors" "random programs"; do
+for name in "command line" "whole language" "codes" "documents" "trusted" "scripts" "examples" "dialogs" "sessions" "editors" "random programs"; do
   add "$name"
 done
 echo "$passed passed, $failed failed"

@@ -27,6 +27,7 @@ import facts
 import gate_table
 import images
 import in_trees
+import interactive
 import needs
 import reference
 import run
@@ -1053,6 +1054,45 @@ def is_shrinker_right(folder):
     return True
 
 
+# A stand-in for the program, for dialogs: it compiles nothing, and runs as is put in.
+ASKED = """#!/usr/bin/env python3
+import os, sys
+if sys.argv[1] == "compile":
+    print("done", file=sys.stderr)
+    sys.exit(0)
+{body}
+value = given[0] if given else -1
+print("returned", value, file=sys.stderr)
+sys.exit(value & 255)
+"""
+# What of two dialogs it does: in one all is there from the start, and most of it is left; in the other the input ends behind the prompt.
+WAYS_TO_ASK = {
+    "os.write(1, b'A'); given = os.read(0, 8192)": "2 passed, 0 failed",
+    "given = os.read(0, 8192); os.write(1, b'A')": "1 passed, 1 failed",
+    "os.write(1, b'A'); given = sys.stdin.buffer.read()": "1 passed, 1 failed",
+    "os.write(1, b'A'); given = os.read(0, 8193)": "1 passed, 1 failed",
+    "os.write(1, b'A?'); given = os.read(0, 8192)": "0 passed, 2 failed",
+    "os.write(1, b'A'); given = os.read(0, 8192); os.write(1, b'.')": "0 passed, 2 failed",
+}
+
+
+def are_dialogs_judged(folder):
+    """Whether a program that asks before it reads, and reads as far ahead as it may, passes its dialogs, and others do not."""
+    right = True
+    program = os.path.join(folder, "asked")
+    dialogs = [os.path.join(interactive.FOLDER, name + interactive.SUFFIX) for name in ("first", "first_end")]
+    for body, wanted in WAYS_TO_ASK.items():
+        with open(program, "w", encoding="utf-8") as file:
+            file.write(ASKED.format(body=body))
+        os.chmod(program, 0o755)
+        words = [sys.executable, os.path.join(HERE, "interactive.py"), "--program", program, "--seconds", "3", *dialogs]
+        done = subprocess.run(words, capture_output=True, text=True)
+        if done.stdout.rstrip().split("\n")[-1] != wanted:
+            print(f"{body}: interactive.py said\n{done.stdout}{done.stderr}")
+            right = False
+    return right
+
+
 def is_text_right(case):
     """Whether the reference refuses a text as it should, with the limits of an image too."""
     try:
@@ -1085,7 +1125,7 @@ def main():
         right = [is_runner_right(folder), is_judge_of_images_right(folder), is_table_right(), are_rounds_right(folder), are_missing_found(folder)]
         right += [are_lanes_right(), are_groups_right(folder), are_proofs_taken(folder), is_right_body_wanted(folder)]
         right += [is_library_made(folder), is_first_run_kept(), is_judge_right()]
-        right += [are_pairs_right(folder), are_drifts_found(), are_sessions_tried(folder), is_gate_published()]
+        right += [are_pairs_right(folder), are_dialogs_judged(folder), are_drifts_found(), are_sessions_tried(folder), is_gate_published()]
         right += needs.tried(folder, os.path.join(folder, "stand_in"))
         right.append(reference.with_room(lambda: is_shrinker_right(folder)))
     right += reference.with_room(lambda: [is_case_right(case) for case in cases] + [is_text_right(case) for case in texts])
