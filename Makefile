@@ -50,6 +50,7 @@ cases:
 	@python3 tests/runners/sessions.py
 	@python3 tests/runners/interactive.py
 	@python3 tests/runners/editors.py
+	@python3 tests/runners/calls.py
 	@python3 tests/runners/refused.py
 	@python3 tests/runners/differential.py
 	@python3 tests/runners/images.py

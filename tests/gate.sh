@@ -68,6 +68,7 @@ add "examples" python3 tests/runners/examples.py
 add "sessions" python3 tests/runners/sessions.py
 add "dialogs" python3 tests/runners/interactive.py
 add "editors" python3 tests/runners/editors.py
+add "calls" python3 tests/runners/calls.py
 add "refused allocations" python3 tests/runners/refused.py
 add "limits of memory" python3 tests/runners/memory.py
 add "random programs" python3 tests/runners/differential.py

@@ -1,5 +1,6 @@
-//! Runs an image over one of the two stores, for the tests of the program: `tests/runners/images.py` holds both beside the reference,
-//! and `tests/runners/refused.py` refuses the allocations of both in turn.
+//! Runs an image over one of the two stores, or makes one of a text, for the tests of the program: `tests/runners/images.py` holds both
+//! stores beside the reference, `tests/runners/refused.py` refuses the allocations of both in turn, and `tests/runners/calls.py` holds
+//! what is made of a text beside what the program makes of it.
 #![tactic(auto)]
 
 use cyc_machine::Limits;
@@ -11,6 +12,8 @@ use std::alloc::Global;
 use std::io::{BufReader, BufWriter, Read, Write};
 use std::process::ExitCode;
 use std::{env, fs};
+
+mod texts;
 
 /// One byte more than an image may have is read of its file.
 const MOST_IMAGE: u64 = 33_554_433;
@@ -98,9 +101,9 @@ fn say(rt: &HostRuntime, outcome: Result<Report, RunFault>) -> Option<()> {
     }
 }
 
-/// Does what the words of the command ask for. None where that is nothing, where the image cannot be read, or where memory ran out
-/// before the run.
-fn serve(rt: &HostRuntime, words: &[String]) -> Option<()> {
+/// Runs the image that the words of the command ask for. None where they ask for no run, where the image cannot be read, or where memory
+/// ran out before the run.
+fn run_image(rt: &HostRuntime, words: &[String]) -> Option<()> {
     let asked = request_of(words)?;
     let image = read_file(rt, words.get(5)?.as_str())?;
     let outcome = run_asked(rt, asked, &image)?;
@@ -112,7 +115,7 @@ fn read_words(rt: &HostRuntime) -> Option<Vec<String>> {
     env::args(rt).ok()?.collect(rt.alloc()).ok()
 }
 
-/// With words the status is 0 where a run is told, whatever it came to, and else 1. With none it does nothing.
+/// With words the status is 0 where a run or what comes of a text is told, whatever that is, and else 1. With none it does nothing.
 fn main(rt: HostRuntime) -> ExitCode {
     let Some(words) = read_words(&rt) else {
         return ExitCode::FAILURE;
@@ -120,7 +123,11 @@ fn main(rt: HostRuntime) -> ExitCode {
     if words.len() < 2 {
         return ExitCode::SUCCESS;
     }
-    match serve(&rt, &words) {
+    let told = match words[1].as_str() {
+        "plain" | "paged" => run_image(&rt, &words),
+        _ => texts::serve(&rt, &words),
+    };
+    match told {
         Some(()) => ExitCode::SUCCESS,
         None => ExitCode::FAILURE,
     }
