@@ -74,6 +74,11 @@ pub fn copy<R: ByteIn, W: ByteOut>(reader: &mut R, writer: &mut W) -> Result<Opt
     Ok(byte)
 }
 
+pub fn pass_on<R: ByteIn, W: ByteOut>(reader: &R, writer: &mut W) -> bool {
+    writer.pass_on();
+    reader.is_ready()
+}
+
 pub fn devices<R: io::Read, W: io::Write>(reader: R, writer: W) -> (Reader<R>, Writer<W>) {
     (Reader::new(reader), Writer::new(writer))
 }

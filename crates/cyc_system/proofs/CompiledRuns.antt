@@ -121,8 +121,9 @@ module _ (p : Program) (image : ImageContents) (limits : Bounds) (store : StoreS
         )
 
   runs_as : old.remaining ≡ Some input → (result : Result Report RunFault) → Runs grows (start_world image limits store) budget old new result → RunsAs p limits input (text_words image) budget old new result
-  runs_as tells (Ok report) (w, x, few, stopped) =
-      so_far tells report.count w x (Ok report) (is_end tells report.count w x report.stop stopped, is_as_far tells report.count w x report.stop few stopped)
+  runs_as tells (Ok report) r =
+      so_far tells report.count r.world r.executes (Ok report)
+      (is_end tells report.count r.world r.executes report.stop r.stops, is_as_far tells report.count r.world r.executes report.stop r.few r.stops)
   runs_as tells (Err Read) (count, w, x, below, not_over, wants) = so_far tells count w x (Err Read) tt
   runs_as tells (Err Write) (count, w, x, below, not_over, prints) = so_far tells count w x (Err Write) tt
   runs_as tells (Err (Elf f)) none = absurd none

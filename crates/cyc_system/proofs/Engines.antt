@@ -24,7 +24,7 @@ use Rattle.cyc_system.specs.declared.report.Report.{Report}
 use Rattle.cyc_system.specs.declared.report.Stop.TheVariants as stops
 use Rattle.cyc_system.specs.declared.report.RunFault.{RunFault}
 use Rattle.cyc_system.specs.declared.report.RunFault.TheVariants.{Elf, Load, Read, Write, Memory}
-use Rattle.cyc_system.specs.Engine.{Devices, Rests, Tells, Leaves, Counted, Executes, Runs, Refuses, Starts, Answers, AnswersAnew, Stands, StandsAnew, StandsOver, limit_at}
+use Rattle.cyc_system.specs.Engine.{Devices, Rests, Tells, Leaves, Counted, Executes, Runs, Refuses, Starts, Answers, AnswersAnew, IsReported, limit_at}
 use Rattle.cyc_system.specs.Turn.{Asked, Turned}
 
 -- one more instruction at the end of a run
@@ -253,13 +253,14 @@ executes_kept start old now new count w x (kept, silent) = record {
 
 -- the budget is used up
 pub spends : (start : List ℕ → World) (old now : Devices) (count budget : ℕ) (seen : Bool) (machine : State) → Progress start old now count seen machine → count ≡ budget
-    → Stands start budget old now (Ok (record { stop = stops.Spent; count = budget; counter = machine.core.counter; limit = limit_at stops.Spent machine.core }))
-spends start old now count budget seen machine p is = (
-  record { machine = machine; output = p.output; input = rest_of old.remaining now.remaining },
-  subst (λ k. Executes start old now k (record { machine = machine; output = p.output; input = rest_of old.remaining now.remaining })) is (executes_of start old now count seen machine p),
-  (ap end_in p.running, refl),
-  (refl, refl),
-)
+    → IsReported start budget old now (record { stop = stops.Spent; count = budget; counter = machine.core.counter; limit = limit_at stops.Spent machine.core })
+spends start old now count budget seen machine p is = record {
+  world = record { machine = machine; output = p.output; input = rest_of old.remaining now.remaining };
+  executes = subst (λ k. Executes start old now k (record { machine = machine; output = p.output; input = rest_of old.remaining now.remaining })) is (executes_of start old now count seen machine p);
+  few = let all : budget ≤ budget = omega arith in all;
+  stops = (ap end_in p.running, refl);
+  stands = (refl, refl);
+}
 
 -- the run ends
 executes_last : (start : List ℕ → World) (old now new : Devices) (count : ℕ) (seen seen' : Bool) (machine machine' : State) (end : End) → (p : Progress start old now count seen machine)
@@ -276,27 +277,16 @@ executes_last start old now new count seen seen' machine machine' end p (step, r
       written = x.written;
     }
 
-pub stops_at : (start : List ℕ → World) (old now new : Devices) (count budget : ℕ) (seen seen' : Bool) (machine machine' : State) (end : End) → Progress start old now count seen machine
+pub stops_at : (start : List ℕ → World) (old now new : Devices) (count budget : ℕ) (seen seen' : Bool) (machine machine' : State) (end : End) → Progress start old now count seen machine → count + 1 ≤ budget
     → Turned machine machine' seen seen' now new (Ok (Some end))
-    → Stands start budget old new (Ok (record { stop = stops.End end; count = count + 1; counter = machine'.core.counter; limit = limit_at (stops.End end) machine'.core }))
-stops_at start old now new count budget seen seen' machine machine' end p turned = (
-  record { machine = machine'; output = p.output; input = rest_of old.remaining now.remaining },
-  executes_last start old now new count seen seen' machine machine' end p turned,
-  ap end_in (Step-phase machine (Ended end) machine' turned.0),
-  (refl, refl),
-)
-
--- a run that stopped so, and there, within its budget, is what is answered
-pub runs_to : (grows : Bool) (start : List ℕ → World) (budget : ℕ) (old new : Devices) (report : Report) → Stands start budget old new (Ok report) → report.count ≤ budget
-    → Runs grows start budget old new (Ok report)
-runs_to grows start budget old new report (w, executes, stops, at) few = (w, executes, few, stops)
-
-pub spends_runs : (grows : Bool) (start : List ℕ → World) (old now : Devices) (count budget : ℕ) (seen : Bool) (machine : State) → Progress start old now count seen machine → count ≡ budget
-    → Runs grows start budget old now (Ok (record { stop = stops.Spent; count = budget; counter = machine.core.counter; limit = limit_at stops.Spent machine.core }))
-spends_runs grows start old now count budget seen machine p is =
-    let report : Report = record { stop = stops.Spent; count = budget; counter = machine.core.counter; limit = limit_at stops.Spent machine.core } in
-    let few : budget ≤ budget = omega arith in
-    runs_to grows start budget old now report (spends start old now count budget seen machine p is) few
+    → IsReported start budget old new (record { stop = stops.End end; count = count + 1; counter = machine'.core.counter; limit = limit_at (stops.End end) machine'.core })
+stops_at start old now new count budget seen seen' machine machine' end p few turned = record {
+  world = record { machine = machine'; output = p.output; input = rest_of old.remaining now.remaining };
+  executes = executes_last start old now new count seen seen' machine machine' end p turned;
+  few = few;
+  stops = ap end_in (Step-phase machine (Ended end) machine' turned.0);
+  stands = (refl, refl);
+}
 
 -- a device fails
 pub fails_at : (grows : Bool) (start : List ℕ → World) (old now new : Devices) (count budget : ℕ) (seen seen' : Bool) (machine machine' : State) (e : RunFault) → Progress start old now count seen machine → count < budget
@@ -326,19 +316,6 @@ answers_run grows store read image limits budget machine old new result is insid
     (loaded (has_outside image) (Refuses (Load load.Outside) old new result) (Starts grows (start_world image limits store) budget old new result) inside
     (inr (subst (λ m. Runs grows (λ input. record { machine = m; output = []; input = input }) budget old new result) begins runs)))
 
--- The same of where it stopped.
-pub stands_run : (store : StoreState) (read : Result ImageContents ElfFault) (image : ImageContents) (limits : Bounds) (budget : ℕ) (machine : State) (old new : Devices) (result : Result Report RunFault)
-    → read ≡ Ok image → machine ≡ start_state image limits store
-    → Stands (λ input. record { machine = machine; output = []; input = input }) budget old new result → StandsOver store read limits budget old new result
-stands_run store read image limits budget machine old new result is begins stands =
-    subst (λ r. StandsOver store r limits budget old new result) (sym is)
-    (subst (λ m. Stands (λ input. record { machine = m; output = []; input = input }) budget old new result) begins stands)
-
--- of a fault nothing is said
-pub stands_fault : (store : StoreState) (read : Result ImageContents ElfFault) (limits : Bounds) (budget : ℕ) (old new : Devices) (e : RunFault) → StandsOver store read limits budget old new (Err e)
-stands_fault store (Err f) limits budget old new e = tt
-stands_fault store (Ok image) limits budget old new e = tt
-
 -- want of memory before an image is read
 refuses_memory : (fault : RunFault) (old new : Devices) → Rests old new → Refuses fault old new (Err Memory)
 refuses_memory fault old new rests = (inr refl, rests)
@@ -360,14 +337,6 @@ anew_memory grows read limits budget devices =
       store,
       ((λ (address : ℕ). 0), (λ address. omega arith), refl),
       answers_memory grows store read limits budget devices devices (Keeps-refl devices.remaining, Keeps-refl devices.written),
-    )
-
-pub anew_fault : (read : Result ImageContents ElfFault) (limits : Bounds) (budget : ℕ) (old new : Devices) (e : RunFault) → StandsAnew read limits budget old new (Err e)
-anew_fault read limits budget old new e =
-    let store : StoreState = stores.start limits.pages (λ (address : ℕ). 0) in (
-      store,
-      ((λ (address : ℕ). 0), (λ address. omega arith), refl),
-      stands_fault store read limits budget old new e,
     )
 
 -- Want of memory over a store that does not grow is answered before anything is read or written: no instruction wants any.
@@ -398,23 +367,15 @@ Progress-stretch grows start old now new count most more seen seen' machine mid 
     subst (λ (k : ℕ). Progress start old new k seen' machine') same
     (Progress-turn start old now new (count + t.quiet) seen seen' t.before machine' (Progress-quiet start old now count t.quiet seen machine t.before p t.runs) (turned t.before t.last))
 
-pub stops_after : (grows : Bool) (start : List ℕ → World) (old now new : Devices) (count budget more : ℕ) (seen seen' : Bool) (machine mid machine' : State) (event : Event) (end : End) → Progress start old now count seen machine
+pub stops_after : (grows : Bool) (start : List ℕ → World) (old now new : Devices) (count budget more : ℕ) (seen seen' : Bool) (machine mid machine' : State) (event : Event) (end : End) → Progress start old now count seen machine → count < budget
     → (event ≡ Ran → ⊥) → (event ≡ NoMemory → ⊥) → IsStretch grows (budget - count) machine more event mid → ((before : State) → Step before event mid → Turned before machine' seen seen' now new (Ok (Some end)))
-    → Stands start budget old new (Ok (record { stop = stops.End end; count = count + more; counter = machine'.core.counter; limit = limit_at (stops.End end) machine'.core }))
-stops_after grows start old now new count budget more seen seen' machine mid machine' event end p other memory stretch turned =
+    → IsReported start budget old new (record { stop = stops.End end; count = count + more; counter = machine'.core.counter; limit = limit_at (stops.End end) machine'.core })
+stops_after grows start old now new count budget more seen seen' machine mid machine' event end p below other memory stretch turned =
     let t = tells_last grows (budget - count) machine more event mid other memory stretch in
     let same : count + t.quiet + 1 ≡ count + more = omega (arith, t.counted) in
-    subst (λ (k : ℕ). Stands start budget old new (Ok (record { stop = stops.End end; count = k; counter = machine'.core.counter; limit = limit_at (stops.End end) machine'.core }))) same
-    (stops_at start old now new (count + t.quiet) budget seen seen' t.before machine' end (Progress-quiet start old now count t.quiet seen machine t.before p t.runs) (turned t.before t.last))
-
-pub stops_runs : (grows : Bool) (start : List ℕ → World) (old now new : Devices) (count budget more : ℕ) (seen seen' : Bool) (machine mid machine' : State) (event : Event) (end : End) → Progress start old now count seen machine → count < budget
-    → (event ≡ Ran → ⊥) → (event ≡ NoMemory → ⊥) → IsStretch grows (budget - count) machine more event mid → ((before : State) → Step before event mid → Turned before machine' seen seen' now new (Ok (Some end)))
-    → Runs grows start budget old new (Ok (record { stop = stops.End end; count = count + more; counter = machine'.core.counter; limit = limit_at (stops.End end) machine'.core }))
-stops_runs grows start old now new count budget more seen seen' machine mid machine' event end p below other memory stretch turned =
-    let report : Report = record { stop = stops.End end; count = count + more; counter = machine'.core.counter; limit = limit_at (stops.End end) machine'.core } in
-    let few : count + more ≤ budget = omega (arith, below, stretch_few grows (budget - count) machine more event mid stretch) in
-    runs_to grows start budget old new report
-    (stops_after grows start old now new count budget more seen seen' machine mid machine' event end p other memory stretch turned) few
+    let few : count + t.quiet + 1 ≤ budget = omega (arith, below, same, stretch_few grows (budget - count) machine more event mid stretch) in
+    subst (λ (k : ℕ). IsReported start budget old new (record { stop = stops.End end; count = k; counter = machine'.core.counter; limit = limit_at (stops.End end) machine'.core })) same
+    (stops_at start old now new (count + t.quiet) budget seen seen' t.before machine' end (Progress-quiet start old now count t.quiet seen machine t.before p t.runs) few (turned t.before t.last))
 
 pub fails_after : (grows : Bool) (start : List ℕ → World) (old now new : Devices) (count budget more : ℕ) (seen seen' : Bool) (machine mid machine' : State) (event : Event) (e : RunFault) → Progress start old now count seen machine → count < budget
     → (event ≡ Ran → ⊥) → (event ≡ NoMemory → ⊥) → IsStretch grows (budget - count) machine more event mid → ((before : State) → Step before event mid → Turned before machine' seen seen' now new (Err e))

@@ -3,12 +3,14 @@ use Rattle.std.proofs.Common.{◌≡◌, ◌⊎◌, inl, inr, ⊎_elim, ℕ, Lis
 use Rattle.std.specs.Prelude.{IfOk, IfErr, MatchResult}
 use Rattle.cyc_words.specs.declared.fault.Fault.{Fault}
 use Rattle.cyc_syntax.specs.declared.tokens.Token.{Token as TokenCode}
+use Rattle.cyc_syntax.specs.declared.tree.Tree.{Tree}
 use Rattle.cyc_syntax.specs.Tokens.{Token, token_of}
 use Rattle.cyc_syntax.specs.Trees.{Declaration}
 use Rattle.cyc_lex.specs.Refusals as lexer
 use Rattle.cyc_words.specs.Decision.{Decides}
 use Rattle.cyc_words.specs.Fault.{memory_fault}
 use Rattle.cyc_parse.specs.Acceptance as parser
+use Rattle.cyc_parse.specs.Acceptance.{declarations_of}
 use Rattle.cyc_types.specs.TypedTrees.{Program}
 use Rattle.cyc_types.specs.declared.typed.TypedTree.{TypedTree}
 use Rattle.cyc_types.specs.TypedTreeView.{view_program}
@@ -16,7 +18,7 @@ use Rattle.cyc_types.specs.typing.Programs.{IsTypedProgram, IsRefusedProgram}
 use Rattle.cyc_types.specs.flow.Programs.{IsAllowedProgram, IsStoppedProgram}
 use Rattle.cyc_flow.specs.declared.check.Flowed.{Flowed}
 use Rattle.cyc_system.specs.declared.front.Phases.{Phases}
-use Rattle.cyc_system.specs.Front.{names_in, IsAcceptedText, IsStoppedText, IsRefusedText, HasFault}
+use Rattle.cyc_system.specs.Front.{names_in, IsAcceptedText, HasTree, IsStoppedText, IsRefusedText, HasFault}
 
 -- A phase let this pass: it is accepted, nothing else is, and there is no fault.
 pub record Passes {A : Type 0} (Accepted : A → Type 0) (Has : Fault → Type 0) (a : A) : Type 0 where
@@ -44,6 +46,11 @@ Checked tokens tree p = Passes (IsTypedProgram (names_in tokens) tree) (IsRefuse
 -- the code's tokens, held elsewhere
 pub lexed : (text : List ℕ) (ts us : List TokenCode) → us ≡ ts → Lexed text (map (token_of text) ts) → Lexed text (map (token_of text) us)
 lexed text ts us same l = subst (λ x. Lexed text (map (token_of text) x)) (sym same) l
+
+-- what is parsed of them is of the tokens where they are held
+pub of_tokens : (text : List ℕ) (us ts : List TokenCode) (tree : Tree) → us ≡ ts → parser.IsAccepted (map (token_of text) us) (declarations_of tree)
+    → tree.names ≡ names_in (map (token_of text) us) → HasTree text ts tree
+of_tokens text us ts tree same is names = subst (λ (x : List TokenCode). HasTree text x tree) same (is, names)
 
 -- the texts of names are those of the tokens
 pub checked : (tokens : List Token) (tree : List Declaration) (p : Program) (texts : List (List ℕ)) → texts ≡ names_in tokens

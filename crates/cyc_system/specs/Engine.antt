@@ -71,11 +71,14 @@ limit_at stop core = None
 abbrev pub StandsAt : Report → World → Type 0
 StandsAt report w = (report.counter ≡ w.machine.core.counter) × (report.limit ≡ limit_at report.stop w.machine.core)
 
--- A run that begins in this world, on whatever input, and that was reported stopped so, and there.
-abbrev pub Stands : (start : List ℕ → World) (budget : ℕ) (old new : Devices) → Result Report RunFault → Type 0
-Stands start budget old new (Ok report) =
-    (w : World) × Executes start old new report.count w × Stops report.stop budget report.count w × StandsAt report w
-Stands start budget old new (Err e) = Unit {0}
+-- A run that begins in this world, on whatever input, and of which this is reported: so many instructions, none beyond the budget, how
+-- it stopped, and where it stands then. All of it is of one run.
+pub record IsReported (start : List ℕ → World) (budget : ℕ) (old new : Devices) (report : Report) : Type 0 where
+  pub world : World
+  pub executes : Executes start old new report.count world
+  pub few : report.count ≤ budget
+  pub stops : Stops report.stop budget report.count world
+  pub stands : StandsAt report world
 
 -- the next instruction wants a byte, or prints one
 abbrev pub WantsByteNext : World → Type 0
@@ -87,8 +90,7 @@ PrintsNext w = (byte : ℕ) × (s : State) × Step w.machine (Puts byte) s
 -- What a run answers that begins in this world, on whatever input, over a store that grows or does not. Where a device failed, or
 -- the store wanted memory that it was not given, the instruction was not executed.
 abbrev pub Runs : (grows : Bool) (start : List ℕ → World) (budget : ℕ) (old new : Devices) → Result Report RunFault → Type 0
-Runs grows start budget old new (Ok report) =
-    (w : World) × Executes start old new report.count w × (report.count ≤ budget) × Stops report.stop budget report.count w
+Runs grows start budget old new (Ok report) = IsReported start budget old new report
 Runs grows start budget old new (Err Read) =
     (count : ℕ) × (w : World) × Executes start old new count w × (count < budget) × (end_of w ≡ None) × WantsByteNext w
 Runs grows start budget old new (Err Write) =
@@ -117,12 +119,3 @@ Answers grows store (Ok image) limits budget old new result =
 -- The same, where the call makes a new store itself, of the limits' pages.
 abbrev pub AnswersAnew : (grows : Bool) → Result ImageContents ElfFault → Bounds → (budget : ℕ) (old new : Devices) → Result Report RunFault → Type 0
 AnswersAnew grows read limits budget old new result = (store : StoreState) × IsNew limits.pages store × Answers grows store read limits budget old new result
-
--- Where a run stopped that was answered so: a run of the image that was read, with this store. Of bytes that are no image nothing is said.
-abbrev pub StandsOver : StoreState → Result ImageContents ElfFault → Bounds → (budget : ℕ) (old new : Devices) → Result Report RunFault → Type 0
-StandsOver store (Err f) limits budget old new result = Unit {0}
-StandsOver store (Ok image) limits budget old new result = Stands (start_world image limits store) budget old new result
-
--- The same, where the call makes a new store itself, of the limits' pages.
-abbrev pub StandsAnew : Result ImageContents ElfFault → Bounds → (budget : ℕ) (old new : Devices) → Result Report RunFault → Type 0
-StandsAnew read limits budget old new result = (store : StoreState) × IsNew limits.pages store × StandsOver store read limits budget old new result

@@ -12,7 +12,7 @@ ghost use Rattle.cyc_soundness.specs.Sound.{IsSound};
 ghost use Rattle.cyc_meaning.specs.Sizes.{HasTooMany};
 ghost use Rattle.cyc_lower.specs.Lowered.{CanBeLowered, IsAccepted, IsLowered};
 ghost use Rattle.cyc_frame.specs.Layout.{AreFrames};
-ghost use Rattle.cyc_system.specs.Front.{IsAcceptedText};
+ghost use Rattle.cyc_system.specs.Front.{IsAcceptedText, HasTokens};
 ghost use Rattle.cyc_system.specs.FullPreservation.{IsImageOf};
 ghost use Rattle.cyc_system.specs.Notes.{AreAllowedIfAny, Carries};
 ghost use Rattle.cyc_system.specs.Compiled.{IsTooLarge, IsSmall, IsCompiledText, IsRefusedAtLast, HasFaultAtLast};
@@ -99,6 +99,9 @@ pub fn compile_with_tokens(
     requires { AreAllowedIfAny note }
     // What is answered and what is refused is as `compile_with` says.
     ensures decides { Decides (IsCompiledText text.now) (λ p made. IsImageOf p made.image.items) (IsRefusedAtLast text.now) (HasFaultAtLast text.now) result }
+    // The tokens are those of the text, and the typed tree is its program.
+    ensures tokens { IfOk result (λ made. HasTokens text.now made.tokens.items) }
+    ensures program { IfOk result (λ made. IsAcceptedText text.now (view_program made.program.tree)) }
     // No step of any run of the program is dead or wrong, whatever its input, and without limits.
     ensures sound { IfOk result (λ _. (p : Program) → IsAcceptedText text.now p → IsSound p) }
     // The image carries these limits.

@@ -3,7 +3,7 @@ ghost use Rattle.std.specs.Prelude.{◌≡◌, IfOk};
 ghost use Rattle.cyc_words.specs.Decision.{Decides};
 ghost use Rattle.cyc_types.specs.TypedTreeView.{view_program};
 ghost use Rattle.cyc_soundness.specs.Sound.{IsSound};
-ghost use Rattle.cyc_system.specs.Front.{IsAcceptedText, IsRefusedText, HasFault};
+ghost use Rattle.cyc_system.specs.Front.{IsAcceptedText, IsRefusedText, HasFault, HasTokens, HasTree};
 
 use cyc_check::check;
 use cyc_flow::{Flowed, flow};
@@ -27,6 +27,9 @@ pub struct Phases {
 pub fn run_phases(alloc: Global, text: &[u8]) -> Result<Phases, Fault>
     // What is accepted is answered with its typed program. What is refused is so for what its code says at its place.
     ensures decides { Decides (IsAcceptedText text.now) (λ p v. view_program v.program.tree ≡ p) (IsRefusedText text.now) (HasFault text.now) result }
+    // The tokens are those of the text, and the tree is that of the tokens.
+    ensures tokens { IfOk result (λ v. HasTokens text.now v.tokens.items) }
+    ensures tree { IfOk result (λ v. HasTree text.now v.tokens.items v.tree) }
     // No step of any run of a program that is accepted is dead or wrong, whatever its input, and without limits.
     ensures sound { IfOk result (λ v. IsSound (view_program v.program.tree)) }
 {

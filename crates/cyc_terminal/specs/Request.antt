@@ -1,6 +1,8 @@
 -- What a command line asks for. This project's own choice.
-use Rattle.std.specs.Prelude.{◌≡◌, ℕ, ◌≤◌, List, codes, Option, Some, None, IfSome}
+use Rattle.std.specs.Prelude.{◌≡◌, ℕ, true, ◌≤◌, List, codes, Option, Some, None, IfSome}
 use Rattle.std.specs.Str.Parse.{digits_value}
+use Rattle.clap.specs.Words.{App, Row, Text, is_simple, subcommand_of}
+use Rattle.clap.specs.Walk.{first_of}
 use Rattle.cyc_terminal.specs.Limits.{Given}
 use Rattle.cyc_terminal.specs.declared.arguments.Request.{Request}
 use Rattle.cyc_terminal.specs.declared.arguments.Request.TheVariants.{Check, Compile, Run, Disassemble}
@@ -43,3 +45,16 @@ IsRunRequest given (Run image limits budget) = (given (codes "image") ≡ Some i
 IsRunRequest given (Check source) = ⊥
 IsRunRequest given (Compile source image limits) = ⊥
 IsRunRequest given (Disassemble image) = ⊥
+
+-- the request is what the command of this name asks for, with the files, the limits and the budget that were given
+abbrev pub IsRequestOf : (name : List ℕ) → (List ℕ → Option (List ℕ)) → Request → Type 0
+IsRequestOf name given (Check source) = (name ≡ codes "check") × (given (codes "source") ≡ Some source.now)
+IsRequestOf name given (Compile source image limits) = (name ≡ codes "compile") × IsCompileRequest given (Compile source image limits)
+IsRequestOf name given (Run image limits budget) = (name ≡ codes "run") × IsRunRequest given (Run image limits budget)
+IsRequestOf name given (Disassemble image) = (name ≡ codes "disasm") × (given (codes "image") ≡ Some image.now)
+
+-- what the words of a command line ask a program for that has these commands and options, by what the parser of command lines finds in
+-- them
+abbrev pub IsAskedOf : App → (words : List Text) → Request → Type 0
+IsAskedOf program words request = is_simple program ≡ true
+    → (found : Text × List Row) × (subcommand_of program words ≡ Some found) × IsRequestOf found.0 (λ id. first_of id found.1) request

@@ -1,8 +1,8 @@
 //! The command line: what the words ask for.
-ghost use Rattle.std.specs.Prelude.{◌≡◌, ◌≤◌, Some, IfOk, IfSome, codes};
+ghost use Rattle.std.specs.Prelude.{◌≡◌, ◌≤◌, Some, IfOk, IfSome, codes, map, string_bytes};
 ghost use Rattle.std.specs.Str.Parse.{digits_value};
-ghost use Rattle.clap.specs.Words.{first_value, found_of};
-ghost use Rattle.cyc_terminal.specs.Request.{AreLimitsOf, IsCompileRequest, IsNumberIfGiven, IsNumberOf, IsRunRequest, IsWithinBudget};
+ghost use Rattle.clap.specs.Words.{app_of, first_value, found_of};
+ghost use Rattle.cyc_terminal.specs.Request.{AreLimitsOf, IsCompileRequest, IsNumberIfGiven, IsNumberOf, IsAskedOf, IsRequestOf, IsRunRequest, IsWithinBudget};
 
 use crate::limits::GivenLimits;
 use crate::number;
@@ -406,22 +406,41 @@ fn run_request<'a>(
 }
 
 /// What is asked for by the words behind the name of a command.
+#[tactic(auto, using(crate::proofs::Requests::compiled, crate::proofs::Requests::run))]
 fn request_of<'a>(alloc: Global, name: &str, matches: &ArgMatches<'a>) -> Result<Request<'a>, Error>
-    ensures { IfOk result IsWithinBudget }
+    ensures { IfOk result (IsRequestOf name.now (first_value (found_of matches.now))) }
 {
     let mut command = command_named(alloc, name)?;
     match name {
+        "check" => {
+            let source = file_of(&mut command, matches, "source")?;
+            Ok(Request::Check { source })
+        }
         "compile" => compile_request(alloc, &mut command, matches),
         "run" => run_request(alloc, &mut command, matches),
         "disasm" => {
             let image = file_of(&mut command, matches, "image")?;
             Ok(Request::Disassemble { image })
         }
-        _ => {
-            let source = file_of(&mut command, matches, "source")?;
-            Ok(Request::Check { source })
-        }
+        // The parser takes no other name.
+        _ => Err(command.error(ErrorKind::InvalidSubcommand, "there is no such command")?),
     }
+}
+
+/// What the words ask this program for.
+fn request_in<'a>(
+    alloc: Global,
+    program: &mut Command<'a>,
+    words: &'a [String],
+) -> Result<Request<'a>, Error>
+    ensures asked { IfOk result (IsAskedOf (app_of program.old) (map string_bytes words.now)) }
+    ensures budget { IfOk result IsWithinBudget }
+{
+    let matches = program.try_get_matches_from_mut(words)?;
+    let Some((name, matches)) = matches.subcommand() else {
+        return Err(program.error(ErrorKind::MissingSubcommand, "a command is missing")?);
+    };
+    request_of(alloc, name, matches)
 }
 
 /// What the words ask for, of which the first is the program's name. The error is a mistake in the
@@ -430,9 +449,5 @@ pub fn read_request<'a>(alloc: Global, words: &'a [String]) -> Result<Request<'a
     ensures { IfOk result IsWithinBudget }
 {
     let mut program = program(alloc)?;
-    let matches = program.try_get_matches_from_mut(words_read(words))?;
-    let Some((name, matches)) = matches.subcommand() else {
-        return Err(program.error(ErrorKind::MissingSubcommand, "a command is missing")?);
-    };
-    request_of(alloc, name, matches)
+    request_in(alloc, &mut program, words_read(words))
 }

@@ -1,10 +1,9 @@
-//! What a person at a terminal writes and reads: the words of a command line, the messages, a line with a mark under a place
-//! of it, and the standard input and output of a run.
+//! What a person at a terminal writes and reads: the words of a command line, the messages, and a line with a mark under a place
+//! of it.
 #![tactic(auto)]
 
 pub use advice::{Ending, image_fault, meaning};
 pub use arguments::{Request, read_request};
-pub use console::{Keyboard, Screen};
 pub use excerpt::{Excerpt, Shown, excerpt_at};
 pub use habits::{hint_at, is_in_name};
 pub use limits::GivenLimits;
@@ -12,7 +11,6 @@ pub use warnings::Warnings;
 
 mod advice;
 mod arguments;
-mod console;
 mod excerpt;
 mod habits;
 mod limits;

@@ -2,3 +2,5 @@
 pub mod Answer
 pub mod Work
 pub mod Refusal
+-- the two devices of a run
+pub mod Console

@@ -2,6 +2,7 @@
 #![tactic(auto)]
 
 mod answer;
+mod console;
 mod expected;
 mod files;
 mod flow_cause;

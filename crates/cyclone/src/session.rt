@@ -3,24 +3,21 @@ ghost use Rattle.std.specs.Prelude.{◌≡◌};
 ghost use Rattle.cyclone.specs.Answer.{answer_of_fault};
 
 use crate::answer::{Answer, ending, explanation};
+use crate::console::{Keyboard, Screen};
 use crate::expected::expected_at;
 use crate::files::{read_image, read_text, write_image};
 use crate::flow_cause::cause_of;
 use crate::message::Message;
 use crate::refusal::words_for;
-use crate::work::{check, limits_of_run, list_image, run_image, widen_heap};
+use crate::work::{check, compile, limits_of_run, list_image, run_image, widen_heap};
 use clap::error::ErrorKind;
 use cyc_syntax::Token;
-use cyc_system::compile_with_tokens;
-use cyc_terminal::{GivenLimits, Keyboard, Request, Screen, Shown, Warnings, read_request};
+use cyc_terminal::{GivenLimits, Request, Shown, Warnings, read_request};
 use cyc_words::Fault;
-use std::cell::RefCell;
 use std::env::{Env, FillError};
-use std::io::{BufReader, BufWriter, IsTerminal, Stdout};
+use std::io::IsTerminal;
 use std::mem::ManuallyDrop;
 use std::{env, io};
-
-type Buffer = RefCell<BufWriter<Stdout>>;
 
 /// The answer to a refused program, whose message for a person goes to standard error.
 fn report_refusal(rt: &HostRuntime, name: &str, text: &[u8], fault: Fault) -> Answer
@@ -74,7 +71,7 @@ fn compile_file(
     let text = read_text(rt, source)?;
     let text = text.as_slice();
     widen_heap(rt.alloc());
-    match compile_with_tokens(rt.alloc(), text, limits.carried()) {
+    match compile(rt.alloc(), text, limits) {
         Ok(made) => {
             // The program ends behind this, so what was made is not given back, as in `check`.
             let made = ManuallyDrop::new(made);
@@ -82,14 +79,6 @@ fn compile_file(
             Ok(write_image(rt, image, made.image.as_slice()))
         }
         Err(fault) => Err(report_refusal(rt, source, text, fault)),
-    }
-}
-
-/// A buffer before the standard output.
-fn make_buffer(rt: &HostRuntime) -> Result<Buffer, Answer> {
-    match BufWriter::new(rt.alloc(), rt.stdout()) {
-        Ok(buffer) => Ok(RefCell::new(buffer)),
-        Err(_) => Err(Answer::NoMemory),
     }
 }
 
@@ -102,29 +91,23 @@ fn run_file(
 ) -> Result<Answer, Answer> {
     let image = read_image(rt, image)?;
     let limits = limits_of_run(rt.alloc(), image.as_slice(), limits)?;
-    let buffer = make_buffer(rt)?;
-    let keyboard = Keyboard {
-        input: rt.stdin(),
-        buffer: &buffer,
-    };
-    let Ok(mut input) = BufReader::new(rt.alloc(), keyboard) else {
+    let by_lines = rt.stdout().is_terminal();
+    let Ok(mut screen) = Screen::new(rt.alloc(), rt.stdout(), by_lines) else {
         return Err(Answer::NoMemory);
     };
-    let mut screen = Screen {
-        buffer: &buffer,
-        by_lines: rt.stdout().is_terminal(),
-        at_line_start: true,
+    let Ok(mut keyboard) = Keyboard::new(rt.alloc(), rt.stdin()) else {
+        return Err(Answer::NoMemory);
     };
     let (answer, report) = run_image(
         rt.alloc(),
         image.as_slice(),
         limits,
         budget,
-        &mut input,
+        &mut keyboard,
         &mut screen,
     );
     // What the answer says to a person begins on a line of its own.
-    if screen.by_lines && !screen.at_line_start && rt.stderr().is_terminal() {
+    if screen.is_within_line() && rt.stderr().is_terminal() {
         let _ = rt.eprintln("");
     }
     if let Some(ending) = ending(&answer, report, limits, budget) {
@@ -136,11 +119,8 @@ fn run_file(
 /// `disasm IMAGE`.
 fn list_file(rt: &HostRuntime, image: &str) -> Result<Answer, Answer> {
     let image = read_image(rt, image)?;
-    let buffer = make_buffer(rt)?;
-    let mut screen = Screen {
-        buffer: &buffer,
-        by_lines: false,
-        at_line_start: true,
+    let Ok(mut screen) = Screen::new(rt.alloc(), rt.stdout(), false) else {
+        return Err(Answer::NoMemory);
     };
     Ok(list_image(rt.alloc(), image.as_slice(), &mut screen))
 }

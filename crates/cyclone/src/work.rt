@@ -2,14 +2,20 @@
 ghost use Rattle.std.specs.Prelude.{◌≡◌, ◌⊎◌, IfOk, IfErr, IfSome, MatchResult, take};
 ghost use Rattle.std.specs.Io.KnownBytes.{Keeps};
 ghost use Rattle.cyc_words.specs.Fault.{memory_fault};
+ghost use Rattle.cyc_system.specs.Compiled.{HasFaultAtLast};
 ghost use Rattle.cyc_system.specs.Front.{HasFault};
-ghost use Rattle.cyclone.specs.Work.{AnswersCheck, AnswersListing, AnswersNoImage, AnswersRun, AreLimitsFor};
+ghost use Rattle.cyclone.specs.Console.{keyboard_remaining, screen_held, screen_written};
+ghost use Rattle.cyclone.specs.Work.{AnswersCheck, AnswersCompile, AnswersListing, AnswersNoImage, AnswersRun, AreLimitsFor, EndsAs, EndsListing, EndsRun};
 
 use crate::answer::Answer;
+use crate::console::{Keyboard, Screen};
 use cyc_machine::Limits;
-use cyc_system::{Phases, Report, RunFault, disassemble, note_of, run, run_phases};
+use cyc_system::{
+    Compilation, Phases, Report, RunFault, compile_with_tokens, disassemble, note_of, run,
+    run_phases,
+};
 use cyc_terminal::GivenLimits;
-use cyc_words::{ByteIn, ByteOut, Fault, Reader, Writer};
+use cyc_words::{ByteIn, ByteOut, Fault};
 use std::alloc::{AllocError, Global};
 use std::io;
 use std::io::{Read, Write};
@@ -45,12 +51,22 @@ pub fn check(alloc: Global, text: &[u8]) -> Result<ManuallyDrop<Phases>, Fault>
     Ok(ManuallyDrop::new(run_phases(alloc, text)?))
 }
 
-/// The answer, or a write fault where what was written could not all be passed on.
-fn flush_for<W: Write>(output: &mut W, answer: Answer) -> Answer
-    ensures answer { (result ≡ answer) ⊎ (result ≡ Answer.WriteFault) }
-    ensures bytes { Keeps (W.contents output.old) (W.contents output.new) }
+/// Compiles a text to an image, which carries both limits where one is given.
+pub fn compile(alloc: Global, text: &[u8], limits: GivenLimits) -> Result<Compilation, Fault>
+    ensures answer { AnswersCompile text.now limits result }
+    // A text that has a fault is never compiled.
+    ensures refuses { (fault : Fault) → HasFaultAtLast text.now fault
+        → MatchResult result (λ _. ⊥) (λ f. (f ≡ memory_fault) ⊎ (f ≡ fault)) }
 {
-    match output.flush() {
+    compile_with_tokens(alloc, text, limits.carried())
+}
+
+/// The answer, or a write fault where what was written could not all be passed on.
+fn finish_for<W: Write + Drop>(screen: &mut Screen<W>, answer: Answer) -> Answer
+    ensures answer { EndsAs answer (screen_held screen.new) result }
+    ensures bytes { Keeps (screen_written W.contents screen.old) (screen_written W.contents screen.new) }
+{
+    match screen.finish() {
         Ok(()) => answer,
         Err(_) => Answer::WriteFault,
     }
@@ -87,19 +103,22 @@ fn run_between<R: ByteIn, W: ByteOut>(
     }
 }
 
-/// Runs an image on the bytes of `input`, and writes what it prints to `output`.
-pub fn run_image<R: Read, W: Write>(
+/// Runs an image on the bytes of the keyboard's reader, and writes what it prints to the screen's writer.
+pub fn run_image<R: Read + Drop, W: Write + Drop>(
     alloc: Global,
     image: &[u8],
     limits: Limits,
     budget: u64,
-    input: &mut R,
-    output: &mut W,
-) -> (Answer, Option<Report>) {
-    let mut reader = Reader::new(input);
-    let mut writer = Writer::new(&mut *output);
-    let (answer, report) = run_between(alloc, image, limits, budget, &mut reader, &mut writer);
-    (flush_for(output, answer), report)
+    keyboard: &mut Keyboard<R>,
+    screen: &mut Screen<W>,
+) -> (Answer, Option<Report>)
+    ensures { EndsRun image.now limits budget
+        (record { remaining = keyboard_remaining R.remaining keyboard.old; written = screen_written W.contents screen.old })
+        (record { remaining = keyboard_remaining R.remaining keyboard.new; written = screen_written W.contents screen.new })
+        (screen_held screen.new) result.0 result.1 }
+{
+    let (answer, report) = run_between(alloc, image, limits, budget, keyboard, screen);
+    (finish_for(screen, answer), report)
 }
 
 /// Lists the instructions of an image to a device.
@@ -112,9 +131,11 @@ fn list_to<W: ByteOut>(alloc: Global, image: &[u8], writer: &mut W) -> Answer
     }
 }
 
-/// Lists the instructions of an image.
-pub fn list_image<W: Write>(alloc: Global, image: &[u8], output: &mut W) -> Answer {
-    let mut writer = Writer::new(&mut *output);
-    let answer = list_to(alloc, image, &mut writer);
-    flush_for(output, answer)
+/// Lists the instructions of an image to the screen's writer.
+pub fn list_image<W: Write + Drop>(alloc: Global, image: &[u8], screen: &mut Screen<W>) -> Answer
+    ensures { EndsListing image.now (screen_written W.contents screen.old) (screen_written W.contents screen.new)
+        (screen_held screen.new) result }
+{
+    let answer = list_to(alloc, image, screen);
+    finish_for(screen, answer)
 }

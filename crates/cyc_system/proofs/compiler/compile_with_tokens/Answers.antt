@@ -12,7 +12,7 @@ use Rattle.cyc_system.proofs.compiler.compile_with_tokens.Goals as goal
 pub returns-in_err-phases : goal.returns-in_err-phases
 returns-in_err-phases c =
     let e = err_from_is_err_and c.from_residual.result c.from_residual.ensures.1 in
-    record { decides = rw (e.1, e.2) (front_answers HasImageBeside c.args.text.now HasPhases c.in_err-phases.field-0.0 c.in_err-phases.ensures.decides); sound = rw e.1 tt; note = rw e.1 tt }
+    record { decides = rw (e.1, e.2) (front_answers HasImageBeside c.args.text.now HasPhases c.in_err-phases.field-0.0 c.in_err-phases.ensures.decides); tokens = rw e.1 tt; program = rw e.1 tt; sound = rw e.1 tt; note = rw e.1 tt }
 
 pub build-requires-clause-well_typed : goal.build-requires-clause-well_typed
 build-requires-clause-well_typed c =
@@ -46,6 +46,8 @@ returns-in_err-image c =
     record {
       decides = rw (e.1, e.2) (refused_alike HasImage HasImageBeside f
           (behind_answers HasImage text (view_program c.in_ok-phases.phases.program.tree) (subst (IsAcceptedText text) (sym same) is) d.accepts d.refuses (Err f) c.in_err-image.ensures.decides));
+      tokens = rw e.1 tt;
+      program = rw e.1 tt;
       sound = rw e.1 tt;
       note = rw e.1 tt;
     }
@@ -59,6 +61,8 @@ returns c =
     record {
       decides = accepted_alike HasImage HasImageBeside image _ (λ p has. has)
           (behind_answers HasImage text (view_program c.in_ok-phases.phases.program.tree) (subst (IsAcceptedText text) (sym same) is) d.accepts d.refuses (Ok image) c.in_ok-image.ensures.decides);
+      tokens = c.in_ok-phases.ensures.tokens;
+      program = subst (IsAcceptedText text) (sym same) is;
       sound = accepted_sound text;
       note = c.in_ok-image.ensures.note;
     }

@@ -1,7 +1,7 @@
 use Rattle.std.proofs.Common.{◌∙◌, arith}
 use Rattle.std.proofs.lemmas.Result.{err_from_is_err_and}
 use Rattle.cyc_machine.specs.Held.{state_of}
-use Rattle.cyc_system.proofs.Engines.{Progress-quiet, Progress-stretch, only_ran, stretch_few, spends, spends_runs, stops_after, stops_runs, fails_after, wants_after}
+use Rattle.cyc_system.proofs.Engines.{Progress-quiet, Progress-stretch, only_ran, stretch_few, spends, stops_after, fails_after, wants_after}
 use Rattle.cyc_system.proofs.engine.drive.Goals as goal
 
 pub loop-count-preserved-in-Ran : goal.loop-count-preserved-in-Ran
@@ -20,16 +20,7 @@ returns-in_err-end-in_default-clause-runs g c =
 
 pub returns-in-Some-clause-runs : goal.returns-in-Some-clause-runs
 returns-in-Some-clause-runs g c =
-    rw c.report_of.ensures (stops_runs _ _ _ _ _ _ _ _ _ c.respond.new.seen _ _ (state_of g.S.Store.held c.respond.new.machine) c.go-stretch.result.event _ c.loop-count.invariant.progress c.loop-count-test.true c.in_default.not-Ran c.in_default.not-NoMemory c.go-stretch.ensures (rw c.in-Some.is at c.in_ok-end-in_default.ensures.turned))
-
-pub returns-in-Some-clause-stands : goal.returns-in-Some-clause-stands
-returns-in-Some-clause-stands g c =
-    rw c.report_of.ensures (stops_after g.S.Store.GROWS _ _ _ _ _ _ _ _ c.respond.new.seen _ _ (state_of g.S.Store.held c.respond.new.machine) c.go-stretch.result.event _ c.loop-count.invariant.progress c.in_default.not-Ran c.in_default.not-NoMemory c.go-stretch.ensures (rw c.in-Some.is at c.in_ok-end-in_default.ensures.turned))
-
-pub returns-in_err-end-in_default-clause-stands : goal.returns-in_err-end-in_default-clause-stands
-returns-in_err-end-in_default-clause-stands g c =
-    let p = err_from_is_err_and c.from_residual.result c.from_residual.ensures.1 in
-    rw p.1 tt
+    rw c.report_of.ensures (stops_after _ _ _ _ _ _ _ _ _ c.respond.new.seen _ _ (state_of g.S.Store.held c.respond.new.machine) c.go-stretch.result.event _ c.loop-count.invariant.progress c.loop-count-test.true c.in_default.not-Ran c.in_default.not-NoMemory c.go-stretch.ensures (rw c.in-Some.is at c.in_ok-end-in_default.ensures.turned))
 
 pub returns-in-NoMemory-clause-runs : goal.returns-in-NoMemory-clause-runs
 returns-in-NoMemory-clause-runs g c =
@@ -48,10 +39,7 @@ loop-count-preserved g c = record {
 }
 
 pub returns-clause-runs : goal.returns-clause-runs
-returns-clause-runs g c = rw c.report_of-2.ensures (spends_runs g.S.Store.GROWS _ _ _ _ c.args.budget _ _ c.loop-count.invariant.progress (omega arith))
-
-pub returns-clause-stands : goal.returns-clause-stands
-returns-clause-stands g c = rw c.report_of-2.ensures (spends _ _ _ _ c.args.budget _ _ c.loop-count.invariant.progress (omega arith))
+returns-clause-runs g c = rw c.report_of-2.ensures (spends _ _ _ _ c.args.budget _ _ c.loop-count.invariant.progress (omega arith))
 
 pub returns-in-Some-clause-past_end : goal.returns-in-Some-clause-past_end
 returns-in-Some-clause-past_end g c = λ goes_on.

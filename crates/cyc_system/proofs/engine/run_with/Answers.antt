@@ -1,9 +1,6 @@
-use Rattle.cyc_system.proofs.Engines.{answers_run, stands_run}
+use Rattle.cyc_system.proofs.Engines.{answers_run}
 use Rattle.cyc_system.proofs.engine.run_with.Goals as goal
 
 pub returns-clause-runs : goal.returns-clause-runs
 returns-clause-runs g c =
     answers_run _ _ _ _ _ _ _ _ _ _ c.in_ok-image.ensures.exact (λ outside. let refused = c.in_ok-machine.ensures.outside.1 outside in cc) c.in_ok-machine.ensures.loaded c.drive.ensures.runs
-
-pub returns-clause-stands : goal.returns-clause-stands
-returns-clause-stands g c = stands_run _ _ _ _ _ _ _ _ _ c.in_ok-image.ensures.exact c.in_ok-machine.ensures.loaded c.drive.ensures.stands

@@ -1,0 +1,79 @@
+-- From what the parser of command lines finds to the request.
+use Rattle.std.proofs.Common.{◌≡◌, ℕ, List, Option, None, Some, Result, Ok, Err, codes, sym, subst, ◌∙◌}
+use Rattle.std.specs.Prelude.{Box, IfOk, IfSome, option_map}
+use Rattle.std.specs.Box.{box_value}
+use Rattle.std.specs.Str.Parse.{digits_value}
+use Rattle.clap.proofs.WalkLemmas.{first_value-rows}
+use Rattle.clap.specs.Walk.{first_of}
+use Rattle.clap.specs.Words.{App, HasMatchesOf, Row, Text, first_value, rows_of, subcommand_name_of, subcommand_rows, subcommand_rows_of}
+use Rattle.clap.specs.declared.parser.matches.ArgMatches.{ArgMatches}
+use Rattle.clap.specs.declared.parser.matches.ArgMatches.TheViews.{out-ArgMatches, out-SubCommand}
+use Rattle.clap.specs.declared.parser.matches.Found.{Found}
+use Rattle.clap.specs.declared.parser.matches.SubCommand.{SubCommand}
+use Rattle.cyc_terminal.specs.Limits.{Given}
+use Rattle.cyc_terminal.specs.Request.{AreLimitsOf, IsAskedOf, IsCompileRequest, IsNumberIfGiven, IsRequestOf, IsRunRequest, IsWithinBudget}
+use Rattle.cyc_terminal.specs.declared.arguments.Request.{Request}
+use Rattle.cyc_terminal.specs.declared.arguments.Request.TheVariants.{Check, Compile, Run, Disassemble}
+
+-- ---- the request of a command, by its name
+
+pub compiled : {E : Type 0} (name : List ℕ) (given : List ℕ → Option (List ℕ)) (r : Result Request E) → name ≡ codes "compile" → IfOk r (IsCompileRequest given) → IfOk r (IsRequestOf name given)
+compiled name given (Ok (Compile source image limits)) named is = (named, is)
+compiled name given (Ok (Check source)) named is = absurd is
+compiled name given (Ok (Run image limits budget)) named is = absurd is
+compiled name given (Ok (Disassemble image)) named is = absurd is
+compiled name given (Err e) named is = tt
+
+pub run : {E : Type 0} (name : List ℕ) (given : List ℕ → Option (List ℕ)) (r : Result Request E) → name ≡ codes "run" → IfOk r (IsRunRequest given) → IfOk r (IsRequestOf name given)
+run name given (Ok (Run image limits budget)) named is = (named, is)
+run name given (Ok (Check source)) named is = absurd is
+run name given (Ok (Compile source image limits)) named is = absurd is
+run name given (Ok (Disassemble image)) named is = absurd is
+run name given (Err e) named is = tt
+
+pub within_budget : {E : Type 0} (name : List ℕ) (given : List ℕ → Option (List ℕ)) (r : Result Request E) → IfOk r (IsRequestOf name given) → IfOk r IsWithinBudget
+within_budget name given (Ok (Run image limits budget)) (named, (_, _, _, least, most)) = (least, most)
+within_budget name given (Ok (Check source)) is = tt
+within_budget name given (Ok (Compile source image limits)) is = tt
+within_budget name given (Ok (Disassemble image)) is = tt
+within_budget name given (Err e) is = tt
+
+-- ---- what the parser found, by its rows
+
+limits_by_rows : (f : Found) (limits : Given) → AreLimitsOf (first_value f) limits → AreLimitsOf (λ id. first_of id (rows_of f)) limits
+limits_by_rows f limits (pages, calls) = (
+  subst (λ (o : Option (List ℕ)). IsNumberIfGiven o limits.pages) (first_value-rows f (codes "pages")) pages,
+  subst (λ (o : Option (List ℕ)). IsNumberIfGiven o limits.calls) (first_value-rows f (codes "calls")) calls,
+)
+
+by_rows : (name : Text) (f : Found) (request : Request) → IsRequestOf name (first_value f) request → IsRequestOf name (λ id. first_of id (rows_of f)) request
+by_rows name f (Check source) (named, s) = (named, sym (first_value-rows f (codes "source")) ∙ s)
+by_rows name f (Compile source image limits) (named, (s, i, l)) =
+    (named, (sym (first_value-rows f (codes "source")) ∙ s, sym (first_value-rows f (codes "image")) ∙ i, limits_by_rows f limits l))
+by_rows name f (Run image limits budget) (named, (i, l, n, least, most)) = (
+  named,
+  (
+    sym (first_value-rows f (codes "image")) ∙ i,
+    limits_by_rows f limits l,
+    subst (λ (o : Option (List ℕ)). IfSome o (λ text. budget ≡ digits_value 10 text)) (first_value-rows f (codes "steps")) n,
+    least,
+    most,
+  ),
+)
+by_rows name f (Disassemble image) (named, i) = (named, sym (first_value-rows f (codes "image")) ∙ i)
+
+-- the subcommand that the parser entered, of which the name and the rows are known
+entered : {Z : Type 0} (o : Option (Box SubCommand Z)) (name : Text) (rows : List Row)
+    → option_map (λ b. (out-SubCommand (box_value b)).name.now) o ≡ Some name → option_map (λ p. p.1) (subcommand_rows o) ≡ Some rows → subcommand_rows o ≡ Some (name, rows)
+entered None name rows named has = cc
+entered (Some b) name rows named has = cc
+
+pub asked : {E : Type 0} (program : App) (words : List Text) (m : ArgMatches) (f : Found) (name : Text) (r : Result Request E) → HasMatchesOf program words m
+    → subcommand_name_of m ≡ Some name → option_map (λ p. p.1) (subcommand_rows_of m) ≡ Some (rows_of f) → IfOk r (IsRequestOf name (first_value f))
+    → IfOk r (IsAskedOf program words)
+asked program words m f name (Ok request) has named rows is = λ simple. (
+  (name, rows_of f),
+  sym (has simple).1 ∙ entered (out-ArgMatches m).subcommand name (rows_of f) named rows,
+  by_rows name f request is,
+)
+asked program words m f name (Err e) has named rows is = tt

@@ -1,0 +1,163 @@
+//! The standard input and the standard output of a run, as devices. What the run prints is held in a buffer, which is passed on before the
+//! run waits for input, so that a person sees a question before it is to be answered; on a terminal also at the end of each line.
+ghost use Rattle.std.specs.Prelude.{◌≡◌, [], IfOk, OnOk};
+ghost use Rattle.std.specs.Io.{ReadsAtMost};
+ghost use Rattle.std.specs.Io.KnownBytes.{Keeps, ReadConsumes};
+
+use cyc_words::{ByteIn, ByteOut, Failed};
+use std::alloc::Global;
+use std::io;
+use std::io::{BufReader, BufWriter, ErrorKind, Read, Write};
+
+/// The standard output, behind a buffer.
+#[derive(Drop)]
+pub struct Screen<W: Write + Drop> {
+    output: BufWriter<W>,
+    /// Whether each line is passed on as it ends.
+    by_lines: bool,
+    /// Whether something was written since the last line feed.
+    is_within_line: bool,
+    /// Whether what was held back could not be passed on.
+    is_stuck: bool,
+    has_failed: bool,
+}
+
+impl<W: Write + Drop> Screen<W> {
+    ghost use Rattle.cyclone.specs.Console.{screen_written, screen_held};
+
+    /// A screen that holds nothing back yet; with `by_lines` each line is passed on as it ends. It fails where there is no memory.
+    pub fn new(alloc: Global, output: W, by_lines: bool) -> io::Result<Self>
+        ensures { IfOk result (λ s. Keeps (W.contents output) (screen_written W.contents s)) }
+    {
+        Ok(Screen {
+            output: BufWriter::new(alloc, output)?,
+            by_lines,
+            is_within_line: false,
+            is_stuck: false,
+            has_failed: false,
+        })
+    }
+
+    /// Whether a person sees the beginning of a line that has not ended.
+    pub fn is_within_line(&self) -> bool {
+        self.by_lines && self.is_within_line
+    }
+
+    /// Passes on all that is held back. Where it works, nothing is.
+    pub fn finish(&mut self) -> io::Result<()>
+        ensures bytes { Keeps (screen_written W.contents self.old) (screen_written W.contents self.new) }
+        ensures whole { OnOk result (screen_held self.new ≡ []) }
+    {
+        self.output.flush()
+    }
+}
+
+impl<W: Write + Drop> ByteOut for Screen<W> {
+    ghost use Rattle.cyclone.specs.Console.{screen_written};
+
+    ghost written = { screen_written W.contents };
+
+    ghost failed = { λ s. s.has_failed };
+
+    fn put(&mut self, byte: u8) -> Result<(), Failed> {
+        if self.has_failed || self.is_stuck {
+            self.has_failed = true;
+            return Err(Failed);
+        }
+        match self.output.write(&[byte]) {
+            Ok(1) => {}
+            Ok(_) | Err(_) => {
+                self.has_failed = true;
+                return Err(Failed);
+            }
+        }
+        self.is_within_line = byte != b'\n';
+        if self.by_lines && !self.is_within_line {
+            self.pass_on();
+        }
+        Ok(())
+    }
+
+    fn pass_on(&mut self) {
+        self.is_stuck = self.output.flush().is_err();
+    }
+}
+
+/// How often a read is tried again that a signal cut short.
+const TRIES: usize = 64;
+
+/// The standard input, behind a buffer.
+#[derive(Drop)]
+pub struct Keyboard<R> {
+    input: BufReader<R>,
+    has_failed: bool,
+    has_ended: bool,
+    was_asked_past_end: bool,
+}
+
+/// Reads a byte, and tries again where a signal cut that short.
+#[tactic(auto, using(crate::proofs::Reading::keeps_kept, crate::proofs::Reading::reads_kept))]
+fn read_byte<R: Read>(input: &mut R, byte: &mut [u8]) -> io::Result<usize>
+    ensures bound { ReadsAtMost result byte.new }
+    ensures bytes { ReadConsumes (R.remaining input.old) (R.remaining input.new) result byte.new }
+{
+    for _ in 0..TRIES {
+        match input.read(byte) {
+            Err(error) if error.kind() == ErrorKind::Interrupted => {}
+            result => return result,
+        }
+    }
+    input.read(byte)
+}
+
+impl<R: Read + Drop> Keyboard<R> {
+    ghost use Rattle.cyclone.specs.Console.{keyboard_remaining};
+
+    /// A keyboard of which nothing was asked yet. It fails where there is no memory.
+    pub fn new(alloc: Global, input: R) -> io::Result<Self>
+        ensures { IfOk result (λ k. Keeps (R.remaining input) (keyboard_remaining R.remaining k)) }
+    {
+        Ok(Keyboard {
+            input: BufReader::new(alloc, input)?,
+            has_failed: false,
+            has_ended: false,
+            was_asked_past_end: false,
+        })
+    }
+}
+
+impl<R: Read> ByteIn for Keyboard<R> {
+    ghost use Rattle.cyclone.specs.Console.{keyboard_remaining};
+
+    ghost remaining = { keyboard_remaining R.remaining };
+
+    ghost failed = { λ k. k.has_failed };
+
+    ghost ended = { λ k. k.has_ended };
+
+    ghost asked_past_end = { λ k. k.was_asked_past_end };
+
+    fn next(&mut self) -> Result<Option<u8>, Failed> {
+        self.was_asked_past_end = self.has_ended || self.was_asked_past_end;
+        if self.has_failed {
+            return Err(Failed);
+        }
+        let mut byte = [0];
+        match read_byte(&mut self.input, &mut byte) {
+            Ok(0) => {
+                self.has_ended = true;
+                Ok(None)
+            }
+            Ok(_) => Ok(Some(byte[0])),
+            Err(_) => {
+                self.has_failed = true;
+                Err(Failed)
+            }
+        }
+    }
+
+    /// It is where a byte is held.
+    fn is_ready(&self) -> bool {
+        !self.input.buffer().is_empty()
+    }
+}
