@@ -12,14 +12,14 @@ use Rattle.cyc_words.proofs.Booleans.{and_right, and_left}
 use Rattle.cyc_isa.specs.declared.instr.Instr.{Instr}
 use Rattle.cyc_select.specs.declared.code.Line.{Line}
 use Rattle.cyc_select.specs.declared.code.Line.TheVariants as lines
-use Rattle.cyc_select.specs.Labelled.{Labelled, Fits, IsFormed, IsFormedLine, AreAddresses, words_of, all_words}
-use Rattle.cyc_asm.specs.Slots.{is_movable, moves, label_of, is_label, is_named, moved, filling, AreNamed}
-use Rattle.cyc_asm.specs.Order.{passes, passes_line, passes_at, passes_all, comes_down, sunk, sunk_from, tried, settled, arranged_before, arranged, in_order}
-use Rattle.cyc_asm.specs.Layout.{addresses_of}
+use Rattle.cyc_select.specs.inside.Labelled.{Labelled, Fits, IsFormed, IsFormedLine, AreAddresses, words_of, all_words}
+use Rattle.cyc_asm.specs.inside.Slots.{is_movable, moves, label_of, is_label, is_named, moved, filling, AreNamed}
+use Rattle.cyc_asm.specs.inside.Order.{passes, passes_line, passes_at, passes_all, comes_down, sunk, sunk_from, tried, settled, arranged_before, arranged, in_order}
+use Rattle.cyc_asm.specs.inside.Layout.{addresses_of}
 use Rattle.cyc_machine.specs.State.{text_base}
-use Rattle.cyc_asm.specs.Text.{stretch, own, IsTextInOrder, IsTextOf}
-use Rattle.cyc_asm.specs.Words.{assembled}
-use Rattle.cyc_asm.specs.Machine.{Runs}
+use Rattle.cyc_asm.specs.inside.Text.{stretch, own, IsTextInOrder, IsTextOf}
+use Rattle.cyc_asm.specs.inside.Words.{assembled}
+use Rattle.cyc_asm.specs.inside.Machine.{Runs}
 use Rattle.cyc_asm.proofs.Moving.{not_true}
 use Rattle.cyc_asm.proofs.Fillings.{filled_moves}
 use Rattle.cyc_asm.proofs.Lengths.{length-arranged}

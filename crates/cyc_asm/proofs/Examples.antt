@@ -16,7 +16,7 @@ use Rattle.cyc_isa.specs.declared.instr.BranchZeroOp.TheVariants as signs
 use Rattle.cyc_isa.specs.declared.instr.JumpOp.TheVariants.{Plain}
 use Rattle.cyc_store.specs.State.{StoreState, start}
 use Rattle.cyc_store.specs.Services.{any_choice}
-use Rattle.cyc_select.specs.Labelled.{Labelled}
+use Rattle.cyc_select.specs.inside.Labelled.{Labelled}
 use Rattle.cyc_select.specs.declared.code.Condition.TheVariants as conditions
 use Rattle.cyc_select.specs.declared.code.Line.{Line}
 use Rattle.cyc_select.specs.declared.code.Line.TheVariants as lines
@@ -25,10 +25,10 @@ use Rattle.cyc_machine.specs.Run.{end_of}
 use Rattle.cyc_machine.specs.Step.{instruction_of}
 use Rattle.cyc_machine.proofs.Choosing.{after}
 use Rattle.cyc_words.specs.Word.{sign_extended, slt_of}
-use Rattle.cyc_asm.specs.Slots.{filling}
-use Rattle.cyc_asm.specs.Layout.{is_near, position}
-use Rattle.cyc_asm.specs.Words.{jump_words, head_of_branch, head_in, round_words, words_filled, words_ordinary, words_in, assembled}
-use Rattle.cyc_asm.specs.Machine.{start_in}
+use Rattle.cyc_asm.specs.inside.Slots.{filling}
+use Rattle.cyc_asm.specs.inside.Layout.{is_near, position}
+use Rattle.cyc_asm.specs.inside.Words.{jump_words, head_of_branch, head_in, round_words, words_filled, words_ordinary, words_in, assembled}
+use Rattle.cyc_asm.specs.inside.Machine.{start_in}
 
 -- The words are worked out by hand from the architecture's manual. A line's number stands before it, and behind it what
 -- is put into its slot.

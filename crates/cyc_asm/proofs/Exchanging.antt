@@ -6,7 +6,7 @@ use Rattle.std.proofs.lemmas.Bool.{cases_eq}
 use Rattle.std.proofs.lemmas.List.Sums.{sum_by-cons}
 use Rattle.cyc_words.specs.Ending.{Ending}
 use Rattle.cyc_words.specs.Simulation.{Machine, Running, Ended, Failed, NeverFails}
-use Rattle.cyc_words.specs.Following.{Matching, IsStepped, IsUnderWay, IsOver, Steps, Follows}
+use Rattle.cyc_words.specs.inside.Following.{Matching, IsStepped, IsUnderWay, IsOver, Steps, Follows}
 use Rattle.cyc_words.proofs.Simulation.{running_ended, simulates, in_a_row, follows-never_fails}
 use Rattle.cyc_words.proofs.Matching.{by_one}
 use Rattle.cyc_isa.specs.declared.instr.Instr.{Instr}
@@ -19,14 +19,14 @@ use Rattle.cyc_machine.specs.WorldMachine.{world_machine}
 use Rattle.cyc_store.specs.State.{StoreState}
 use Rattle.cyc_select.specs.declared.code.Line.{Line}
 use Rattle.cyc_select.specs.declared.code.Line.TheVariants as lines
-use Rattle.cyc_select.specs.Labelled.{Labelled, is_ordinary}
-use Rattle.cyc_select.specs.Machine as labelled
-use Rattle.cyc_select.specs.Machine.{Configuration, IsReturnPoint, machine_of, world_of, word_in, holds_of}
+use Rattle.cyc_select.specs.inside.Labelled.{Labelled, is_ordinary}
+use Rattle.cyc_select.specs.inside.Machine as labelled
+use Rattle.cyc_select.specs.inside.Machine.{Configuration, IsReturnPoint, machine_of, world_of, word_in, holds_of}
 use Rattle.cyc_select.proofs.Laws.{lawful}
-use Rattle.cyc_asm.specs.Slots.{is_movable, label_of, is_named}
-use Rattle.cyc_asm.specs.Order.{passes}
-use Rattle.cyc_asm.specs.Text.{own}
-use Rattle.cyc_asm.specs.Machine.{Runs, start}
+use Rattle.cyc_asm.specs.inside.Slots.{is_movable, label_of, is_named}
+use Rattle.cyc_asm.specs.inside.Order.{passes}
+use Rattle.cyc_asm.specs.inside.Text.{own}
+use Rattle.cyc_asm.specs.inside.Machine.{Runs, start}
 use Rattle.cyc_asm.proofs.Moving.{did, movable_ordinary, performs_did, performs_refused, only_did}
 use Rattle.cyc_asm.proofs.Passing.{passed_movable, passed_allowed, either_order, passing_refusal}
 use Rattle.cyc_asm.proofs.Fillings.{label_named}

@@ -11,9 +11,9 @@ use Rattle.cyc_machine.specs.Run.{World, Goes, told}
 use Rattle.cyc_machine.specs.declared.event.Event.TheVariants.{Ran}
 use Rattle.cyc_machine.specs.declared.phase.Phase.TheVariants as phases
 use Rattle.cyc_machine.proofs.StepLaws.{action_of-instruction, Step-action}
-use Rattle.cyc_words.specs.Following.{Comes}
-use Rattle.cyc_select.specs.Machine.{Configuration}
-use Rattle.cyc_asm.specs.Text.{text_of, IsAt, nothing}
+use Rattle.cyc_words.specs.inside.Following.{Comes}
+use Rattle.cyc_select.specs.inside.Machine.{Configuration}
+use Rattle.cyc_asm.specs.inside.Text.{text_of, IsAt, nothing}
 use Rattle.cyc_machine.specs.WorldMachine.{world_machine}
 
 -- The machine with a configuration's registers and memory and this text, at an address. `next` is executed after it.

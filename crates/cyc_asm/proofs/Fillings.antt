@@ -9,7 +9,7 @@ use Rattle.cyc_words.proofs.Booleans.{and_left}
 use Rattle.cyc_isa.specs.declared.instr.Instr.{Instr}
 use Rattle.cyc_select.specs.declared.code.Line.{Line}
 use Rattle.cyc_select.specs.declared.code.Line.TheVariants as lines
-use Rattle.cyc_asm.specs.Slots.{is_movable, moves, label_of, is_label, is_named, moved, filling, AreNamed}
+use Rattle.cyc_asm.specs.inside.Slots.{is_movable, moves, label_of, is_label, is_named, moved, filling, AreNamed}
 
 -- a line that is a branch or a jump
 abbrev pub is_jump : Line → Bool

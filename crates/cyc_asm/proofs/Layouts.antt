@@ -14,11 +14,11 @@ use Rattle.cyc_isa.specs.declared.instr.Instr.{Instr}
 use Rattle.cyc_select.specs.declared.code.Condition.{Condition}
 use Rattle.cyc_select.specs.declared.code.Line.{Line}
 use Rattle.cyc_select.specs.declared.code.Line.TheVariants as lines
-use Rattle.cyc_select.specs.Labelled.{Labelled, Fits, AreAddresses, words_of, all_words}
+use Rattle.cyc_select.specs.inside.Labelled.{Labelled, Fits, AreAddresses, words_of, all_words}
 use Rattle.cyc_asm.specs.declared.constants.TheConstants.{MAX_REACH}
-use Rattle.cyc_asm.specs.Slots.{filling}
-use Rattle.cyc_asm.specs.Layout.{most_before, is_near, head_width, tail_width, width_of, width_in, width_at, position, addresses_in}
-use Rattle.cyc_asm.specs.Text.{stretch, own}
+use Rattle.cyc_asm.specs.inside.Slots.{filling}
+use Rattle.cyc_asm.specs.inside.Layout.{most_before, is_near, head_width, tail_width, width_of, width_in, width_at, position, addresses_in}
+use Rattle.cyc_asm.specs.inside.Text.{stretch, own}
 use Rattle.cyc_asm.proofs.Stretches.{own-stretch, stretch-append}
 
 -- there is a line of this number, or all lines are before it

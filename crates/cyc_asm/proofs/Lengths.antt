@@ -3,8 +3,8 @@ use Rattle.std.proofs.Common.{◌≡◌, ℕ, zero, suc, ◌+◌, ◌-◌, nat_l
 use Rattle.std.specs.Option.{is_some}
 use Rattle.std.proofs.lemmas.List.Edits.{length-swap}
 use Rattle.cyc_select.specs.declared.code.Line.{Line}
-use Rattle.cyc_asm.specs.Slots.{filling}
-use Rattle.cyc_asm.specs.Order.{comes_down, sunk, tried, settled, arranged_before, arranged}
+use Rattle.cyc_asm.specs.inside.Slots.{filling}
+use Rattle.cyc_asm.specs.inside.Order.{comes_down, sunk, tried, settled, arranged_before, arranged}
 
 length-sunk : (code : List Line) (from count : ℕ) → length (sunk code from count) ≡ length code
 length-sunk code from zero = refl

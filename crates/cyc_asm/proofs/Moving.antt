@@ -4,7 +4,7 @@ use Rattle.std.proofs.Common.{◌≡◌, ◌≢◌, ℕ, ◌+◌, ◌-◌, ◌%�
 use Rattle.std.specs.Prelude.{if◌then◌else◌, slice_index, slice_set}
 use Rattle.std.proofs.lemmas.Bool.{eq-eqb}
 use Rattle.std.proofs.lemmas.List.{get_or-set_other, set_comm}
-use Rattle.cyc_words.specs.WordBytes.{byte_in, with_byte, word_of}
+use Rattle.cyc_words.specs.Bytes.{byte_in, with_byte, word_of}
 use Rattle.cyc_words.proofs.Booleans.{and_right, and_left}
 use Rattle.cyc_isa.specs.Effect.{immediate_result, load_upper_result, arithmetic_result, shift_result, high_result, low_result, memory_address, branch_taken, branch_zero_taken}
 use Rattle.cyc_isa.specs.Uses.{reads, names_result, writes}
@@ -28,9 +28,9 @@ use Rattle.cyc_machine.proofs.MemoryLaws.{length-stack-stored}
 use Rattle.cyc_machine.proofs.StepLaws.{executes-performs}
 use Rattle.cyc_select.specs.declared.code.Condition.{Condition}
 use Rattle.cyc_select.specs.declared.code.Condition.TheVariants as conditions
-use Rattle.cyc_select.specs.Labelled.{is_ordinary}
-use Rattle.cyc_select.specs.Machine.{Configuration, State, Running, Stopped, Performs, settled, core_of, memory_of, machine_of, world_of, from_world, word_in, holds_of}
-use Rattle.cyc_asm.specs.Slots.{is_movable, leaves}
+use Rattle.cyc_select.specs.inside.Labelled.{is_ordinary}
+use Rattle.cyc_select.specs.inside.Machine.{Configuration, State, Running, Stopped, Performs, settled, core_of, memory_of, machine_of, world_of, from_world, word_in, holds_of}
+use Rattle.cyc_asm.specs.inside.Slots.{is_movable, leaves}
 
 or_left : (a b : Bool) → (a || b) ≡ false → a ≡ false
 or_left true b none = none

@@ -3,7 +3,7 @@ use Rattle.std.proofs.Common.{◌≡◌, ℕ, ◌+◌, ◌*◌, ◌%◌, ◌≤�
 use Rattle.std.specs.Prelude.{◌⊎◌, not, is_some, slice_index_or, if◌then◌else◌}
 use Rattle.std.proofs.lemmas.Bool.{or_cases}
 use Rattle.cyc_words.specs.Word.{add_of}
-use Rattle.cyc_words.specs.WordBytes.{byte_in, with_byte}
+use Rattle.cyc_words.specs.Bytes.{byte_in, with_byte}
 use Rattle.cyc_isa.specs.Effect.{place_address}
 use Rattle.cyc_isa.specs.declared.operand.Register.{Register}
 use Rattle.cyc_isa.specs.declared.instr.Instr.{Instr}
@@ -26,9 +26,9 @@ use Rattle.cyc_machine.specs.State.{text_base, text_end, data_base, stack_base, 
 use Rattle.cyc_machine.specs.Step.{Action, Does, Acts, Service, GetByte, PutByte, EndReturned, EndUncaught, Asks, EndFull, refused_by, told_by, answered, with_store, cause_of, first_of, loads, stores, after, performs, calls, asked, address_of, is_aligned, is_nowhere, is_text}
 use Rattle.cyc_machine.specs.Run.{World, told}
 use Rattle.cyc_machine.specs.WorldMachine.{seen_of}
-use Rattle.cyc_select.specs.Labelled.{is_ordinary}
-use Rattle.cyc_select.specs.Machine.{Configuration, machine_of, memory_of, world_of, from_world}
-use Rattle.cyc_asm.specs.Text.{text_of}
+use Rattle.cyc_select.specs.inside.Labelled.{is_ordinary}
+use Rattle.cyc_select.specs.inside.Machine.{Configuration, machine_of, memory_of, world_of, from_world}
+use Rattle.cyc_asm.specs.inside.Text.{text_of}
 use Rattle.cyc_asm.proofs.Fetching.{world_at, no_text}
 
 -- ---- loads and stores

@@ -5,8 +5,8 @@ use Rattle.std.specs.Option.{is_some}
 use Rattle.std.proofs.lemmas.Bool.{leb-false}
 use Rattle.cyc_select.specs.declared.code.Line.{Line}
 use Rattle.cyc_select.specs.declared.code.Line.TheVariants as lines
-use Rattle.cyc_asm.specs.Slots.{is_named, moved, filling}
-use Rattle.cyc_asm.specs.Order.{passes_all, comes_down, sunk, sunk_from, tried, is_ordinary, settled}
+use Rattle.cyc_asm.specs.inside.Slots.{is_named, moved, filling}
+use Rattle.cyc_asm.specs.inside.Order.{passes_all, comes_down, sunk, sunk_from, tried, is_ordinary, settled}
 
 never_both : (a b : Bool) → (a && (b && false)) ≡ false
 never_both true true = refl

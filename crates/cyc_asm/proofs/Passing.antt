@@ -8,9 +8,9 @@ use Rattle.cyc_isa.specs.declared.operand.Register.{Register}
 use Rattle.cyc_isa.specs.declared.instr.Instr.{Instr}
 use Rattle.cyc_isa.specs.declared.instr.Instr.TheVariants.{Immediate, LoadUpper, Memory, Branch, BranchZero, Jump, Shift, ShiftVariable, JumpRegister, JumpRegisterLink, Exception, MoveFrom, MultiplyDivide, Arithmetic}
 use Rattle.cyc_machine.specs.Step.{cause_of}
-use Rattle.cyc_select.specs.Machine.{Configuration, machine_of, word_in}
-use Rattle.cyc_asm.specs.Slots.{is_movable}
-use Rattle.cyc_asm.specs.Order.{is_apart, passes}
+use Rattle.cyc_select.specs.inside.Machine.{Configuration, machine_of, word_in}
+use Rattle.cyc_asm.specs.inside.Slots.{is_movable}
+use Rattle.cyc_asm.specs.inside.Order.{is_apart, passes}
 use Rattle.cyc_asm.proofs.Moving.{not_true, did, with_word, stays, commutes, same_refusal}
 
 -- what is passed may move itself, and is never refused

@@ -12,13 +12,13 @@ use Rattle.cyc_machine.specs.declared.phase.Phase.TheVariants as phases
 use Rattle.cyc_machine.specs.State.{words_per_call, stack_end}
 use Rattle.cyc_machine.proofs.RunLaws.{Goes-over, Goes-rests, Goes-output, Goes-input}
 use Rattle.cyc_words.specs.Simulation.{Ended}
-use Rattle.cyc_words.specs.Following.{IsLawful}
+use Rattle.cyc_words.specs.inside.Following.{IsLawful}
 use Rattle.cyc_words.proofs.Simulation.{simulates, running_ended}
-use Rattle.cyc_select.specs.Labelled.{Labelled}
-use Rattle.cyc_select.specs.Machine as labelled
-use Rattle.cyc_select.specs.Machine.{Configuration}
-use Rattle.cyc_asm.specs.Text.{IsTextInOrder}
-use Rattle.cyc_asm.specs.Machine.{Runs, start}
+use Rattle.cyc_select.specs.inside.Labelled.{Labelled}
+use Rattle.cyc_select.specs.inside.Machine as labelled
+use Rattle.cyc_select.specs.inside.Machine.{Configuration}
+use Rattle.cyc_asm.specs.inside.Text.{IsTextInOrder}
+use Rattle.cyc_asm.specs.inside.Machine.{Runs, start}
 use Rattle.cyc_machine.specs.WorldMachine.{world_machine, status_in}
 use Rattle.cyc_asm.proofs.Fetching.{world_at}
 use Rattle.cyc_asm.proofs.Steps.{above, matching, matched}

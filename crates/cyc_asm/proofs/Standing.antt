@@ -19,12 +19,12 @@ use Rattle.cyc_select.specs.declared.code.Condition.{Condition}
 use Rattle.cyc_select.specs.declared.code.Condition.TheVariants as conditions
 use Rattle.cyc_select.specs.declared.code.Line.{Line}
 use Rattle.cyc_select.specs.declared.code.Line.TheVariants as lines
-use Rattle.cyc_select.specs.Labelled.{Labelled, Fits, IsFormed, IsFormedLine}
+use Rattle.cyc_select.specs.inside.Labelled.{Labelled, Fits, IsFormed, IsFormedLine}
 use Rattle.cyc_asm.specs.declared.constants.TheConstants.{ROUND_OFFSET, FIRST_INDEX}
-use Rattle.cyc_asm.specs.Slots.{filling}
-use Rattle.cyc_asm.specs.Layout.{is_near, head_width, tail_width, width_of, width_in, position, addresses_in}
-use Rattle.cyc_asm.specs.Text.{text_of, nothing, branch_of, inverse_of, IsJumpAt, StandsBranch, StandsFrom, StandsFilled, StandsOrdinary, Stands, stretch, IsTextInOrder}
-use Rattle.cyc_asm.specs.Words.{offset_of, IsHeadPosition, head_of_branch, head_of, head_in, round_words, tail_of, words_filled, words_ordinary, words_of_line, words_in, words_before, words_in_order}
+use Rattle.cyc_asm.specs.inside.Slots.{filling}
+use Rattle.cyc_asm.specs.inside.Layout.{is_near, head_width, tail_width, width_of, width_in, position, addresses_in}
+use Rattle.cyc_asm.specs.inside.Text.{text_of, nothing, branch_of, inverse_of, IsJumpAt, StandsBranch, StandsFrom, StandsFilled, StandsOrdinary, Stands, stretch, IsTextInOrder}
+use Rattle.cyc_asm.specs.inside.Words.{offset_of, IsHeadPosition, head_of_branch, head_of, head_in, round_words, tail_of, words_filled, words_ordinary, words_of_line, words_in, words_before, words_in_order}
 use Rattle.cyc_asm.proofs.Fillings.{is_jump, filled}
 use Rattle.cyc_asm.proofs.Layouts.{position-suc, position-most, position-less, between_lines, addresses_fit, near_below, near_above, own_words}
 

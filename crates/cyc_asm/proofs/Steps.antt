@@ -8,7 +8,7 @@ use Rattle.cyc_words.specs.Ending.{Ending}
 use Rattle.cyc_words.specs.Word.{add_of, signed}
 use Rattle.cyc_words.specs.Seen.{showing}
 use Rattle.cyc_words.specs.Simulation.{Machine, Running, Ended, Failed}
-use Rattle.cyc_words.specs.Following.{Matching, IsOnTheWay, IsMatchedStep, IsStepped, Steps, Comes}
+use Rattle.cyc_words.specs.inside.Following.{Matching, IsOnTheWay, IsMatchedStep, IsStepped, Steps, Comes}
 use Rattle.cyc_words.proofs.Simulation.{running_ended}
 use Rattle.cyc_words.proofs.SeenLemmas.{seen_same}
 use Rattle.cyc_words.proofs.Matching.{by_one, way_before}
@@ -38,12 +38,12 @@ use Rattle.cyc_select.specs.declared.code.Condition.{Condition}
 use Rattle.cyc_select.specs.declared.code.Condition.TheVariants as conditions
 use Rattle.cyc_select.specs.declared.code.Line.{Line}
 use Rattle.cyc_select.specs.declared.code.Line.TheVariants as lines
-use Rattle.cyc_select.specs.Labelled.{Labelled, is_ordinary}
-use Rattle.cyc_select.specs.Machine as labelled
-use Rattle.cyc_select.specs.Machine.{Configuration, IsReturnPoint, core_of, machine_of, world_of, from_world, word_in, holds_of, linked}
-use Rattle.cyc_asm.specs.Slots.{is_movable, leaves, moves, label_of, filling}
-use Rattle.cyc_asm.specs.Layout.{is_near}
-use Rattle.cyc_asm.specs.Text.{IsAt, IsJumpAt, IsTextInOrder, Stands, StandsBranch, StandsFrom, StandsFilled, StandsOrdinary, own, nothing, branch_of, inverse_of, return_register}
+use Rattle.cyc_select.specs.inside.Labelled.{Labelled, is_ordinary}
+use Rattle.cyc_select.specs.inside.Machine as labelled
+use Rattle.cyc_select.specs.inside.Machine.{Configuration, IsReturnPoint, core_of, machine_of, world_of, from_world, word_in, holds_of, linked}
+use Rattle.cyc_asm.specs.inside.Slots.{is_movable, leaves, moves, label_of, filling}
+use Rattle.cyc_asm.specs.inside.Layout.{is_near}
+use Rattle.cyc_asm.specs.inside.Text.{IsAt, IsJumpAt, IsTextInOrder, Stands, StandsBranch, StandsFrom, StandsFilled, StandsOrdinary, own, nothing, branch_of, inverse_of, return_register}
 use Rattle.cyc_asm.proofs.Fetching.{world_at, fetches, goes_to, through}
 use Rattle.cyc_asm.proofs.Moving.{not_true, did, performs_did, performs_refused, with_word, movable_ordinary, movable_does, after_runs, same_stack, stays, holds_stays, commutes, same_refusal}
 use Rattle.cyc_asm.proofs.Ordinary.{Shown, same_cause, performed}

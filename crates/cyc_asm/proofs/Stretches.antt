@@ -10,11 +10,11 @@ use Rattle.cyc_machine.specs.State.{text_base}
 use Rattle.cyc_select.specs.declared.code.Condition.{Condition}
 use Rattle.cyc_select.specs.declared.code.Line.{Line}
 use Rattle.cyc_select.specs.declared.code.Line.TheVariants as lines
-use Rattle.cyc_select.specs.Labelled.{Labelled}
-use Rattle.cyc_asm.specs.Slots.{filling}
-use Rattle.cyc_asm.specs.Order.{arranged, in_order}
-use Rattle.cyc_asm.specs.Layout.{is_near}
-use Rattle.cyc_asm.specs.Text.{nothing, StandsBranch, StandsOrdinary, Stands, stretch, own, IsTextOf}
+use Rattle.cyc_select.specs.inside.Labelled.{Labelled}
+use Rattle.cyc_asm.specs.inside.Slots.{filling}
+use Rattle.cyc_asm.specs.inside.Order.{arranged, in_order}
+use Rattle.cyc_asm.specs.inside.Layout.{is_near}
+use Rattle.cyc_asm.specs.inside.Text.{nothing, StandsBranch, StandsOrdinary, Stands, stretch, own, IsTextOf}
 use Rattle.cyc_asm.proofs.Lengths.{length-arranged}
 
 pub length-stretch : (from count : ℕ) → length (stretch from count) ≡ count

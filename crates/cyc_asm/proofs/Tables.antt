@@ -14,12 +14,12 @@ use Rattle.cyc_machine.specs.declared.constants.TheConstants.{TEXT_WORDS}
 use Rattle.cyc_select.specs.declared.code.Condition.{Condition}
 use Rattle.cyc_select.specs.declared.code.Line.{Line}
 use Rattle.cyc_select.specs.declared.code.Line.TheVariants as lines
-use Rattle.cyc_select.specs.Labelled.{Fits, IsFormedLine, words_of}
+use Rattle.cyc_select.specs.inside.Labelled.{Fits, IsFormedLine, words_of}
 use Rattle.cyc_asm.specs.declared.constants.TheConstants.{MAX_REACH, FIRST_INDEX}
-use Rattle.cyc_asm.specs.Slots.{filling}
-use Rattle.cyc_asm.specs.Layout.{most_before, most_of_each, is_near, head_width, tail_width, width_of, width_in, width_at, position, position_of_each}
-use Rattle.cyc_asm.specs.Text.{branch_of}
-use Rattle.cyc_asm.specs.Words.{offset_of, IsHeadPosition, head_of_branch, head_of, head_in, round_words, tail_of, tail_in, words_filled, filled_in, words_ordinary, words_of_line, words_in}
+use Rattle.cyc_asm.specs.inside.Slots.{filling}
+use Rattle.cyc_asm.specs.inside.Layout.{most_before, most_of_each, is_near, head_width, tail_width, width_of, width_in, width_at, position, position_of_each}
+use Rattle.cyc_asm.specs.inside.Text.{branch_of}
+use Rattle.cyc_asm.specs.inside.Words.{offset_of, IsHeadPosition, head_of_branch, head_of, head_in, round_words, tail_of, tail_in, words_filled, filled_in, words_ordinary, words_of_line, words_in}
 use Rattle.cyc_asm.proofs.Fillings.{is_jump, filled}
 use Rattle.cyc_asm.proofs.Layouts.{between_lines, most_before-suc, most_before-all, position-suc, position-most}
 use Rattle.cyc_asm.proofs.Standing.{are_near_at}

@@ -1,8 +1,2 @@
--- what the contract of `assemble` rests on
-pub mod Text
-pub mod Machine
-pub mod Slots
-pub mod Order
-pub mod Layout
--- what the functions inside the crate promise each other
-pub mod Words
+-- What the functions of this crate promise each other and what its proofs say: no public contract of the product means it.
+pub mod inside

@@ -2,13 +2,13 @@
 
 ghost use Rattle.std.specs.Prelude.{◌≡◌, length, All, IfOk, IfErr};
 ghost use Rattle.cyc_words.specs.Fault.{memory_fault};
-ghost use Rattle.cyc_select.specs.Labelled.{Fits, IsFormedLine};
-ghost use Rattle.cyc_asm.specs.Layout.{addresses_of};
-ghost use Rattle.cyc_asm.specs.Text.{IsTextOf};
-ghost use Rattle.cyc_asm.specs.Slots.{AreNamed};
-ghost use Rattle.cyc_asm.specs.Order.{arranged};
-ghost use Rattle.cyc_asm.specs.Words.{words_in_order};
-ghost use Rattle.cyc_asm.specs.Machine.{Runs};
+ghost use Rattle.cyc_select.specs.inside.Labelled.{Fits, IsFormedLine};
+ghost use Rattle.cyc_asm.specs.inside.Layout.{addresses_of};
+ghost use Rattle.cyc_asm.specs.inside.Text.{IsTextOf};
+ghost use Rattle.cyc_asm.specs.inside.Slots.{AreNamed};
+ghost use Rattle.cyc_asm.specs.inside.Order.{arranged};
+ghost use Rattle.cyc_asm.specs.inside.Words.{words_in_order};
+ghost use Rattle.cyc_asm.specs.inside.Machine.{Runs};
 
 use crate::{emission, layout, order, slots};
 use cyc_select::{Code, Line};

@@ -4,12 +4,12 @@ ghost use Rattle.std.specs.Prelude.{◌≡◌, ◌++◌, ◌+◌, ◌<◌, ◌�
 ghost use Rattle.cyc_isa.specs.Encoding.{word_of};
 ghost use Rattle.cyc_isa.specs.Decoding.{jump_index_of};
 ghost use Rattle.cyc_isa.specs.declared.instr.Instr.TheVariants.{Jump};
-ghost use Rattle.cyc_select.specs.Labelled.{Fits, IsFormedLine};
-ghost use Rattle.cyc_asm.specs.Layout.{most_of_each, position_of_each};
-ghost use Rattle.cyc_asm.specs.Text.{branch_of, inverse_of};
+ghost use Rattle.cyc_select.specs.inside.Labelled.{Fits, IsFormedLine};
+ghost use Rattle.cyc_asm.specs.inside.Layout.{most_of_each, position_of_each};
+ghost use Rattle.cyc_asm.specs.inside.Text.{branch_of, inverse_of};
 ghost use Rattle.cyc_select.specs.declared.code.Line.TheVariants.{Ordinary};
-ghost use Rattle.cyc_asm.specs.Slots.{filling, AreNamed};
-ghost use Rattle.cyc_asm.specs.Words.{offset_of, IsHeadPosition, head_in, tail_in, words_ordinary, filled_in, words_before, words_in};
+ghost use Rattle.cyc_asm.specs.inside.Slots.{filling, AreNamed};
+ghost use Rattle.cyc_asm.specs.inside.Words.{offset_of, IsHeadPosition, head_in, tail_in, words_ordinary, filled_in, words_before, words_in};
 
 use crate::constants::{FIRST_INDEX, MAX_REACH, ROUND_OFFSET};
 use crate::layout::is_near;

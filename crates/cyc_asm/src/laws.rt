@@ -5,12 +5,12 @@ ghost use Rattle.std.specs.Prelude.{◌≡◌, ℕ, ◌+◌, List, ◌++◌, len
 ghost use Rattle.std.specs.List.{range_with_len, flat_map};
 ghost use Rattle.std.specs.List.Sorted.{IsPermutation};
 ghost use Rattle.cyc_isa.specs.Encoding.{word_of};
-ghost use Rattle.cyc_words.specs.Following.{IsLawful};
-ghost use Rattle.cyc_select.specs.Labelled.{Labelled};
+ghost use Rattle.cyc_words.specs.inside.Following.{IsLawful};
+ghost use Rattle.cyc_select.specs.inside.Labelled.{Labelled};
 ghost use Rattle.cyc_select.specs.declared.code.Line.{Line};
-ghost use Rattle.cyc_asm.specs.Order.{arranged};
-ghost use Rattle.cyc_asm.specs.Text.{IsTextOf, nothing, own};
-ghost use Rattle.cyc_asm.specs.Machine.{Runs};
+ghost use Rattle.cyc_asm.specs.inside.Order.{arranged};
+ghost use Rattle.cyc_asm.specs.inside.Text.{IsTextOf, nothing, own};
+ghost use Rattle.cyc_asm.specs.inside.Machine.{Runs};
 ghost use Rattle.cyc_machine.specs.WorldMachine.{world_machine};
 
 /// The word of an empty delay slot is 0.

@@ -1,9 +1,9 @@
 //! Where lines lie: how many words stand before each.
 
 ghost use Rattle.std.specs.Prelude.{◌≡◌, ◌+◌, ◌<◌, ◌≤◌, ◌&&◌, nat_le, length, All, IfOk};
-ghost use Rattle.cyc_select.specs.Labelled.{Fits, IsFormedLine, words_of};
-ghost use Rattle.cyc_asm.specs.Slots.{filling, AreNamed};
-ghost use Rattle.cyc_asm.specs.Layout.{most_of_each, position_of_each, head_width, width_at};
+ghost use Rattle.cyc_select.specs.inside.Labelled.{Fits, IsFormedLine, words_of};
+ghost use Rattle.cyc_asm.specs.inside.Slots.{filling, AreNamed};
+ghost use Rattle.cyc_asm.specs.inside.Layout.{most_of_each, position_of_each, head_width, width_at};
 
 use crate::constants::MAX_REACH;
 use crate::slots;

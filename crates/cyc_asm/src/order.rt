@@ -2,8 +2,8 @@
 
 ghost use Rattle.std.specs.Prelude.{◌≡◌, ◌+◌, ◌<◌, length, Some, IfOk};
 ghost use Rattle.std.specs.Option.{is_some};
-ghost use Rattle.cyc_asm.specs.Slots.{moved, AreNamed};
-ghost use Rattle.cyc_asm.specs.Order.{is_apart, passes, passes_line, passes_at, passes_all, comes_down, sunk, tried, is_ordinary, settled, arranged};
+ghost use Rattle.cyc_asm.specs.inside.Slots.{moved, AreNamed};
+ghost use Rattle.cyc_asm.specs.inside.Order.{is_apart, passes, passes_line, passes_at, passes_all, comes_down, sunk, tried, is_ordinary, settled, arranged};
 
 use crate::slots::{filling, moves};
 use cyc_isa::{Instr, Register, reads, writes};

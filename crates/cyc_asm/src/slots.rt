@@ -1,8 +1,8 @@
 //! Which delay slots are filled, and with what.
 
 ghost use Rattle.std.specs.Prelude.{◌≡◌, ◌<◌, ◌≤◌, length, All, IfOk};
-ghost use Rattle.cyc_select.specs.Labelled.{IsFormedLine};
-ghost use Rattle.cyc_asm.specs.Slots.{is_movable, leaves, moves, label_of, filling, AreNamed};
+ghost use Rattle.cyc_select.specs.inside.Labelled.{IsFormedLine};
+ghost use Rattle.cyc_asm.specs.inside.Slots.{is_movable, leaves, moves, label_of, filling, AreNamed};
 
 use cyc_isa::{Instr, reads, writes};
 use cyc_machine::constants::RETURN_ADDRESS;

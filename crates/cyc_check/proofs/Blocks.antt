@@ -15,11 +15,11 @@ use Rattle.cyc_types.specs.typing.Statements.{declared_type, behind_item, rule_i
 use Rattle.cyc_types.specs.Rules.{and_then, run}
 use Rattle.cyc_scope.specs.declared.stop.Stop.{Stop}
 use Rattle.cyc_scope.specs.declared.stop.Stop.TheVariants as stops
-use Rattle.cyc_scope.specs.Code.{Stops}
+use Rattle.cyc_scope.specs.inside.Code.{Stops}
 use Rattle.cyc_scope.specs.declared.scope.Mark.{Mark}
-use Rattle.cyc_scope.specs.Marks.{IsInOrder, mark_of, left_to}
-use Rattle.cyc_check.specs.Walks.{IsBehindItems, behind_block, behind_labelled}
-use Rattle.cyc_check.specs.Inside.{Inside}
+use Rattle.cyc_scope.specs.inside.Marks.{IsInOrder, mark_of, left_to}
+use Rattle.cyc_check.specs.inside.Walks.{IsBehindItems, behind_block, behind_labelled}
+use Rattle.cyc_check.specs.inside.Inside.{Inside}
 use Rattle.cyc_check.proofs.Inside.{inside_itself, inside_through, inside_local, inside_opened, inside_region, inside_key, inside_behind, inside_block, inside_labelled, inside_body, numbered_as, left, order_left}
 use Rattle.cyc_expressions.proofs.Loops.{onto, with_front, regroup, onto_nothing}
 

@@ -6,14 +6,14 @@ use Rattle.cyc_syntax.specs.declared.tree.Clause.{Clause}
 use Rattle.cyc_syntax.specs.declared.tree.Item.{Item}
 use Rattle.cyc_syntax.specs.Symbols.{Place}
 use Rattle.cyc_syntax.specs.Trees.{Statement, Clauses, NoClauses, Try}
-use Rattle.cyc_syntax.specs.TreeView.{items_of, default_of, clauses_of}
+use Rattle.cyc_syntax.specs.inside.TreeView.{items_of, default_of, clauses_of}
 use Rattle.cyc_types.specs.TypedTrees as typed
 use Rattle.cyc_types.specs.typing.Scopes.{Scope, behind}
 use Rattle.cyc_types.specs.typing.Statements.{rule_statement, rule_clauses}
 use Rattle.cyc_types.specs.Rules.{and_then, run}
 use Rattle.cyc_scope.specs.declared.stop.Stop.{Stop}
 use Rattle.cyc_scope.specs.declared.stop.Stop.TheVariants as stops
-use Rattle.cyc_scope.specs.Code.{Stops}
+use Rattle.cyc_scope.specs.inside.Code.{Stops}
 use Rattle.cyc_check.proofs.Clauses.{clauses_stop}
 
 pub try_gives : (g h : Scope) (p : Place) (t : Statement) (cs : Clauses) (b : typed.Statement) (ds : typed.Clauses) → run (rule_statement g t) ≡ Ok b → h ≡ behind g t → run (rule_clauses h [] cs) ≡ Ok ds

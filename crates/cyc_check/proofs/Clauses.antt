@@ -4,7 +4,7 @@ use Rattle.std.proofs.lemmas.List.{append_assoc, append-nil}
 use Rattle.cyc_syntax.specs.declared.tree.Clause.{Clause}
 use Rattle.cyc_syntax.specs.Symbols.{Place}
 use Rattle.cyc_syntax.specs.Trees.{Named, Statement, Items, Clauses, NoClauses, Default, Case, Try}
-use Rattle.cyc_syntax.specs.TreeView.{view_name, items_of, clauses_of}
+use Rattle.cyc_syntax.specs.inside.TreeView.{view_name, items_of, clauses_of}
 use Rattle.cyc_types.specs.declared.typed.Clause.{Clause as ClauseCode}
 use Rattle.cyc_types.specs.TypedTrees as typed
 use Rattle.cyc_types.specs.TypedTreeView as view
@@ -15,11 +15,11 @@ use Rattle.cyc_types.specs.Rules.{Checked, and_then, run}
 use Rattle.cyc_types.proofs.RuleLaws.{from_ok}
 use Rattle.cyc_scope.specs.declared.stop.Stop.{Stop}
 use Rattle.cyc_scope.specs.declared.stop.Stop.TheVariants as stops
-use Rattle.cyc_scope.specs.Code.{Stops}
+use Rattle.cyc_scope.specs.inside.Code.{Stops}
 use Rattle.cyc_scope.specs.declared.scope.Mark.{Mark}
-use Rattle.cyc_scope.specs.Marks.{IsInOrder, mark_of, left_to}
-use Rattle.cyc_check.specs.Walks.{IsBehindItems, behind_block, behind_clauses, view_clause}
-use Rattle.cyc_check.specs.Inside.{Inside}
+use Rattle.cyc_scope.specs.inside.Marks.{IsInOrder, mark_of, left_to}
+use Rattle.cyc_check.specs.inside.Walks.{IsBehindItems, behind_block, behind_clauses, view_clause}
+use Rattle.cyc_check.specs.inside.Inside.{Inside}
 use Rattle.cyc_check.proofs.Inside.{inside_itself, inside_through, inside_local, inside_block, numbered_as, left, order_left}
 
 -- ---- one clause with others behind it

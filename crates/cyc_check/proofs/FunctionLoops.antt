@@ -11,10 +11,10 @@ use Rattle.cyc_types.specs.typing.Scopes.{RegionName, Scope}
 use Rattle.cyc_types.specs.typing.Statements.{rule_items}
 use Rattle.cyc_types.specs.typing.Heads.{members_of, parameter_naming, signature_of}
 use Rattle.cyc_types.specs.typing.Programs.{Program, body_scope, function_of, rule_function, rule_functions}
-use Rattle.cyc_scope.specs.Bodies.{body_with}
+use Rattle.cyc_scope.specs.inside.Bodies.{body_with}
 use Rattle.cyc_scope.specs.declared.stop.Stop.{Stop}
 use Rattle.cyc_scope.specs.declared.stop.Stop.TheVariants as stops
-use Rattle.cyc_scope.specs.Code.{Stops}
+use Rattle.cyc_scope.specs.inside.Code.{Stops}
 use Rattle.cyc_expressions.proofs.Loops.{onto, with_front, regroup}
 
 -- functions in front of those that are still checked

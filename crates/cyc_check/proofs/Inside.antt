@@ -9,8 +9,8 @@ use Rattle.cyc_types.specs.declared.scope.Kind.{Kind}
 use Rattle.cyc_types.specs.declared.scope.Kind.TheVariants as kinds
 use Rattle.cyc_types.specs.declared.region.Region.{Region}
 use Rattle.cyc_types.specs.Types.{Ty, Int}
-use Rattle.cyc_check.specs.Inside.{Inside, extended}
-use Rattle.cyc_scope.specs.Marks.{IsInOrder, mark_of, left_to}
+use Rattle.cyc_check.specs.inside.Inside.{Inside, extended}
+use Rattle.cyc_scope.specs.inside.Marks.{IsInOrder, mark_of, left_to}
 
 pub inside_itself : (g : Scope) → Inside g g
 inside_itself g = record { locals = []; names = []; opened = []; same = refl }

@@ -6,8 +6,8 @@ use Rattle.cyc_types.specs.Rules.{Checked, and_then, Part, gives, run}
 use Rattle.cyc_types.specs.typing.Programs.{Program, program_of, rule_functions, check_of}
 use Rattle.cyc_scope.specs.declared.stop.Stop.{Stop}
 use Rattle.cyc_scope.specs.declared.stop.Stop.TheVariants as stops
-use Rattle.cyc_scope.specs.Code.{Stops}
-use Rattle.cyc_heads.specs.Heads.{heads_of}
+use Rattle.cyc_scope.specs.inside.Code.{Stops}
+use Rattle.cyc_heads.specs.inside.Heads.{heads_of}
 use Rattle.cyc_heads.proofs.HeadLemmas.{bodies_behind}
 
 abbrev bodies_of : List Declaration → Program → Checked typed.Program

@@ -1,5 +1,2 @@
--- The contract of `check` rests on the definitions of `cyc_types` alone. This is what the functions inside the crate promise each
--- other.
-pub mod Inside
-pub mod Walks
-pub mod FunctionParts
+-- What the functions of this crate promise each other and what its proofs say: no public contract of the product means it.
+pub mod inside

@@ -1,7 +1,7 @@
 //! What is known where a refused program's fault stands, for who says a person why it is refused.
 ghost use Rattle.std.specs.Prelude.{◌≡◌, ◌⊎◌, map, IfSome};
 ghost use Rattle.cyc_words.specs.Fault.{memory_fault};
-ghost use Rattle.cyc_syntax.specs.TreeView.{view_declaration};
+ghost use Rattle.cyc_syntax.specs.inside.TreeView.{view_declaration};
 ghost use Rattle.cyc_types.specs.typing.Programs.{IsRefusedProgram};
 
 use crate::statements::check_items;

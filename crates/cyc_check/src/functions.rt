@@ -1,13 +1,13 @@
 //! The bodies of functions.
 ghost use Rattle.std.specs.Prelude.{◌≡◌, map, option_map, IfOk};
-ghost use Rattle.cyc_syntax.specs.TreeView.{place_of_span, view_name, view_type, view_parameters, view_block, view_declaration};
-ghost use Rattle.cyc_types.specs.SignatureView.{view_signature};
+ghost use Rattle.cyc_syntax.specs.inside.TreeView.{place_of_span, view_name, view_type, view_parameters, view_block, view_declaration};
+ghost use Rattle.cyc_types.specs.inside.SignatureView.{view_signature};
 ghost use Rattle.cyc_types.specs.TypedTreeView as typed_view;
 ghost use Rattle.cyc_types.specs.Rules.{run};
 ghost use Rattle.cyc_types.specs.typing.Heads.{signature_of};
 ghost use Rattle.cyc_types.specs.typing.Programs.{rule_function, rule_functions};
-ghost use Rattle.cyc_scope.specs.Code.{Gives};
-ghost use Rattle.cyc_check.specs.FunctionParts.{function_with};
+ghost use Rattle.cyc_scope.specs.inside.Code.{Gives};
+ghost use Rattle.cyc_check.specs.inside.FunctionParts.{function_with};
 
 use crate::declared_types::add_item_types;
 use crate::statements::check_items;

@@ -1,15 +1,15 @@
 //! The walk over statements, the items of blocks and the clauses of catches.
 ghost use Rattle.std.specs.Prelude.{◌≡◌, [], ◌∷◌, Ok, OnOk, IfOk};
-ghost use Rattle.cyc_syntax.specs.TreeView.{view_name, view_statement, view_item, items_of, clauses_of};
+ghost use Rattle.cyc_syntax.specs.inside.TreeView.{view_name, view_statement, view_item, items_of, clauses_of};
 ghost use Rattle.cyc_syntax.specs.Trees.{NoClauses};
 ghost use Rattle.cyc_types.specs.TypedTrees as nodes;
 ghost use Rattle.cyc_types.specs.TypedTreeView as typed_view;
 ghost use Rattle.cyc_types.specs.Rules.{and_then, demands, run};
 ghost use Rattle.cyc_types.specs.typing.Scopes.{in_block, in_labelled, in_body, behind};
 ghost use Rattle.cyc_types.specs.typing.Statements.{new_name_demanded, behind_item, rule_statement, rule_items, rule_item, rule_clauses};
-ghost use Rattle.cyc_scope.specs.Code.{Gives};
-ghost use Rattle.cyc_check.specs.Walks.{IsBehindItems, behind_block, behind_labelled, behind_clauses, view_clause};
-ghost use Rattle.cyc_statements.specs.Nodes.{view_boxed_statement};
+ghost use Rattle.cyc_scope.specs.inside.Code.{Gives};
+ghost use Rattle.cyc_check.specs.inside.Walks.{IsBehindItems, behind_block, behind_labelled, behind_clauses, view_clause};
+ghost use Rattle.cyc_statements.specs.inside.Nodes.{view_boxed_statement};
 
 use cyc_scope::{Scope, Stop};
 use cyc_statements::forms::{

@@ -1,10 +1,10 @@
 //! From a tree to its typed tree, or to its fault.
 ghost use Rattle.std.specs.Prelude.{◌≡◌, map};
 ghost use Rattle.cyc_words.specs.Decision.{Decides};
-ghost use Rattle.cyc_syntax.specs.TreeView.{view_declaration};
+ghost use Rattle.cyc_syntax.specs.inside.TreeView.{view_declaration};
 ghost use Rattle.cyc_types.specs.TypedTreeView.{view_program};
 ghost use Rattle.cyc_types.specs.typing.Programs.{IsTypedProgram, IsRefusedProgram, check_of};
-ghost use Rattle.cyc_scope.specs.Code.{Gives};
+ghost use Rattle.cyc_scope.specs.inside.Code.{Gives};
 
 use crate::functions::functions_of;
 use cyc_heads::{heads, parts_of};

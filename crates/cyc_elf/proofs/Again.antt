@@ -17,7 +17,7 @@ use Rattle.cyc_elf.specs.Image.{SegmentContents, ImageContents, segment_contents
 use Rattle.cyc_elf.specs.Note.{note_name, is_named, limits_at, is_note, AreLimits}
 use Rattle.cyc_elf.specs.Layout.{file_header, program_header, header_of, headers_of, stored, bytes_end, note_header, note_headers, note_bytes, notes, note_count, headers_count, bytes_start, note_start, laid_headers, layout, FitsFields}
 use Rattle.cyc_elf.specs.Reading.{first_fault, file_rules, own_rules, covers, segment_of, reading}
-use Rattle.cyc_elf.specs.Parts.{Walk, IsInWords, walk, are_apart}
+use Rattle.cyc_elf.specs.inside.Parts.{Walk, IsInWords, walk, are_apart}
 use Rattle.cyc_elf.proofs.Rules.{Keeps, own_rules-load, own_rules-note, is_note-load, table_of, is_entry, reading-image}
 use Rattle.cyc_elf.proofs.Walks.{with_front}
 use Rattle.cyc_elf.proofs.Sound.{keeps_from_kept, are_limits-from, are_apart_from_pairs, covered_from_held}

@@ -11,7 +11,7 @@ use Rattle.cyc_elf.specs.declared.table.Walk as table
 use Rattle.cyc_elf.specs.Header.{ProgramHeader, headers_from, entry, table_offset, header_count}
 use Rattle.cyc_elf.specs.Image.{SegmentContents, ImageContents, segment_contents, IsWellFormed}
 use Rattle.cyc_elf.specs.Reading.{first_fault, file_rules, covers, segment_of, reading, Answers}
-use Rattle.cyc_elf.specs.Parts.{Walk, fields_of, walk_of, walk, are_apart}
+use Rattle.cyc_elf.specs.inside.Parts.{Walk, fields_of, walk_of, walk, are_apart}
 use Rattle.cyc_elf.proofs.Rules.{table_of, is_entry, reading-shared, reading-table_fault, reading-entry, reading-image}
 use Rattle.cyc_elf.proofs.Sound.{stored_all, is_well_formed}
 

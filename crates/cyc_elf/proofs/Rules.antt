@@ -10,7 +10,7 @@ use Rattle.cyc_elf.specs.declared.fault.ElfFault.TheVariants.{BadSegment, BadEnt
 use Rattle.cyc_elf.specs.Header.{field, ProgramHeader, program_headers, entry}
 use Rattle.cyc_elf.specs.Note.{description_size, note_type, note_size, is_named, limits_at, is_note, are_limits}
 use Rattle.cyc_elf.specs.Reading.{Rule, broken, first_fault, file_rules, own_rules, is_load, loads, load_rules, note_rules, covers, overlap, overlap_rule, table_rules, entry_rules, rules, segment_of, note_among, named_image, unless, reading}
-use Rattle.cyc_elf.specs.Parts.{Walk, step, noted, walk, are_apart}
+use Rattle.cyc_elf.specs.inside.Parts.{Walk, step, noted, walk, are_apart}
 
 -- ---- the first fault of a list of rules
 

@@ -13,7 +13,7 @@ use Rattle.cyc_elf.specs.Header.{field, ProgramHeader, program_headers, entry}
 use Rattle.cyc_elf.specs.Note.{limits_at, is_note, are_limits, AreLimits}
 use Rattle.cyc_elf.specs.Image.{SegmentContents, Holds, AreApart, IsSegment, IsWellFormed}
 use Rattle.cyc_elf.specs.Reading.{first_fault, own_rules, covers, segment_of}
-use Rattle.cyc_elf.specs.Parts.{Walk, step, noted, walk, are_apart}
+use Rattle.cyc_elf.specs.inside.Parts.{Walk, step, noted, walk, are_apart}
 use Rattle.cyc_elf.proofs.Apart.{one, covering, covers-from, covers-true, are_apart-true, are_apart-false}
 use Rattle.cyc_elf.proofs.Rules.{Keeps, own_rules-note, walk_keeps, table_of, is_entry}
 

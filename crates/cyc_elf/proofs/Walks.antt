@@ -4,7 +4,7 @@ use Rattle.std.proofs.lemmas.List.{append-nil}
 use Rattle.cyc_elf.specs.declared.fault.ElfFault.{ElfFault}
 use Rattle.cyc_elf.specs.Header.{ProgramHeader, program_header_at, headers_from}
 use Rattle.cyc_elf.specs.Reading.{first_fault, own_rules, is_load}
-use Rattle.cyc_elf.specs.Parts.{Walk, step, noted, walk}
+use Rattle.cyc_elf.specs.inside.Parts.{Walk, step, noted, walk}
 
 -- ---- one header after the other
 

@@ -7,7 +7,7 @@ use Rattle.cyc_elf.specs.declared.image.Segment.{Segment}
 use Rattle.cyc_elf.specs.Header.{ProgramHeader}
 use Rattle.cyc_elf.specs.Image.{segment_contents, padded}
 use Rattle.cyc_elf.specs.Layout.{program_header, header_of, headers_of, bytes_end}
-use Rattle.cyc_elf.specs.Parts.{IsInWords}
+use Rattle.cyc_elf.specs.inside.Parts.{IsInWords}
 
 -- the headers that are left in front of the segment at an index
 abbrev pub headers_left : (offset i : ℕ) → List Segment → List ProgramHeader

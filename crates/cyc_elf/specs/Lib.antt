@@ -5,5 +5,5 @@ pub mod Image
 pub mod Reading
 pub mod Layout
 pub mod Fault
--- what the functions inside the crate promise each other
-pub mod Parts
+-- What the functions of this crate promise each other and what its proofs say: no public contract of the product means it.
+pub mod inside

@@ -37,7 +37,7 @@ pub struct ProgramHeader {
 }
 
 impl ProgramHeader {
-    ghost use Rattle.cyc_elf.specs.Parts.{fields_of};
+    ghost use Rattle.cyc_elf.specs.inside.Parts.{fields_of};
 
     /// The program header at a place in the file.
     #[tactic(auto, unfolding(crate::specs::Header::program_header_at))]

@@ -3,7 +3,7 @@
 ghost use Rattle.std.specs.Prelude.{◌≡◌, ◌%◌, ◌&&◌, ◌==◌, IfOk};
 ghost use Rattle.std.specs.List.{list_any};
 ghost use Rattle.cyc_elf.specs.Image.{contents_of, IsWellFormed};
-ghost use Rattle.cyc_elf.specs.Parts.{fields_of};
+ghost use Rattle.cyc_elf.specs.inside.Parts.{fields_of};
 ghost use Rattle.cyc_elf.specs.Reading.{covers, reading, Answers};
 
 use crate::fault::ElfFault;

@@ -7,7 +7,7 @@ use Rattle.cyc_syntax.specs.declared.tree.BinaryOperator.{BinaryOperator}
 use Rattle.cyc_syntax.specs.declared.tree.Operation.{Operation as OperationCode}
 use Rattle.cyc_syntax.specs.Symbols.{Place}
 use Rattle.cyc_syntax.specs.Trees.{Expression, Binary, RegionNew, Initial, place_of}
-use Rattle.cyc_syntax.specs.TreeView.{view_name, view_expression, postfixes_of, operations_of}
+use Rattle.cyc_syntax.specs.inside.TreeView.{view_name, view_expression, postfixes_of, operations_of}
 use Rattle.cyc_types.specs.Types.{ValueType}
 use Rattle.cyc_types.specs.TypedTrees.{type_of}
 use Rattle.cyc_types.specs.TypedTrees as typed
@@ -16,8 +16,8 @@ use Rattle.cyc_types.specs.typing.Scopes.{Scope}
 use Rattle.cyc_types.specs.typing.Expressions.{as_int, Reached, Placed, Made, Joined, loaded, indexed, selected, created, operand, is_looking_first, rule, rule_looked, rule_postfixed, rule_further, rule_made, rule_placement}
 use Rattle.cyc_scope.specs.declared.stop.Stop.{Stop}
 use Rattle.cyc_scope.specs.declared.stop.Stop.TheVariants as stops
-use Rattle.cyc_scope.specs.Code.{Stops}
-use Rattle.cyc_expressions.specs.Walks.{one_operation, one_postfix, rule_rest}
+use Rattle.cyc_scope.specs.inside.Code.{Stops}
+use Rattle.cyc_expressions.specs.inside.Walks.{one_operation, one_postfix, rule_rest}
 use Rattle.cyc_expressions.proofs.Chains.{further, next_further}
 
 pub stops_within : {A B : Type 0} (e : Stop) (o : Checked A) (next : A → Checked B) → Stops e o → Stops e (and_then o next)

@@ -8,7 +8,7 @@ use Rattle.cyc_syntax.specs.declared.tree.Postfix.{Postfix}
 use Rattle.cyc_syntax.specs.declared.tree.Postfix.TheVariants as postfix
 use Rattle.cyc_syntax.specs.Symbols.{Place}
 use Rattle.cyc_syntax.specs.Trees.{Named, Expression, Variable, Bracketed}
-use Rattle.cyc_syntax.specs.TreeView.{view_expression, expressions_of, operations_of, postfixes_of}
+use Rattle.cyc_syntax.specs.inside.TreeView.{view_expression, expressions_of, operations_of, postfixes_of}
 use Rattle.cyc_types.specs.declared.typed.Operation.{Operation}
 use Rattle.cyc_types.specs.declared.typed.Operation.TheVariants as operation
 use Rattle.cyc_types.specs.Types.{Ty, ValueType, Value}
@@ -21,9 +21,9 @@ use Rattle.cyc_types.specs.typing.Expressions.{looked, Reached, loaded, rule, ru
 use Rattle.cyc_types.proofs.RuleLaws.{from_ok}
 use Rattle.cyc_scope.specs.declared.stop.Stop.{Stop}
 use Rattle.cyc_scope.specs.declared.stop.Stop.TheVariants as stops
-use Rattle.cyc_scope.specs.Code.{Stops}
-use Rattle.cyc_forms.specs.Forms.{put_operation, GivesOne}
-use Rattle.cyc_expressions.specs.Walks.{name_in, one_operation, one_postfix}
+use Rattle.cyc_scope.specs.inside.Code.{Stops}
+use Rattle.cyc_forms.specs.inside.Forms.{put_operation, GivesOne}
+use Rattle.cyc_expressions.specs.inside.Walks.{name_in, one_operation, one_postfix}
 use Rattle.cyc_expressions.proofs.Loops.{onto, onto-append}
 
 and_then_twice : {A B C : Type 0} (o : Checked A) (f : A → B) (next : B → Checked C) → and_then o (λ a. next (f a)) ≡ and_then (and_then o (λ a. Ok (f a))) next

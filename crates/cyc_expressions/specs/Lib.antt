@@ -1,2 +1,2 @@
--- what the functions of the walk promise each other
-pub mod Walks
+-- What the functions of this crate promise each other and what its proofs say: no public contract of the product means it.
+pub mod inside

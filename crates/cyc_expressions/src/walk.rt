@@ -2,7 +2,7 @@
 //! a value that is used, as one that is only looked at, or as a place.
 ghost use Rattle.std.specs.Prelude.{◌≡◌, ◌≢◌, [], ◌∷◌, map, option_map, Ok, OnOk, IfErr};
 ghost use Rattle.cyc_words.specs.declared.fault.Code.TheVariants as codes;
-ghost use Rattle.cyc_syntax.specs.TreeView.{place_of_span, view_name, view_initial, view_expression, expressions_of, postfixes_of, operations_of};
+ghost use Rattle.cyc_syntax.specs.inside.TreeView.{place_of_span, view_name, view_initial, view_expression, expressions_of, postfixes_of, operations_of};
 ghost use Rattle.cyc_syntax.specs.Trees.{Call, Fields, Prefixed};
 ghost use Rattle.cyc_types.specs.TypeView.{view_ty};
 ghost use Rattle.cyc_types.specs.Rules.{fault_at, Own, Part, gives, run};
@@ -10,9 +10,9 @@ ghost use Rattle.cyc_types.specs.typing.Scopes.{with_counter};
 ghost use Rattle.cyc_types.specs.typing.Tests as tests;
 ghost use Rattle.cyc_types.specs.typing.Expressions.{value_wanted, rule_looked, operand, is_looking_first, pointed, loaded, reached, rule, rule_all, rule_chain, rule_place, rule_postfixed, rule_made, rule_placement};
 ghost use Rattle.cyc_scope.specs.declared.stop.Stop.TheVariants as stops;
-ghost use Rattle.cyc_scope.specs.Code.{Gives};
-ghost use Rattle.cyc_forms.specs.Forms.{GivesOne, Joins, IsReached, IsPlaced, IsMade, view_given, view_boxed, view_found, value_in};
-ghost use Rattle.cyc_expressions.specs.Walks.{name_in, rule_no_place, rule_by_handle, one_postfix, one_operation, rule_rest, view_chain, left_of, peeked_behind};
+ghost use Rattle.cyc_scope.specs.inside.Code.{Gives};
+ghost use Rattle.cyc_forms.specs.inside.Forms.{GivesOne, Joins, IsReached, IsPlaced, IsMade, view_given, view_boxed, view_found, value_in};
+ghost use Rattle.cyc_expressions.specs.inside.Walks.{name_in, rule_no_place, rule_by_handle, one_postfix, one_operation, rule_rest, view_chain, left_of, peeked_behind};
 
 use cyc_forms::{
     Found, Given, Left, Made, Placed, Reached, addressed, array_made, as_int, as_place, as_unique,

@@ -17,7 +17,7 @@ use Rattle.cyc_types.specs.declared.typed.Side.{Side as SideCode}
 use Rattle.cyc_types.specs.declared.typed.Body.{Body}
 use Rattle.cyc_types.specs.declared.typed.Clause.{Clause}
 use Rattle.cyc_words.specs.declared.span.Span.{Span}
-use Rattle.cyc_syntax.specs.TreeView.{place_of_span}
+use Rattle.cyc_syntax.specs.inside.TreeView.{place_of_span}
 use Rattle.cyc_types.specs.declared.ty.Ty.{Ty}
 use Rattle.cyc_types.specs.declared.typed.ValueType.{ValueType}
 use Rattle.cyc_types.specs.TypeView.{view_ty, view_value_type}
@@ -35,8 +35,8 @@ use Rattle.cyc_flow.specs.declared.expressions.Tracked.{Tracked}
 use Rattle.cyc_flow.specs.declared.evaluation.Evaluation.{Evaluation}
 use Rattle.cyc_flow.specs.declared.stop.Stop.{Stop}
 use Rattle.cyc_flow.specs.declared.stop.Stop.TheVariants as stops
-use Rattle.cyc_flow.specs.Code.{Leads, Gives, GivesKnown, known}
-use Rattle.cyc_flow.specs.Steps.{stands}
+use Rattle.cyc_flow.specs.inside.Code.{Leads, Gives, GivesKnown, known}
+use Rattle.cyc_flow.specs.inside.Steps.{stands}
 
 module _ (value : Expr) (f : Callee) (v : Vec ConvertedCode Heap) (of_type : ValueType) (is : value ≡ expr.Call f v of_type) (items : List ConvertedCode) (same : items ≡ v.items) (r : Result (Unit {0}) Stop) (w : Evaluation) (q : List ℕ) (s : State) (ns : List ℕ) (start : State) where
   pub kept_call : Leads r w (run (rule_arguments q (arguments_of items) s)) (touched_arguments (arguments_of items) ns) start → Leads r w (run (rule q (view_expression value) s)) (touched (view_expression value) ns) start

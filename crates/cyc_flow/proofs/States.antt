@@ -5,7 +5,7 @@ use Rattle.cyc_flow.specs.declared.state.Fullness.{Fullness as FullnessCode}
 use Rattle.cyc_types.specs.Types.{Ty}
 use Rattle.cyc_types.specs.flow.States.{Fullness, lower_each, is_as_full, are_as_full}
 use Rattle.cyc_types.specs.flow.Programs.{each_is}
-use Rattle.cyc_flow.specs.Code.{view_fullness}
+use Rattle.cyc_flow.specs.inside.Code.{view_fullness}
 
 abbrev views : List FullnessCode → List Fullness
 views = map view_fullness

@@ -3,7 +3,7 @@ use Rattle.std.proofs.Common.{◌≡◌, ℕ, zero, suc, List, [], ◌∷◌, �
 use Rattle.std.proofs.lemmas.List.{set-get_or}
 use Rattle.cyc_types.specs.flow.States.{Fullness, Vacant, Locked, Full, State, Unreached, Reached, lower, lower_each, meet, fullness, with_fullness}
 use Rattle.cyc_flow.specs.declared.state.Change.{Change}
-use Rattle.cyc_flow.specs.Code.{view_fullness, undone, lowered, lowered_to}
+use Rattle.cyc_flow.specs.inside.Code.{view_fullness, undone, lowered, lowered_to}
 
 -- ---- one change more
 

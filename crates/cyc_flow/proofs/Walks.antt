@@ -7,7 +7,7 @@ use Rattle.cyc_types.specs.Rules.{Checked, and_then, run}
 use Rattle.cyc_types.specs.flow.States.{State, meet}
 use Rattle.cyc_types.specs.flow.Touched.{touched_operations}
 use Rattle.cyc_types.specs.flow.Expressions.{rule, rule_operations}
-use Rattle.cyc_flow.specs.Steps.{rule_operation, touched_operation}
+use Rattle.cyc_flow.specs.inside.Steps.{rule_operation, touched_operation}
 
 met : {X : Type 0} (r : Checked State) (f : State) (next : State → Checked X) → and_then r (λ g. next (meet f g)) ≡ and_then (and_then r (λ g. Ok (meet f g))) next
 met (Ok g) f next = refl

@@ -1,4 +1,2 @@
--- The contract of `flow` rests on the definitions of `cyc_types` alone. These are what the functions inside the crate promise each
--- other.
-pub mod Code
-pub mod Steps
+-- What the functions of this crate promise each other and what its proofs say: no public contract of the product means it.
+pub mod inside

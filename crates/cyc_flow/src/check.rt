@@ -7,7 +7,7 @@ ghost use Rattle.cyc_types.specs.Rules.{settled, run};
 ghost use Rattle.cyc_types.specs.typing.Programs.{IsTypedProgram};
 ghost use Rattle.cyc_types.specs.flow.Programs.{start_of, end_demanded, rule_function, rule_functions, rule_program, IsAllowedProgram, IsStoppedProgram};
 ghost use Rattle.cyc_soundness.specs.Sound.{IsSound};
-ghost use Rattle.cyc_flow.specs.Code.{view_state, Ends, Allows};
+ghost use Rattle.cyc_flow.specs.inside.Code.{view_state, Ends, Allows};
 
 use crate::cause::{Cause, find_cause};
 use crate::expressions::Tracked;

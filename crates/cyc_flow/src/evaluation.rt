@@ -2,7 +2,7 @@
 ghost use Rattle.std.specs.Prelude.{◌≡◌, ◌++◌, [], IfOk};
 ghost use Rattle.cyc_types.specs.flow.States.{meet, with_fullness};
 ghost use Rattle.cyc_types.specs.flow.Touched.{and_local};
-ghost use Rattle.cyc_flow.specs.Code.{view_fullness, view_state, undone, begun, lowered, Notes};
+ghost use Rattle.cyc_flow.specs.inside.Code.{view_fullness, view_state, undone, begun, lowered, Notes};
 
 use crate::expressions::Tracked;
 use crate::state::{Change, Fullness, State};

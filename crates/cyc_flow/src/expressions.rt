@@ -2,7 +2,7 @@
 //! what is known behind, and takes the locals of which a peek waits. What is known is changed in its place, since
 //! expressions nest deepest: a frame holds none.
 ghost use Rattle.std.specs.Prelude.{◌≡◌, ◌++◌, IfOk, Some, Ok, option_map};
-ghost use Rattle.cyc_syntax.specs.TreeView.{place_of_span};
+ghost use Rattle.cyc_syntax.specs.inside.TreeView.{place_of_span};
 ghost use Rattle.cyc_types.specs.Rules.{run, fault_at};
 ghost use Rattle.cyc_types.specs.TypeView.{view_value_type};
 ghost use Rattle.cyc_types.specs.TypedTreeView.{view_lvalue, view_expression, view_dereference, view_placement, view_initial, view_converted, arguments_of, operations_of};
@@ -10,8 +10,8 @@ ghost use Rattle.cyc_types.specs.flow.States.{Vacant, Full, with_fullness};
 ghost use Rattle.cyc_types.specs.flow.Touched.{and_local, and_assigned, touched, touched_place, touched_placement, touched_initial, touched_converted, touched_arguments, touched_operations};
 ghost use Rattle.cyc_types.specs.flow.Expressions.{and_peeked, peek_of, peek_behind, looked, moved, used, stored, rule, rule_place, rule_placement, rule_initial, rule_converted, rule_arguments, rule_operations};
 ghost use Rattle.cyc_flow.specs.declared.stop.Stop.TheVariants.{Refused};
-ghost use Rattle.cyc_flow.specs.Code.{view_fullness, view_state, begun, Leads};
-ghost use Rattle.cyc_flow.specs.Steps.{rule_operation, touched_operation};
+ghost use Rattle.cyc_flow.specs.inside.Code.{view_fullness, view_state, begun, Leads};
+ghost use Rattle.cyc_flow.specs.inside.Steps.{rule_operation, touched_operation};
 
 use crate::evaluation::Evaluation;
 use crate::settled::{Settled, check_head};

@@ -1,9 +1,9 @@
 //! What a construct asks, one demand after the other: of those that are broken the lowest code counts, and at one code the first.
 ghost use Rattle.std.specs.Prelude.{◌≡◌, None};
-ghost use Rattle.cyc_syntax.specs.TreeView.{place_of_span};
+ghost use Rattle.cyc_syntax.specs.inside.TreeView.{place_of_span};
 ghost use Rattle.cyc_types.specs.Rules.{demand, noted, settled};
 ghost use Rattle.cyc_types.specs.flow.Expressions.{full_demanded, use_demanded, store_demanded, head_demanded};
-ghost use Rattle.cyc_flow.specs.Code.{view_state, Ends};
+ghost use Rattle.cyc_flow.specs.inside.Code.{view_state, Ends};
 
 use crate::state::State;
 use crate::stop::Stop;

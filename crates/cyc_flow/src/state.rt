@@ -2,7 +2,7 @@
 ghost use Rattle.std.specs.Prelude.{◌≡◌, ◌++◌, IfOk, List, ℕ, map, replicate};
 ghost use Rattle.cyc_types.specs.flow.States.{Full, Vacant, meet, is_at_least, fullness, with_fullness, with_each, emptied, lower, lower_each, is_as_full, are_as_full, is_vacant, is_locked, is_reached};
 ghost use Rattle.cyc_types.specs.flow.Expressions.{is_free};
-ghost use Rattle.cyc_flow.specs.Code.{view_fullness, view_state};
+ghost use Rattle.cyc_flow.specs.inside.Code.{view_fullness, view_state};
 
 use std::alloc::{AllocError, Global};
 

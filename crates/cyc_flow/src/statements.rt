@@ -1,6 +1,6 @@
 //! What is known behind a statement, where it keeps the flow rules. Each method takes what is known before.
 ghost use Rattle.std.specs.Prelude.{◌≡◌, ◌++◌, [], IfOk, None, Ok, option_map};
-ghost use Rattle.cyc_syntax.specs.TreeView.{place_of_span};
+ghost use Rattle.cyc_syntax.specs.inside.TreeView.{place_of_span};
 ghost use Rattle.cyc_types.specs.Rules.{and_then, settled, run};
 ghost use Rattle.cyc_types.specs.TypedTreeView.{view_expression, view_converted, view_side, view_statement, view_item, items_of, default_of, clauses_of};
 ghost use Rattle.cyc_types.specs.TypedTrees.{While, Try};
@@ -8,9 +8,9 @@ ghost use Rattle.cyc_types.specs.flow.States.{Unreached, Full, meet, with_each};
 ghost use Rattle.cyc_types.specs.flow.Touched.{and_local, touched, touched_value, touched_thrown, touched_converted, touched_declaration, touched_side, touched_statement, touched_item, touched_items, touched_clauses};
 ghost use Rattle.cyc_types.specs.flow.Expressions.{rule, rule_converted};
 ghost use Rattle.cyc_types.specs.flow.Statements.{rule_value, rule_thrown, rule_side, peeked_side, side_demanded, rule_swapped, continue_demanded, locked_by, locks_of, rule_declared, rule_locked, caught, with_caught, or_clause, at_end, rule_statement, rule_item, rule_items, rule_clauses};
-ghost use Rattle.cyc_flow.specs.Code.{view_state, Ends, Gives, GivesKnown, GivesClauses, known};
+ghost use Rattle.cyc_flow.specs.inside.Code.{view_state, Ends, Gives, GivesKnown, GivesClauses, known};
 ghost use Rattle.cyc_types.specs.flow.Programs.{in_function};
-ghost use Rattle.cyc_flow.specs.Steps.{stands, view_loop};
+ghost use Rattle.cyc_flow.specs.inside.Steps.{stands, view_loop};
 
 use crate::evaluation::Evaluation;
 use crate::expressions::{Tracked, and_peeked, peek_behind};

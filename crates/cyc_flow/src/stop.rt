@@ -1,7 +1,7 @@
 //! Why a check stops.
 ghost use Rattle.std.specs.Prelude.{◌≡◌};
 ghost use Rattle.cyc_flow.specs.declared.stop.Stop.TheVariants.{Memory, Refused};
-ghost use Rattle.cyc_flow.specs.Code.{fault_of};
+ghost use Rattle.cyc_flow.specs.inside.Code.{fault_of};
 
 use cyc_words::Fault;
 use std::alloc::{AllocError, AllocFailed};

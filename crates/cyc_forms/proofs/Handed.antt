@@ -15,7 +15,7 @@ use Rattle.cyc_types.specs.typing.Expressions.{Reached, Placed, Made, content_de
 use Rattle.cyc_forms.specs.declared.places.Reached.{Reached as ReachedCode}
 use Rattle.cyc_forms.specs.declared.objects.Placed.{Placed as PlacedCode}
 use Rattle.cyc_forms.specs.declared.objects.Made.{Made as MadeCode}
-use Rattle.cyc_forms.specs.Forms.{IsReached, IsPlaced, IsMade, merged, loaded_behind, reached_behind, created_behind, stored_in}
+use Rattle.cyc_forms.specs.inside.Forms.{IsReached, IsPlaced, IsMade, merged, loaded_behind, reached_behind, created_behind, stored_in}
 use Rattle.cyc_forms.proofs.Settling.{settled_behind, settled_merged}
 
 pub loaded_is : (r : Box ReachedCode Global) (w : Reached) (p : Place) → IsReached r w → loaded_behind r.value.settled.known p (view_dereference r.value.cell.value) ≡ run (loaded p w)

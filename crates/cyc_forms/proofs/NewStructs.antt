@@ -16,8 +16,8 @@ use Rattle.cyc_types.specs.typing.Scopes.{Scope, Field}
 use Rattle.cyc_types.specs.typing.Formation.{struct_demanded}
 use Rattle.cyc_types.specs.typing.Expressions.{passed, passed_demanded, field_types, arguments_written, fields_known, fields_made}
 use Rattle.cyc_types.proofs.RuleLaws.{settled_kept}
-use Rattle.cyc_forms.specs.Forms.{value_in}
-use Rattle.cyc_forms.specs.Passing.{all_with_kinds, fields_asked}
+use Rattle.cyc_forms.specs.inside.Forms.{value_in}
+use Rattle.cyc_forms.specs.inside.Passing.{all_with_kinds, fields_asked}
 use Rattle.cyc_forms.proofs.PassedValues.{passed_all}
 
 kept_behind : (ds : List Demand) (d : Demand) (es : List Demand) → AllKept (ds ++ (d ∷ es)) → d.kept ≡ true

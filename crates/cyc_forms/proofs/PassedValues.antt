@@ -10,14 +10,14 @@ use Rattle.cyc_words.proofs.Lists.{drop_read}
 use Rattle.cyc_syntax.specs.declared.tree.Expr.{Expr}
 use Rattle.cyc_syntax.specs.Symbols.{Place}
 use Rattle.cyc_syntax.specs.Trees.{Expression, Expressions, NoExpressions, MoreExpressions, place_of}
-use Rattle.cyc_syntax.specs.TreeView.{view_expression, expressions_of}
+use Rattle.cyc_syntax.specs.inside.TreeView.{view_expression, expressions_of}
 use Rattle.cyc_types.specs.declared.ty.Ty.{Ty as TyCode}
 use Rattle.cyc_types.specs.declared.signature.Signature.{Signature as SignatureCode}
 use Rattle.cyc_types.specs.declared.typed.Callee.{Callee}
 use Rattle.cyc_types.specs.declared.typed.Converted.{Converted as ConvertedCode}
 use Rattle.cyc_types.specs.Types.{Ty, result_type, substituted_ty}
 use Rattle.cyc_types.specs.TypeView.{view_ty}
-use Rattle.cyc_types.specs.SignatureView.{view_signature}
+use Rattle.cyc_types.specs.inside.SignatureView.{view_signature}
 use Rattle.cyc_types.specs.TypedTrees.{Signature, type_of}
 use Rattle.cyc_types.specs.TypedTrees as typed
 use Rattle.cyc_types.specs.Outlives.{RegionContext}
@@ -26,8 +26,8 @@ use Rattle.cyc_types.specs.Rules.{Demand, demand, AllKept, settled, unless, run}
 use Rattle.cyc_types.specs.typing.Scopes.{Scope}
 use Rattle.cyc_types.specs.typing.Expressions.{conversion, passed, passed_demanded, paired_argument, is_unique_for_variable, variables_demanded, instance_of, instantiated, call_demanded, called_by}
 use Rattle.cyc_types.proofs.RuleLaws.{settled_append, settled_kept}
-use Rattle.cyc_forms.specs.Forms.{value_in}
-use Rattle.cyc_forms.specs.Passing.{with_kinds, with_kinds_at, all_with_kinds}
+use Rattle.cyc_forms.specs.inside.Forms.{value_in}
+use Rattle.cyc_forms.specs.inside.Passing.{with_kinds, with_kinds_at, all_with_kinds}
 use Rattle.cyc_forms.proofs.Lists.{lost}
 
 -- ---- what is asked of each, as far as there are all three

@@ -5,7 +5,7 @@ use Rattle.cyc_words.specs.declared.fault.Fault.{Fault}
 use Rattle.cyc_words.specs.Fault.{number_of}
 use Rattle.cyc_types.specs.Rules.{Demand, fault_of, lesser, noted, settled}
 use Rattle.cyc_types.proofs.RuleLaws.{settled_append}
-use Rattle.cyc_forms.specs.Forms.{merged}
+use Rattle.cyc_forms.specs.inside.Forms.{merged}
 
 -- with these behind demands that are settled
 pub settled_behind : (known : Option Fault) (ds es : List Demand) → known ≡ settled None ds → settled None (ds ++ es) ≡ settled known es

@@ -5,8 +5,7 @@ use Rattle.cyc_words.proofs.Booleans.{same_tests}
 use Rattle.cyc_syntax.specs.declared.tree.PointerKind.{PointerKind}
 use Rattle.cyc_syntax.specs.declared.tree.PointerKind.TheVariants.{Nullable, NonNull, Fat}
 use Rattle.cyc_types.specs.declared.region.Region.{Region}
-use Rattle.cyc_types.specs.Regions.{region_eq}
-use Rattle.cyc_types.specs.Types.{Ty, Int, Char, Pointer, Handle, Key, Struct}
+use Rattle.cyc_types.specs.Types.{region_eq, Ty, Int, Char, Pointer, Handle, Key, Struct}
 use Rattle.cyc_types.specs.typing.Tests.{mark_eq, regions_eq, ty_eq}
 use Rattle.cyc_types.proofs.RegionLemmas.{region_eq-refl}
 use Rattle.cyc_types.proofs.typing.TestLemmas.{ty_eq-true}

@@ -1,7 +1,2 @@
--- the views of what the forms take and make
-pub mod Forms
--- comparisons for equality
-pub mod Comparisons
--- calls
-pub mod Instances
-pub mod Passing
+-- What the functions of this crate promise each other and what its proofs say: no public contract of the product means it.
+pub mod inside

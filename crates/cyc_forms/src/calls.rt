@@ -1,18 +1,18 @@
 //! Calls: what a call asks, where its region variables are what the arguments say, and its node.
 ghost use Rattle.std.specs.Prelude.{◌≡◌, map, option_map, None, Ok};
-ghost use Rattle.cyc_syntax.specs.TreeView.{place_of_span, view_name, expressions_of};
+ghost use Rattle.cyc_syntax.specs.inside.TreeView.{place_of_span, view_name, expressions_of};
 ghost use Rattle.cyc_types.specs.Types as types;
 ghost use Rattle.cyc_types.specs.TypeView.{view_ty, view_value_type};
 ghost use Rattle.cyc_types.specs.TypedTrees as nodes;
 ghost use Rattle.cyc_types.specs.TypedTreeView as typed_view;
-ghost use Rattle.cyc_types.specs.SignatureView.{view_signature};
+ghost use Rattle.cyc_types.specs.inside.SignatureView.{view_signature};
 ghost use Rattle.cyc_types.specs.Rules.{settled, run};
 ghost use Rattle.cyc_types.specs.typing.Scopes.{meaning_of};
 ghost use Rattle.cyc_types.specs.typing.Expressions as rules;
 ghost use Rattle.cyc_types.specs.typing.Expressions.{constraints_demanded, effect_demanded, call_demanded, called_by, called};
-ghost use Rattle.cyc_scope.specs.Code.{Ends, Gives};
-ghost use Rattle.cyc_forms.specs.Forms.{view_boxed, value_in};
-ghost use Rattle.cyc_forms.specs.Passing.{all_with_kinds};
+ghost use Rattle.cyc_scope.specs.inside.Code.{Ends, Gives};
+ghost use Rattle.cyc_forms.specs.inside.Forms.{view_boxed, value_in};
+ghost use Rattle.cyc_forms.specs.inside.Passing.{all_with_kinds};
 
 use crate::instance::instance_of;
 use crate::nodes::boxed;

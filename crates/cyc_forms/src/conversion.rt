@@ -1,6 +1,6 @@
 //! Conversion: of one type to another, by outlives.
 ghost use Rattle.std.specs.Prelude.{◌≡◌};
-ghost use Rattle.cyc_syntax.specs.TreeView.{place_of_span};
+ghost use Rattle.cyc_syntax.specs.inside.TreeView.{place_of_span};
 ghost use Rattle.cyc_types.specs.declared.region.Region.TheVariants.{Heap};
 ghost use Rattle.cyc_types.specs.Types.{Value};
 ghost use Rattle.cyc_types.specs.Types as types;
@@ -8,7 +8,7 @@ ghost use Rattle.cyc_types.specs.TypeView.{view_ty};
 ghost use Rattle.cyc_types.specs.TypedTreeView.{view_converted};
 ghost use Rattle.cyc_types.specs.Rules.{settled};
 ghost use Rattle.cyc_types.specs.typing.Expressions.{is_convertible, is_alike, is_null_allowed, is_outlived, conversion, converted};
-ghost use Rattle.cyc_forms.specs.Forms.{view_given, view_boxed};
+ghost use Rattle.cyc_forms.specs.inside.Forms.{view_given, view_boxed};
 
 use crate::given::Given;
 use crate::types::{is_convertible, is_non_null, is_pointer, kind_of, same_region};

@@ -1,15 +1,15 @@
 //! New structs, of values for their fields.
 ghost use Rattle.std.specs.Prelude.{◌≡◌, map, Ok, IfOk};
-ghost use Rattle.cyc_syntax.specs.TreeView.{view_name, expressions_of};
+ghost use Rattle.cyc_syntax.specs.inside.TreeView.{view_name, expressions_of};
 ghost use Rattle.cyc_types.specs.TypeView.{view_ty};
 ghost use Rattle.cyc_types.specs.TypedTrees as nodes;
 ghost use Rattle.cyc_types.specs.TypedTreeView.{view_initial, arguments_of};
 ghost use Rattle.cyc_types.specs.Rules.{settled};
 ghost use Rattle.cyc_types.specs.typing.Expressions.{field_types, arguments_written, fields_known, fields_made};
-ghost use Rattle.cyc_scope.specs.Code.{Gives};
-ghost use Rattle.cyc_scope.specs.Entries.{view_field};
-ghost use Rattle.cyc_forms.specs.Forms.{value_in, IsMade, GivesOne};
-ghost use Rattle.cyc_forms.specs.Passing.{all_with_kinds, fields_asked};
+ghost use Rattle.cyc_scope.specs.inside.Code.{Gives};
+ghost use Rattle.cyc_scope.specs.inside.Entries.{view_field};
+ghost use Rattle.cyc_forms.specs.inside.Forms.{value_in, IsMade, GivesOne};
+ghost use Rattle.cyc_forms.specs.inside.Passing.{all_with_kinds, fields_asked};
 
 use crate::objects::{Made, boxed_initial};
 use crate::passing::{demand_count, pass, set_all_kinds};

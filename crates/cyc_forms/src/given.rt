@@ -6,7 +6,7 @@ ghost use Rattle.cyc_types.specs.TypedTrees.{unary_type, type_of_place, type_of}
 ghost use Rattle.cyc_types.specs.TypedTreeView.{view_expression, view_dereference};
 ghost use Rattle.cyc_types.specs.typing.Tests.{is_pointer, is_unique, is_key, is_fat, is_handle, is_void, is_int, is_char, is_value, is_tested, value_of, target_of, region_of, kind_of, kind_of_value};
 ghost use Rattle.cyc_types.specs.typing.Expressions.{is_any, has_members, is_movable};
-ghost use Rattle.cyc_forms.specs.Forms.{view_given};
+ghost use Rattle.cyc_forms.specs.inside.Forms.{view_given};
 
 use crate::types::{
     has_members, is_char_type, is_fat, is_handle, is_int_type, is_key, is_movable, is_pointer,

@@ -4,10 +4,10 @@ ghost use Rattle.std.specs.List.{list_any};
 ghost use Rattle.cyc_types.specs.declared.region.Region.TheVariants as regions;
 ghost use Rattle.cyc_types.specs.Types as types;
 ghost use Rattle.cyc_types.specs.TypeView.{view_ty};
-ghost use Rattle.cyc_types.specs.SignatureView.{view_signature};
+ghost use Rattle.cyc_types.specs.inside.SignatureView.{view_signature};
 ghost use Rattle.cyc_types.specs.typing.Expressions.{all_paired, paired, paired_argument, paired_arguments, instance_of, is_unique_for_variable};
-ghost use Rattle.cyc_forms.specs.Forms.{view_given, value_in};
-ghost use Rattle.cyc_forms.specs.Instances.{noted_place, noted_places};
+ghost use Rattle.cyc_forms.specs.inside.Forms.{view_given, value_in};
+ghost use Rattle.cyc_forms.specs.inside.Instances.{noted_place, noted_places};
 
 use crate::given::Given;
 use cyc_types::typed::Converted;

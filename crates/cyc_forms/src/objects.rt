@@ -1,6 +1,6 @@
 //! New objects: where they are made, and what of.
 ghost use Rattle.std.specs.Prelude.{◌≡◌, [], ◌∷◌, map, None, Option, Ok, IfOk};
-ghost use Rattle.cyc_syntax.specs.TreeView.{place_of_span, view_name, expressions_of};
+ghost use Rattle.cyc_syntax.specs.inside.TreeView.{place_of_span, view_name, expressions_of};
 ghost use Rattle.cyc_types.specs.TypeView.{view_ty};
 ghost use Rattle.cyc_types.specs.TypedTrees as nodes;
 ghost use Rattle.cyc_types.specs.TypedTreeView.{view_placement, view_initial};
@@ -8,8 +8,8 @@ ghost use Rattle.cyc_types.specs.Rules.{settled, run};
 ghost use Rattle.cyc_types.specs.Types as types;
 ghost use Rattle.cyc_types.specs.typing.Expressions as rules;
 ghost use Rattle.cyc_types.specs.typing.Expressions.{on_heap, as_unique, by_handle, element_demanded, plain_made, array_made, created};
-ghost use Rattle.cyc_scope.specs.Code.{Gives};
-ghost use Rattle.cyc_forms.specs.Forms.{view_given, view_boxed, IsPlaced, IsMade, GivesOne, merged, created_behind};
+ghost use Rattle.cyc_scope.specs.inside.Code.{Gives};
+ghost use Rattle.cyc_forms.specs.inside.Forms.{view_given, view_boxed, IsPlaced, IsMade, GivesOne, merged, created_behind};
 
 use crate::given::Given;
 use crate::nodes::boxed;

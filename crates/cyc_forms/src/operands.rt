@@ -1,12 +1,12 @@
 //! Where operands stand, and what is wanted of one.
 ghost use Rattle.std.specs.Prelude.{◌≡◌, ℕ, [], ◌∷◌, None, Option};
-ghost use Rattle.cyc_syntax.specs.TreeView.{place_of_span, view_expression};
+ghost use Rattle.cyc_syntax.specs.inside.TreeView.{place_of_span, view_expression};
 ghost use Rattle.cyc_syntax.specs.Trees.{place_of};
 ghost use Rattle.cyc_types.specs.TypedTreeView as typed_view;
 ghost use Rattle.cyc_types.specs.Rules.{settled};
 ghost use Rattle.cyc_types.specs.typing.Expressions.{int_wanted, test_wanted, value_wanted, place_inside, peeked_local, is_looking};
-ghost use Rattle.cyc_scope.specs.Code.{Ends};
-ghost use Rattle.cyc_forms.specs.Forms.{view_given};
+ghost use Rattle.cyc_scope.specs.inside.Code.{Ends};
+ghost use Rattle.cyc_forms.specs.inside.Forms.{view_given};
 
 use crate::given::Given;
 use cyc_scope::{Settled, Stop};

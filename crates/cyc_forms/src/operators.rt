@@ -1,6 +1,6 @@
 //! Operators: of one operand, and those that join two.
 ghost use Rattle.std.specs.Prelude.{◌≡◌, [], ◌∷◌, ◌++◌, not, ◌||◌, None, Ok, OnOk, IfOk, IfErr};
-ghost use Rattle.cyc_syntax.specs.TreeView.{place_of_span};
+ghost use Rattle.cyc_syntax.specs.inside.TreeView.{place_of_span};
 ghost use Rattle.cyc_words.specs.declared.fault.Code.TheVariants as codes;
 ghost use Rattle.cyc_types.specs.declared.typed.Operation.{Operation as OperationCode};
 ghost use Rattle.cyc_types.specs.Types as types;
@@ -13,9 +13,9 @@ ghost use Rattle.cyc_types.specs.typing.Tests.{is_fat, is_unique, is_void, is_in
 ghost use Rattle.cyc_types.specs.typing.Expressions as rules;
 ghost use Rattle.cyc_types.specs.typing.Expressions.{is_movable, is_comparable, are_compared, is_compared_live, equality_demanded, null_test, null_tested, thin_test, int_test, then_pointer, then_compared, then_added, ints_joined, tests_joined, sums_joined, equality_joined, joined, freed};
 ghost use Rattle.cyc_scope.specs.declared.stop.Stop.TheVariants as stops;
-ghost use Rattle.cyc_scope.specs.Code.{Ends, Gives};
-ghost use Rattle.cyc_forms.specs.Forms.{view_given, view_boxed, put_operation, Joins, computed};
-ghost use Rattle.cyc_forms.specs.Comparisons.{then_comparison};
+ghost use Rattle.cyc_scope.specs.inside.Code.{Ends, Gives};
+ghost use Rattle.cyc_forms.specs.inside.Forms.{view_given, view_boxed, put_operation, Joins, computed};
+ghost use Rattle.cyc_forms.specs.inside.Comparisons.{then_comparison};
 
 use crate::given::Given;
 use crate::nodes::boxed;

@@ -1,13 +1,13 @@
 //! Values that are passed: to the parameters of a function, or to the fields of a new struct.
 ghost use Rattle.std.specs.Prelude.{◌≡◌, [], ◌∷◌, ◌++◌, nat_eq, length, map, slice_get, OnOk, IfErr};
 ghost use Rattle.cyc_words.specs.declared.fault.Code.TheVariants as codes;
-ghost use Rattle.cyc_syntax.specs.TreeView.{place_of_span, expressions_of};
+ghost use Rattle.cyc_syntax.specs.inside.TreeView.{place_of_span, expressions_of};
 ghost use Rattle.cyc_types.specs.TypeView.{view_ty};
 ghost use Rattle.cyc_types.specs.Rules.{demand, noted, settled};
 ghost use Rattle.cyc_types.specs.typing.Expressions.{passed_demanded, variables_demanded};
 ghost use Rattle.cyc_scope.specs.declared.stop.Stop.TheVariants as stops;
-ghost use Rattle.cyc_forms.specs.Forms.{view_boxed, value_in};
-ghost use Rattle.cyc_forms.specs.Passing.{with_kinds, with_kinds_at, all_with_kinds};
+ghost use Rattle.cyc_forms.specs.inside.Forms.{view_boxed, value_in};
+ghost use Rattle.cyc_forms.specs.inside.Passing.{with_kinds, with_kinds_at, all_with_kinds};
 
 use crate::conversion::convert;
 use crate::given::Given;

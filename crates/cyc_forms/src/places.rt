@@ -1,6 +1,6 @@
 //! Places: variables and cells that pointers lead to, as places and where their values are read.
 ghost use Rattle.std.specs.Prelude.{◌≡◌, [], ◌∷◌, map, option_map, is_some, None, Ok, IfOk};
-ghost use Rattle.cyc_syntax.specs.TreeView.{place_of_span, view_name};
+ghost use Rattle.cyc_syntax.specs.inside.TreeView.{place_of_span, view_name};
 ghost use Rattle.cyc_types.specs.TypeView.{view_ty, view_value_type};
 ghost use Rattle.cyc_types.specs.TypedTrees as nodes;
 ghost use Rattle.cyc_types.specs.TypedTrees.{type_of_place};
@@ -8,9 +8,9 @@ ghost use Rattle.cyc_types.specs.TypedTreeView.{view_lvalue, view_dereference, v
 ghost use Rattle.cyc_types.specs.Rules.{settled, run};
 ghost use Rattle.cyc_types.specs.typing.Expressions as rules;
 ghost use Rattle.cyc_types.specs.typing.Expressions.{type_of_side, content_demanded, pointer_to, address_demanded, address_of, assigned_type, assignment, loaded, addressed, assigned, pointed, indexed, selected, field_number, field_among, field_type, live_wanted};
-ghost use Rattle.cyc_scope.specs.Code.{Ends, Gives};
-ghost use Rattle.cyc_scope.specs.Entries.{view_field};
-ghost use Rattle.cyc_forms.specs.Forms.{view_given, view_boxed, found_of, view_found, IsReached, GivesOne, loaded_behind, reached_behind, stored_in};
+ghost use Rattle.cyc_scope.specs.inside.Code.{Ends, Gives};
+ghost use Rattle.cyc_scope.specs.inside.Entries.{view_field};
+ghost use Rattle.cyc_forms.specs.inside.Forms.{view_given, view_boxed, found_of, view_found, IsReached, GivesOne, loaded_behind, reached_behind, stored_in};
 
 use crate::conversion::{convert, converted};
 use crate::given::{Given, type_of_place};

@@ -1,7 +1,6 @@
 //! Tests on types, each for what a rule asks, and what a type has where it passes them.
 ghost use Rattle.std.specs.Prelude.{◌≡◌, IfOk};
-ghost use Rattle.cyc_types.specs.Regions.{region_eq};
-ghost use Rattle.cyc_types.specs.Types.{Value};
+ghost use Rattle.cyc_types.specs.Types.{region_eq, Value};
 ghost use Rattle.cyc_types.specs.TypeView.{view_ty};
 ghost use Rattle.cyc_types.specs.typing.Tests.{ty_eq, is_thin_mark, is_pointer, is_non_null, is_unique, is_key, is_struct, is_moved, is_int, is_char, is_fat, is_handle, target_of, region_of, struct_of, arguments_of, kind_of_mark, kind_of};
 ghost use Rattle.cyc_types.specs.typing.Expressions.{is_convertible, has_members, is_movable};

@@ -1,6 +1,6 @@
 //! What names mean in expressions: the value that is read, the place, and the key that is given back.
 ghost use Rattle.std.specs.Prelude.{◌≡◌, [], ◌∷◌, None, Ok};
-ghost use Rattle.cyc_syntax.specs.TreeView.{place_of_span, view_name};
+ghost use Rattle.cyc_syntax.specs.inside.TreeView.{place_of_span, view_name};
 ghost use Rattle.cyc_words.specs.declared.fault.Code.TheVariants as codes;
 ghost use Rattle.cyc_types.specs.TypeView.{view_ty};
 ghost use Rattle.cyc_types.specs.TypedTrees as nodes;
@@ -9,9 +9,9 @@ ghost use Rattle.cyc_types.specs.Rules.{demand, settled, run};
 ghost use Rattle.cyc_types.specs.typing.Scopes.{meaning_of};
 ghost use Rattle.cyc_types.specs.typing.Tests.{is_key};
 ghost use Rattle.cyc_types.specs.typing.Expressions.{is_readable, variable_read, variable_looked, read, looked, place_meant, key_freed};
-ghost use Rattle.cyc_scope.specs.Code.{Ends, Gives};
-ghost use Rattle.cyc_scope.specs.Meanings.{view_meaning};
-ghost use Rattle.cyc_forms.specs.Forms.{view_boxed, view_found};
+ghost use Rattle.cyc_scope.specs.inside.Code.{Ends, Gives};
+ghost use Rattle.cyc_scope.specs.inside.Meanings.{view_meaning};
+ghost use Rattle.cyc_forms.specs.inside.Forms.{view_boxed, view_found};
 
 use crate::nodes::boxed;
 use crate::places::{Found, variable_found};

@@ -5,15 +5,15 @@ use Rattle.std.specs.Int.{bit_at}
 use Rattle.std.proofs.lemmas.Bool.{cases_eq, and_parts, or_cases, ltb-true, eqb-true}
 use Rattle.std.proofs.lemmas.List.{length-append}
 use Rattle.std.proofs.lemmas.List.Sums.{sum_by-append}
-use Rattle.cyc_plain.specs.Program.{Routine, Program}
+use Rattle.cyc_plain.specs.inside.Program.{Routine, Program}
 use Rattle.cyc_frame.specs.declared.home.Home.{Home}
 use Rattle.cyc_frame.specs.declared.home.Home.TheVariants as homes
 use Rattle.cyc_frame.specs.declared.home.TheConstants.{FIRST_REGISTER, MOST_BOTH}
 use Rattle.cyc_frame.specs.declared.live.TheConstants.{MOST_CHOSEN, MOST_REGISTERS}
-use Rattle.cyc_frame.specs.Homes.{Wanted, HasRegister, register_of, home_of, both_count, AreHomes}
-use Rattle.cyc_frame.specs.Masks.{mask_at, HasBit, AreMasks}
-use Rattle.cyc_frame.specs.Live.{IsSound, may_have}
-use Rattle.cyc_frame.specs.Allocation.{register_count, Suits, IsHomeOf, AreFirstHomes}
+use Rattle.cyc_frame.specs.inside.Homes.{Wanted, HasRegister, register_of, home_of, both_count, AreHomes}
+use Rattle.cyc_frame.specs.inside.Masks.{mask_at, HasBit, AreMasks}
+use Rattle.cyc_frame.specs.inside.Live.{IsSound, may_have}
+use Rattle.cyc_frame.specs.inside.Allocation.{register_count, Suits, IsHomeOf, AreFirstHomes}
 use Rattle.cyc_frame.proofs.Bits.{apart_bits}
 use Rattle.cyc_frame.proofs.Lives.{wanted_bit, behind_bit, clause_bit, barred_bit}
 

@@ -2,9 +2,9 @@
 use Rattle.std.proofs.Common.{◌≡◌, ℕ, zero, suc, Some, None, refl, sym, ap, ◌∙◌, arith}
 use Rattle.std.specs.Prelude.{sum_by, replicate}
 use Rattle.std.proofs.lemmas.List.{length-replicate}
-use Rattle.cyc_plain.specs.Program.{Routine, Program}
+use Rattle.cyc_plain.specs.inside.Program.{Routine, Program}
 use Rattle.cyc_frame.specs.declared.home.Home.TheVariants as homes
-use Rattle.cyc_frame.specs.Homes.{AreHomes, HasRegister, register_of, is_kept, home_of, both_count}
+use Rattle.cyc_frame.specs.inside.Homes.{AreHomes, HasRegister, register_of, is_kept, home_of, both_count}
 
 in_memory : (n slot : ℕ) → home_of (replicate n homes.Memory) slot ≡ homes.Memory
 in_memory zero slot = refl

@@ -11,12 +11,12 @@ use Rattle.cyc_plain.specs.declared.instruction.Operand.TheVariants as operands
 use Rattle.cyc_plain.specs.declared.instruction.Request.{Request}
 use Rattle.cyc_plain.specs.declared.instruction.Request.TheVariants as requests
 use Rattle.cyc_plain.specs.declared.limits.TheConstants.{RECORD_WORDS}
-use Rattle.cyc_plain.specs.Program.{Routine, Program, routine_at}
+use Rattle.cyc_plain.specs.inside.Program.{Routine, Program, routine_at}
 use Rattle.cyc_frame.specs.declared.live.TheConstants.{MOST_CHOSEN}
-use Rattle.cyc_frame.specs.Uses.{is_slot, is_among, is_crossing, request_reads, request_writes, reads, writes, leads, bars}
-use Rattle.cyc_frame.specs.Homes.{At, WantedIn, Wanted}
-use Rattle.cyc_frame.specs.Masks.{mask_at, HasBit, AreMasks, operand_mask, range_mask, request_read_mask, read_mask, request_write_mask, write_mask, bar_mask}
-use Rattle.cyc_frame.specs.Live.{behind_mask, unwritten_mask, needed_mask, kept_mask, is_within, is_sound_at, IsSound}
+use Rattle.cyc_frame.specs.inside.Uses.{is_slot, is_among, is_crossing, request_reads, request_writes, reads, writes, leads, bars}
+use Rattle.cyc_frame.specs.inside.Homes.{At, WantedIn, Wanted}
+use Rattle.cyc_frame.specs.inside.Masks.{mask_at, HasBit, AreMasks, operand_mask, range_mask, request_read_mask, read_mask, request_write_mask, write_mask, bar_mask}
+use Rattle.cyc_frame.specs.inside.Live.{behind_mask, unwritten_mask, needed_mask, kept_mask, is_within, is_sound_at, IsSound}
 use Rattle.cyc_frame.proofs.Bits.{bit_left, bit_right, bit_both, bit_within, unwritten, among_bit, other_bit, not_among_bit}
 
 -- ---- where a run may stand behind an instruction

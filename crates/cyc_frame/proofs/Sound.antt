@@ -3,22 +3,22 @@ use Rattle.std.proofs.Common.{◌≡◌, ℕ, zero, suc, ◌+◌, ◌<◌, ◌�
 use Rattle.std.specs.Prelude.{if◌then◌else◌, slice_index_or, ◌⊎◌, Option}
 use Rattle.std.proofs.lemmas.Bool.{cases_lt, lt-ltb}
 use Rattle.std.proofs.lemmas.List.{length-append}
-use Rattle.cyc_frame.specs.Frame.{Frame}
+use Rattle.cyc_frame.specs.inside.Frame.{Frame}
 use Rattle.cyc_words.specs.declared.fault.Fault.{Fault}
 use Rattle.cyc_words.specs.declared.fault.Code.TheVariants as faults
 use Rattle.cyc_words.specs.declared.span.Span.{Span}
 use Rattle.cyc_plain.specs.declared.program.Function.{Function}
 use Rattle.cyc_plain.specs.declared.limits.TheConstants.{LAYOUT_WORDS}
-use Rattle.cyc_plain.specs.Program.{Routine, Program, no_routine, routine_of, routine_at}
-use Rattle.cyc_plain.specs.WellFormed.{IsWellFormed}
+use Rattle.cyc_plain.specs.inside.Program.{Routine, Program, no_routine, routine_of, routine_at}
+use Rattle.cyc_plain.specs.inside.WellFormed.{IsWellFormed}
 use Rattle.cyc_words.specs.Decision.{Decides}
 use Rattle.cyc_words.specs.Fault.{memory_fault}
 use Rattle.cyc_words.proofs.Decisions.{IsDecided, decides}
 use Rattle.cyc_frame.specs.declared.frame.TheConstants.{MOST_FRAME_WORDS}
 use Rattle.cyc_frame.specs.declared.home.Home.{Home}
-use Rattle.cyc_frame.specs.Homes.{AreHomes}
-use Rattle.cyc_frame.specs.Idle.{AreIdle}
-use Rattle.cyc_frame.specs.Layout.{AreFirstFrames, AreFrames, HasSmallFrames, IsAccepted, IsFrame, IsTooLarge, first_too_large, frame_at, is_too_large, loses_any}
+use Rattle.cyc_frame.specs.inside.Homes.{AreHomes}
+use Rattle.cyc_frame.specs.inside.Idle.{AreIdle}
+use Rattle.cyc_frame.specs.inside.Layout.{AreFirstFrames, AreFrames, HasSmallFrames, IsAccepted, IsFrame, IsTooLarge, first_too_large, frame_at, is_too_large, loses_any}
 
 pub is_frame : (r : Routine) (saves : Bool) (homes : List Home) (idle : List Bool) → saves ≡ loses_any r.code → r.slots + LAYOUT_WORDS ≤ r.frame_count → r.frame_count ≤ MOST_FRAME_WORDS
     → IsFrame r (record { return_address = 0; saves = saves; first_slot = LAYOUT_WORDS; homes = homes; idle = idle })

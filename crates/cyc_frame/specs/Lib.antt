@@ -1,11 +1,2 @@
--- what the contract of `layout` rests on
-pub mod Uses
-pub mod Homes
-pub mod Idle
-pub mod Frame
-pub mod Layout
--- the functions inside the crate
-pub mod Masks
-pub mod Live
-pub mod IdlePlaces
-pub mod Allocation
+-- What the functions of this crate promise each other and what its proofs say: no public contract of the product means it.
+pub mod inside

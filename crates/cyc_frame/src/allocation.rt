@@ -1,11 +1,11 @@
 //! A home for each slot of a function.
 ghost use Rattle.std.specs.Prelude.{◌≡◌, ◌+◌, ◌≤◌, length, IfOk};
-ghost use Rattle.cyc_plain.specs.Program.{routine_of};
-ghost use Rattle.cyc_frame.specs.Allocation.{AreFirstHomes, IsHomeOf, register_count};
-ghost use Rattle.cyc_frame.specs.Homes.{AreHomes, both_count};
-ghost use Rattle.cyc_frame.specs.Idle.{AreIdle};
-ghost use Rattle.cyc_frame.specs.Live.{IsSound};
-ghost use Rattle.cyc_frame.specs.Masks.{AreMasks};
+ghost use Rattle.cyc_plain.specs.inside.Program.{routine_of};
+ghost use Rattle.cyc_frame.specs.inside.Allocation.{AreFirstHomes, IsHomeOf, register_count};
+ghost use Rattle.cyc_frame.specs.inside.Homes.{AreHomes, both_count};
+ghost use Rattle.cyc_frame.specs.inside.Idle.{AreIdle};
+ghost use Rattle.cyc_frame.specs.inside.Live.{IsSound};
+ghost use Rattle.cyc_frame.specs.inside.Masks.{AreMasks};
 
 use crate::gains::gains_of;
 use crate::home::{FIRST_REGISTER, Home, MOST_BOTH};

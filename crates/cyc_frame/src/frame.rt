@@ -1,7 +1,7 @@
 //! The frames of a program's functions.
 ghost use Rattle.std.specs.Prelude.{◌≡◌};
-ghost use Rattle.cyc_frame.specs.Homes.{home_of};
-ghost use Rattle.cyc_frame.specs.Idle.{idle_at};
+ghost use Rattle.cyc_frame.specs.inside.Homes.{home_of};
+ghost use Rattle.cyc_frame.specs.inside.Idle.{idle_at};
 
 use crate::home::Home;
 use std::marker::Model;
@@ -26,7 +26,7 @@ pub struct Frame {
 }
 
 impl Model for Frame {
-    ghost use Rattle.cyc_frame.specs.Frame.{Frame};
+    ghost use Rattle.cyc_frame.specs.inside.Frame.{Frame};
 
     ghost Value = { Frame };
 

@@ -12,7 +12,7 @@ pub struct Frames {
 
 impl Model for Frames {
     ghost use Rattle.std.specs.Prelude.{List};
-    ghost use Rattle.cyc_frame.specs.Frame.{Frame};
+    ghost use Rattle.cyc_frame.specs.inside.Frame.{Frame};
 
     ghost Value = { List Frame };
 

@@ -2,10 +2,10 @@
 
 ghost use Rattle.std.specs.Prelude.{◌≡◌, ◌+◌, ◌≤◌, length, map, IfOk};
 ghost use Rattle.cyc_words.specs.Decision.{Decides};
-ghost use Rattle.cyc_plain.specs.Program.{routine_of};
-ghost use Rattle.cyc_frame.specs.Homes.{AreHomes};
-ghost use Rattle.cyc_frame.specs.Idle.{AreIdle};
-ghost use Rattle.cyc_frame.specs.Layout.{AreFirstFrames, AreFrames, HasSmallFrames, IsAccepted, IsFrame, IsTooLarge, first_too_large, loses, loses_any};
+ghost use Rattle.cyc_plain.specs.inside.Program.{routine_of};
+ghost use Rattle.cyc_frame.specs.inside.Homes.{AreHomes};
+ghost use Rattle.cyc_frame.specs.inside.Idle.{AreIdle};
+ghost use Rattle.cyc_frame.specs.inside.Layout.{AreFirstFrames, AreFrames, HasSmallFrames, IsAccepted, IsFrame, IsTooLarge, first_too_large, loses, loses_any};
 
 use crate::allocation::allocate;
 use crate::frame::{Frame, MOST_FRAME_WORDS};

@@ -1,7 +1,7 @@
 //! Where the chosen slots are wanted.
 ghost use Rattle.std.specs.Prelude.{◌≡◌, ◌<◌, ◌≤◌, length, true, IfOk};
-ghost use Rattle.cyc_plain.specs.Program.{routine_of};
-ghost use Rattle.cyc_frame.specs.Live as checks;
+ghost use Rattle.cyc_plain.specs.inside.Program.{routine_of};
+ghost use Rattle.cyc_frame.specs.inside.Live as checks;
 
 use crate::home::{FIRST_REGISTER, REGISTERS_END};
 use crate::masks::{bar_mask, mask_at, read_mask, write_mask};
@@ -97,7 +97,7 @@ pub(crate) struct Lives {
     pub(crate) barred: u32,
 }
 
-#[tactic(auto, unfolding(crate::specs::Live::is_sound_at))]
+#[tactic(auto, unfolding(crate::specs::inside::Live::is_sound_at))]
 fn is_sound_at(
     plain: &Plain,
     results: usize,

@@ -1,8 +1,8 @@
 //! What an instruction does with the chosen slots, all of them at once: bit j of a mask is for the slot that was chosen as
 //! number j, and `masks` has the bit of each slot.
 ghost use Rattle.std.specs.Prelude.{◌≡◌, ◌+◌};
-ghost use Rattle.cyc_plain.specs.Program.{routine_at};
-ghost use Rattle.cyc_frame.specs.Masks as masks_of;
+ghost use Rattle.cyc_plain.specs.inside.Program.{routine_at};
+ghost use Rattle.cyc_frame.specs.inside.Masks as masks_of;
 
 use crate::moves::is_crossing;
 use cyc_plain::{Instruction, Operand, Plain, RECORD_WORDS, Request};

@@ -24,7 +24,7 @@ use Rattle.cyc_types.specs.TypedTrees.{type_of, Arguments, Clauses, NoClauses}
 use Rattle.cyc_types.specs.TypedTreeView.{view_expression, view_initial, view_statement, arguments_of, operations_of, items_of, clauses_of, default_of}
 use Rattle.cyc_types.proofs.TypedTreeViewLemmas.{view_call, view_binary, view_fields, view_block, view_try}
 use Rattle.cyc_meaning.specs.FrameCount.{result_words, operand_words, expression_need, initial_value_need, argument_words, arguments_need, operations_need, statement_need, items_need, clauses_need, kept_by, kept_by_items, kept_by_clauses, words_of_all}
-use Rattle.cyc_frame_count.specs.Needs.{operands_need}
+use Rattle.cyc_frame_count.specs.inside.Needs.{operands_need}
 
 -- ---- arguments
 

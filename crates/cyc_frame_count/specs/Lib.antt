@@ -1,2 +1,2 @@
--- What a frame needs is defined in `cyc_meaning`. This is what the count promises of the parts that it counts one by one.
-pub mod Needs
+-- What the functions of this crate promise each other and what its proofs say: no public contract of the product means it.
+pub mod inside

@@ -4,7 +4,7 @@ use Rattle.std.specs.List.{list_any}
 use Rattle.std.proofs.lemmas.Bool.{or_left, or_right}
 use Rattle.std.proofs.lemmas.Bool.Decides.{nat_tests}
 use Rattle.std.proofs.lemmas.List.Folds.{list_any-append}
-use Rattle.cyc_guard.specs.Held.{updated}
+use Rattle.cyc_guard.specs.inside.Held.{updated}
 
 pub data Told (m n : ℕ) : Bool → Type 0 where
   same : m ≡ n → Told m n true

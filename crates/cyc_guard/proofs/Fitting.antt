@@ -3,7 +3,7 @@
 use Rattle.std.proofs.Common.{◌≡◌, ◌⊎◌, ℕ, Bool, true, false, cond, not, ◌||◌, nat_eq, List, [], ◌∷◌, ◌++◌, Option, Some, None, get_or, slice_set, inl, inr, refl, sym, ap, subst, ◌∙◌}
 use Rattle.std.proofs.lemmas.Bool.{not-true}
 use Rattle.cyc_types.specs.flow.States.{Fullness, Vacant, Locked, Full, State, Unreached, Reached, lower, meet, fullness, with_fullness, with_each, is_vacant, is_locked, emptied}
-use Rattle.cyc_guard.specs.Held.{Held, Holds, IsAtLeast, updated, Guard, peeking}
+use Rattle.cyc_guard.specs.inside.Held.{Held, Holds, IsAtLeast, updated, Guard, peeking}
 use Rattle.cyc_guard.proofs.Bools.{Told, same, other, told, not_false, or_false, or_true, or_assoc, refuted, has, has_append}
 use Rattle.cyc_guard.proofs.States.{is_full, held_of, set_there, set_other, set_at, lower_at, at_least_trans, emptied_one, emptied_never, Emptied, emptied_at, refilled_never, Refilled, refilled_at}
 

@@ -10,8 +10,8 @@ use Rattle.cyc_types.specs.flow.Touched.{and_local, and_assigned, touched, touch
 use Rattle.cyc_types.specs.flow.Expressions.{and_peeked, peek_of, peek_behind, used, stored, is_free, rule, rule_place, rule_placement, rule_initial, rule_converted, rule_arguments, rule_operations}
 use Rattle.cyc_types.specs.flow.Statements.{Around, Known, at, in_loop, left_loop, rule_value, rule_thrown, rule_side, peeked_side, rule_swapped, locked_by, locks_of, rule_declared, caught, with_caught, or_clause, rule_statement, rule_items, rule_item, rule_clauses}
 use Rattle.cyc_types.specs.flow.Statements as published
-use Rattle.cyc_guard.specs.Held.{IsAtLeast, Guard}
-use Rattle.cyc_guard.specs.Statements.{behind_item}
+use Rattle.cyc_guard.specs.inside.Held.{IsAtLeast, Guard}
+use Rattle.cyc_guard.specs.inside.Statements.{behind_item}
 use Rattle.cyc_guard.proofs.Bools.{has_left, has_right, has_last, updated_true}
 use Rattle.cyc_guard.proofs.States.{held_of, at_least_same, at_least_trans, meet_left}
 use Rattle.cyc_guard.proofs.Fitting.{Fits, Rests, fits_never, filled, vacated, moved_out, put_in, not_relied, fits_meet, emptied_fits, Leaves, leaves_none, leaves_append, unlocked, lending, Lent, lent}

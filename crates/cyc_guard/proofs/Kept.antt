@@ -8,9 +8,9 @@ use Rattle.cyc_types.specs.flow.Touched.{and_local, touched, touched_place, touc
 use Rattle.cyc_types.specs.flow.Expressions.{and_peeked, peek_of, peek_behind, used, stored, is_free, rule, rule_place, rule_placement, rule_initial, rule_converted, rule_arguments, rule_operations}
 use Rattle.cyc_types.specs.flow.Statements.{Loop, Around, Known, at, in_loop, left_loop, continue_demanded, rule_value, rule_thrown, rule_side, peeked_side, side_demanded, rule_swapped, locked_by, locks_of, rule_declared, caught, with_caught, or_clause, rule_statement, rule_items, rule_item, rule_clauses}
 use Rattle.cyc_types.specs.flow.Statements as published
-use Rattle.cyc_guard.specs.Held.{Held, IsAtLeast, with_held, and_held, Guard, peeking, relying, IsSeen, IsUsable, IsAssignable, IsSpared, IsReliable, at_catch}
-use Rattle.cyc_guard.specs.Expressions.{KeepsUse, KeepsAssignment, Keeps, KeepsPlace, KeepsPlacement, KeepsInitial, KeepsConverted, KeepsArguments, KeepsOperations}
-use Rattle.cyc_guard.specs.Statements.{Exits, KeepsValue, KeepsThrown, KeepsSide, IsSwappable, KeepsBreak, KeepsContinue, behind_item, KeepsDeclaration, KeepsLoan, KeepsStatement, KeepsItems, KeepsItem, KeepsClauses}
+use Rattle.cyc_guard.specs.inside.Held.{Held, IsAtLeast, with_held, and_held, Guard, peeking, relying, IsSeen, IsUsable, IsAssignable, IsSpared, IsReliable, at_catch}
+use Rattle.cyc_guard.specs.inside.Expressions.{KeepsUse, KeepsAssignment, Keeps, KeepsPlace, KeepsPlacement, KeepsInitial, KeepsConverted, KeepsArguments, KeepsOperations}
+use Rattle.cyc_guard.specs.inside.Statements.{Exits, KeepsValue, KeepsThrown, KeepsSide, IsSwappable, KeepsBreak, KeepsContinue, behind_item, KeepsDeclaration, KeepsLoan, KeepsStatement, KeepsItems, KeepsItem, KeepsClauses}
 use Rattle.cyc_guard.proofs.Bools.{or_false, or_true, has, has_append, has_last}
 use Rattle.cyc_guard.proofs.States.{is_full, held_of, at_least_same, at_least_trans, meet_left, meet_right, tested, filled_at_least, emptied_at_least, lent_at_least, emptied_one, emptied_never, Emptied, emptied_at}
 use Rattle.cyc_guard.proofs.Fitting.{FitsAt, Fits, Rests, not_locked, not_relied, fits_meet, emptied_fits, Leaves, leaves_none, leaves_append, unlocked, unlocked_at_least, peeking_fits, peeking_rests}

@@ -3,9 +3,9 @@ use Rattle.std.proofs.Common.{ℕ, Option, Some, None}
 use Rattle.cyc_types.specs.TypedTrees.{Lvalue, Local, Global, Expression, Number, NullPointer, HeapRegion, Counter, Copy, Move, Peek, Load, AddressOf, AddressOfCell, NumberOfElements, FreeUnique, FreeKey, Call, Unary, Binary, Assign, Store, New, Dereference, Target, Member, Element, Placement, OnHeap, AsUnique, ByHandle, Initial, Plain, Fields, Array, Converted, Convert, Arguments, NoArguments, MoreArguments, Operations, NoOperations, ThenCompute, ThenTest, ThenPointer, ThenPointerPeek, Side, VariableSide, CellSide, Statement, Block, Empty, Evaluate, Swap, If, While, Return, Break, Continue, Throw, Try, Items, NoItems, MoreItems, Item, Execute, Declare, DeclareRegion, OpenRegion, DeclareAlias, DeclareKey, Clauses, NoClauses, Default, Case}
 use Rattle.cyc_types.specs.flow.Expressions.{peek_of, peek_behind}
 use Rattle.cyc_types.specs.flow.Statements.{peeked_side}
-use Rattle.cyc_guard.specs.Held.{Held, Never, Guard, nowhere, peeking, relying}
-use Rattle.cyc_guard.specs.Expressions.{KeepsUse, KeepsAssignment, Keeps, KeepsPlace, KeepsPlacement, KeepsInitial, KeepsConverted, KeepsArguments, KeepsOperations}
-use Rattle.cyc_guard.specs.Statements.{Exits, KeepsValue, KeepsThrown, KeepsSide, IsSwappable, KeepsBreak, KeepsContinue, behind_item, KeepsDeclaration, KeepsStatement, KeepsItems, KeepsItem, KeepsClauses}
+use Rattle.cyc_guard.specs.inside.Held.{Held, Never, Guard, nowhere, peeking, relying}
+use Rattle.cyc_guard.specs.inside.Expressions.{KeepsUse, KeepsAssignment, Keeps, KeepsPlace, KeepsPlacement, KeepsInitial, KeepsConverted, KeepsArguments, KeepsOperations}
+use Rattle.cyc_guard.specs.inside.Statements.{Exits, KeepsValue, KeepsThrown, KeepsSide, IsSwappable, KeepsBreak, KeepsContinue, behind_item, KeepsDeclaration, KeepsStatement, KeepsItems, KeepsItem, KeepsClauses}
 
 never_use : (p : Guard) (l : Lvalue) (g : Held) → KeepsUse p l Never g
 never_use p (Local at n) g = (tt, tt)

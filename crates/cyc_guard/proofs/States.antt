@@ -3,7 +3,7 @@ use Rattle.std.proofs.Common.{◌≡◌, ◌⊎◌, ℕ, zero, suc, Bool, true, 
 use Rattle.std.proofs.lemmas.Bool.{and_parts}
 use Rattle.std.proofs.lemmas.List.{get_or-set_other}
 use Rattle.cyc_types.specs.flow.States.{Fullness, Vacant, Locked, Full, State, Unreached, Reached, lower, lower_each, meet, is_as_full, are_as_full, is_at_least, fullness, with_fullness, with_each, is_vacant, is_locked, emptied}
-use Rattle.cyc_guard.specs.Held.{Held, Never, Holds, IsAtLeast, updated, with_held}
+use Rattle.cyc_guard.specs.inside.Held.{Held, Never, Holds, IsAtLeast, updated, with_held}
 use Rattle.cyc_guard.proofs.Bools.{Told, same, other, told, has, updated_same, updated_true}
 
 abbrev pub is_full : List Fullness → ℕ → Bool

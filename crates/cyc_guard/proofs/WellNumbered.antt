@@ -4,7 +4,7 @@ use Rattle.cyc_types.specs.Types.{Ty}
 use Rattle.cyc_types.specs.Declarations.{declared_types, item_types}
 use Rattle.cyc_types.specs.TypedTrees.{Statement, Block, Empty, Evaluate, Swap, If, While, Return, Break, Continue, Throw, Try, Items, NoItems, MoreItems, Execute, Declare, DeclareRegion, OpenRegion, DeclareAlias, DeclareKey, Clauses, NoClauses, Default, Case, Function, Program}
 use Rattle.cyc_types.specs.typing.WellTyped.{LocalInScope, HasLocal, Context, behind, IsCaught, behind_clause, WellTypedStatement, WellTypedItems, WellTypedClauses, parameters_in_scope, body_context, AreWellTypedFunctions}
-use Rattle.cyc_guard.specs.Held.{updated, nowhere}
+use Rattle.cyc_guard.specs.inside.Held.{updated, nowhere}
 use Rattle.cyc_guard.proofs.Bools.{Told, same, other, told}
 use Rattle.cyc_guard.proofs.Numbers.{IsFresh, AreFresh, AreFreshClauses}
 use Rattle.cyc_guard.proofs.Whole.{AreAllFresh}

@@ -6,8 +6,8 @@ use Rattle.cyc_types.specs.TypedTrees.{Function}
 use Rattle.cyc_types.specs.Rules.{Derives, AllKept}
 use Rattle.cyc_types.specs.flow.States.{Vacant, Full, State, Unreached, Reached, is_vacant, is_reached}
 use Rattle.cyc_types.specs.flow.Programs.{each_is, start_of, in_function, end_demanded, rule_function, rule_functions}
-use Rattle.cyc_guard.specs.Held.{Never, nowhere, no_guard}
-use Rattle.cyc_guard.specs.Programs.{EndsIn, IsGuardedFunction, AreGuarded}
+use Rattle.cyc_guard.specs.inside.Held.{Never, nowhere, no_guard}
+use Rattle.cyc_guard.specs.inside.Programs.{EndsIn, IsGuardedFunction, AreGuarded}
 use Rattle.cyc_guard.proofs.States.{is_full, held_of, at_least_same}
 use Rattle.cyc_guard.proofs.Fitting.{FitsAt, FitsEach, leaves_none}
 use Rattle.cyc_guard.proofs.Numbers.{AreFresh}

@@ -1,5 +1,2 @@
--- The flow rules as a proof about runs takes them.
-pub mod Held
-pub mod Expressions
-pub mod Statements
-pub mod Programs
+-- What the functions of this crate promise each other and what its proofs say: no public contract of the product means it.
+pub mod inside

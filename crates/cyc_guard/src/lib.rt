@@ -5,7 +5,7 @@
 ghost use Rattle.cyc_types.specs.TypedTrees.{Program};
 ghost use Rattle.cyc_types.specs.typing.WellTyped.{IsWellTypedProgram};
 ghost use Rattle.cyc_types.specs.flow.Programs.{IsAllowedProgram};
-ghost use Rattle.cyc_guard.specs.Programs.{IsGuardedProgram};
+ghost use Rattle.cyc_guard.specs.inside.Programs.{IsGuardedProgram};
 
 /// A well typed tree that keeps the flow rules is guarded.
 pub fn allowed_programs_are_guarded()

@@ -4,7 +4,7 @@ use Rattle.std.proofs.lemmas.List.{append_assoc}
 use Rattle.cyc_syntax.specs.Trees.{Declaration, StructType, Exceptions, Global, Function}
 use Rattle.cyc_types.specs.typing.Scopes.{Field, Exception, Declared}
 use Rattle.cyc_types.specs.typing.Heads.{fields_of, exceptions_of, declared_from}
-use Rattle.cyc_heads.specs.Declaring.{State, behind_head, behind_heads, exceptions_made}
+use Rattle.cyc_heads.specs.inside.Declaring.{State, behind_head, behind_heads, exceptions_made}
 
 pub one_behind : (d : Declaration) (ds : List Declaration) (h : State) → behind_heads ds (behind_head d h) ≡ behind_heads (d ∷ ds) h
 one_behind (StructType s rs ms) ds h = ap (λ (fs : List (List Field)). record (behind_heads (StructType s rs ms ∷ ds) h) { fields = fs }) (append_assoc h.program.fields _ (fields_of h.program.known ds))

@@ -5,8 +5,8 @@ use Rattle.cyc_types.specs.TypedTrees as typed
 use Rattle.cyc_types.specs.Rules.{Checked, and_then, Part, gives, run}
 use Rattle.cyc_types.specs.typing.Heads.{rule_heads}
 use Rattle.cyc_types.specs.typing.Programs.{Program, known_of, before_all, program_known, program_of, rule_functions, check_of}
-use Rattle.cyc_heads.specs.Heads.{rule_main, heads_of}
-use Rattle.cyc_heads.specs.Parts.{program_made}
+use Rattle.cyc_heads.specs.inside.Heads.{rule_main, heads_of}
+use Rattle.cyc_heads.specs.inside.Parts.{program_made}
 
 regrouped : {A B C D : Type 0} (a : Checked A) (b : Checked B) (c : C) (next : C → Checked D) → and_then a (λ x. and_then b (λ y. next c)) ≡ and_then (and_then a (λ x. and_then b (λ y. Ok c))) next
 regrouped (Ok x) (Ok y) c next = refl

@@ -11,7 +11,7 @@ use Rattle.cyc_types.specs.typing.Scopes.{RegionName}
 use Rattle.cyc_types.specs.typing.Formation.{region_of, is_name_of, name_demanded}
 use Rattle.cyc_types.specs.typing.Heads.{has_key, without_keys, effect_of, effect_demanded}
 use Rattle.cyc_heads.specs.declared.keys.Keys.{Keys}
-use Rattle.cyc_heads.specs.KeyTables.{has, AreKeysOf, without, effect_by, effect_asked}
+use Rattle.cyc_heads.specs.inside.KeyTables.{has, AreKeysOf, without, effect_by, effect_asked}
 
 without_same : (k : Keys) (ts : List Ty) (m n : ℕ) → AreKeysOf k ts → without k m n ≡ without_keys ts m n
 without_same k ts zero n h = refl

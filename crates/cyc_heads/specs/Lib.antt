@@ -1,6 +1,2 @@
--- what `heads` answers, and what a program has besides its functions
-pub mod Heads
-pub mod Parts
--- what the functions inside the crate promise each other
-pub mod Declaring
-pub mod KeyTables
+-- What the functions of this crate promise each other and what its proofs say: no public contract of the product means it.
+pub mod inside

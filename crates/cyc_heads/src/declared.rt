@@ -1,11 +1,11 @@
 //! What the heads of a program declare.
 ghost use Rattle.std.specs.Prelude.{◌≡◌, suc, map, replicate, IfOk, OnOk, IfErr};
-ghost use Rattle.cyc_syntax.specs.TreeView.{view_declaration, view_constructor};
+ghost use Rattle.cyc_syntax.specs.inside.TreeView.{view_declaration, view_constructor};
 ghost use Rattle.cyc_types.specs.Types.{Int};
-ghost use Rattle.cyc_types.specs.SignatureView.{view_signature};
+ghost use Rattle.cyc_types.specs.inside.SignatureView.{view_signature};
 ghost use Rattle.cyc_types.specs.typing.Scopes.{signature_of_ints};
 ghost use Rattle.cyc_scope.specs.declared.stop.Stop.TheVariants.{Memory};
-ghost use Rattle.cyc_heads.specs.Declaring.{program_before, first_state, with_exceptions, behind_heads};
+ghost use Rattle.cyc_heads.specs.inside.Declaring.{program_before, first_state, with_exceptions, behind_heads};
 
 use crate::fields::fields_of;
 use crate::signatures::signature_of;
@@ -86,9 +86,9 @@ fn add_constructors(program: &mut Program, constructors: &[Constructor]) -> Resu
 
 impl Declared {
     ghost use Rattle.std.specs.Prelude.{◌≡◌, map, option_map, OnOk, IfErr};
-    ghost use Rattle.cyc_syntax.specs.TreeView.{view_name, view_type, view_member, view_parameters, view_declaration};
+    ghost use Rattle.cyc_syntax.specs.inside.TreeView.{view_name, view_type, view_member, view_parameters, view_declaration};
     ghost use Rattle.cyc_scope.specs.declared.stop.Stop.TheVariants.{Memory};
-    ghost use Rattle.cyc_heads.specs.Declaring.{state_of, with_struct, with_global, with_function, behind_head};
+    ghost use Rattle.cyc_heads.specs.inside.Declaring.{state_of, with_struct, with_global, with_function, behind_head};
 
     fn declare_struct(
         &mut self,

@@ -1,7 +1,7 @@
 //! What is wrong with a type as it is written.
 ghost use Rattle.std.specs.Prelude.{◌≡◌, Bool, not, map, option_map};
 ghost use Rattle.cyc_words.specs.declared.fault.Code.TheVariants as codes;
-ghost use Rattle.cyc_syntax.specs.TreeView.{place_of_span, view_name, view_base, view_pointer, view_type};
+ghost use Rattle.cyc_syntax.specs.inside.TreeView.{place_of_span, view_name, view_base, view_pointer, view_type};
 ghost use Rattle.cyc_types.specs.Rules.{demand, noted, settled as settle};
 ghost use Rattle.cyc_types.specs.typing.Formation.{is_name_of, name_demanded, names_demanded, is_count, struct_demanded, base_demanded, mark_demanded, marks_demanded, is_shape, type_demanded, is_key_base, field_demanded, is_global_shape, global_demanded};
 

@@ -1,10 +1,10 @@
 //! Names that differ from each other, and from those before.
 ghost use Rattle.std.specs.Prelude.{◌≡◌, ◌∷◌, not, map, OnOk};
 ghost use Rattle.cyc_words.specs.declared.fault.Code.TheVariants as codes;
-ghost use Rattle.cyc_syntax.specs.TreeView.{place_of_span, view_name, view_constructor};
+ghost use Rattle.cyc_syntax.specs.inside.TreeView.{place_of_span, view_name, view_constructor};
 ghost use Rattle.cyc_types.specs.Rules.{demand, demands, noted, run};
 ghost use Rattle.cyc_types.specs.typing.Heads.{is_among, distinct_demanded, rule_new, constructor_names, with_all};
-ghost use Rattle.cyc_scope.specs.Code.{Gives};
+ghost use Rattle.cyc_scope.specs.inside.Code.{Gives};
 
 use cyc_scope::{Settled, Stop};
 use cyc_syntax::{Constructor, Ident};

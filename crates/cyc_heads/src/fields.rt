@@ -1,8 +1,8 @@
 //! The fields of structs, by name and with their types.
 ghost use Rattle.std.specs.Prelude.{◌≡◌, map, IfOk};
-ghost use Rattle.cyc_syntax.specs.TreeView.{view_name, view_member};
+ghost use Rattle.cyc_syntax.specs.inside.TreeView.{view_name, view_member};
 ghost use Rattle.cyc_types.specs.typing.Heads.{parameter_names, fields_written};
-ghost use Rattle.cyc_scope.specs.Entries.{view_field};
+ghost use Rattle.cyc_scope.specs.inside.Entries.{view_field};
 
 use crate::structs::declare_parameters;
 use cyc_scope::Field;

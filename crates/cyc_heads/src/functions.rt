@@ -1,12 +1,12 @@
 //! The heads of functions.
 ghost use Rattle.std.specs.Prelude.{◌≡◌, ◌∷◌, ◌||◌, List, None, Some, nat_eq, not, map, option_map, OnOk};
-ghost use Rattle.cyc_syntax.specs.TreeView.{place_of_span, view_name, view_type, view_member, view_parameters, view_constraint};
+ghost use Rattle.cyc_syntax.specs.inside.TreeView.{place_of_span, view_name, view_type, view_member, view_parameters, view_constraint};
 ghost use Rattle.cyc_types.specs.Types.{Ty};
 ghost use Rattle.cyc_types.specs.Rules.{Part, demands, settled as settle, run};
 ghost use Rattle.cyc_types.specs.typing.Formation.{type_demanded};
 ghost use Rattle.cyc_types.specs.typing.Heads.{is_int_written, is_main_head, is_function_new, head_demanded, result_demanded, effect_demanded, constraints_demanded, rule_new, rule_parameters, rule_effect, rule_function_head};
-ghost use Rattle.cyc_scope.specs.Code.{Gives, Ends};
-ghost use Rattle.cyc_heads.specs.KeyTables.{effect_asked, AreKeysOf};
+ghost use Rattle.cyc_scope.specs.inside.Code.{Gives, Ends};
+ghost use Rattle.cyc_heads.specs.inside.KeyTables.{effect_asked, AreKeysOf};
 
 use crate::demands::{demand_name, demand_other, demand_type, is_name_of};
 use crate::distinct::check_new;

@@ -1,6 +1,6 @@
 //! The heads of globals, and their values at the start.
 ghost use Rattle.std.specs.Prelude.{◌≡◌, ◌∷◌, None, map, option_map, IfOk, OnOk};
-ghost use Rattle.cyc_syntax.specs.TreeView.{place_of_span, view_name, view_type, view_value, view_declaration};
+ghost use Rattle.cyc_syntax.specs.inside.TreeView.{place_of_span, view_name, view_type, view_value, view_declaration};
 ghost use Rattle.cyc_types.specs.TypeView.{view_ty};
 ghost use Rattle.cyc_types.specs.TypedTreeView.{view_constant, view_global};
 ghost use Rattle.cyc_types.specs.Rules.{settled as settle, run};
@@ -8,7 +8,7 @@ ghost use Rattle.cyc_types.specs.typing.Tests.{is_number, is_pointer, is_non_nul
 ghost use Rattle.cyc_types.specs.typing.Formation.{global_demanded};
 ghost use Rattle.cyc_types.specs.typing.Heads.{value_demanded, head_demanded, rule_global};
 ghost use Rattle.cyc_types.specs.typing.Programs.{word_of, constant_of, globals_of};
-ghost use Rattle.cyc_scope.specs.Code.{Gives, Ends};
+ghost use Rattle.cyc_scope.specs.inside.Code.{Gives, Ends};
 
 use crate::demands::demand_global;
 use cyc_scope::{Settled, Stop};

@@ -4,7 +4,7 @@ ghost use Rattle.cyc_types.specs.declared.region.Region.{Region};
 ghost use Rattle.cyc_types.specs.TypeView.{view_ty};
 ghost use Rattle.cyc_types.specs.typing.Formation.{is_key_of};
 ghost use Rattle.cyc_types.specs.typing.Heads.{has_key, and_result};
-ghost use Rattle.cyc_heads.specs.KeyTables.{has, AreKeysOf};
+ghost use Rattle.cyc_heads.specs.inside.KeyTables.{has, AreKeysOf};
 
 use cyc_types::{NameSet, Region, Ty};
 use std::alloc::{AllocError, Global};
@@ -23,7 +23,7 @@ impl Keys {
     ghost use Rattle.cyc_types.specs.declared.region.Region.{Region};
     ghost use Rattle.cyc_types.specs.TypeView.{view_ty};
     ghost use Rattle.cyc_types.specs.typing.Formation.{is_key_of};
-    ghost use Rattle.cyc_heads.specs.KeyTables.{has};
+    ghost use Rattle.cyc_heads.specs.inside.KeyTables.{has};
 
     fn new(alloc: Global) -> Keys
         ensures { (r : Region) → has result r ≡ false }

@@ -1,15 +1,15 @@
 //! A typed program: what its heads declare, with the bodies of its functions.
 ghost use Rattle.std.specs.Prelude.{◌≡◌, ◌++◌, List, map, IfOk, OnOk};
-ghost use Rattle.cyc_syntax.specs.TreeView.{view_declaration, view_constructor};
+ghost use Rattle.cyc_syntax.specs.inside.TreeView.{view_declaration, view_constructor};
 ghost use Rattle.cyc_types.specs.TypeView.{view_ty};
 ghost use Rattle.cyc_types.specs.TypedTrees.{Function};
 ghost use Rattle.cyc_types.specs.TypedTreeView as typed_view;
 ghost use Rattle.cyc_types.specs.typing.Scopes.{Field as FieldValue, Exception};
 ghost use Rattle.cyc_types.specs.typing.Heads.{structs_of, fields_of, exceptions_of};
 ghost use Rattle.cyc_types.specs.typing.Programs.{function_number, struct_types};
-ghost use Rattle.cyc_scope.specs.Entries.{view_field};
-ghost use Rattle.cyc_heads.specs.Declaring.{exceptions_made};
-ghost use Rattle.cyc_heads.specs.Parts.{program_with, program_made};
+ghost use Rattle.cyc_scope.specs.inside.Entries.{view_field};
+ghost use Rattle.cyc_heads.specs.inside.Declaring.{exceptions_made};
+ghost use Rattle.cyc_heads.specs.inside.Parts.{program_with, program_made};
 
 use crate::fields::fields_of;
 use crate::globals::globals_of;
@@ -124,7 +124,7 @@ pub fn parts_of(
 impl Parts {
     ghost use Rattle.std.specs.Prelude.{◌≡◌, map};
     ghost use Rattle.cyc_types.specs.TypedTreeView.{view_function, view_program};
-    ghost use Rattle.cyc_heads.specs.Parts.{program_with};
+    ghost use Rattle.cyc_heads.specs.inside.Parts.{program_with};
 
     /// The program of these functions.
     pub fn with_functions(self, functions: Vec<typed::Function>) -> TypedTree

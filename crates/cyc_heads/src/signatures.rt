@@ -1,12 +1,12 @@
 //! What a caller knows of a function, as its head says it.
 ghost use Rattle.std.specs.Prelude.{◌≡◌, pred, map, option_map, IfOk, OnOk};
-ghost use Rattle.cyc_syntax.specs.TreeView.{view_name, view_type, view_member, view_parameters, view_constraint};
+ghost use Rattle.cyc_syntax.specs.inside.TreeView.{view_name, view_type, view_member, view_parameters, view_constraint};
 ghost use Rattle.cyc_types.specs.declared.region.Region.TheVariants.{Heap};
 ghost use Rattle.cyc_types.specs.TypeView.{view_ty};
-ghost use Rattle.cyc_types.specs.SignatureView.{view_signature};
+ghost use Rattle.cyc_types.specs.inside.SignatureView.{view_signature};
 ghost use Rattle.cyc_types.specs.typing.Formation.{region_of};
 ghost use Rattle.cyc_types.specs.typing.Heads.{members_of, parameter_naming, parameter_types, result_written, and_result, effect_of, constraints_of, signature_of};
-ghost use Rattle.cyc_heads.specs.KeyTables.{AreKeysOf, without, effect_by};
+ghost use Rattle.cyc_heads.specs.inside.KeyTables.{AreKeysOf, without, effect_by};
 
 use crate::keys::{Keys, keys_of};
 use cyc_syntax::{Constraint, Ident, Member, ParameterList, Parameters, WrittenType};
@@ -55,10 +55,10 @@ fn result_written(
 
 impl HeadTypes {
     ghost use Rattle.std.specs.Prelude.{◌≡◌, pred, map, option_map, IfOk, OnOk};
-    ghost use Rattle.cyc_syntax.specs.TreeView.{view_type, view_parameters};
+    ghost use Rattle.cyc_syntax.specs.inside.TreeView.{view_type, view_parameters};
     ghost use Rattle.cyc_types.specs.TypeView.{view_ty};
     ghost use Rattle.cyc_types.specs.typing.Heads.{parameter_naming, parameter_types, result_written, and_result};
-    ghost use Rattle.cyc_heads.specs.KeyTables.{AreKeysOf};
+    ghost use Rattle.cyc_heads.specs.inside.KeyTables.{AreKeysOf};
 
     /// The types in a head. Then the names are those that its parameters know, and nothing else.
     pub(crate) fn new(

@@ -1,10 +1,10 @@
 //! The heads of structs.
 ghost use Rattle.std.specs.Prelude.{◌≡◌, ◌∷◌, map, OnOk};
-ghost use Rattle.cyc_syntax.specs.TreeView.{view_name, view_member};
+ghost use Rattle.cyc_syntax.specs.inside.TreeView.{view_name, view_member};
 ghost use Rattle.cyc_types.specs.Rules.{Part, demands, run};
 ghost use Rattle.cyc_types.specs.typing.Formation.{field_demanded};
 ghost use Rattle.cyc_types.specs.typing.Heads.{parameter_names, rule_new, rule_fields, rule_struct};
-ghost use Rattle.cyc_scope.specs.Code.{Gives};
+ghost use Rattle.cyc_scope.specs.inside.Code.{Gives};
 
 use crate::demands::demand_field;
 use crate::distinct::{check_distinct, check_new};

@@ -1,12 +1,12 @@
 //! The heads of all declarations: whether they are well formed, and what they declare.
 ghost use Rattle.std.specs.Prelude.{◌≡◌, map, IfOk};
 ghost use Rattle.cyc_syntax.specs.Names.{number_of};
-ghost use Rattle.cyc_syntax.specs.TreeView.{view_declaration};
+ghost use Rattle.cyc_syntax.specs.inside.TreeView.{view_declaration};
 ghost use Rattle.cyc_types.specs.Rules.{run};
 ghost use Rattle.cyc_types.specs.typing.Heads.{declares, rule_heads};
 ghost use Rattle.cyc_types.specs.typing.Programs.{known_of, before_all};
-ghost use Rattle.cyc_scope.specs.Code.{Gives};
-ghost use Rattle.cyc_heads.specs.Heads.{rule_main, heads_of};
+ghost use Rattle.cyc_scope.specs.inside.Code.{Gives};
+ghost use Rattle.cyc_heads.specs.inside.Heads.{rule_main, heads_of};
 
 use crate::declared::program_declared;
 use crate::distinct::check_constructors;
@@ -49,11 +49,11 @@ impl Model for Before {
 
 impl Before {
     ghost use Rattle.std.specs.Prelude.{◌≡◌, IfOk, OnOk};
-    ghost use Rattle.cyc_syntax.specs.TreeView.{view_declaration};
+    ghost use Rattle.cyc_syntax.specs.inside.TreeView.{view_declaration};
     ghost use Rattle.cyc_types.specs.Rules.{run};
     ghost use Rattle.cyc_types.specs.typing.Heads.{rule_head, after_head};
     ghost use Rattle.cyc_types.specs.typing.Programs.{before_all};
-    ghost use Rattle.cyc_scope.specs.Code.{Gives};
+    ghost use Rattle.cyc_scope.specs.inside.Code.{Gives};
 
     /// What is declared before a program.
     fn new(alloc: Global, names: &Names) -> Result<Before, AllocError>

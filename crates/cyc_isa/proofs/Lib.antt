@@ -14,3 +14,6 @@ pub mod TextLemmas
 pub mod EffectLemmas
 -- which registers are set
 pub mod UseLemmas
+-- worked examples, by computation
+mod Examples
+mod UseExamples

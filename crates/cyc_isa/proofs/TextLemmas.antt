@@ -1,7 +1,7 @@
 -- Texts that are written in parts.
 use Rattle.std.proofs.Common.{◌≡◌, ℕ, List, ◌++◌, Option, Result, Ok, Err, IsErr, subst}
 use Rattle.std.specs.Io.KnownBytes.{Appends}
-use Rattle.cyc_words.specs.Prefix.{IsPrefix}
+use Rattle.cyc_words.specs.Seen.{IsPrefix}
 use Rattle.cyc_words.specs.Device.{TakesText}
 use Rattle.cyc_words.proofs.DeviceLemmas.{TakesText-append, TakesText-fails}
 

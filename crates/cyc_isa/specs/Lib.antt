@@ -8,8 +8,5 @@ pub mod Text
 pub mod Effect
 -- and which registers it reads and sets
 pub mod Uses
--- what the functions inside the crate promise each other
-pub mod Operand
--- worked examples, which nothing cites
-mod Examples
-mod UseExamples
+-- What the functions of this crate promise each other and what its proofs say: no public contract of the product means it.
+pub mod inside

@@ -5,7 +5,7 @@ ghost use Rattle.cyc_words.specs.Word.{sign_extended};
 ghost use Rattle.cyc_words.specs.Device.{TakesText};
 ghost use Rattle.cyc_isa.specs.Effect.{branch_target, jump_target};
 ghost use Rattle.cyc_isa.specs.Text.{hex_digit_of, hex_digits_of, address_text, based_text, immediate_text, text_of, line};
-ghost use Rattle.cyc_isa.specs.Operand.{operand_text};
+ghost use Rattle.cyc_isa.specs.inside.Operand.{operand_text};
 
 use crate::instr::{ImmediateOp, Instr};
 use crate::operand::{JumpIndex, Register};

@@ -12,7 +12,7 @@ use Rattle.cyc_syntax.specs.Spelling.{Piece, Lexeme, OpenComment, Spells}
 use Rattle.cyc_syntax.specs.Tokens.{Kind, Number, Token, kind_of, token_of}
 use Rattle.cyc_syntax.specs.TokenRule.{IsRead, Part, IsCut, bytes_of, part_tokens, tokens_of, IsSmall, IsWithinLimits, line_behind, column_behind, max_tokens, max_number}
 use Rattle.cyc_syntax.proofs.CutLemmas.{piece_nonempty, one_part, cuts_meet, no_more, one_token_list, tokens_of-append}
-use Rattle.cyc_lex.specs.Found.{IsFound}
+use Rattle.cyc_lex.specs.inside.Found.{IsFound}
 use Rattle.cyc_lex.specs.Refusals.{Begins, FailsHere, Holds, IsFirstFault, IsRefused, IsAccepted}
 use Rattle.cyc_lex.proofs.LexLemmas.{IsReadUpTo}
 

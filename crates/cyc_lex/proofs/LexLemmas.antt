@@ -14,9 +14,9 @@ use Rattle.cyc_syntax.specs.Tokens.{kind_of, token_of}
 use Rattle.cyc_syntax.specs.TokenRule.{IsRead, Part, IsCut, bytes_of, part_tokens, tokens_of, IsSmall, IsWithinLimits, LiesIn, line_behind, column_behind, max_tokens}
 use Rattle.cyc_syntax.proofs.PieceLemmas.{AtSpace, start_of}
 use Rattle.cyc_syntax.proofs.CutLemmas.{piece_nonempty, IsCut-push, bytes_of-push, tokens_of-append}
-use Rattle.cyc_lex.specs.Found.{IsReadAs, IsFound}
+use Rattle.cyc_lex.specs.inside.Found.{IsReadAs, IsFound}
 use Rattle.cyc_lex.proofs.ShapeLemmas.{read_at}
-use Rattle.cyc_syntax.specs.Place.{IsBehind}
+use Rattle.cyc_syntax.specs.inside.Place.{IsBehind}
 
 -- a piece that was found has bytes
 pub found_some : (text : List ℕ) (kind : Option TokenKind) (len : ℕ) → IsFound text kind len → 0 < len

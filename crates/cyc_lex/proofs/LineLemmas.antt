@@ -7,7 +7,7 @@ use Rattle.std.proofs.lemmas.List.{append_assoc}
 use Rattle.cyc_words.specs.declared.span.Span.{Span}
 use Rattle.cyc_syntax.specs.declared.tokens.Sign.{Sign}
 use Rattle.cyc_syntax.specs.declared.tokens.Sign.TheVariants as signs
-use Rattle.cyc_syntax.specs.Place.{IsBehind}
+use Rattle.cyc_syntax.specs.inside.Place.{IsBehind}
 use Rattle.cyc_syntax.specs.Spelling.{is_line_feed, is_digit, is_hex_digit, is_name_byte, is_name, is_decimal, is_hexadecimal, is_plain, escaped, keyword_text, sign_text, SpellsToken}
 use Rattle.cyc_syntax.specs.TokenRule.{line_behind, column_behind}
 use Rattle.cyc_syntax.specs.Tokens.{Kind, Identifier, RegionName, Number, Character, Word, Mark}

@@ -9,7 +9,7 @@ use Rattle.cyc_syntax.specs.declared.tokens.TokenKind.TheVariants as kinds
 use Rattle.cyc_syntax.specs.Spelling.{is_letter, is_name_byte, is_name, keyword_text, Lexeme}
 use Rattle.cyc_syntax.specs.Tokens.{Identifier, Word}
 use Rattle.cyc_syntax.proofs.PieceLemmas.{AtName, AtRegion, start_of}
-use Rattle.cyc_lex.specs.Found.{IsFound}
+use Rattle.cyc_lex.specs.inside.Found.{IsFound}
 use Rattle.cyc_lex.proofs.ShapeLemmas.{Shape, read_at, run_passes, run_bound}
 
 -- a name is of name bytes

@@ -14,7 +14,7 @@ use Rattle.cyc_syntax.specs.Spelling.{is_between, is_digit, is_hex_digit, is_dec
 use Rattle.cyc_syntax.specs.Tokens.{Number}
 use Rattle.cyc_syntax.specs.TokenRule.{IsRead, max_number}
 use Rattle.cyc_syntax.proofs.PieceLemmas.{AtNumber, start_of, digit_starts, leading_digit}
-use Rattle.cyc_lex.specs.Found.{IsFound}
+use Rattle.cyc_lex.specs.inside.Found.{IsFound}
 use Rattle.cyc_lex.specs.Refusals.{FailsHere}
 use Rattle.cyc_lex.proofs.ShapeLemmas.{Shape, read_at, run_passes, run_bound}
 

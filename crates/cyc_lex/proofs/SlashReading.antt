@@ -11,7 +11,7 @@ use Rattle.cyc_syntax.specs.declared.tokens.TokenKind.TheVariants as kinds
 use Rattle.cyc_syntax.specs.Spelling.{is_letter, is_digit, is_space, is_line_feed, sign_text, HasNoClose, Lexeme, Comment}
 use Rattle.cyc_syntax.specs.Tokens.{Mark}
 use Rattle.cyc_syntax.proofs.PieceLemmas.{AtSlash, AtSign, start_of}
-use Rattle.cyc_lex.specs.Found.{IsFound}
+use Rattle.cyc_lex.specs.inside.Found.{IsFound}
 use Rattle.cyc_lex.specs.Refusals.{FailsHere}
 use Rattle.cyc_lex.proofs.ShapeLemmas.{Shape, read_at, run_passes, run_bound}
 

@@ -1,5 +1,4 @@
 -- what the contract of `lex` rests on
 pub mod Refusals
--- what the functions inside the crate promise each other
-pub mod Beginnings
-pub mod Found
+-- What the functions of this crate promise each other and what its proofs say: no public contract of the product means it.
+pub mod inside

@@ -1,7 +1,7 @@
 //! Reading one piece: the longest token, space or comment at the head of a text.
 ghost use Rattle.std.specs.Prelude.{◌≡◌, ℕ, ◌<◌, ◌≤◌, true, Some, None, length, take, All, IfOk, IfErr, slice_index};
 ghost use Rattle.cyc_syntax.specs.Spelling as spec;
-ghost use Rattle.cyc_lex.specs.Found.{IsFound};
+ghost use Rattle.cyc_lex.specs.inside.Found.{IsFound};
 ghost use Rattle.cyc_lex.specs.Refusals.{FailsHere};
 
 use crate::classes::{escaped, is_hex_digit, is_letter, is_plain, is_space};

@@ -3,7 +3,7 @@ ghost use Rattle.std.specs.Prelude.{◌≡◌, ◌≢◌, ◌≤◌, List, ℕ, 
 ghost use Rattle.cyc_syntax.specs.declared.tokens.Keyword.{Keyword};
 ghost use Rattle.cyc_syntax.specs.declared.tokens.Sign.{Sign};
 ghost use Rattle.cyc_syntax.specs.Spelling as spec;
-ghost use Rattle.cyc_lex.specs.Beginnings as beginnings;
+ghost use Rattle.cyc_lex.specs.inside.Beginnings as beginnings;
 
 use cyc_syntax::{Keyword, Sign};
 

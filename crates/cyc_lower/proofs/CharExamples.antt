@@ -17,11 +17,11 @@ use Rattle.cyc_plain.specs.declared.instruction.BinaryOperator.TheVariants as pl
 use Rattle.cyc_plain.specs.declared.instruction.Comparison.TheVariants as comparisons
 use Rattle.cyc_store.specs.State as stores
 use Rattle.cyc_store.specs.declared.range.TheConstants.{HEAP, STORE_BASE}
-use Rattle.cyc_plain.specs.State.{status_of}
-use Rattle.cyc_plain.specs.Step.{Choice, run, start}
+use Rattle.cyc_plain.specs.inside.State.{status_of}
+use Rattle.cyc_plain.specs.inside.Step.{Choice, run, start}
 use Rattle.cyc_plain.proofs.RunLaws.{zeros}
-use Rattle.cyc_lower.specs.Slots.{starts_from, global_types}
-use Rattle.cyc_lower.specs.Lowering.{function_code, lower_program, lower_globals}
+use Rattle.cyc_lower.specs.inside.Slots.{starts_from, global_types}
+use Rattle.cyc_lower.specs.inside.Lowering.{function_code, lower_program, lower_globals}
 use Rattle.cyc_lower.proofs.Examples.{nowhere, int, local, two, all, returns, function, ends, fat_global}
 
 -- ---- trees

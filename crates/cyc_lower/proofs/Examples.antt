@@ -23,16 +23,16 @@ use Rattle.cyc_plain.specs.declared.instruction.Comparison.TheVariants as compar
 use Rattle.cyc_words.specs.Simulation.{Status, Ended}
 use Rattle.cyc_words.specs.Simulation as simulation
 use Rattle.cyc_store.specs.State as stores
-use Rattle.cyc_plain.specs.State.{State, output_of, status_of}
-use Rattle.cyc_plain.specs.Step.{run, start}
+use Rattle.cyc_plain.specs.inside.State.{State, output_of, status_of}
+use Rattle.cyc_plain.specs.inside.Step.{run, start}
 use Rattle.cyc_plain.proofs.RunLaws.{zeros}
 use Rattle.cyc_meaning.specs.State.{status_of as status_of_source}
 use Rattle.cyc_meaning.specs.Run.{limited_run}
 use Rattle.cyc_meaning.specs.FrameCount.{frame_count, expression_need}
-use Rattle.cyc_lower.specs.ValueCode.{jump_if_zero, jump_if_nonzero, blocks}
-use Rattle.cyc_lower.specs.Lowering.{function_code, lower_program, lower_globals}
+use Rattle.cyc_lower.specs.inside.ValueCode.{jump_if_zero, jump_if_nonzero, blocks}
+use Rattle.cyc_lower.specs.inside.Lowering.{function_code, lower_program, lower_globals}
 use Rattle.cyc_meaning.specs.SourceMachine.{status_in}
-use Rattle.cyc_lower.specs.Slots.{starts_from, global_types}
+use Rattle.cyc_lower.specs.inside.Slots.{starts_from, global_types}
 
 -- ---- trees
 

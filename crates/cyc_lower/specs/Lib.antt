@@ -1,12 +1,2 @@
--- what the contract of `lower` rests on
-pub mod Lowered
-pub mod Words
-pub mod Lowerable
--- what the functions inside the crate promise each other
-pub mod ValueCode
-pub mod ObjectCode
-pub mod ControlCode
-pub mod ExpressionCode
-pub mod Lowering
-pub mod Slots
-pub mod Emission
+-- What the functions of this crate promise each other and what its proofs say: no public contract of the product means it.
+pub mod inside

@@ -1,7 +1,7 @@
 //! Checks, and the blocks that raise an exception where one fails.
 ghost use Rattle.std.specs.Prelude.{◌≡◌};
-ghost use Rattle.cyc_lower.specs.ValueCode.{raising, blocks, guard_code, check_code};
-ghost use Rattle.cyc_lower.specs.Emission.{Appends, view_starts};
+ghost use Rattle.cyc_lower.specs.inside.ValueCode.{raising, blocks, guard_code, check_code};
+ghost use Rattle.cyc_lower.specs.inside.Emission.{Appends, view_starts};
 
 use crate::emitter::Emitter;
 use crate::starts::Starts;

@@ -1,9 +1,9 @@
 //! The code of conditions: two operands that are compared, before a jump that is taken where the condition fails.
 ghost use Rattle.std.specs.Prelude.{◌≡◌, ◌≤◌, ◌+◌, length};
 ghost use Rattle.cyc_types.specs.TypedTreeView.{view_expression, operations_of};
-ghost use Rattle.cyc_lower.specs.ControlCode.{is_same, all_test, are_tests};
-ghost use Rattle.cyc_lower.specs.Lowering.{condition_of, condition_code, tests_code, last_condition, behind_tests, choice_of, choice_code};
-ghost use Rattle.cyc_lower.specs.Emission.{Gives, most_locals, value_code, IsChain, is_test, other_code, other_condition, zero_condition, view_starts};
+ghost use Rattle.cyc_lower.specs.inside.ControlCode.{is_same, all_test, are_tests};
+ghost use Rattle.cyc_lower.specs.inside.Lowering.{condition_of, condition_code, tests_code, last_condition, behind_tests, choice_of, choice_code};
+ghost use Rattle.cyc_lower.specs.inside.Emission.{Gives, most_locals, value_code, IsChain, is_test, other_code, other_condition, zero_condition, view_starts};
 
 use crate::emitter::Emitter;
 use crate::operands::{Condition, slot_behind};

@@ -1,10 +1,10 @@
 //! Code that is being made.
 ghost use Rattle.std.specs.Prelude.{◌≡◌, ◌<◌, [], ◌∷◌, ◌++◌, length, set, take, IfOk};
 ghost use Rattle.cyc_types.specs.TypedTreeView.{view_lvalue};
-ghost use Rattle.cyc_lower.specs.ControlCode.{failing_jump};
-ghost use Rattle.cyc_lower.specs.ExpressionCode.{load_code};
-ghost use Rattle.cyc_lower.specs.Lowering.{target_of, farthest};
-ghost use Rattle.cyc_lower.specs.Emission.{Appends, view_starts};
+ghost use Rattle.cyc_lower.specs.inside.ControlCode.{failing_jump};
+ghost use Rattle.cyc_lower.specs.inside.ExpressionCode.{load_code};
+ghost use Rattle.cyc_lower.specs.inside.Lowering.{target_of, farthest};
+ghost use Rattle.cyc_lower.specs.inside.Emission.{Appends, view_starts};
 
 use crate::globals::global_of;
 use crate::locals::slot_of;

@@ -7,12 +7,12 @@ ghost use Rattle.cyc_types.specs.TypedTrees.{Call};
 ghost use Rattle.cyc_meaning.specs.Values.{words_of_kind};
 ghost use Rattle.cyc_plain.specs.declared.instruction.Operand.TheVariants as operands;
 ghost use Rattle.cyc_plain.specs.declared.instruction.Instruction.TheVariants as instructions;
-ghost use Rattle.cyc_lower.specs.ValueCode.{operand_or, check_code, conversion_code, divisor_code, operator_code, truth_code, copy_code, all_passed, first_two, index_code, pointer_instructions, address_code, addressed_by, reached_operand, code_unless_slot, span_of};
-ghost use Rattle.cyc_lower.specs.ObjectCode.{elements_code, last_element, saved_code};
-ghost use Rattle.cyc_lower.specs.ExpressionCode.{operand_of, left_of, left_slot, value_operand, converted_operand, printed_operand, expression_code, arguments_code, brought_code, converted_operand_code, printed_code, initial_code, operations_code, made_code, place_operand, place_offset, place_code, pointer_of, pointer_slot};
-ghost use Rattle.cyc_lower.specs.Lowering.{assignment_code, assigned_operand, discarded_code};
-ghost use Rattle.cyc_lower.specs.Slots.{with_counter};
-ghost use Rattle.cyc_lower.specs.Emission.{Appends, Gives, most_locals, value_code, source_code, slot_code, print_code, converted_slot, converted_slot_code, left_code, operation_code, view_starts, pointer_operation_code};
+ghost use Rattle.cyc_lower.specs.inside.ValueCode.{operand_or, check_code, conversion_code, divisor_code, operator_code, truth_code, copy_code, all_passed, first_two, index_code, pointer_instructions, address_code, addressed_by, reached_operand, code_unless_slot, span_of};
+ghost use Rattle.cyc_lower.specs.inside.ObjectCode.{elements_code, last_element, saved_code};
+ghost use Rattle.cyc_lower.specs.inside.ExpressionCode.{operand_of, left_of, left_slot, value_operand, converted_operand, printed_operand, expression_code, arguments_code, brought_code, converted_operand_code, printed_code, initial_code, operations_code, made_code, place_operand, place_offset, place_code, pointer_of, pointer_slot};
+ghost use Rattle.cyc_lower.specs.inside.Lowering.{assignment_code, assigned_operand, discarded_code};
+ghost use Rattle.cyc_lower.specs.inside.Slots.{with_counter};
+ghost use Rattle.cyc_lower.specs.inside.Emission.{Appends, Gives, most_locals, value_code, source_code, slot_code, print_code, converted_slot, converted_slot_code, left_code, operation_code, view_starts, pointer_operation_code};
 
 use crate::checks::{DIVISION_BY_ZERO, NULL_EXCEPTION};
 use crate::emitter::Emitter;

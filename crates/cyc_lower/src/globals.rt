@@ -3,10 +3,10 @@ ghost use Rattle.std.specs.Prelude.{◌≡◌, ◌≤◌, ◌++◌, map, IfOk};
 ghost use Rattle.cyc_types.specs.TypedTreeView.{view_constant, view_global};
 ghost use Rattle.cyc_meaning.specs.FrameCount.{words_of_all};
 ghost use Rattle.cyc_plain.specs.declared.limits.TheConstants.{MOST_GLOBALS};
-ghost use Rattle.cyc_lower.specs.Slots.{global_of, global_types, starts_from};
-ghost use Rattle.cyc_lower.specs.ValueCode.{global_code, load_word, store_word, word_by_word};
-ghost use Rattle.cyc_lower.specs.Lowering.{initial_word, lower_global, lower_globals};
-ghost use Rattle.cyc_lower.specs.Emission.{Appends, view_starts};
+ghost use Rattle.cyc_lower.specs.inside.Slots.{global_of, global_types, starts_from};
+ghost use Rattle.cyc_lower.specs.inside.ValueCode.{global_code, load_word, store_word, word_by_word};
+ghost use Rattle.cyc_lower.specs.inside.Lowering.{initial_word, lower_global, lower_globals};
+ghost use Rattle.cyc_lower.specs.inside.Emission.{Appends, view_starts};
 
 use crate::emitter::Emitter;
 use crate::operands::MOST_SLOTS;

@@ -4,7 +4,7 @@ ghost use Rattle.std.specs.Prelude.{◌≡◌, ℕ, ◌+◌, ◌<◌, ◌≤◌,
 ghost use Rattle.std.specs.List.{AllByRecursion};
 ghost use Rattle.cyc_types.specs.Types.{Ty, words_of};
 ghost use Rattle.cyc_meaning.specs.FrameCount.{words_of_all};
-ghost use Rattle.cyc_lower.specs.Slots.{slot_in};
+ghost use Rattle.cyc_lower.specs.inside.Slots.{slot_in};
 
 /// The slots of locals of any types are apart and in order, and none is left out between them, before the first temporary, or
 /// behind the parameters. Where each local has one word, its slot is its number.

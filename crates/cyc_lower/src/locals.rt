@@ -6,10 +6,10 @@ ghost use Rattle.cyc_types.specs.TypedTreeView.{view_function};
 ghost use Rattle.cyc_words.specs.Word.{add_of};
 ghost use Rattle.cyc_meaning.specs.Values.{kind_of, bytes_of_kind};
 ghost use Rattle.cyc_meaning.specs.FrameCount.{words_of_all, frame_count};
-ghost use Rattle.cyc_lower.specs.Slots.{starts_from, begins_word, field_from, field_of, slot_of, counter_of};
-ghost use Rattle.cyc_lower.specs.ValueCode.{slot_types, first_temporary};
-ghost use Rattle.cyc_frame_count.specs.Needs.{most_frame_count};
-ghost use Rattle.cyc_lower.specs.Emission.{view_starts};
+ghost use Rattle.cyc_lower.specs.inside.Slots.{starts_from, begins_word, field_from, field_of, slot_of, counter_of};
+ghost use Rattle.cyc_lower.specs.inside.ValueCode.{slot_types, first_temporary};
+ghost use Rattle.cyc_frame_count.specs.inside.Needs.{most_frame_count};
+ghost use Rattle.cyc_lower.specs.inside.Emission.{view_starts};
 
 use crate::operands::{bytes_of_kind, kind_of};
 use crate::starts::Starts;

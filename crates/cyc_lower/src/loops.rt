@@ -1,7 +1,7 @@
 //! Where a loop begins. A condition with little code stands in front of the loop too, so that nothing goes to the one behind its body from afar.
 ghost use Rattle.std.specs.Prelude.{◌≡◌, ◌≤◌, ◌<◌, ◌+◌, length};
 ghost use Rattle.cyc_types.specs.TypedTreeView.{view_expression};
-ghost use Rattle.cyc_lower.specs.Emission.{Appends, most_locals, view_starts, begun_loop, entered_loop};
+ghost use Rattle.cyc_lower.specs.inside.Emission.{Appends, most_locals, view_starts, begun_loop, entered_loop};
 
 use crate::emitter::Emitter;
 use crate::operands::is_guard;

@@ -2,9 +2,9 @@
 ghost use Rattle.std.specs.Prelude.{◌≡◌, [], ◌∷◌, ◌+◌, ◌^◌, ◌<◌, ◌≤◌, length, IfOk};
 ghost use Rattle.cyc_types.specs.TypedTreeView.{arguments_of};
 ghost use Rattle.cyc_meaning.specs.Values.{words_of_kind, bytes_from};
-ghost use Rattle.cyc_lower.specs.ValueCode.{kinds_passed};
-ghost use Rattle.cyc_lower.specs.ObjectCode.{asked_code, begun_code, cells_code, free_code, last_element, measured_code, most_elements, object_code, restarted_code, sized_code, slots_of_kinds, stores_code, written_code};
-ghost use Rattle.cyc_lower.specs.Emission.{Appends, most_locals, view_starts};
+ghost use Rattle.cyc_lower.specs.inside.ValueCode.{kinds_passed};
+ghost use Rattle.cyc_lower.specs.inside.ObjectCode.{asked_code, begun_code, cells_code, free_code, last_element, measured_code, most_elements, object_code, restarted_code, sized_code, slots_of_kinds, stores_code, written_code};
+ghost use Rattle.cyc_lower.specs.inside.Emission.{Appends, most_locals, view_starts};
 
 use crate::checks::ARRAY_SIZE;
 use crate::emitter::Emitter;

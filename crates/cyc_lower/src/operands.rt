@@ -6,10 +6,10 @@ ghost use Rattle.cyc_types.specs.TypedTrees.{type_of_place};
 ghost use Rattle.cyc_types.specs.TypeView.{view_ty, view_value_type};
 ghost use Rattle.cyc_meaning.specs.Parts.{target_of, target_of_value};
 ghost use Rattle.cyc_meaning.specs.Values.{is_thin, kind_of, words_of_kind, bytes_of_kind};
-ghost use Rattle.cyc_lower.specs.ValueCode.{kind_behind, reached_operand, span_in, span_of, is_in, index_of, masks, keeps_words, converts_there, variable_bytes};
-ghost use Rattle.cyc_lower.specs.ExpressionCode.{are_simple, is_simple, operand_of, pointer_of, value_slot};
-ghost use Rattle.cyc_lower.specs.Lowering.{is_light_place, is_light, is_light_comparison, compares_light, is_guard};
-ghost use Rattle.cyc_lower.specs.Emission.{is_simple_chain, most_locals, takes_operand, view_starts};
+ghost use Rattle.cyc_lower.specs.inside.ValueCode.{kind_behind, reached_operand, span_in, span_of, is_in, index_of, masks, keeps_words, converts_there, variable_bytes};
+ghost use Rattle.cyc_lower.specs.inside.ExpressionCode.{are_simple, is_simple, operand_of, pointer_of, value_slot};
+ghost use Rattle.cyc_lower.specs.inside.Lowering.{is_light_place, is_light, is_light_comparison, compares_light, is_guard};
+ghost use Rattle.cyc_lower.specs.inside.Emission.{is_simple_chain, most_locals, takes_operand, view_starts};
 
 use crate::locals::slot_of;
 use crate::operators::failing_comparison;

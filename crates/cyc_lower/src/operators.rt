@@ -1,8 +1,8 @@
 //! What operators become.
 ghost use Rattle.std.specs.Prelude.{◌≡◌, ◌≤◌};
-ghost use Rattle.cyc_lower.specs.ValueCode.{low_byte, unary_instruction, binary_operator, left_kind, pointer_operator, failing_comparison, move_of, jump_if_zero, jump_if_nonzero, test_jump, scale_of, load_of, store_of};
-ghost use Rattle.cyc_lower.specs.ControlCode.{opposite, negated_condition, failing_jump, holding_jump, deciding_jump, tag_operand, other_jump, goes_on};
-ghost use Rattle.cyc_lower.specs.Emission.{most_locals};
+ghost use Rattle.cyc_lower.specs.inside.ValueCode.{low_byte, unary_instruction, binary_operator, left_kind, pointer_operator, failing_comparison, move_of, jump_if_zero, jump_if_nonzero, test_jump, scale_of, load_of, store_of};
+ghost use Rattle.cyc_lower.specs.inside.ControlCode.{opposite, negated_condition, failing_jump, holding_jump, deciding_jump, tag_operand, other_jump, goes_on};
+ghost use Rattle.cyc_lower.specs.inside.Emission.{most_locals};
 
 use crate::operands::Condition;
 use cyc_plain::{BinaryOperator, Comparison, Instruction, Operand, UnaryOperator};

@@ -6,7 +6,7 @@ ghost use Rattle.cyc_types.specs.typing.WellTyped.{IsWellTypedProgram};
 ghost use Rattle.cyc_types.specs.Weight.{program_weight};
 ghost use Rattle.cyc_types.specs.TypedTreeView.{view_program};
 ghost use Rattle.cyc_meaning.specs.Sizes.{HasTooMany};
-ghost use Rattle.cyc_lower.specs.Lowered.{CanBeLowered, IsAccepted, IsLowered};
+ghost use Rattle.cyc_lower.specs.inside.Lowered.{CanBeLowered, IsAccepted, IsLowered};
 
 use crate::functions::lower_tree;
 use crate::limits::MOST_FUNCTIONS;

@@ -1,7 +1,7 @@
 //! The code of regions: handles are words, and the marks by which lexical regions are closed stand in slots.
 ghost use Rattle.std.specs.Prelude.{◌≡◌, ◌+◌, ◌≤◌, IfOk, length};
-ghost use Rattle.cyc_lower.specs.ControlCode.{behind_record, closed_code, closing_code, dynamic_code, kept_code, named_code, opened_code, restored_code};
-ghost use Rattle.cyc_lower.specs.Emission.{Appends, Gives, most_locals, view_starts};
+ghost use Rattle.cyc_lower.specs.inside.ControlCode.{behind_record, closed_code, closing_code, dynamic_code, kept_code, named_code, opened_code, restored_code};
+ghost use Rattle.cyc_lower.specs.inside.Emission.{Appends, Gives, most_locals, view_starts};
 
 use crate::emitter::Emitter;
 use crate::locals::slot_of;

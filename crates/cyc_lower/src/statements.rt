@@ -4,11 +4,11 @@ ghost use Rattle.cyc_types.specs.TypeView.{view_ty};
 ghost use Rattle.cyc_types.specs.TypedTrees.{NoClauses};
 ghost use Rattle.cyc_types.specs.TypedTreeView.{view_converted, view_expression, view_statement, items_of, clauses_of, default_of};
 ghost use Rattle.cyc_meaning.specs.FrameCount.{kept_by, kept_by_items, kept_by_clauses};
-ghost use Rattle.cyc_lower.specs.ControlCode.{nothing_opened, outermost, with_handler, with_mark, inside_try, inside_region, leave_code, other_jump, goes_on, break_target, continue_target, inside_loop, is_nothing};
-ghost use Rattle.cyc_lower.specs.ValueCode.{blank_code};
-ghost use Rattle.cyc_lower.specs.Lowering.{clauses_code, caught_code, return_code, declaration_code, statement_code, items_code};
-ghost use Rattle.cyc_frame_count.specs.Needs.{kept_by_item};
-ghost use Rattle.cyc_lower.specs.Emission.{Appends, most_locals, throw_code, case_code, BeginClauses, item_code, exits_behind, free_behind, loop_code, then_code, view_starts};
+ghost use Rattle.cyc_lower.specs.inside.ControlCode.{nothing_opened, outermost, with_handler, with_mark, inside_try, inside_region, leave_code, other_jump, goes_on, break_target, continue_target, inside_loop, is_nothing};
+ghost use Rattle.cyc_lower.specs.inside.ValueCode.{blank_code};
+ghost use Rattle.cyc_lower.specs.inside.Lowering.{clauses_code, caught_code, return_code, declaration_code, statement_code, items_code};
+ghost use Rattle.cyc_frame_count.specs.inside.Needs.{kept_by_item};
+ghost use Rattle.cyc_lower.specs.inside.Emission.{Appends, most_locals, throw_code, case_code, BeginClauses, item_code, exits_behind, free_behind, loop_code, then_code, view_starts};
 
 use crate::emitter::Emitter;
 use crate::locals::slot_of;

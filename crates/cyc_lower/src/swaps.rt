@@ -3,10 +3,10 @@ ghost use Rattle.std.specs.Prelude.{◌≡◌, ◌+◌, ◌^◌, ◌<◌, ◌≤
 ghost use Rattle.cyc_types.specs.typing.Expressions.{type_of_side};
 ghost use Rattle.cyc_types.specs.TypedTreeView.{view_side};
 ghost use Rattle.cyc_meaning.specs.Values.{kind_of, words_of_kind};
-ghost use Rattle.cyc_lower.specs.ValueCode.{word_by_word};
-ghost use Rattle.cyc_lower.specs.ObjectCode.{right_slot, load_at};
-ghost use Rattle.cyc_lower.specs.Lowering.{side_code, read_side, write_side, exchange_code, swap_code};
-ghost use Rattle.cyc_lower.specs.Emission.{Appends, most_locals, view_starts};
+ghost use Rattle.cyc_lower.specs.inside.ValueCode.{word_by_word};
+ghost use Rattle.cyc_lower.specs.inside.ObjectCode.{right_slot, load_at};
+ghost use Rattle.cyc_lower.specs.inside.Lowering.{side_code, read_side, write_side, exchange_code, swap_code};
+ghost use Rattle.cyc_lower.specs.inside.Emission.{Appends, most_locals, view_starts};
 
 use crate::emitter::Emitter;
 use crate::globals::global_of;

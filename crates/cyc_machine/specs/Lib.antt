@@ -11,4 +11,5 @@ pub mod Shape
 pub mod Held
 -- how the code keeps its memory, which only the crate's own functions speak of
 pub mod Arrays
-pub mod Operations
+-- What the functions of this crate promise each other and what its proofs say: no public contract of the product means it.
+pub mod inside

@@ -2,7 +2,7 @@
 //! with the crate. The lemmas behind them stand in `proofs/` for other proofs to cite.
 
 ghost use Rattle.std.specs.Prelude.{◌≡◌, ◌≢◌, ℕ, ◌+◌, ◌<◌, List, ◌++◌, length, Some};
-ghost use Rattle.cyc_words.specs.Prefix.{IsPrefix};
+ghost use Rattle.cyc_words.specs.Seen.{IsPrefix};
 ghost use Rattle.cyc_store.specs.State.{word_at};
 ghost use Rattle.cyc_machine.specs.declared.event.End.{End};
 ghost use Rattle.cyc_machine.specs.Run.{World, Run, end_of};

@@ -2,7 +2,7 @@
 
 ghost use Rattle.std.specs.Prelude.{◌≡◌, ◌<◌, ◌^◌};
 ghost use Rattle.cyc_words.specs.Word.{sign_extended};
-ghost use Rattle.cyc_words.specs.WordBytes.{word_of};
+ghost use Rattle.cyc_words.specs.Bytes.{word_of};
 ghost use Rattle.cyc_isa.specs.Effect.{immediate_result, load_upper_result, shift_result, arithmetic_result, high_result, low_result, branch_taken, branch_zero_taken, branch_target, jump_target, return_address};
 
 use cyc_isa::{ArithmeticOp, BranchOp, BranchZeroOp, ImmediateOp, MultiplyDivideOp, ShiftOp};

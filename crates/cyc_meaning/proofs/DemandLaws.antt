@@ -5,7 +5,7 @@ use Rattle.cyc_words.specs.Demand.{total, region_pages, demand_of}
 use Rattle.cyc_meaning.specs.Values.{block_size}
 use Rattle.cyc_meaning.specs.Objects.{class_of_cells, live_in, raised}
 use Rattle.cyc_meaning.specs.State.{Region, World, new_region, has_pages, counted}
-use Rattle.cyc_meaning.specs.Effects.{Changes, Keeps, Opens, Closes, Makes, MakesIn, MakesUnique, Frees, Writes, Prints, Reads, pages_in, DemandChanges}
+use Rattle.cyc_meaning.specs.inside.Effects.{Changes, Keeps, Opens, Closes, Makes, MakesIn, MakesUnique, Frees, Writes, Prints, Reads, pages_in, DemandChanges}
 use Rattle.cyc_meaning.proofs.NestingLemmas.{region_found}
 
 -- the pages of regions, one by one

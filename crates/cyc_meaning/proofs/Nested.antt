@@ -10,7 +10,7 @@ use Rattle.cyc_meaning.specs.Parts.{closing}
 use Rattle.cyc_meaning.specs.Regions.{closing_lexical}
 use Rattle.cyc_meaning.specs.Step.{step, stepped}
 use Rattle.cyc_meaning.specs.Run.{start, steps, run}
-use Rattle.cyc_meaning.specs.Nesting.{IsFound, IsNested, is_access, Nests, IsUntried}
+use Rattle.cyc_meaning.specs.inside.Nesting.{IsFound, IsNested, is_access, Nests, IsUntried}
 use Rattle.cyc_meaning.proofs.RunLaws.{start_nested, steps-add, steps-last}
 use Rattle.cyc_meaning.proofs.NestingLemmas.{nested_closed, nested_closed_lexical, nested_return}
 use Rattle.cyc_meaning.proofs.Outcomes.{Outcome, Goes, Ends, Dies, Fails, outcome, calls_function}

@@ -8,7 +8,7 @@ use Rattle.cyc_meaning.specs.Values.{Cell, block_size}
 use Rattle.cyc_meaning.specs.State.{Sort, Stack, Lexical, Dynamic, Region, World, Found, Closed, Missing, found_region, is_open, region_at, globals_number, new_region, stack_region, opened, opened_as, closed, Environment, no_locals, Entry, CloseRegion, CloseLexical, Caller}
 use Rattle.cyc_meaning.specs.Parts.{inside, region_end}
 use Rattle.cyc_meaning.specs.Objects.{made_in}
-use Rattle.cyc_meaning.specs.Nesting.{ends_of, IsScoped, IsFound, AreOpen, AreBelow, IsHome, lexicals_of, is_scope, is_open_scope, AreScopes, IsNested}
+use Rattle.cyc_meaning.specs.inside.Nesting.{ends_of, IsScoped, IsFound, AreOpen, AreBelow, IsHome, lexicals_of, is_scope, is_open_scope, AreScopes, IsNested}
 use Rattle.cyc_meaning.proofs.ListLemmas.{slice_get-end, slice_get-set_other}
 
 -- ---- what is found

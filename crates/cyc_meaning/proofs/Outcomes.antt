@@ -27,8 +27,8 @@ use Rattle.cyc_meaning.specs.Exceptions.{throws, throws_value, catches, step_cat
 use Rattle.cyc_meaning.specs.Regions.{is_dynamic, step_naming, closing_lexical, opened_by, opens_with, closes_dynamic, closes_with, frees_in_region, frees_owned, frees_object, frees}
 use Rattle.cyc_meaning.specs.Step.{values_of, called, step_calling, step_binding, passes, assigned, addressed, counts, step_evaluating, decided, tested, awaits_right, chained, tells, applies_pointer, chosen, looped, converts, initialises, supplied, step_given, step_executing, declares, continues_with, step_proceeding, step_breaking, step_continuing, returned, ends_with, main_returned, step_returning, step_throwing, stepped}
 use Rattle.cyc_meaning.specs.Step as steps
-use Rattle.cyc_meaning.specs.Effects.{Changes, Keeps, Opens, Closes, Makes, MakesIn, MakesUnique, Frees, Writes, Prints, Reads, printed_of, printed_by, read_of, read_by, calls_after}
-use Rattle.cyc_meaning.specs.Nesting.{IsScoped, IsFound, IsNested, is_access_of, is_access_in, is_access}
+use Rattle.cyc_meaning.specs.inside.Effects.{Changes, Keeps, Opens, Closes, Makes, MakesIn, MakesUnique, Frees, Writes, Prints, Reads, printed_of, printed_by, read_of, read_by, calls_after}
+use Rattle.cyc_meaning.specs.inside.Nesting.{IsScoped, IsFound, IsNested, is_access_of, is_access_in, is_access}
 use Rattle.cyc_meaning.proofs.NestingLemmas.{home_found, nested_opened, nested_lexical, nested_dynamic, nested_closed, nested_closed_lexical, nested_closed_dynamic, nested_made_in, nested_call, nested_return}
 
 -- What a step comes to: it goes on with so many calls, and what nested before nests; or the run is over, with nothing printed or read.

@@ -6,7 +6,7 @@ use Rattle.cyc_types.specs.declared.scope.Kind.TheVariants as scopes
 use Rattle.cyc_types.specs.Types.{Handle, Key}
 use Rattle.cyc_types.specs.TypedTrees.{Statement, Block, If, While, Try, Items, NoItems, MoreItems, Execute, Declare, DeclareRegion, OpenRegion, DeclareAlias, DeclareKey, Clauses, NoClauses, Default, Case, Function, Program}
 use Rattle.cyc_types.specs.typing.WellTyped.{Context, WellTypedStatement, WellTypedItems, WellTypedClauses, behind, in_block, in_body, with_local, with_region, with_opened, with_key_opened, with_caught, behind_clause, body_context, AreWellTypedFunctions, IsWellTypedProgram}
-use Rattle.cyc_meaning.specs.Variables.{StatementRises, ItemsRise, ClausesRise, FunctionsRise}
+use Rattle.cyc_meaning.specs.inside.Variables.{StatementRises, ItemsRise, ClausesRise, FunctionsRise}
 
 mutual
   statement_rises : (c : Context) (m : ℕ) (s : Statement) → m ≤ c.next_local → WellTypedStatement c s → StatementRises m s

@@ -4,14 +4,14 @@ use Rattle.std.specs.Prelude.{◌≢◌, ◌==◌, if◌then◌else◌, length, 
 use Rattle.std.specs.List.{AllByRecursion}
 use Rattle.std.proofs.lemmas.Bool.{le-leb, and_from}
 use Rattle.cyc_words.specs.Ending.{Full}
-use Rattle.cyc_words.specs.Prefix.{IsPrefix}
+use Rattle.cyc_words.specs.Seen.{IsPrefix}
 use Rattle.cyc_words.proofs.PrefixLemmas.{IsPrefix-refl, IsPrefix-trans}
 use Rattle.cyc_types.specs.TypedTrees.{Function, Program}
 use Rattle.cyc_meaning.specs.State.{World, Environment, Entry, Main, Focus, Entering, no_locals, State, Running, Ended, Dead, Wrong, Status, GoesOn, HasEnded, IsDead, IsWrong, output_of, input_of, status_of, depth, first_world}
 use Rattle.cyc_meaning.specs.Step.{called, wrong, step}
-use Rattle.cyc_meaning.specs.Effects.{Changes, Keeps, Opens, Closes, Makes, MakesIn, MakesUnique, Frees, Writes, Prints, Reads, ChangesIn, printed_by, read_by, calls_after}
+use Rattle.cyc_meaning.specs.inside.Effects.{Changes, Keeps, Opens, Closes, Makes, MakesIn, MakesUnique, Frees, Writes, Prints, Reads, ChangesIn, printed_by, read_by, calls_after}
 use Rattle.cyc_meaning.specs.Run.{start, steps, run, is_within, limited, limited_step, limited_steps}
-use Rattle.cyc_meaning.specs.Nesting.{AreScopes, IsNested}
+use Rattle.cyc_meaning.specs.inside.Nesting.{AreScopes, IsNested}
 use Rattle.cyc_meaning.proofs.Outcomes.{Outcome, Goes, Ends, Dies, Fails, outcome, calls_function}
 
 -- ---- one step

@@ -6,7 +6,7 @@ use Rattle.std.proofs.lemmas.List.{length-set}
 use Rattle.cyc_meaning.specs.Values.{Value, Cell, block_size}
 use Rattle.cyc_meaning.specs.State.{Sort, Region, InRegion, Unique, Object, World, Found, Closed, found_region, region_at, Located, cell_at, new_region, opened_as, closed, written, Environment, no_locals, Entry, CloseRegion, Caller}
 use Rattle.cyc_meaning.specs.Objects.{made_in, made_unique, freed}
-use Rattle.cyc_meaning.specs.Variables.{region_of, LivesIn, IsShut, HasVariables, Locals, waiting, IsLocal, AreLow, LiveInRegions, AreNamed}
+use Rattle.cyc_meaning.specs.inside.Variables.{region_of, LivesIn, IsShut, HasVariables, Locals, waiting, IsLocal, AreLow, LiveInRegions, AreNamed}
 use Rattle.cyc_meaning.proofs.ListLemmas.{slice_get-set_other}
 use Rattle.cyc_meaning.proofs.NestingLemmas.{region_found}
 use Rattle.cyc_meaning.proofs.WorldLaws.{cell_found}

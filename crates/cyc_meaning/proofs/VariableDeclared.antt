@@ -6,8 +6,8 @@ use Rattle.cyc_types.specs.declared.typed.Kind.{Kind}
 use Rattle.cyc_types.specs.TypedTrees.{Statement}
 use Rattle.cyc_meaning.specs.Values.{Value}
 use Rattle.cyc_meaning.specs.State.{Region, Object, World, Found, region_at, globals_number, variable, Environment, with_local, Initialise, Choose, Test, OpenBy, AliasOf, Entry, Needs, Rest, Loop, CloseRegion, CloseLexical, EndLoan, Handler, Caller}
-use Rattle.cyc_meaning.specs.Nesting.{ends_of, AreBelow, IsHome, IsNested}
-use Rattle.cyc_meaning.specs.Variables.{region_in, LivesIn, IsShut, HasVariables, Locals, waiting, IsLocal, IsOfCall, IsInBlock, AreLow, StatementDeclares, DeclareLater, LiveInBlocks, WaitInBlocks, HaveNames, AreDistinct, AreNamed}
+use Rattle.cyc_meaning.specs.inside.Nesting.{ends_of, AreBelow, IsHome, IsNested}
+use Rattle.cyc_meaning.specs.inside.Variables.{region_in, LivesIn, IsShut, HasVariables, Locals, waiting, IsLocal, IsOfCall, IsInBlock, AreLow, StatementDeclares, DeclareLater, LiveInBlocks, WaitInBlocks, HaveNames, AreDistinct, AreNamed}
 use Rattle.cyc_meaning.proofs.ListLemmas.{slice_get-end}
 use Rattle.cyc_meaning.proofs.NestingLemmas.{region_found}
 use Rattle.cyc_meaning.proofs.VariableLemmas.{lives_once, lives_below, lives_more, lives_newest, shut_open, region_below, later_passes, waiting_pass}

@@ -4,7 +4,7 @@ use Rattle.std.proofs.Common.{◌≡◌, ℕ, zero, suc, Bool, true, List, [], �
 use Rattle.std.specs.Prelude.{◌⊎◌, ◌<◌, if◌then◌else◌, slice_get}
 use Rattle.cyc_types.specs.TypedTrees.{Statement}
 use Rattle.cyc_meaning.specs.State.{Region, Object, Found, Closed, Missing, found_region, globals_number, Initialise, Choose, Test, OpenBy, AliasOf, Entry, Needs, Rest, Loop, Handler, Caller}
-use Rattle.cyc_meaning.specs.Variables.{region_of, region_in, LivesIn, IsShut, HasVariables, Locals, waiting, AreLow, StatementDeclares, DeclareLater, LiveInBlocks, WaitInBlocks, HaveNames, LiveInRegions, AreNamed}
+use Rattle.cyc_meaning.specs.inside.Variables.{region_of, region_in, LivesIn, IsShut, HasVariables, Locals, waiting, AreLow, StatementDeclares, DeclareLater, LiveInBlocks, WaitInBlocks, HaveNames, LiveInRegions, AreNamed}
 
 -- ---- where objects live
 

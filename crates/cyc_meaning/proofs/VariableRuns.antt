@@ -6,10 +6,10 @@ use Rattle.std.proofs.lemmas.List.{length-map}
 use Rattle.cyc_types.specs.TypedTrees.{MoreItems, Declare, GlobalVariable, Function, Program}
 use Rattle.cyc_types.specs.typing.WellTyped.{IsWellTypedProgram}
 use Rattle.cyc_meaning.specs.State.{Region, Object, found_region, World, first_world, globals_number, global_object, no_locals, Environment, Initialise, Entry, Needs, Rest, CloseRegion, CloseLexical, Caller, Main, Focus, Evaluating, Locating, Given, GivenPlace, Executing, Proceeding, Calling, Entering, Binding, Naming, Writing, Beginning, Repeating, Swapping, Breaking, Continuing, Returning, Throwing, Catching, State, Running, Ended, Dead, Wrong}
-use Rattle.cyc_meaning.specs.Nesting.{ends_of, IsFound, AreBelow, IsNested, Nests}
+use Rattle.cyc_meaning.specs.inside.Nesting.{ends_of, IsFound, AreBelow, IsNested, Nests}
 use Rattle.cyc_meaning.specs.Step.{wrong, called, step, stepped}
 use Rattle.cyc_meaning.specs.Run.{start, steps, run, limited_step}
-use Rattle.cyc_meaning.specs.Variables.{FunctionsRise, LivesIn, IsShut, Locals, waiting, IsLocal, IsOfCall, AreLow, LiveInBlocks, WaitInBlocks, HaveNames, AreDistinct, AreNamed, HasNames, declared_by}
+use Rattle.cyc_meaning.specs.inside.Variables.{FunctionsRise, LivesIn, IsShut, Locals, waiting, IsLocal, IsOfCall, AreLow, LiveInBlocks, WaitInBlocks, HaveNames, AreDistinct, AreNamed, HasNames, declared_by}
 use Rattle.cyc_meaning.proofs.NestingLemmas.{globals_found}
 use Rattle.cyc_meaning.proofs.RunLaws.{limited_either}
 use Rattle.cyc_meaning.proofs.Nested.{nests_step, nests_start, nests_run}

@@ -27,8 +27,8 @@ use Rattle.cyc_meaning.specs.Exceptions.{throws, throws_value, catches, step_cat
 use Rattle.cyc_meaning.specs.Regions.{is_dynamic, step_naming, closing_lexical, opened_by, opens_with, closes_dynamic, closes_with, frees_in_region, frees_owned, frees_object, frees}
 use Rattle.cyc_meaning.specs.Step.{values_of, called, step_calling, step_entering, step_binding, passes, assigned, addressed, counts, step_evaluating, decided, tested, awaits_right, chained, tells, applies_pointer, chosen, looped, converts, initialises, supplied, step_given, step_executing, declares, continues_with, step_proceeding, step_breaking, step_continuing, returned, ends_with, main_returned, step_returning, step_throwing, stepped}
 use Rattle.cyc_meaning.specs.Step as steps
-use Rattle.cyc_meaning.specs.Nesting.{IsNested}
-use Rattle.cyc_meaning.specs.Variables.{FunctionsRise, ItemsRise, ClausesRise, Locals, IsInBlock, AreLow, Names, DeclareLater, DeclareNow, AreNamed, HasNames}
+use Rattle.cyc_meaning.specs.inside.Nesting.{IsNested}
+use Rattle.cyc_meaning.specs.inside.Variables.{FunctionsRise, ItemsRise, ClausesRise, Locals, IsInBlock, AreLow, Names, DeclareLater, DeclareNow, AreNamed, HasNames}
 use Rattle.cyc_meaning.proofs.VariableChanges.{named_opened, named_closed, named_made_in, named_made_unique, named_freed, named_written, low_opened, named_entered, named_left, is_shut, named_call, named_return}
 use Rattle.cyc_meaning.proofs.VariableDeclared.{low_declared, named_declared}
 

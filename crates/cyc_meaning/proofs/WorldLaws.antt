@@ -5,7 +5,7 @@ use Rattle.cyc_types.specs.TypedTrees.{Program}
 use Rattle.cyc_meaning.specs.Values.{Cell}
 use Rattle.cyc_meaning.specs.State.{Region, Owner, InRegion, Unique, Object, World, Found, Closed, Missing, Located, located, is_live, cell_in, cell_at, new_region, variable, State, Running, Ended, Dead, Wrong}
 use Rattle.cyc_meaning.specs.Step.{step, stepped}
-use Rattle.cyc_meaning.specs.Effects.{Changes, Keeps, Opens, Closes, Makes, MakesIn, MakesUnique, Frees, Writes, Prints, Reads, OwnerStays, RegionStays, ObjectStays, WorldStays, StaysIn}
+use Rattle.cyc_meaning.specs.inside.Effects.{Changes, Keeps, Opens, Closes, Makes, MakesIn, MakesUnique, Frees, Writes, Prints, Reads, OwnerStays, RegionStays, ObjectStays, WorldStays, StaysIn}
 use Rattle.cyc_meaning.specs.Run.{steps}
 use Rattle.cyc_meaning.proofs.ListLemmas.{slice_get-append, map-set}
 use Rattle.cyc_meaning.proofs.NestingLemmas.{region_found}

@@ -14,9 +14,8 @@ pub mod Regions
 pub mod Step
 pub mod Run
 -- what the laws and the contracts of the compiler add to that
-pub mod Effects
-pub mod Nesting
-pub mod Variables
 pub mod SourceMachine
 pub mod FrameCount
 pub mod Sizes
+-- What the functions of this crate promise each other and what its proofs say: no public contract of the product means it.
+pub mod inside

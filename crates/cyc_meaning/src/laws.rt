@@ -4,16 +4,16 @@
 ghost use Rattle.std.specs.Prelude.{◌≡◌, ◌≢◌, ℕ, suc, ◌+◌, ◌<◌, ◌≤◌, List, ◌∷◌, ◌++◌, length, Some, true, false, drop};
 ghost use Rattle.std.specs.List.{AllByRecursion};
 ghost use Rattle.cyc_words.specs.Ending.{Full, Uncaught};
-ghost use Rattle.cyc_words.specs.Prefix.{IsPrefix};
+ghost use Rattle.cyc_words.specs.Seen.{IsPrefix};
 ghost use Rattle.cyc_words.specs.Word.{signed};
 ghost use Rattle.cyc_types.specs.TypedTrees.{Program};
 ghost use Rattle.cyc_types.specs.typing.WellTyped.{IsWellTypedProgram};
 ghost use Rattle.cyc_meaning.specs.State.{World, Environment, Entry, Focus, State, Throwing, Status, GoesOn, HasEnded, IsDead, output_of, input_of, status_of, depth};
 ghost use Rattle.cyc_meaning.specs.State as state;
 ghost use Rattle.cyc_meaning.specs.Step.{step};
-ghost use Rattle.cyc_meaning.specs.Effects.{printed_by, read_by, calls_after, Changes, DemandChanges, ChangesIn, StaysIn};
-ghost use Rattle.cyc_meaning.specs.Nesting.{Nests, is_access, IsUntried};
-ghost use Rattle.cyc_meaning.specs.Variables.{LivesIn, IsShut, waiting, IsLocal, HaveNames, AreDistinct, declared_by};
+ghost use Rattle.cyc_meaning.specs.inside.Effects.{printed_by, read_by, calls_after, Changes, DemandChanges, ChangesIn, StaysIn};
+ghost use Rattle.cyc_meaning.specs.inside.Nesting.{Nests, is_access, IsUntried};
+ghost use Rattle.cyc_meaning.specs.inside.Variables.{LivesIn, IsShut, waiting, IsLocal, HaveNames, AreDistinct, declared_by};
 ghost use Rattle.cyc_meaning.specs.Run.{start, steps, run, is_within, limited_steps, limited_run};
 
 /// The step is a function, so a program with an input has one run: two states after so many steps are one state, and a run

@@ -2,7 +2,7 @@
 use Rattle.std.proofs.Common.{◌≡◌, ℕ, ◌+◌, ◌*◌, ◌/◌, ◌%◌, ◌<◌, refl, sym, ap, subst, ◌∙◌, inl, inr, arith}
 use Rattle.std.specs.Prelude.{◌≢◌}
 use Rattle.std.proofs.lemmas.Bool.{cases_eq}
-use Rattle.cyc_words.specs.WordBytes.{byte_in, with_byte, word_of}
+use Rattle.cyc_words.specs.Bytes.{byte_in, with_byte, word_of}
 use Rattle.cyc_words.proofs.Numbers.{when_equal}
 use Rattle.cyc_words.proofs.WordBytesLemmas.{byte-small, byte-same, byte-other, with_byte-word, word-same}
 use Rattle.cyc_types.specs.declared.typed.Kind.{Kind}
@@ -10,7 +10,7 @@ use Rattle.cyc_types.specs.declared.typed.Kind.TheVariants as kinds
 use Rattle.cyc_store.specs.State.{Memory, put, AreWords}
 use Rattle.cyc_store.proofs.LookupLemmas.{when_other}
 use Rattle.cyc_meaning.specs.Values.{bytes_of_kind}
-use Rattle.cyc_objects.specs.Words.{byte_at, IsBeside}
+use Rattle.cyc_objects.specs.inside.Words.{byte_at, IsBeside}
 
 -- a byte of a word that stands at an address
 pub byte-of_word : (m : Memory) (x i : ℕ) → x % 4 ≡ 0 → i < 4 → byte_at m (x + i) ≡ byte_in (m x) i

@@ -3,7 +3,7 @@ use Rattle.std.proofs.Common.{◌≡◌, ℕ, zero, suc, ◌+◌, ◌*◌, ◌/�
 use Rattle.std.specs.Prelude.{◌==◌, ◌≢◌, ◌⊎◌, if◌then◌else◌, ◌&&◌, slice_get}
 use Rattle.std.proofs.lemmas.Bool.{cases_Bool, cases_lt, cond-false}
 use Rattle.cyc_types.specs.declared.typed.Kind.{Kind}
-use Rattle.cyc_words.specs.WordBytes.{word_of}
+use Rattle.cyc_words.specs.Bytes.{word_of}
 use Rattle.cyc_words.specs.Demand.{class_of}
 use Rattle.cyc_store.specs.State.{Memory, put, AreWords, Block, StoreState, homes, word_at, has_saved, saved, room}
 use Rattle.cyc_store.specs.declared.range.TheConstants.{STORE_BASE, PAGE_WORDS, MOST_PAGES, UNIQUE}
@@ -15,9 +15,9 @@ use Rattle.cyc_meaning.specs.State.{Owner, InRegion, Unique, Object, World, Foun
 use Rattle.cyc_meaning.specs.Objects.{is_live_in, live_in}
 use Rattle.cyc_meaning.proofs.ListLemmas.{map-set}
 use Rattle.cyc_meaning.proofs.WorldLaws.{cell_found}
-use Rattle.cyc_objects.specs.Tables.{Row, Variable, Placed, Tables}
-use Rattle.cyc_objects.specs.Words.{bytes_of_kinds, before_from, before, byte_at, Points, IsPartOf, Holds, IsContent, AreCells, IsBeside}
-use Rattle.cyc_objects.specs.Related.{sort_of, lies_in, Alive, Stands, IsOutside, IsOfVariable, IsVariableAt, LiveVariable, Within, Related}
+use Rattle.cyc_objects.specs.inside.Tables.{Row, Variable, Placed, Tables}
+use Rattle.cyc_objects.specs.inside.Words.{bytes_of_kinds, before_from, before, byte_at, Points, IsPartOf, Holds, IsContent, AreCells, IsBeside}
+use Rattle.cyc_objects.specs.inside.Related.{sort_of, lies_in, Alive, Stands, IsOutside, IsOfVariable, IsVariableAt, LiveVariable, Within, Related}
 use Rattle.cyc_objects.proofs.NumberLemmas.{slice_get-set_cases, slice_get-map}
 use Rattle.cyc_objects.proofs.Places.{IsAligned, begins-least, begins-aligned, bytes-least, before-least, before-inside, before-aligned}
 use Rattle.cyc_objects.proofs.Values.{IsContent-same, AreCells-same}

@@ -1,15 +1,15 @@
 -- Chars: a word of a slot, and the byte of a cell. A variable's is the last byte of its word, which is below 256, so that the word and the
 -- byte are one value.
 use Rattle.std.proofs.Common.{◌≡◌, ℕ, ◌+◌, ◌*◌, ◌/◌, ◌%◌, ◌<◌, true, false, refl, sym, ap, subst, ◌∙◌, arith}
-use Rattle.cyc_words.specs.WordBytes.{byte_in, with_byte, word_of}
+use Rattle.cyc_words.specs.Bytes.{byte_in, with_byte, word_of}
 use Rattle.cyc_types.specs.declared.typed.Kind.{Kind}
 use Rattle.cyc_types.specs.declared.typed.Kind.TheVariants as kinds
 use Rattle.cyc_store.specs.State.{Memory}
 use Rattle.cyc_meaning.specs.Values.{Value, Int, is_kind, words_of_kind, bytes_of_kind}
 use Rattle.cyc_meaning.specs.Operators.{Gives}
 use Rattle.cyc_meaning.specs.Conversion.{conversion}
-use Rattle.cyc_objects.specs.Tables.{Tables}
-use Rattle.cyc_objects.specs.Words.{byte_at, Is, Holds}
+use Rattle.cyc_objects.specs.inside.Tables.{Tables}
+use Rattle.cyc_objects.specs.inside.Words.{byte_at, Is, Holds}
 use Rattle.cyc_objects.proofs.Bytes.{put_byte, put_byte-same, byte_at-small}
 use Rattle.cyc_objects.proofs.Places.{IsAligned}
 use Rattle.cyc_objects.proofs.Pointers.{same_value}

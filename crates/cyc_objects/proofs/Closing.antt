@@ -3,19 +3,18 @@ use Rattle.std.proofs.Common.{◌≡◌, ℕ, zero, suc, ◌+◌, ◌*◌, ◌�
 use Rattle.std.specs.Prelude.{◌≢◌, nat_le, if◌then◌else◌, slice_get}
 use Rattle.std.proofs.lemmas.Bool.{cases_Bool, cond-true, cond-false, le-leb}
 use Rattle.cyc_words.proofs.Numbers.{when_equal}
-use Rattle.cyc_store.specs.Lookup.{lookup, without, AreDistinct}
+use Rattle.cyc_store.specs.State.{lookup, without, AreDistinct, Block, address_of, Home, handle_of, StoreState, homes, block_in, block_at, is_lexical, lexical_count, down_to}
 use Rattle.cyc_store.specs.State as stores
-use Rattle.cyc_store.specs.State.{Block, address_of, Home, handle_of, StoreState, homes, block_in, block_at, is_lexical, lexical_count, down_to}
 use Rattle.cyc_store.specs.Services.{CloseTo, BadMark, Choice, served, any_choice, refusal, IsAllowed}
 use Rattle.cyc_store.specs.Soundness.{IsSound}
 use Rattle.cyc_store.proofs.LookupLemmas.{when_other, same_some, IsPart, is_kept, lookup-part}
 use Rattle.cyc_store.proofs.HolderLemmas.{covers_from, IsPart-down_to}
 use Rattle.cyc_store.proofs.ServiceLemmas.{served-sound}
 use Rattle.cyc_meaning.specs.State.{Sort, Heap, Globals, Stack, Lexical, Dynamic, Region, World, has_pages, closed}
-use Rattle.cyc_meaning.specs.Nesting.{is_scope}
+use Rattle.cyc_meaning.specs.inside.Nesting.{is_scope}
 use Rattle.cyc_store.proofs.KeptUnwinding.{step-in, step-by, down_to-lower}
-use Rattle.cyc_objects.specs.Tables.{Tables}
-use Rattle.cyc_objects.specs.Related.{sort_of, has_home, Regions, no_regions, passed, taken, Related, scopes, IsNewest, closed_to}
+use Rattle.cyc_objects.specs.inside.Tables.{Tables}
+use Rattle.cyc_objects.specs.inside.Related.{sort_of, has_home, Regions, no_regions, passed, taken, Related, scopes, IsNewest, closed_to}
 use Rattle.cyc_objects.proofs.Values.{Grows-same}
 use Rattle.cyc_objects.proofs.RegionLemmas.{not_true, HasHome, home-found, first-other, shut, without-none}
 use Rattle.cyc_objects.proofs.Serving.{WordsStay, block-home, objects-inherited}

@@ -11,9 +11,9 @@ use Rattle.cyc_types.specs.declared.typed.Kind.{Kind}
 use Rattle.cyc_meaning.specs.Values.{Value, bytes_of_kind, kinds_of, block_size}
 use Rattle.cyc_meaning.specs.State.{Object, World, Access, Found, Closed, Missing, is_live}
 use Rattle.cyc_meaning.specs.Objects.{found_object, object_at, both_found, compared}
-use Rattle.cyc_objects.specs.Tables.{Placed, Tables}
-use Rattle.cyc_objects.specs.Words.{bytes_of_kinds, before, Points}
-use Rattle.cyc_objects.specs.Related.{Alive, Stands, LiveVariable, AreApart, Related}
+use Rattle.cyc_objects.specs.inside.Tables.{Placed, Tables}
+use Rattle.cyc_objects.specs.inside.Words.{bytes_of_kinds, before, Points}
+use Rattle.cyc_objects.specs.inside.Related.{Alive, Stands, LiveVariable, AreApart, Related}
 use Rattle.cyc_objects.proofs.NumberLemmas.{slice_get-there}
 use Rattle.cyc_objects.proofs.Places.{bytes-some, before-inside, one-place}
 use Rattle.cyc_objects.proofs.Pointers.{same-row, not-null, one_address, ThinIs, thin_null, thin_cell}

@@ -11,9 +11,9 @@ use Rattle.cyc_store.proofs.ServiceLemmas.{start-sound}
 use Rattle.cyc_meaning.specs.Values.{Int, Null, Thin, Handle, Cell, blank}
 use Rattle.cyc_meaning.specs.State.{Heap, Stack, Lexical, InRegion, Unique, World, Found, Closed, cell_at, new_region, opened_as, closed, variable, made, first_classes, counted}
 use Rattle.cyc_meaning.specs.Objects.{made_unique, freed}
-use Rattle.cyc_objects.specs.Tables.{Placed, Tables, with_row, with_handle}
-use Rattle.cyc_objects.specs.Words.{bytes_of_kinds, before, byte_at, Points, Is, Holds}
-use Rattle.cyc_objects.specs.Related.{lies_in, Related, taken, no_regions}
+use Rattle.cyc_objects.specs.inside.Tables.{Placed, Tables, with_row, with_handle}
+use Rattle.cyc_objects.specs.inside.Words.{bytes_of_kinds, before, byte_at, Points, Is, Holds}
+use Rattle.cyc_objects.specs.inside.Related.{lies_in, Related, taken, no_regions}
 use Rattle.cyc_objects.proofs.Pointers.{same-row}
 use Rattle.cyc_objects.proofs.Making.{allocated-unique}
 use Rattle.cyc_objects.proofs.Services.{freed-unique}

@@ -4,16 +4,15 @@ use Rattle.std.specs.Prelude.{nat_le, if◌then◌else◌, slice_get}
 use Rattle.std.proofs.lemmas.Bool.{and_parts, leb-true}
 use Rattle.cyc_types.specs.declared.typed.Kind.{Kind}
 use Rattle.cyc_types.specs.TypedTrees.{GlobalVariable, Program}
-use Rattle.cyc_store.specs.Lookup.{lookup}
-use Rattle.cyc_store.specs.State.{Block, handle_of, StoreState, homes}
+use Rattle.cyc_store.specs.State.{lookup, Block, handle_of, StoreState, homes}
 use Rattle.cyc_store.specs.Services.{Allocate, BadHandle, BadSize, Choice, block_of, is_full, full_at, is_size, refusal, IsPlaced, IsAllowed}
 use Rattle.cyc_store.specs.declared.range.TheConstants.{STORE_BASE, PAGE_WORDS, MOST_PAGES, MOST_BLOCK_WORDS}
 use Rattle.cyc_store.proofs.ServiceLemmas.{then-none}
 use Rattle.cyc_meaning.specs.Values.{bytes_of_kind, Cell, kinds_of, block_size}
 use Rattle.cyc_meaning.specs.State.{Object, World, Found, Located, cell_at}
-use Rattle.cyc_objects.specs.Tables.{Row, Variable, Placed, Tables, with_row, first_tables, without_addresses}
-use Rattle.cyc_objects.specs.Words.{bytes_of_kinds, before, Points}
-use Rattle.cyc_objects.specs.Related.{Alive, LiveVariable, AreApart, Related}
+use Rattle.cyc_objects.specs.inside.Tables.{Row, Variable, Placed, Tables, with_row, first_tables, without_addresses}
+use Rattle.cyc_objects.specs.inside.Words.{bytes_of_kinds, before, Points}
+use Rattle.cyc_objects.specs.inside.Related.{Alive, LiveVariable, AreApart, Related}
 use Rattle.cyc_objects.proofs.NumberLemmas.{slice_get-there, slice_get-last}
 use Rattle.cyc_objects.proofs.Places.{bytes-some, before-inside}
 use Rattle.cyc_objects.proofs.Cells.{found-either}

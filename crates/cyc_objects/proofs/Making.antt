@@ -7,9 +7,8 @@ use Rattle.std.proofs.lemmas.Bool.{cases_eq, cases_Bool, cond-true, cond-false}
 use Rattle.cyc_types.specs.declared.typed.Kind.{Kind}
 use Rattle.cyc_words.specs.Demand.{page_words, class_of, demand_of}
 use Rattle.cyc_words.proofs.Numbers.{when_equal}
-use Rattle.cyc_store.specs.Lookup.{lookup, changed}
+use Rattle.cyc_store.specs.State.{lookup, changed, Block, Home, handle_of, StoreState, homes, covers, block_at, sizes_in, with_block, made_in, made_unique, room, demand}
 use Rattle.cyc_store.specs.State as stores
-use Rattle.cyc_store.specs.State.{Block, Home, handle_of, StoreState, homes, covers, block_at, sizes_in, with_block, made_in, made_unique, room, demand}
 use Rattle.cyc_store.specs.Services.{Allocate, BadHandle, BadSize, Allocated, Choice, block_of, served, any_choice, is_full, full_at, is_size, refusal, IsPlaced, IsApart, Keeps, IsAllowed, ServesBy, Serves}
 use Rattle.cyc_store.specs.Soundness.{IsSound}
 use Rattle.cyc_store.specs.declared.range.TheConstants.{MOST_PAGES, UNIQUE}
@@ -24,12 +23,12 @@ use Rattle.cyc_meaning.specs.State.{Region, Owner, InRegion, Unique, Object, Wor
 use Rattle.cyc_meaning.specs.Objects as source
 use Rattle.cyc_meaning.specs.Objects.{class_of_cells, is_live_in, live_in, raised}
 use Rattle.cyc_meaning.specs.Allocation.{blanks, blanks_of}
-use Rattle.cyc_meaning.specs.Effects.{pages_of}
+use Rattle.cyc_meaning.specs.inside.Effects.{pages_of}
 use Rattle.cyc_meaning.proofs.NestingLemmas.{region_found}
 use Rattle.cyc_meaning.proofs.ListLemmas.{slice_get-append, slice_get-end}
-use Rattle.cyc_objects.specs.Tables.{Row, Placed, Tables, with_row}
-use Rattle.cyc_objects.specs.Words.{bytes_of_kinds, InRange, Points, IsPartOf, AreBlank}
-use Rattle.cyc_objects.specs.Related.{has_home, Regions, lies_in, Alive, Stands, Within, Related}
+use Rattle.cyc_objects.specs.inside.Tables.{Row, Placed, Tables, with_row}
+use Rattle.cyc_objects.specs.inside.Words.{bytes_of_kinds, InRange, Points, IsPartOf, AreBlank}
+use Rattle.cyc_objects.specs.inside.Related.{has_home, Regions, lies_in, Alive, Stands, Within, Related}
 use Rattle.cyc_objects.proofs.NumberLemmas.{slice_get-below, slice_get-there, slice_get-last, slice_get-set_same}
 use Rattle.cyc_objects.proofs.Places.{size-enough}
 use Rattle.cyc_objects.proofs.Values.{Grows-row, AreCells-blank, variable-grows}

@@ -7,7 +7,7 @@ use Rattle.cyc_types.specs.declared.typed.Kind.TheVariants as kinds
 use Rattle.cyc_store.proofs.LookupLemmas.{same_some}
 use Rattle.cyc_meaning.specs.Values.{Cell, kinds_of, bytes_of_kind, begins, behind, bytes_from, words_for, block_size}
 use Rattle.cyc_meaning.specs.Allocation.{blanks}
-use Rattle.cyc_objects.specs.Words.{bytes_of_kinds, before_from, before}
+use Rattle.cyc_objects.specs.inside.Words.{bytes_of_kinds, before_from, before}
 use Rattle.cyc_objects.proofs.NumberLemmas.{slice_get-there}
 
 -- ---- one cell

@@ -11,8 +11,8 @@ use Rattle.cyc_meaning.specs.Operators.{Gives, Raises, truth}
 use Rattle.cyc_meaning.specs.Pointers.{moved, element_count, null_test}
 use Rattle.cyc_meaning.specs.Conversion.{conversion}
 use Rattle.cyc_meaning.specs.Allocation.{blanks}
-use Rattle.cyc_objects.specs.Tables.{Row, Placed, Tables}
-use Rattle.cyc_objects.specs.Words.{bytes_of_kinds, before, InRange, Points, IsPartOf, Is}
+use Rattle.cyc_objects.specs.inside.Tables.{Row, Placed, Tables}
+use Rattle.cyc_objects.specs.inside.Words.{bytes_of_kinds, before, InRange, Points, IsPartOf, Is}
 use Rattle.cyc_objects.proofs.NumberLemmas.{slice_get-there}
 use Rattle.cyc_objects.proofs.Places.{before-all, before-first, before-part}
 use Rattle.cyc_objects.proofs.Values.{Is-same}

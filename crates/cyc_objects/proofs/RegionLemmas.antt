@@ -4,13 +4,12 @@ use Rattle.std.specs.Prelude.{◌≢◌, if◌then◌else◌, slice_get}
 use Rattle.std.proofs.lemmas.List.{map-append}
 use Rattle.std.proofs.lemmas.Bool.{cases_Bool, cond-true, cond-false}
 use Rattle.cyc_words.proofs.Numbers.{when_equal}
-use Rattle.cyc_store.specs.Lookup.{lookup, without, changed, AreDistinct}
+use Rattle.cyc_store.specs.State.{lookup, without, changed, AreDistinct, Block, Home, handle_of, empty_home, sizes_of, sizes_in, with_block}
 use Rattle.cyc_store.specs.State as stores
-use Rattle.cyc_store.specs.State.{Block, Home, handle_of, empty_home, sizes_of, sizes_in, with_block}
 use Rattle.cyc_store.proofs.LookupLemmas.{when_other, cases_option, not_both, same_some, lookup-here, lookup-there, lookup-none}
 use Rattle.cyc_meaning.specs.State.{Sort, Heap, Globals, Stack, Lexical, Dynamic, Region, Owner, InRegion, Unique, new_region, has_pages, counted}
 use Rattle.cyc_meaning.proofs.ListLemmas.{slice_get-append}
-use Rattle.cyc_objects.specs.Related.{sort_of, has_home, Matches, Regions, no_regions, passed, taken, stands_there, entry_of, lies_in, Within}
+use Rattle.cyc_objects.specs.inside.Related.{sort_of, has_home, Matches, Regions, no_regions, passed, taken, stands_there, entry_of, lies_in, Within}
 use Rattle.cyc_objects.proofs.NumberLemmas.{slice_get-there, slice_get-set_cases}
 
 -- ---- sorts

@@ -7,9 +7,9 @@ use Rattle.cyc_store.specs.State.{StoreState, lexical_count}
 use Rattle.cyc_store.specs.Soundness.{IsSound}
 use Rattle.cyc_store.proofs.KeptServices.{lexical-few, regions-few}
 use Rattle.cyc_meaning.specs.State.{Sort, Heap, Globals, Stack, Lexical, Dynamic, Region, World, Found, Closed, region_at, found_region, Environment, Entry, CloseRegion, CloseLexical}
-use Rattle.cyc_meaning.specs.Nesting.{ends_of, AreBelow, lexicals_of, is_scope, is_open_scope, AreScopes, IsNested}
+use Rattle.cyc_meaning.specs.inside.Nesting.{ends_of, AreBelow, lexicals_of, is_scope, is_open_scope, AreScopes, IsNested}
 use Rattle.cyc_meaning.proofs.NestingLemmas.{one_here, one_there, none_above, scopes_closed}
-use Rattle.cyc_objects.specs.Related.{scopes, IsNewest}
+use Rattle.cyc_objects.specs.inside.Related.{scopes, IsNewest}
 use Rattle.cyc_objects.proofs.RegionLemmas.{shut, not_true}
 use Rattle.cyc_objects.proofs.Closing.{scopes-closed, scopes-none}
 

@@ -6,9 +6,8 @@ use Rattle.std.proofs.lemmas.Bool.{cases_eq, cond-true}
 use Rattle.cyc_types.specs.declared.typed.Kind.{Kind}
 use Rattle.cyc_words.specs.Demand.{class_of, demand_of}
 use Rattle.cyc_words.proofs.Numbers.{when_equal}
-use Rattle.cyc_store.specs.Lookup.{lookup, without, AreDistinct}
+use Rattle.cyc_store.specs.State.{lookup, without, AreDistinct, Memory, Block, address_of, Home, handle_of, empty_home, StoreState, homes, block_in, block_at, room}
 use Rattle.cyc_store.specs.State as stores
-use Rattle.cyc_store.specs.State.{Memory, Block, address_of, Home, handle_of, empty_home, StoreState, homes, block_in, block_at, room}
 use Rattle.cyc_store.specs.Services.{OpenLexical, OpenDynamic, CloseDynamic, Free, Choice, served, names_dynamic, full_at, refusal, BadHandle, NotABlock, IsAllowed}
 use Rattle.cyc_store.specs.Services as services
 use Rattle.cyc_store.specs.Soundness.{IsSound}
@@ -18,10 +17,10 @@ use Rattle.cyc_store.proofs.ServiceLemmas.{served-sound}
 use Rattle.cyc_meaning.specs.Values.{kinds_of, block_size}
 use Rattle.cyc_meaning.specs.State.{Sort, Lexical, Dynamic, Region, Owner, InRegion, Unique, Object, World, heap_number, has_pages, new_region, opened_as, closed, counted}
 use Rattle.cyc_meaning.specs.Objects.{class_of_cells, is_live_in, live_in, freed}
-use Rattle.cyc_meaning.specs.Effects.{pages_of}
+use Rattle.cyc_meaning.specs.inside.Effects.{pages_of}
 use Rattle.cyc_meaning.proofs.ListLemmas.{slice_get-append}
-use Rattle.cyc_objects.specs.Tables.{Placed, Tables, with_handle}
-use Rattle.cyc_objects.specs.Related.{sort_of, has_home, lies_in, Alive, Stands, Within, Related}
+use Rattle.cyc_objects.specs.inside.Tables.{Placed, Tables, with_handle}
+use Rattle.cyc_objects.specs.inside.Related.{sort_of, has_home, lies_in, Alive, Stands, Within, Related}
 use Rattle.cyc_objects.proofs.NumberLemmas.{slice_get-set_cases}
 use Rattle.cyc_objects.proofs.Values.{Grows-same, Grows-handle}
 use Rattle.cyc_objects.proofs.Pointers.{same-row}

@@ -3,8 +3,7 @@ use Rattle.std.proofs.Common.{◌≡◌, ℕ, ◌+◌, ◌-◌, ◌*◌, ◌/◌
 use Rattle.std.specs.Prelude.{◌≢◌, slice_get}
 use Rattle.std.proofs.lemmas.Bool.{cases_eq}
 use Rattle.cyc_types.specs.declared.typed.Kind.{Kind}
-use Rattle.cyc_store.specs.Lookup.{lookup, without, changed}
-use Rattle.cyc_store.specs.State.{AreWords, Block, address_of, Uniques, Home, handle_of, StoreState, homes, covers, block_in, block_at, with_block, made_in, made_unique, room}
+use Rattle.cyc_store.specs.State.{lookup, without, changed, AreWords, Block, address_of, Uniques, Home, handle_of, StoreState, homes, covers, block_in, block_at, with_block, made_in, made_unique, room}
 use Rattle.cyc_store.specs.Services.{IsPlaced, Keeps}
 use Rattle.cyc_store.specs.Soundness.{IsSound}
 use Rattle.cyc_store.specs.declared.range.TheConstants.{UNIQUE}
@@ -12,9 +11,9 @@ use Rattle.cyc_store.proofs.LookupLemmas.{lookup-here, lookup-there, lookup-appe
 use Rattle.cyc_store.proofs.HolderLemmas.{covers_from}
 use Rattle.cyc_meaning.specs.Values.{Cell, kinds_of, block_size}
 use Rattle.cyc_meaning.specs.State.{Object, World}
-use Rattle.cyc_objects.specs.Tables.{Placed, Tables, Grows}
-use Rattle.cyc_objects.specs.Words.{bytes_of_kinds, byte_at}
-use Rattle.cyc_objects.specs.Related.{Alive, Stands, Related}
+use Rattle.cyc_objects.specs.inside.Tables.{Placed, Tables, Grows}
+use Rattle.cyc_objects.specs.inside.Words.{bytes_of_kinds, byte_at}
+use Rattle.cyc_objects.specs.inside.Related.{Alive, Stands, Related}
 use Rattle.cyc_objects.proofs.Bytes.{byte-of_same}
 use Rattle.cyc_objects.proofs.Values.{AreCells-grows, AreCells-same}
 

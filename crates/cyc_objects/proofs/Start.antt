@@ -9,8 +9,8 @@ use Rattle.cyc_store.proofs.LookupLemmas.{not_both, same_some}
 use Rattle.cyc_store.proofs.ServiceLemmas.{start-sound}
 use Rattle.cyc_meaning.specs.State.{Object, InRegion, globals_number, global_object, first_regions, first_world}
 use Rattle.cyc_meaning.specs.Objects.{live_in}
-use Rattle.cyc_objects.specs.Tables.{Row, Variable, first_tables, without_addresses}
-use Rattle.cyc_objects.specs.Related.{lies_in, IsOfVariable, HasKinds, AreGlobals, Alive, Within, Related, passed, taken, no_regions}
+use Rattle.cyc_objects.specs.inside.Tables.{Row, Variable, first_tables, without_addresses}
+use Rattle.cyc_objects.specs.inside.Related.{lies_in, IsOfVariable, HasKinds, AreGlobals, Alive, Within, Related, passed, taken, no_regions}
 use Rattle.cyc_objects.proofs.NumberLemmas.{slice_get-map}
 
 -- what is found among images is the image of what is found

@@ -5,9 +5,9 @@ use Rattle.cyc_types.specs.declared.typed.Kind.TheVariants as kinds
 use Rattle.cyc_store.specs.State.{Memory, AreWords}
 use Rattle.cyc_meaning.specs.Values.{Value, Int, Null, Thin, Fat, Handle, Key, is_kind, words_of_kind, bytes_of_kind, begins, behind, bytes_from, Cell, kinds_of}
 use Rattle.cyc_meaning.proofs.ListLemmas.{slice_get-append}
-use Rattle.cyc_objects.specs.Tables.{Row, Placed, Tables, with_row, with_handle, Grows}
-use Rattle.cyc_objects.specs.Related.{IsVariableAt}
-use Rattle.cyc_objects.specs.Words.{byte_at, words_from, Points, IsPartOf, Is, Holds, IsContent, AreCells, AreBlank}
+use Rattle.cyc_objects.specs.inside.Tables.{Row, Placed, Tables, with_row, with_handle, Grows}
+use Rattle.cyc_objects.specs.inside.Related.{IsVariableAt}
+use Rattle.cyc_objects.specs.inside.Words.{byte_at, words_from, Points, IsPartOf, Is, Holds, IsContent, AreCells, AreBlank}
 use Rattle.cyc_objects.proofs.Bytes.{word-of_bytes}
 use Rattle.cyc_objects.proofs.Places.{IsAligned, begins-least, begins-aligned, bytes-least}
 

@@ -9,8 +9,8 @@ use Rattle.cyc_store.proofs.LookupLemmas.{same_some}
 use Rattle.cyc_meaning.specs.Values.{Value, Cell, kinds_of, block_size}
 use Rattle.cyc_meaning.specs.State.{Sort, Heap, Globals, Stack, Lexical, Dynamic, Region, Owner, InRegion, Unique, Object, World, heap_number, has_pages, new_region, opened_as, closed, variable, made, written}
 use Rattle.cyc_meaning.proofs.ListLemmas.{slice_get-append, slice_get-end, map-set}
-use Rattle.cyc_objects.specs.Tables.{Row, Variable, Placed, Tables, with_row, with_handle}
-use Rattle.cyc_objects.specs.Related.{sort_of, lies_in, Alive, IsOfVariable, IsVariableAt, HasKinds, Within, Related}
+use Rattle.cyc_objects.specs.inside.Tables.{Row, Variable, Placed, Tables, with_row, with_handle}
+use Rattle.cyc_objects.specs.inside.Related.{sort_of, lies_in, Alive, IsOfVariable, IsVariableAt, HasKinds, Within, Related}
 use Rattle.cyc_objects.proofs.NumberLemmas.{slice_get-below, slice_get-there, slice_get-last, slice_get-set_cases}
 use Rattle.cyc_objects.proofs.Values.{Grows-same, Grows-row, Grows-handle, variable-grows}
 use Rattle.cyc_objects.proofs.RegionLemmas.{regions-length, Regions-variables, shut, Regions-shut, lies-home, lies-set, lies-last}

@@ -1,3 +1,2 @@
-pub mod Tables
-pub mod Words
-pub mod Related
+-- What the functions of this crate promise each other and what its proofs say: no public contract of the product means it.
+pub mod inside

@@ -5,7 +5,7 @@ ghost use Rattle.std.specs.Prelude.{◌≡◌, ◌≢◌, ◌⊎◌, ℕ, suc, �
 ghost use Rattle.cyc_types.specs.declared.typed.Kind.{Kind};
 ghost use Rattle.cyc_types.specs.declared.typed.Kind.TheVariants as kinds;
 ghost use Rattle.cyc_types.specs.TypedTrees.{Program};
-ghost use Rattle.cyc_words.specs.WordBytes.{with_byte, word_of};
+ghost use Rattle.cyc_words.specs.Bytes.{with_byte, word_of};
 ghost use Rattle.cyc_words.specs.Demand.{page_words};
 ghost use Rattle.cyc_store.specs.State.{Memory, put, AreWords, StoreState, start, word_at};
 ghost use Rattle.cyc_store.specs.Services.{OpenLexical, CloseTo, OpenDynamic, CloseDynamic, Allocate, Free, Choice, served, full_at, is_size, refusal, IsAllowed};
@@ -16,13 +16,13 @@ ghost use Rattle.cyc_meaning.specs.Operators.{Gives, truth};
 ghost use Rattle.cyc_meaning.specs.Pointers.{moved, null_test};
 ghost use Rattle.cyc_meaning.specs.Conversion.{conversion};
 ghost use Rattle.cyc_meaning.specs.State.{Lexical, Dynamic, Stack, Region, InRegion, Unique, Object, World, Environment, Entry, CloseLexical, Found, Located, region_at, cell_at, opened_as, closed, variable, made, written, first_world};
-ghost use Rattle.cyc_meaning.specs.Nesting.{lexicals_of, is_scope, IsNested};
+ghost use Rattle.cyc_meaning.specs.inside.Nesting.{lexicals_of, is_scope, IsNested};
 ghost use Rattle.cyc_meaning.specs.Objects.{compared, made_in, made_unique, freed};
 ghost use Rattle.cyc_meaning.specs.Allocation.{blanks};
-ghost use Rattle.cyc_meaning.specs.Effects.{pages_of};
-ghost use Rattle.cyc_objects.specs.Tables.{Row, Placed, Tables, with_row, with_handle, Grows, first_tables};
-ghost use Rattle.cyc_objects.specs.Words.{byte_at, Points, IsPartOf, Is, Holds, IsContent, IsBeside, AreBlank};
-ghost use Rattle.cyc_objects.specs.Related.{has_home, IsOfVariable, HasKinds, Alive, LiveVariable, AreApart, AreGlobals, Related, scopes, IsNewest, closed_to};
+ghost use Rattle.cyc_meaning.specs.inside.Effects.{pages_of};
+ghost use Rattle.cyc_objects.specs.inside.Tables.{Row, Placed, Tables, with_row, with_handle, Grows, first_tables};
+ghost use Rattle.cyc_objects.specs.inside.Words.{byte_at, Points, IsPartOf, Is, Holds, IsContent, IsBeside, AreBlank};
+ghost use Rattle.cyc_objects.specs.inside.Related.{has_home, IsOfVariable, HasKinds, Alive, LiveVariable, AreApart, AreGlobals, Related, scopes, IsNewest, closed_to};
 
 /// What words are stays said of them when more objects are made and more regions opened, and of equal words elsewhere.
 pub fn words_stay_values()

@@ -4,8 +4,8 @@ use Rattle.std.specs.Prelude.{◌==◌, ◌⊎◌, if◌then◌else◌}
 use Rattle.std.specs.List.{AllByRecursion}
 use Rattle.std.proofs.lemmas.Bool.{cases_eq}
 use Rattle.cyc_words.proofs.Numbers.{when_equal}
-use Rattle.cyc_store.specs.Table.{row_at}
-use Rattle.cyc_store.specs.Kept.{IsChain, IsOneOf}
+use Rattle.cyc_store.specs.inside.Table.{row_at}
+use Rattle.cyc_store.specs.inside.Kept.{IsChain, IsOneOf}
 use Rattle.cyc_store.specs.declared.row.Role.{Role}
 use Rattle.cyc_store.specs.declared.row.Role.TheVariants.{Rest, Heap, Lexical, Dynamic}
 use Rattle.cyc_store.specs.declared.row.Row.{Row}
@@ -13,9 +13,9 @@ use Rattle.cyc_store.specs.declared.row.TheConstants.{NONE}
 use Rattle.cyc_store.proofs.LookupLemmas.{when_other}
 use Rattle.cyc_store.proofs.TieLemmas.{chain-same}
 use Rattle.cyc_store.proofs.TieClosing.{one-all, all-from}
-use Rattle.cyc_pagestore.specs.Links.{head_or_none, relinked, removed, next_of, longer_of}
-use Rattle.cyc_pagestore.specs.Live.{reach_by}
-use Rattle.cyc_pagestore.specs.Table.{IsRoot, Backing, reach_of, IsMember, IsRegion, Backs}
+use Rattle.cyc_pagestore.specs.inside.Links.{head_or_none, relinked, removed, next_of, longer_of}
+use Rattle.cyc_pagestore.specs.inside.Live.{reach_by}
+use Rattle.cyc_pagestore.specs.inside.Table.{IsRoot, Backing, reach_of, IsMember, IsRegion, Backs}
 use Rattle.cyc_pagestore.proofs.Rows.{removed-out, removed-in, removed-apart, fronted-apart, relinked-other, relinked-row, relinked-chain}
 use Rattle.cyc_pagestore.proofs.Reaching.{reach-by_serial, reach-stale, reach-empty, reach-same}
 

@@ -8,8 +8,8 @@ use Rattle.cyc_store.specs.Ledger.{Blocks, memory_of, store_of, no_blocks}
 use Rattle.cyc_store.specs.State.{AreWords, Heap, start, opened}
 use Rattle.cyc_store.specs.Soundness.{IsSound}
 use Rattle.cyc_store.specs.Slots.{IsLaidOut}
-use Rattle.cyc_store.specs.Table.{free_row, row_at}
-use Rattle.cyc_store.specs.Kept.{handle_of_page, numbers_from, IsStocked, IsTied, table_of, no_slots}
+use Rattle.cyc_store.specs.inside.Table.{free_row, row_at}
+use Rattle.cyc_store.specs.inside.Kept.{handle_of_page, numbers_from, IsStocked, IsTied, table_of, no_slots}
 use Rattle.cyc_store.specs.declared.row.PageTable.{PageTable}
 use Rattle.cyc_store.specs.declared.row.Role.TheVariants as role
 use Rattle.cyc_store.specs.declared.row.Row.{Row}
@@ -19,13 +19,13 @@ use Rattle.cyc_store.proofs.KeptServices.{memory-same, kept-opened}
 use Rattle.cyc_store.proofs.KeptStart.{no_regions, new_slots, all_new, first_layout, first-laid}
 use Rattle.cyc_store.proofs.ServiceLemmas.{start-sound}
 use Rattle.cyc_store.proofs.PagedStart.{are-distinct}
-use Rattle.cyc_rawpages.specs.Pool.{PoolState, IsFree, new_pool}
+use Rattle.cyc_rawpages.specs.inside.Pool.{PoolState, IsFree, new_pool}
 use Rattle.cyc_pagestore.specs.declared.step.Step.TheVariants.{Made, Taken, Began}
 use Rattle.cyc_pagestore.specs.declared.table.Spot.{Spot}
-use Rattle.cyc_pagestore.specs.Links.{Links, no_links, after}
-use Rattle.cyc_pagestore.specs.Live.{Readies}
-use Rattle.cyc_pagestore.specs.Table.{AreAlone, TableState, blank_table, Opens, no_spot, IsBacked}
-use Rattle.cyc_pagestore.specs.Stored.{IsStored}
+use Rattle.cyc_pagestore.specs.inside.Links.{Links, no_links, after}
+use Rattle.cyc_pagestore.specs.inside.Live.{Readies}
+use Rattle.cyc_pagestore.specs.inside.Table.{AreAlone, TableState, blank_table, Opens, no_spot, IsBacked}
+use Rattle.cyc_pagestore.specs.inside.Stored.{IsStored}
 use Rattle.cyc_pagestore.proofs.Rows.{relinked-length, relinked-row, relinked-chain}
 use Rattle.cyc_pagestore.proofs.Blank.{same-at, each-at, within, new-backed}
 use Rattle.cyc_pagestore.proofs.Calls.{view_of, open-keeps, open-gives}

@@ -5,17 +5,17 @@ use Rattle.std.specs.List.{AllByRecursion}
 use Rattle.std.proofs.lemmas.Bool.{cases_eq}
 use Rattle.std.proofs.lemmas.List.{length-replicate}
 use Rattle.cyc_words.specs.Distinct.{IsDistinct}
-use Rattle.cyc_store.specs.Table.{free_row, row_at}
-use Rattle.cyc_store.specs.Kept.{IsOneOf, numbers_from}
+use Rattle.cyc_store.specs.inside.Table.{free_row, row_at}
+use Rattle.cyc_store.specs.inside.Kept.{IsOneOf, numbers_from}
 use Rattle.cyc_store.specs.declared.row.Row.{Row}
 use Rattle.cyc_store.specs.declared.row.TheConstants.{NONE}
 use Rattle.cyc_store.proofs.TieClosing.{all-from}
 use Rattle.cyc_store.proofs.PagedStart.{are-distinct}
-use Rattle.cyc_rawpages.specs.Pool.{PoolState, new_pool}
+use Rattle.cyc_rawpages.specs.inside.Pool.{PoolState, new_pool}
 use Rattle.cyc_pagestore.specs.declared.step.Step.TheVariants.{Made}
 use Rattle.cyc_pagestore.specs.declared.table.Spot.{Spot}
-use Rattle.cyc_pagestore.specs.Links.{Links, no_links, after}
-use Rattle.cyc_pagestore.specs.Table.{no_spot, spot_at, backing_of, reach_of, Backs, IsBacked}
+use Rattle.cyc_pagestore.specs.inside.Links.{Links, no_links, after}
+use Rattle.cyc_pagestore.specs.inside.Table.{no_spot, spot_at, backing_of, reach_of, Backs, IsBacked}
 use Rattle.cyc_pagestore.proofs.Rows.{relinked-length, relinked-row, relinked-chain}
 use Rattle.cyc_pagestore.proofs.Reaching.{reach-empty}
 use Rattle.cyc_pagestore.proofs.Backing.{rest-no_root}

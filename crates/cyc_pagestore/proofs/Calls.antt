@@ -3,17 +3,17 @@ use Rattle.std.proofs.Common.{◌≡◌, ℕ, zero, suc, ◌+◌, ◌*◌, ◌^�
 use Rattle.std.specs.Prelude.{◌⊎◌, slice_index, slice_index_or}
 use Rattle.std.proofs.lemmas.Bool.{true≢false}
 use Rattle.std.proofs.lemmas.List.{get_or_default}
-use Rattle.cyc_store.specs.Table.{marked_between, row_at}
+use Rattle.cyc_store.specs.inside.Table.{marked_between, row_at}
 use Rattle.cyc_store.specs.declared.row.Role.{Role}
 use Rattle.cyc_store.specs.declared.row.Role.TheVariants.{Rest, Slots}
 use Rattle.cyc_store.specs.declared.row.TheConstants.{NONE}
-use Rattle.cyc_rawpages.specs.Lists.{chain_at, freed}
-use Rattle.cyc_rawpages.specs.Pool.{PoolState, IsFree, IsHead}
+use Rattle.cyc_rawpages.specs.inside.Lists.{chain_at, freed}
+use Rattle.cyc_rawpages.specs.inside.Pool.{PoolState, IsFree, IsHead}
 use Rattle.cyc_pagestore.specs.declared.step.Step.TheVariants.{Taken, Began, Added, Filled, Cut, Closed}
 use Rattle.cyc_pagestore.specs.declared.table.Spot.{Spot}
-use Rattle.cyc_pagestore.specs.Links.{Links, after}
-use Rattle.cyc_pagestore.specs.Live.{Readies}
-use Rattle.cyc_pagestore.specs.Table.{TableState, row_of, IsFull, IsIdlePast, IsRoot, Takes, Opens, Adds, Cuts, Fills, Closes, Marks, no_spot, spot_at, IsBacked}
+use Rattle.cyc_pagestore.specs.inside.Links.{Links, after}
+use Rattle.cyc_pagestore.specs.inside.Live.{Readies}
+use Rattle.cyc_pagestore.specs.inside.Table.{TableState, row_of, IsFull, IsIdlePast, IsRoot, Takes, Opens, Adds, Cuts, Fills, Closes, Marks, no_spot, spot_at, IsBacked}
 use Rattle.cyc_pagestore.proofs.Backing.{within}
 use Rattle.cyc_pagestore.proofs.Pooled.{none-first, page-inside, taken-backed, taken-not_free, taken-alone, taken-rest, ready-backed, begun-backed, cut-backed, added-backed, root-apart, newest-there, root-head, filled-backed, closed-backed}
 

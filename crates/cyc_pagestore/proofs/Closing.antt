@@ -4,13 +4,13 @@ use Rattle.std.specs.Prelude.{◌⊎◌, set}
 use Rattle.std.specs.List.{AllByRecursion}
 use Rattle.std.proofs.lemmas.Bool.{cases_eq}
 use Rattle.cyc_words.specs.Distinct.{IsDistinct}
-use Rattle.cyc_store.specs.Table.{free_row, row_at, given_rows, given_free}
-use Rattle.cyc_store.specs.Kept.{IsChain, IsOneOf}
+use Rattle.cyc_store.specs.inside.Table.{free_row, row_at, given_rows, given_free}
+use Rattle.cyc_store.specs.inside.Kept.{IsChain, IsOneOf}
 use Rattle.cyc_store.specs.declared.row.Role.TheVariants.{Rest}
 use Rattle.cyc_store.specs.declared.row.Row.{Row}
 use Rattle.cyc_store.specs.declared.row.TheConstants.{NONE}
-use Rattle.cyc_pagestore.specs.Links.{moved, chain_from}
-use Rattle.cyc_pagestore.specs.Table.{IsRoot, Backing, reach_of, IsMember, IsRegion, Backs}
+use Rattle.cyc_pagestore.specs.inside.Links.{moved, chain_from}
+use Rattle.cyc_pagestore.specs.inside.Table.{IsRoot, Backing, reach_of, IsMember, IsRegion, Backs}
 use Rattle.cyc_store.proofs.TieLemmas.{chain-same}
 use Rattle.cyc_store.proofs.TieClosing.{one-all, all-from}
 use Rattle.cyc_pagestore.proofs.Rows.{not-away, one-cases, moved-out, moved-in, moved-apart}

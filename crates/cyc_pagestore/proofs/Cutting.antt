@@ -4,12 +4,11 @@ use Rattle.std.proofs.Common.{◌≡◌, ℕ, ◌+◌, ◌*◌, ◌/◌, ◌^◌
 use Rattle.std.specs.Prelude.{slice_index_or}
 use Rattle.cyc_words.specs.Demand.{greatest_class, class_of}
 use Rattle.cyc_store.specs.Ledger.{Blocks, store_of, after}
-use Rattle.cyc_store.specs.Lookup.{lookup}
+use Rattle.cyc_store.specs.State.{lookup, address_of, StoreState}
 use Rattle.cyc_store.specs.Services.{Allocate, Allocated, Free, Done, Refused, Full, Serves}
 use Rattle.cyc_store.specs.Slots.{HasSlot, IsSpent, Stocks, Fills}
-use Rattle.cyc_store.specs.State.{address_of, StoreState}
-use Rattle.cyc_store.specs.Table.{marked_between}
-use Rattle.cyc_store.specs.Kept.{next_slot_of, no_slots}
+use Rattle.cyc_store.specs.inside.Table.{marked_between}
+use Rattle.cyc_store.specs.inside.Kept.{next_slot_of, no_slots}
 use Rattle.cyc_store.specs.declared.change.Change.TheVariants.{Stocked, MadeUnique, Freed}
 use Rattle.cyc_store.specs.declared.range.TheConstants.{MOST_BLOCK_WORDS, UNIQUE}
 use Rattle.cyc_store.specs.declared.row.PageTable.{PageTable}
@@ -18,9 +17,9 @@ use Rattle.cyc_store.specs.declared.row.TheConstants.{NONE}
 use Rattle.cyc_store.proofs.KeptSlots.{stock-full, stock-kept, stock-stocks, dead-there, fresh-there, slot-dead, slot-left, slot-none, fill-small, fill-there, fill-fills, fill-kept}
 use Rattle.cyc_store.proofs.KeptUnique.{unique-bound, unique-filled, unique-has, unique-stocked, unique-full}
 use Rattle.cyc_store.proofs.KeptFreeing.{empty-class, empty-word, empty-small, empty-live, empty-serves, empty-kept}
-use Rattle.cyc_pagestore.specs.Links.{removed, slots_of}
-use Rattle.cyc_pagestore.specs.Table.{TableState, IsFull, Cuts, Marks}
-use Rattle.cyc_pagestore.specs.Stored.{Reads, IsStored}
+use Rattle.cyc_pagestore.specs.inside.Links.{removed, slots_of}
+use Rattle.cyc_pagestore.specs.inside.Table.{TableState, IsFull, Cuts, Marks}
+use Rattle.cyc_pagestore.specs.inside.Stored.{Reads, IsStored}
 use Rattle.cyc_pagestore.proofs.Rows.{relinked-length}
 use Rattle.cyc_pagestore.proofs.Taking.{same-size, words-count, live-count, v, u, v-kept, draws, room}
 use Rattle.cyc_pagestore.proofs.Storing.{stored-held}

@@ -8,12 +8,11 @@ use Rattle.std.proofs.lemmas.List.{get_or_default}
 use Rattle.cyc_words.specs.Demand.{greatest_class}
 use Rattle.cyc_words.proofs.Booleans.{some_there}
 use Rattle.cyc_store.specs.Ledger.{Blocks, Stored, store_of}
-use Rattle.cyc_store.specs.Lookup.{lookup}
-use Rattle.cyc_store.specs.State.{StoreState, Sort, Heap, Lexical, Dynamic, Uniques, Home, homes, holder, address_of, handle_of, saved, word_at}
+use Rattle.cyc_store.specs.State.{lookup, StoreState, Sort, Heap, Lexical, Dynamic, Uniques, Home, homes, holder, address_of, handle_of, saved, word_at}
 use Rattle.cyc_store.specs.Services.{names_dynamic}
 use Rattle.cyc_store.specs.Ordered.{IsOrdered}
-use Rattle.cyc_store.specs.Kept.{handle_of_page, role_of, sort_of}
-use Rattle.cyc_store.specs.Table.{row_at}
+use Rattle.cyc_store.specs.inside.Kept.{handle_of_page, role_of, sort_of}
+use Rattle.cyc_store.specs.inside.Table.{row_at}
 use Rattle.cyc_store.specs.declared.row.Role.TheVariants as role
 use Rattle.cyc_store.specs.declared.range.TheConstants.{STORE_BASE, PAGE_WORDS, UNIQUE}
 use Rattle.cyc_store.specs.declared.row.PageTable.{PageTable}
@@ -23,8 +22,8 @@ use Rattle.cyc_store.proofs.KeptClosing.{even-none, past-none, other-none, other
 use Rattle.cyc_store.proofs.KeptBlocks.{block-unplaced, block-past, block-other, block-class, block-inner, block-dead, block-live}
 use Rattle.cyc_store.proofs.KeptLoads.{load-dead, load-none, load-inside, load-word}
 use Rattle.cyc_store.proofs.KeptSaving.{save-kept, save-saved}
-use Rattle.cyc_pagestore.specs.Table.{TableState, row_of, IsIdlePast, IsRoot}
-use Rattle.cyc_pagestore.specs.Stored.{Reads, IsStored}
+use Rattle.cyc_pagestore.specs.inside.Table.{TableState, row_of, IsIdlePast, IsRoot}
+use Rattle.cyc_pagestore.specs.inside.Stored.{Reads, IsStored}
 use Rattle.cyc_pagestore.proofs.Taking.{same-size}
 use Rattle.cyc_pagestore.proofs.Storing.{rows-all, row-read, stored-held, live-marked}
 use Rattle.cyc_pagestore.proofs.Cutting.{words-all}

@@ -2,9 +2,9 @@
 use Rattle.std.proofs.Common.{◌≡◌, ℕ, zero, suc, ◌<◌, Bool, true, false, List, [], ◌∷◌, length, length-set, set, refl, sym, ap, subst, ◌∙◌, inl, inr, arith, get_or-set_same, get_or-set_other}
 use Rattle.std.specs.Prelude.{slice_index_or}
 use Rattle.std.proofs.lemmas.Bool.{cases_eq}
-use Rattle.cyc_rawpages.specs.Lists.{chain_at, freed}
-use Rattle.cyc_rawpages.specs.Pool.{PoolState, IsFree, IsHead}
-use Rattle.cyc_pagestore.specs.Table.{AreAlone}
+use Rattle.cyc_rawpages.specs.inside.Lists.{chain_at, freed}
+use Rattle.cyc_rawpages.specs.inside.Pool.{PoolState, IsFree, IsHead}
+use Rattle.cyc_pagestore.specs.inside.Table.{AreAlone}
 
 -- how many are true
 abbrev pub true_count : List Bool → ℕ

@@ -3,11 +3,10 @@ use Rattle.std.proofs.Common.{◌≡◌, ℕ, ◌+◌, ◌*◌, ◌<◌, ◌≤�
 use Rattle.std.specs.Prelude.{slice_index_or}
 use Rattle.std.proofs.lemmas.List.{get_or_default}
 use Rattle.cyc_store.specs.Ledger.{Blocks, store_of, plain_store, blocks_of}
-use Rattle.cyc_store.specs.Lookup.{lookup}
+use Rattle.cyc_store.specs.State.{lookup, Home, handle_of, StoreState, made_in}
 use Rattle.cyc_store.specs.Services.{Allocate, Allocated, Refused, Full, Serves}
-use Rattle.cyc_store.specs.State.{Home, handle_of, StoreState, made_in}
-use Rattle.cyc_store.specs.Table.{free_row, row_at}
-use Rattle.cyc_store.specs.Kept.{handle_of_page}
+use Rattle.cyc_store.specs.inside.Table.{free_row, row_at}
+use Rattle.cyc_store.specs.inside.Kept.{handle_of_page}
 use Rattle.cyc_store.specs.declared.range.TheConstants.{MOST_BLOCK_WORDS}
 use Rattle.cyc_store.specs.declared.row.PageTable.{PageTable}
 use Rattle.cyc_store.specs.declared.row.Row.{Row}
@@ -15,9 +14,9 @@ use Rattle.cyc_store.specs.declared.row.ClassSlots.{ClassSlots}
 use Rattle.cyc_store.specs.declared.row.TheConstants.{NONE}
 use Rattle.cyc_store.proofs.KeptMaking.{first-there, first-small, last-few, behind-serves, behind-kept, after-full, after-serves, after-kept}
 use Rattle.cyc_store.proofs.TieMaking.{next_row, longer_row}
-use Rattle.cyc_pagestore.specs.Links.{relinked, removed, added_rows}
-use Rattle.cyc_pagestore.specs.Table.{TableState, row_of, IsFull, Adds, Fills}
-use Rattle.cyc_pagestore.specs.Stored.{IsStored}
+use Rattle.cyc_pagestore.specs.inside.Links.{relinked, removed, added_rows}
+use Rattle.cyc_pagestore.specs.inside.Table.{TableState, row_of, IsFull, Adds, Fills}
+use Rattle.cyc_pagestore.specs.inside.Stored.{IsStored}
 use Rattle.cyc_pagestore.proofs.Rows.{relinked-row, relinked-length}
 use Rattle.cyc_pagestore.proofs.Taking.{same-size, front-within, v, u, v-kept, draws, room}
 use Rattle.cyc_pagestore.proofs.Storing.{row-read, stored-held, stored-full, root-inside, root-read}

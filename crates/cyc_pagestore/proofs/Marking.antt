@@ -2,9 +2,9 @@
 use Rattle.std.proofs.Common.{◌≡◌, ℕ, ◌+◌, ◌<◌, ◌≤◌, Bool, sym, ◌∙◌, inl, inr, arith}
 use Rattle.std.specs.Prelude.{◌⊎◌}
 use Rattle.std.proofs.lemmas.Bool.{cases_lt}
-use Rattle.cyc_store.specs.Table.{marked_between}
+use Rattle.cyc_store.specs.inside.Table.{marked_between}
 use Rattle.cyc_store.proofs.TableLemmas.{cases_between, between-in, between-out}
-use Rattle.cyc_rawpages.specs.Pool.{between}
+use Rattle.cyc_rawpages.specs.inside.Pool.{between}
 
 module _ (old mid new : ℕ → Bool) (first done some : ℕ) (mark : Bool)
     (were : (word : ℕ) → mid word ≡ marked_between old first done mark word)

@@ -3,20 +3,20 @@ use Rattle.std.proofs.Common.{◌≡◌, ℕ, ◌+◌, ◌*◌, ◌-◌, ◌^◌
 use Rattle.std.specs.Prelude.{◌⊎◌, slice_index, slice_index_or}
 use Rattle.std.proofs.lemmas.Bool.{cases_eq}
 use mathlib.Core.Path.{fun_ext}
-use Rattle.cyc_store.specs.Table.{free_row, row_at}
-use Rattle.cyc_store.specs.Kept.{IsChain, IsOneOf}
+use Rattle.cyc_store.specs.inside.Table.{free_row, row_at}
+use Rattle.cyc_store.specs.inside.Kept.{IsChain, IsOneOf}
 use Rattle.cyc_store.specs.declared.row.Role.{Role}
 use Rattle.cyc_store.specs.declared.row.Role.TheVariants.{Rest, Slots}
 use Rattle.cyc_store.specs.declared.row.Row.{Row}
 use Rattle.cyc_store.specs.declared.row.TheConstants.{NONE}
 use Rattle.cyc_store.proofs.SlotTables.{read-set}
-use Rattle.cyc_rawpages.specs.Lists.{chain_at, freed}
-use Rattle.cyc_rawpages.specs.Pool.{PoolState, IsFree, IsHead}
+use Rattle.cyc_rawpages.specs.inside.Lists.{chain_at, freed}
+use Rattle.cyc_rawpages.specs.inside.Pool.{PoolState, IsFree, IsHead}
 use Rattle.cyc_pagestore.specs.declared.step.Step.TheVariants.{Taken, Began, Added, Filled, Cut, Closed}
 use Rattle.cyc_pagestore.specs.declared.table.Spot.{Spot}
-use Rattle.cyc_pagestore.specs.Links.{Links, removed, first_of, next_of, longer_of, slots_of, added_rows, after}
-use Rattle.cyc_pagestore.specs.Live.{filled_by, reach, AreNewer, AreOne, Readies}
-use Rattle.cyc_pagestore.specs.Table.{IsRoot, no_spot, spot_at, Backing, backing_of, Backs, IsBacked}
+use Rattle.cyc_pagestore.specs.inside.Links.{Links, removed, first_of, next_of, longer_of, slots_of, added_rows, after}
+use Rattle.cyc_pagestore.specs.inside.Live.{filled_by, reach, AreNewer, AreOne, Readies}
+use Rattle.cyc_pagestore.specs.inside.Table.{IsRoot, no_spot, spot_at, Backing, backing_of, Backs, IsBacked}
 use Rattle.cyc_pagestore.proofs.Rows.{relinked-length}
 use Rattle.cyc_pagestore.proofs.Backing.{with_at, at-same, at-other, root-away, taken-backs, readied-backs, cut-backs, begun-backs, added-backs, filled-backs, newest-member}
 use Rattle.cyc_pagestore.proofs.Closing.{gives, closed-backs}

@@ -2,7 +2,7 @@
 use Rattle.std.proofs.Common.{◌≡◌, ℕ, ◌<◌, ◌≤◌, true, false, ap, sym, ◌∙◌, inl, inr, arith}
 use Rattle.std.specs.Prelude.{◌==◌, if◌then◌else◌, nat_lt}
 use Rattle.std.proofs.lemmas.Bool.{cases_eq, cond-true, cond-false, eq-eqb, ne_eqb, lt-ltb, le-ltb, false≢true}
-use Rattle.cyc_pagestore.specs.Live.{reach_by}
+use Rattle.cyc_pagestore.specs.inside.Live.{reach_by}
 
 pub reach-by_serial : (serial owner fill : ℕ → ℕ) (page : ℕ) → serial page ≡ serial (owner page) → reach_by serial owner fill page ≡ fill page
 reach-by_serial serial owner fill page e = cond-true (serial page == serial (owner page)) (fill page) 0 (eq-eqb (serial page) (serial (owner page)) e)

@@ -5,14 +5,14 @@ use Rattle.std.specs.List.{AllByRecursion}
 use Rattle.std.proofs.lemmas.Bool.{cases_eq}
 use Rattle.cyc_words.specs.Distinct.{IsDistinct}
 use Rattle.cyc_words.proofs.Numbers.{when_equal}
-use Rattle.cyc_store.specs.Table.{free_row, row_at}
-use Rattle.cyc_store.specs.Kept.{IsChain, IsOneOf}
+use Rattle.cyc_store.specs.inside.Table.{free_row, row_at}
+use Rattle.cyc_store.specs.inside.Kept.{IsChain, IsOneOf}
 use Rattle.cyc_store.specs.declared.row.Row.{Row}
 use Rattle.cyc_store.specs.declared.row.TheConstants.{NONE}
 use Rattle.cyc_store.proofs.LookupLemmas.{when_other}
 use Rattle.cyc_store.proofs.TieLemmas.{chain-same}
 use Rattle.cyc_store.proofs.TieClosing.{one-all, all-from}
-use Rattle.cyc_pagestore.specs.Links.{head_or_none, relinked, removed, moved}
+use Rattle.cyc_pagestore.specs.inside.Links.{head_or_none, relinked, removed, moved}
 
 -- ---- elements
 

@@ -4,11 +4,10 @@ use Rattle.std.proofs.Common.{◌≡◌, ℕ, zero, suc, ◌+◌, ◌*◌, ◌/�
 use Rattle.std.specs.Prelude.{Option, is_some, slice_index_or}
 use Rattle.std.proofs.lemmas.List.{get_or_default}
 use Rattle.cyc_store.specs.Ledger.{Blocks, store_of, plain_store, blocks_of, Stored, Unwinds}
-use Rattle.cyc_store.specs.Lookup.{lookup, without}
+use Rattle.cyc_store.specs.State.{lookup, without, Sort, Heap, Lexical, Dynamic, Uniques, Home, handle_of, StoreState, homes, holder, demand, lexical_count, opened}
 use Rattle.cyc_store.specs.Services.{Call, OpenDynamic, Opened, OpenLexical, OpenedLexical, Done, Serves}
-use Rattle.cyc_store.specs.State.{Sort, Heap, Lexical, Dynamic, Uniques, Home, handle_of, StoreState, homes, holder, demand, lexical_count, opened}
-use Rattle.cyc_store.specs.Table.{free_row, row_at, given_rows, given_free}
-use Rattle.cyc_store.specs.Kept.{handle_of_page, lexical_handles, role_of_sort, role_of, sort_of}
+use Rattle.cyc_store.specs.inside.Table.{free_row, row_at, given_rows, given_free}
+use Rattle.cyc_store.specs.inside.Kept.{handle_of_page, lexical_handles, role_of_sort, role_of, sort_of}
 use Rattle.cyc_store.specs.declared.row.Role.{Role}
 use Rattle.cyc_store.specs.declared.row.Role.TheVariants as role
 use Rattle.cyc_store.specs.declared.range.TheConstants.{STORE_BASE}
@@ -21,9 +20,9 @@ use Rattle.cyc_store.proofs.KeptClosing.{close-kept}
 use Rattle.cyc_store.proofs.KeptMaking.{rooted, first-counted, root-there, root-small}
 use Rattle.cyc_store.proofs.KeptWords.{kept-below, kept-marks}
 use Rattle.cyc_store.proofs.TieClosing.{one-all}
-use Rattle.cyc_pagestore.specs.Table.{TableState, row_of, IsFull, IsRoot, Takes, Opens, Closes}
-use Rattle.cyc_pagestore.specs.Stored.{Reads, IsStored}
-use Rattle.cyc_pagestore.specs.Links.{removed, first_of}
+use Rattle.cyc_pagestore.specs.inside.Table.{TableState, row_of, IsFull, IsRoot, Takes, Opens, Closes}
+use Rattle.cyc_pagestore.specs.inside.Stored.{Reads, IsStored}
+use Rattle.cyc_pagestore.specs.inside.Links.{removed, first_of}
 use Rattle.cyc_pagestore.proofs.Rows.{relinked-length}
 use Rattle.cyc_pagestore.proofs.Taking.{stored-few, words-count, same-size, v, u, v-kept, draws, room}
 

@@ -12,8 +12,8 @@ use Rattle.cyc_store.specs.Ledger.{Blocks, store_of}
 use Rattle.cyc_store.specs.Pages.{IsFree}
 use Rattle.cyc_store.specs.Slots.{Layout, IsLaidOut}
 use Rattle.cyc_store.specs.State.{Home, demand}
-use Rattle.cyc_store.specs.Table.{Draws, row_at}
-use Rattle.cyc_store.specs.Kept.{Table, IsChain, IsOneOf, numbers_from, IsRooted, IsTied, IsKept, table_of, no_slots}
+use Rattle.cyc_store.specs.inside.Table.{Draws, row_at}
+use Rattle.cyc_store.specs.inside.Kept.{Table, IsChain, IsOneOf, numbers_from, IsRooted, IsTied, IsKept, table_of, no_slots}
 use Rattle.cyc_store.specs.declared.row.PageTable.{PageTable}
 use Rattle.cyc_store.specs.declared.row.Row.{Row}
 use Rattle.cyc_store.specs.declared.row.TheConstants.{NONE}
@@ -22,9 +22,9 @@ use Rattle.cyc_store.specs.declared.range.TheConstants.{PAGE_WORDS}
 use Rattle.cyc_store.proofs.TieLemmas.{chain-same}
 use Rattle.cyc_store.proofs.LookupLemmas.{when_other, not_both}
 use Rattle.cyc_store.proofs.TieClosing.{one-all, all-from}
-use Rattle.cyc_pagestore.specs.Links.{head_or_none, relinked, removed}
-use Rattle.cyc_pagestore.specs.Table.{TableState, Takes}
-use Rattle.cyc_pagestore.specs.Stored.{Reads, IsStored}
+use Rattle.cyc_pagestore.specs.inside.Links.{head_or_none, relinked, removed}
+use Rattle.cyc_pagestore.specs.inside.Table.{TableState, Takes}
+use Rattle.cyc_pagestore.specs.inside.Stored.{Reads, IsStored}
 use Rattle.cyc_pagestore.proofs.Rows.{removed-out, fronted-apart, relinked-length, relinked-other, relinked-row, relinked-chain}
 
 -- ---- a table in memory that reads so

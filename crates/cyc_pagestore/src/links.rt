@@ -2,7 +2,7 @@
 
 ghost use Rattle.std.specs.Prelude.{◌≡◌};
 ghost use Rattle.std.specs.Borrow.{ftrue};
-ghost use Rattle.cyc_pagestore.specs.Links.{Links, no_links, after};
+ghost use Rattle.cyc_pagestore.specs.inside.Links.{Links, no_links, after};
 
 use super::step::Step;
 use std::marker::Model;

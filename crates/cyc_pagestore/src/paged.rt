@@ -4,12 +4,11 @@ ghost use Rattle.std.specs.Prelude.{◌≡◌, ◌≢◌, ◌+◌, ◌*◌, ◌%
 ghost use Rattle.cyc_words.specs.Demand.{class_of};
 ghost use Rattle.cyc_store.specs.Answers.{Responds, allocated};
 ghost use Rattle.cyc_store.specs.Ledger.{Unwinds, held_of, memory_of};
-ghost use Rattle.cyc_store.specs.Lookup.{lookup};
+ghost use Rattle.cyc_store.specs.State.{lookup, AreWords, start, homes, holder, address_of, handle_of, lexical_count, word_at};
 ghost use Rattle.cyc_store.specs.Services.{Allocate, Free, Done, Serves};
-ghost use Rattle.cyc_store.specs.Kept.{next_slot_of};
+ghost use Rattle.cyc_store.specs.inside.Kept.{next_slot_of};
 ghost use Rattle.cyc_store.specs.Ordered.{IsOrdered};
 ghost use Rattle.cyc_store.specs.Slots.{HasSlot, IsSpent, Stocks, Fills};
-ghost use Rattle.cyc_store.specs.State.{AreWords, start, homes, holder, address_of, handle_of, lexical_count, word_at};
 
 use super::table::PoolTable;
 use cyc_store::{
@@ -33,7 +32,7 @@ pub struct PageStore {
 
 impl Model for PageStore {
     ghost use Rattle.cyc_store.specs.Ledger.{Stored};
-    ghost use Rattle.cyc_pagestore.specs.Stored.{IsPagedStore};
+    ghost use Rattle.cyc_pagestore.specs.inside.Stored.{IsPagedStore};
 
     ghost Value = { Stored };
 

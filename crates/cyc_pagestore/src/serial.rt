@@ -1,8 +1,8 @@
 //! The serials of pages: each opening and each closing of a region draws a new one for the region's first page.
 
 ghost use Rattle.std.specs.Prelude.{◌≡◌, ◌≤◌, ◌<◌, ◌*◌, ◌/◌, ◌%◌, ℕ, nat_lt};
-ghost use Rattle.cyc_rawpages.specs.Pool.{PoolState};
-ghost use Rattle.cyc_pagestore.specs.Live.{IsWhole, AreNewer, AreOne, Readies, reach, Renumbers};
+ghost use Rattle.cyc_rawpages.specs.inside.Pool.{PoolState};
+ghost use Rattle.cyc_pagestore.specs.inside.Live.{IsWhole, AreNewer, AreOne, Readies, reach, Renumbers};
 
 use cyc_rawpages::{PageNo, Pool};
 

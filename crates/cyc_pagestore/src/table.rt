@@ -1,8 +1,8 @@
 //! A table of pages over a pool.
 
 ghost use Rattle.std.specs.Prelude.{◌≡◌, [], ◌∷◌, ◌+◌, ◌*◌, ◌/◌, ◌%◌, ◌^◌, ◌<◌, ◌≤◌, IfOk, MatchOption, false, length, nat_lt, set, slice_index, slice_index_or};
-ghost use Rattle.cyc_rawpages.specs.Pool.{IsFree};
-ghost use Rattle.cyc_pagestore.specs.Table.{AreAlone, blank_table, IsFull, IsIdlePast, IsRoot, Opens, Adds, Cuts, Fills, Closes, Marks, row_of};
+ghost use Rattle.cyc_rawpages.specs.inside.Pool.{IsFree};
+ghost use Rattle.cyc_pagestore.specs.inside.Table.{AreAlone, blank_table, IsFull, IsIdlePast, IsRoot, Opens, Adds, Cuts, Fills, Closes, Marks, row_of};
 
 use super::links::Roster;
 use super::serial::{is_within, next_serial, reach};
@@ -32,7 +32,7 @@ pub(crate) struct PoolTable {
 }
 
 impl Model for PoolTable {
-    ghost use Rattle.cyc_pagestore.specs.Table.{TableState, IsBacked};
+    ghost use Rattle.cyc_pagestore.specs.inside.Table.{TableState, IsBacked};
 
     ghost Value = { TableState };
 

@@ -10,13 +10,13 @@ use Rattle.cyc_syntax.specs.Tokens.{Token}
 use Rattle.cyc_syntax.specs.Symbols.{Symbol, texts_in, symbols_of}
 use Rattle.cyc_syntax.specs.Trees.{Declaration}
 use Rattle.cyc_syntax.specs.Grammar.{HasTree, IsWithinLimits}
-use Rattle.cyc_syntax.specs.Weight.{tree_weight}
+use Rattle.cyc_syntax.specs.inside.Weight.{tree_weight}
 use Rattle.cyc_syntax.specs.declared.tree.Tree.{Tree}
-use Rattle.cyc_parse.specs.Parsing.{Outcome, Refusal, and_then, bind}
-use Rattle.cyc_parse.specs.Declarations.{program_of}
+use Rattle.cyc_parse.specs.inside.Parsing.{Outcome, Refusal, and_then, bind}
+use Rattle.cyc_parse.specs.inside.Declarations.{program_of}
 use Rattle.cyc_parse.specs.Faults.{end_of, fault_of}
-use Rattle.cyc_parse.specs.Answers.{at_end, whole_program, IsAnswer}
-use Rattle.cyc_syntax.specs.TreeView.{declarations_of}
+use Rattle.cyc_parse.specs.inside.Answers.{at_end, whole_program, IsAnswer}
+use Rattle.cyc_syntax.specs.inside.TreeView.{declarations_of}
 use Rattle.cyc_parse.specs.Acceptance.{IsAccepted, IsRefused, BreaksLimit, IsFaulty}
 use Rattle.cyc_parse.proofs.Soundness.{program_of-sound, answered_weight}
 use Rattle.cyc_parse.proofs.Refused.{program_of-refused, within_limits_answered, first_limit_refused}

@@ -6,8 +6,8 @@ use Rattle.cyc_syntax.specs.Trees.{Declaration, StructType, Exceptions, Global, 
 use Rattle.cyc_syntax.specs.Yields.{Leaf, Yield}
 use Rattle.cyc_syntax.specs.Yields as yields
 use Rattle.cyc_syntax.specs.Grammar.{IsSpelled, HasTree, IsDeclaration, AreDeclarations}
-use Rattle.cyc_parse.specs.Parsing.{pure, bind, choose}
-use Rattle.cyc_parse.specs.Declarations.{declaration, declarations_in, program, program_of}
+use Rattle.cyc_parse.specs.inside.Parsing.{pure, bind, choose}
+use Rattle.cyc_parse.specs.inside.Declarations.{declaration, declarations_in, program, program_of}
 use Rattle.cyc_parse.proofs.Rules.{Front, judge, Reads, Always, front-length, then_reads, last_reads, pure_reads, reads_as}
 use Rattle.cyc_parse.proofs.DeclarationReads.{all_declarations}
 

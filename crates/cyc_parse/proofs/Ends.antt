@@ -4,15 +4,15 @@ use Rattle.cyc_words.specs.Fault.{memory_fault}
 use Rattle.cyc_words.specs.declared.fault.Fault.{Fault}
 use Rattle.cyc_words.specs.declared.span.Span.{Span}
 use Rattle.cyc_syntax.specs.Names.{with_text}
-use Rattle.cyc_syntax.specs.Place.{IsBehind}
+use Rattle.cyc_syntax.specs.inside.Place.{IsBehind}
 use Rattle.cyc_syntax.specs.Tokens.{Token}
-use Rattle.cyc_syntax.specs.TreeView.{place_of_span}
+use Rattle.cyc_syntax.specs.inside.TreeView.{place_of_span}
 use Rattle.cyc_syntax.specs.Symbols.{Symbol, texts_in, symbol_of, symbols_of}
 use Rattle.cyc_syntax.specs.Trees.{Declaration}
-use Rattle.cyc_parse.specs.Parsing.{Outcome, and_then, bind}
-use Rattle.cyc_parse.specs.Declarations.{program_of}
+use Rattle.cyc_parse.specs.inside.Parsing.{Outcome, and_then, bind}
+use Rattle.cyc_parse.specs.inside.Declarations.{program_of}
 use Rattle.cyc_parse.specs.Faults.{end_of}
-use Rattle.cyc_parse.specs.Answers.{at_end, whole_program, IsRefused, IsAnswer}
+use Rattle.cyc_parse.specs.inside.Answers.{at_end, whole_program, IsRefused, IsAnswer}
 
 left_of : Outcome (List Declaration) → List Symbol
 left_of (Ok p) = p.1

@@ -9,8 +9,8 @@ use Rattle.cyc_syntax.specs.Trees.{Named, Expression, Number, Character, Null, H
 use Rattle.cyc_syntax.specs.Yields.{Yield}
 use Rattle.cyc_syntax.specs.Yields as yields
 use Rattle.cyc_syntax.specs.Grammar.{IsExpression, AreExpressions, ArePostfixes, AreOperations, IsInitial, IsSomePostfix, IsSomeOperation, IsSomeExpression}
-use Rattle.cyc_parse.specs.Parsing.{Parser, pure, sees, sees_terminal, if_sees, bind, choose, opens_regions, region_list}
-use Rattle.cyc_parse.specs.Expressions.{begins_expression, begins_initial, nested, from_name, primary, chained, with_postfixes, unary, unary_by, climb, assignment, initial, initial_by, fields, values, more_values}
+use Rattle.cyc_parse.specs.inside.Parsing.{Parser, pure, sees, sees_terminal, if_sees, bind, choose, opens_regions, region_list}
+use Rattle.cyc_parse.specs.inside.Expressions.{begins_expression, begins_initial, nested, from_name, primary, chained, with_postfixes, unary, unary_by, climb, assignment, initial, initial_by, fields, values, more_values}
 use Rattle.cyc_parse.proofs.Rules.{Front, Reads, Fits, Always, leaf_of, leaf_at, front-next, front-length, then_reads, last_reads, pure_reads, reads_as, word_reads_at, sign_reads, identifier_reads, choose_reads, advance_reads_at, sees_reads, unseen_reads, deep_reads, between_then}
 use Rattle.cyc_parse.proofs.Lists.{EndsList}
 use Rattle.cyc_parse.proofs.Stops.{Stops, stops_leaf, no_brace, no_regions, binds, binds_terminal}

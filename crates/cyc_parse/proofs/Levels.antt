@@ -15,11 +15,11 @@ use Rattle.cyc_syntax.specs.declared.tree.Operation.{Operation}
 use Rattle.cyc_syntax.specs.Grammar.{level, max_items}
 use Rattle.cyc_syntax.specs.Symbols.{Terminal, Mark, Symbol}
 use Rattle.cyc_syntax.specs.Trees.{Expression, MoreExpressions, Chained, Binary, NoPostfixes, Operations, NoOperations}
-use Rattle.cyc_syntax.specs.TreeView.{view_expression, expressions_of, postfixes_of, operations_of}
+use Rattle.cyc_syntax.specs.inside.TreeView.{view_expression, expressions_of, postfixes_of, operations_of}
 use Rattle.cyc_syntax.proofs.TreeViewLemmas.{view_chained, view_binary}
-use Rattle.cyc_parse.specs.Parsing.{Parser, Outcome, and_then, bind, next, if_is}
-use Rattle.cyc_parse.specs.Expressions.{nested, unary, binary, expression, group, initial, binary_operator, of_level, operator_at, operations, climb, chain_of, chained, binary_of}
-use Rattle.cyc_parse.specs.Steps.{is_within, level_within, level_at, climb_from, one_level}
+use Rattle.cyc_parse.specs.inside.Parsing.{Parser, Outcome, and_then, bind, next, if_is}
+use Rattle.cyc_parse.specs.inside.Expressions.{nested, unary, binary, expression, group, initial, binary_operator, of_level, operator_at, operations, climb, chain_of, chained, binary_of}
+use Rattle.cyc_parse.specs.inside.Steps.{is_within, level_within, level_at, climb_from, one_level}
 
 pub nested_unary : (room : ℕ) (ts : List Symbol) → 0 < room → (nested room).unary ts ≡ unary (room - 1) (nested (room - 1)) ts
 unfolding nested

@@ -6,9 +6,9 @@ use Rattle.cyc_syntax.specs.declared.tokens.Sign.TheVariants as signs
 use Rattle.cyc_syntax.specs.Symbols.{Terminal, Mark, Symbol}
 use Rattle.cyc_syntax.specs.Yields.{Leaf, Yield, item_number, each, more, separated}
 use Rattle.cyc_syntax.specs.Grammar.{max_nesting, max_items}
-use Rattle.cyc_parse.specs.Parsing.{Parser, TooLong, refuse_item, pure, sign, sees, starts, if_starts, next, more_items}
-use Rattle.cyc_parse.specs.Parsing as parsing
-use Rattle.cyc_parse.specs.Declarations.{more_of, some_of}
+use Rattle.cyc_parse.specs.inside.Parsing.{Parser, TooLong, refuse_item, pure, sign, sees, starts, if_starts, next, more_items}
+use Rattle.cyc_parse.specs.inside.Parsing as parsing
+use Rattle.cyc_parse.specs.inside.Declarations.{more_of, some_of}
 use Rattle.cyc_parse.proofs.Rules.{Front, judge, Reads, Fits, Starts, Always, leaf_of, front-next, refuse_item-is, then_reads, last_reads, pure_reads, sign_reads, sees_reads, unseen_reads, starts_reads, unstarted_reads, number_reads}
 
 judge-long : {A : Type 0} (leaf : Leaf) (i : ℕ) (ys : Yield) (t : Symbol) (ts : List Symbol) (outcome : parsing.Outcome A) → leaf.nesting ≤ max_nesting → max_items < i

@@ -4,8 +4,8 @@ use Rattle.cyc_syntax.specs.declared.tokens.Keyword.TheVariants as words
 use Rattle.cyc_syntax.specs.declared.tokens.Sign.TheVariants as signs
 use Rattle.cyc_syntax.specs.Symbols.{Place, Terminal, Word}
 use Rattle.cyc_syntax.specs.Trees.{BaseType}
-use Rattle.cyc_parse.specs.Parsing.{Parser, TooLong, begins_region, more_items, separated, regions, region_list}
-use Rattle.cyc_parse.specs.Types.{mark_at, optional_region, pointers_of, with_pointers, optional_regions, region_of, base_by, written_type}
+use Rattle.cyc_parse.specs.inside.Parsing.{Parser, TooLong, begins_region, more_items, separated, regions, region_list}
+use Rattle.cyc_parse.specs.inside.Types.{mark_at, optional_region, pointers_of, with_pointers, optional_regions, region_of, base_by, written_type}
 use Rattle.cyc_parse.proofs.Locality.{Local, then_runs, pure_runs, unexpected_runs, sign_runs, region_name_runs, identifier_runs, advance_runs, sees_runs, starts_runs, is_runs, is_limit_runs, choose_runs, item_refusal_runs}
 
 pub more_items_run : {A : Type 0} {c : Bool} (room : ℕ) (begins : Terminal → Bool) {item : Parser A} → Local c item → (left : ℕ) → Local false (more_items room begins item left)

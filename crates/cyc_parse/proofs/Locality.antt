@@ -8,7 +8,7 @@ use Rattle.cyc_syntax.specs.declared.tokens.Sign.{Sign}
 use Rattle.cyc_syntax.specs.declared.tokens.Sign.TheVariants as signs
 use Rattle.cyc_syntax.specs.Symbols.{Place, Terminal, Mark, Symbol}
 use Rattle.cyc_parse.specs.Refusals.{region_next}
-use Rattle.cyc_parse.specs.Parsing.{Parser, Outcome, Refusal, Reason, Unexpected, TooDeep, TooLong, and_then, bind, choose, next, take, sees_terminal, sign, word, identifier, region_name, accept_if, advance, if_sees, refuse, refuse_item, reason_by, starts, if_starts, on_some, if_is, pure}
+use Rattle.cyc_parse.specs.inside.Parsing.{Parser, Outcome, Refusal, Reason, Unexpected, TooDeep, TooLong, and_then, bind, choose, next, take, sees_terminal, sign, word, identifier, region_name, accept_if, advance, if_sees, refuse, refuse_item, reason_by, starts, if_starts, on_some, if_is, pure}
 
 -- ---- parts at the end
 

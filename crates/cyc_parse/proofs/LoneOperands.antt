@@ -6,9 +6,9 @@ use Rattle.cyc_syntax.specs.Symbols.{Terminal, Place, Symbol, Identifier}
 use Rattle.cyc_syntax.specs.Symbols as terminals
 use Rattle.cyc_syntax.specs.Grammar.{max_items}
 use Rattle.cyc_syntax.specs.Trees.{Expression, Number, Variable, NoPostfixes}
-use Rattle.cyc_parse.specs.Parsing.{Outcome, and_then, bind, choose, if_sees, next, sees, advance}
-use Rattle.cyc_parse.specs.Expressions.{Nested, nested, unary, primary, postfixes}
-use Rattle.cyc_parse.specs.Steps.{one_field, one_postfix, with_chain, level_at, behind, is_continued, operand}
+use Rattle.cyc_parse.specs.inside.Parsing.{Outcome, and_then, bind, choose, if_sees, next, sees, advance}
+use Rattle.cyc_parse.specs.inside.Expressions.{Nested, nested, unary, primary, postfixes}
+use Rattle.cyc_parse.specs.inside.Steps.{one_field, one_postfix, with_chain, level_at, behind, is_continued, operand}
 use Rattle.cyc_parse.proofs.Levels.{climb_all, climb_ends}
 
 no_either : (b c : Bool) → b || c ≡ false → (b ≡ false) × (c ≡ false)

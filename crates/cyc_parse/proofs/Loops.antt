@@ -4,20 +4,20 @@ use Rattle.cyc_syntax.specs.declared.tokens.Sign.TheVariants as signs
 use Rattle.cyc_syntax.specs.Symbols.{Terminal, Symbol}
 use Rattle.cyc_parse.specs.declared.stop.Stop.{Stop}
 use Rattle.cyc_parse.specs.declared.stop.Stop.TheVariants as stops
-use Rattle.cyc_parse.specs.Code.{Stops, view_reason}
+use Rattle.cyc_parse.specs.inside.Code.{Stops, view_reason}
 use Rattle.cyc_syntax.specs.declared.tree.PointerKind.{PointerKind}
 use Rattle.cyc_syntax.specs.Trees.{Pointer}
-use Rattle.cyc_parse.specs.Types.{mark_at, optional_region, pointers_of}
+use Rattle.cyc_parse.specs.inside.Types.{mark_at, optional_region, pointers_of}
 use Rattle.cyc_syntax.specs.declared.tree.Expr.{Expr}
 use Rattle.cyc_syntax.specs.declared.tree.Postfix.{Postfix}
 use Rattle.cyc_syntax.specs.declared.tree.Operation.{Operation}
 use Rattle.cyc_syntax.specs.declared.tree.BinaryOperator.{BinaryOperator}
 use Rattle.cyc_syntax.specs.Trees.{Declaration, Expression, NoExpressions, MoreExpressions, NoPostfixes, Operations, NoOperations, ThenOperation}
-use Rattle.cyc_syntax.specs.TreeView.{view_expression, expressions_of, postfixes_of, operations_of, then_postfix}
-use Rattle.cyc_parse.specs.Expressions.{Nested, operator_at, operations, postfixes, more_values}
-use Rattle.cyc_parse.specs.Steps.{after_comma, one_pointer, one_postfix, one_operation, then_operation, one_of, one_declaration}
-use Rattle.cyc_parse.specs.Parsing.{Parser, Outcome, and_then, bind, pure, choose, next, advance, if_sees, sees, starts, if_starts, sign, identifier, more_items, if_is, on_some}
-use Rattle.cyc_parse.specs.Declarations.{more_of, declaration, declarations_in}
+use Rattle.cyc_syntax.specs.inside.TreeView.{view_expression, expressions_of, postfixes_of, operations_of, then_postfix}
+use Rattle.cyc_parse.specs.inside.Expressions.{Nested, operator_at, operations, postfixes, more_values}
+use Rattle.cyc_parse.specs.inside.Steps.{after_comma, one_pointer, one_postfix, one_operation, then_operation, one_of, one_declaration}
+use Rattle.cyc_parse.specs.inside.Parsing.{Parser, Outcome, and_then, bind, pure, choose, next, advance, if_sees, sees, starts, if_starts, sign, identifier, more_items, if_is, on_some}
+use Rattle.cyc_parse.specs.inside.Declarations.{more_of, declaration, declarations_in}
 
 -- what is still to be read behind one step of a list
 abbrev pub behind : {Y B : Type 0} → (Y → B → B) → Parser B → Parser B → Option Y → Parser B

@@ -9,7 +9,7 @@ use Rattle.cyc_syntax.specs.Tokens as kinds
 use Rattle.cyc_syntax.specs.Symbols.{Symbol, Terminal, Identifier, RegionName, name_texts, texts_in, terminal_of, symbol_of}
 use Rattle.cyc_syntax.proofs.NameLemmas.{is_among-with_text, is_among-with_text_other, number_of-with_text}
 use Rattle.cyc_parse.specs.declared.symbol.Symbol.{Symbol as SymbolCode}
-use Rattle.cyc_parse.specs.Code.{view_symbol}
+use Rattle.cyc_parse.specs.inside.Code.{view_symbol}
 
 -- the text of a name is among these
 IsKnown : List (List ℕ) → Kind → Type 0

@@ -8,7 +8,7 @@ use Rattle.cyc_syntax.specs.Trees.{Declaration}
 use Rattle.cyc_syntax.specs.Yields.{Yield}
 use Rattle.cyc_syntax.specs.Yields as yields
 use Rattle.cyc_syntax.specs.Grammar.{HasTree, IsWithin, IsWithinLimits, max_nesting, max_items}
-use Rattle.cyc_parse.specs.Parsing.{Outcome, Refusal, TooDeep, TooLong}
+use Rattle.cyc_parse.specs.inside.Parsing.{Outcome, Refusal, TooDeep, TooLong}
 use Rattle.cyc_parse.proofs.Rules.{judge}
 use Rattle.cyc_parse.proofs.Completeness.{program_of-complete}
 

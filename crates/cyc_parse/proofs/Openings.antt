@@ -11,11 +11,11 @@ use Rattle.cyc_syntax.specs.Trees.{Named, Int, Char, Struct, Handle, Key, Expres
 use Rattle.cyc_syntax.specs.Yields.{Yield}
 use Rattle.cyc_syntax.specs.Yields as yields
 use Rattle.cyc_syntax.specs.Grammar.{IsExpression, IsInitial, wants_else, IsStatement, AreItems, IsItem}
-use Rattle.cyc_parse.specs.Parsing.{next, starts, begins_region, is_sign}
-use Rattle.cyc_parse.specs.Types.{begins_type}
-use Rattle.cyc_parse.specs.Expressions.{begins_expression, begins_initial}
-use Rattle.cyc_parse.specs.Statements.{statement_word, statement_sign, begins_statement, item_word, begins_item, is_else}
-use Rattle.cyc_parse.specs.Declarations.{begins_constructor}
+use Rattle.cyc_parse.specs.inside.Parsing.{next, starts, begins_region, is_sign}
+use Rattle.cyc_parse.specs.inside.Types.{begins_type}
+use Rattle.cyc_parse.specs.inside.Expressions.{begins_expression, begins_initial}
+use Rattle.cyc_parse.specs.inside.Statements.{statement_word, statement_sign, begins_statement, item_word, begins_item, is_else}
+use Rattle.cyc_parse.specs.inside.Declarations.{begins_constructor}
 use Rattle.cyc_parse.proofs.Rules.{leaf_of}
 use Rattle.cyc_parse.proofs.Gives.{Spells, Any, Opened, possibly, opened_at, opened_item, opened_then}
 

@@ -10,8 +10,8 @@ use Rattle.cyc_syntax.specs.Trees.{Expression, Prefixed, New, Initial, Postfixes
 use Rattle.cyc_syntax.specs.Yields.{Yield}
 use Rattle.cyc_syntax.specs.Yields as yields
 use Rattle.cyc_syntax.specs.Grammar.{is_primary, IsExpression, IsInitial}
-use Rattle.cyc_parse.specs.Parsing.{Parser, pure, sees, is_sign, bind, choose}
-use Rattle.cyc_parse.specs.Expressions.{begins_expression, Nested, nested, primary, chained, with_postfixes, unary, unary_by, climb, assignment}
+use Rattle.cyc_parse.specs.inside.Parsing.{Parser, pure, sees, is_sign, bind, choose}
+use Rattle.cyc_parse.specs.inside.Expressions.{begins_expression, Nested, nested, primary, chained, with_postfixes, unary, unary_by, climb, assignment}
 use Rattle.cyc_parse.proofs.Rules.{Reads, Fits, starts-next, leaf_of, leaf_at, last_reads, nothing_reads, pure_reads, reads_as, choose_reads, advance_reads_at, unseen_reads, deep_reads, deep_then_reads}
 use Rattle.cyc_parse.proofs.Stops.{Stops, stops-less, no_assign}
 use Rattle.cyc_parse.proofs.Starts.{expression_starts, begins_primary, primary_starts}

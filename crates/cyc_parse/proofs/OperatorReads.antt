@@ -10,8 +10,8 @@ use Rattle.cyc_syntax.specs.Trees.{Expression, Binary, Operations, NoOperations,
 use Rattle.cyc_syntax.specs.Yields.{Yield, operator_sign}
 use Rattle.cyc_syntax.specs.Yields as yields
 use Rattle.cyc_syntax.specs.Grammar.{max_nesting, max_items, level, IsSomeOperation}
-use Rattle.cyc_parse.specs.Parsing.{Parser, Outcome, and_then, pure, next, starts, begins_region, opens_regions, is_sign, bind}
-use Rattle.cyc_parse.specs.Expressions.{begins_expression, binary_operator, of_level, operator_at, operations, climb, binary_of}
+use Rattle.cyc_parse.specs.inside.Parsing.{Parser, Outcome, and_then, pure, next, starts, begins_region, opens_regions, is_sign, bind}
+use Rattle.cyc_parse.specs.inside.Expressions.{begins_expression, binary_operator, of_level, operator_at, operations, climb, binary_of}
 use Rattle.cyc_parse.proofs.Rules.{Front, Reads, starts-next, then_reads, last_reads, nothing_reads, pure_reads, reads_as, is_reads, isnt_reads, advance_reads_item, long_leaf_reads}
 use Rattle.cyc_parse.proofs.Stops.{Stops, stops-less, binds_terminal, no_operator}
 use Rattle.cyc_parse.proofs.Starts.{expression_starts}

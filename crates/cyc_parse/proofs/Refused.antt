@@ -8,8 +8,8 @@ use Rattle.cyc_syntax.specs.Trees.{Declaration}
 use Rattle.cyc_syntax.specs.Yields.{Leaf, Yield}
 use Rattle.cyc_syntax.specs.Yields as yields
 use Rattle.cyc_syntax.specs.Grammar.{IsSpelled, HasTree, IsWithin, IsWithinLimits, max_nesting, max_items}
-use Rattle.cyc_parse.specs.Parsing.{Outcome, Refusal, Reason, Unexpected, TooDeep, TooLong}
-use Rattle.cyc_parse.specs.Declarations.{program, program_of}
+use Rattle.cyc_parse.specs.inside.Parsing.{Outcome, Refusal, Reason, Unexpected, TooDeep, TooLong}
+use Rattle.cyc_parse.specs.inside.Declarations.{program, program_of}
 use Rattle.cyc_parse.specs.Refusals.{Breaks, BreaksFirst, IsAlike, Holds, IsRefused}
 use Rattle.cyc_parse.proofs.Rules.{judge}
 use Rattle.cyc_parse.proofs.Soundness.{limit_begun}

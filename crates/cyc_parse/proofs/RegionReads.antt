@@ -7,7 +7,7 @@ use Rattle.cyc_syntax.specs.Trees.{Named}
 use Rattle.cyc_syntax.specs.Yields.{Yield}
 use Rattle.cyc_syntax.specs.Yields as yields
 use Rattle.cyc_syntax.specs.Grammar.{max_nesting}
-use Rattle.cyc_parse.specs.Parsing.{next, sees_terminal, starts, begins_region, regions, region_name, region_list, opens_regions}
+use Rattle.cyc_parse.specs.inside.Parsing.{next, sees_terminal, starts, begins_region, regions, region_name, region_list, opens_regions}
 use Rattle.cyc_parse.proofs.Rules.{Front, Reads, Fits, Always, leaf_of, leaf_at, front-next, then_reads, pure_reads, bare_reads, sign_reads, region_reads}
 use Rattle.cyc_parse.proofs.Lists.{IsRead, EndsList, separated_reads}
 

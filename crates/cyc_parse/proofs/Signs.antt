@@ -3,8 +3,8 @@ use Rattle.std.proofs.Common.{◌≡◌, ℕ, suc, true, false, List, [], ◌∷
 use Rattle.std.specs.Prelude.{is_some}
 use Rattle.cyc_syntax.specs.declared.tokens.Sign.{Sign}
 use Rattle.cyc_syntax.specs.Symbols.{Symbol}
-use Rattle.cyc_parse.specs.Code.{accepted}
-use Rattle.cyc_parse.specs.Parsing.{Unexpected, next, sees, sign, is_sign, take, accept_if, only_place, advance}
+use Rattle.cyc_parse.specs.inside.Code.{accepted}
+use Rattle.cyc_parse.specs.inside.Parsing.{Unexpected, next, sees, sign, is_sign, take, accept_if, only_place, advance}
 
 pub seen_next : (s : Sign) (ts : List Symbol) → sees s ts ≡ true → is_some (next ts) ≡ true
 seen_next s [] h = absurd (cc)

@@ -9,10 +9,10 @@ use Rattle.cyc_syntax.specs.Trees.{Declaration}
 use Rattle.cyc_syntax.specs.Yields.{Leaf, Yield}
 use Rattle.cyc_syntax.specs.Yields as yields
 use Rattle.cyc_syntax.specs.Grammar.{IsLeaf, IsSpelled, HasTree, IsNonempty, IsDeclaration, AreDeclarations, IsWithin, IsWithinLimits}
-use Rattle.cyc_syntax.specs.Weight.{tree_weight}
+use Rattle.cyc_syntax.specs.inside.Weight.{tree_weight}
 use Rattle.cyc_syntax.proofs.WeightLemmas.{tree_weight-length}
-use Rattle.cyc_parse.specs.Parsing.{Parser, Reason, bind, pure, choose}
-use Rattle.cyc_parse.specs.Declarations.{declaration, declarations_in, program, program_of}
+use Rattle.cyc_parse.specs.inside.Parsing.{Parser, Reason, bind, pure, choose}
+use Rattle.cyc_parse.specs.inside.Declarations.{declaration, declarations_in, program, program_of}
 use Rattle.cyc_parse.proofs.Rules.{Front}
 use Rattle.cyc_parse.proofs.Locality.{left_of}
 use Rattle.cyc_parse.proofs.LocalExpressions.{was_read}

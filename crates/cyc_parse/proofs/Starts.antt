@@ -11,8 +11,8 @@ use Rattle.cyc_syntax.specs.Symbols.{Terminal, Identifier, RegionName, Word, Mar
 use Rattle.cyc_syntax.specs.Trees.{Expression, Number, Character, Null, HeapRegion, UniqueRegion, Variable, Call, Bracketed, NumberOfElements, LowByteOf, FreeUnique, FreeKey, Chained, Prefixed, New, RegionNew, Binary, Assign, Initial, Plain, Fields, Array, Postfixes, NoPostfixes, ThenIndex, ThenField, Operations, NoOperations, ThenOperation}
 use Rattle.cyc_syntax.specs.Yields.{Leaf, Yield, expression, initial, postfixes, operations, prefix_sign, operator_sign}
 use Rattle.cyc_syntax.specs.Grammar.{is_primary, level, IsExpression, AreOperations}
-use Rattle.cyc_parse.specs.Parsing.{sees_terminal}
-use Rattle.cyc_parse.specs.Expressions.{begins_expression, begins_initial, begins_by_sign}
+use Rattle.cyc_parse.specs.inside.Parsing.{sees_terminal}
+use Rattle.cyc_parse.specs.inside.Expressions.{begins_expression, begins_initial, begins_by_sign}
 use Rattle.cyc_parse.proofs.Rules.{Starts, starts_append}
 use Rattle.cyc_parse.proofs.Stops.{binds_terminal}
 

@@ -3,8 +3,8 @@ use Rattle.std.proofs.Common.{◌≡◌, ℕ, suc, ◌-◌, ◌<◌, true, List,
 use Rattle.cyc_syntax.specs.declared.tokens.Sign.TheVariants as signs
 use Rattle.cyc_syntax.specs.Symbols.{Symbol}
 use Rattle.cyc_syntax.specs.Trees.{Expression}
-use Rattle.cyc_parse.specs.Parsing.{sees, if_sees, sign}
-use Rattle.cyc_parse.specs.Statements.{end_of_swap, nested_statements, statement, items}
+use Rattle.cyc_parse.specs.inside.Parsing.{sees, if_sees, sign}
+use Rattle.cyc_parse.specs.inside.Statements.{end_of_swap, nested_statements, statement, items}
 
 pub nested_statement : (room : ℕ) (ts : List Symbol) → 0 < room → (nested_statements room).statement ts ≡ statement (room - 1) (nested_statements (room - 1)) ts
 unfolding nested_statements

@@ -6,13 +6,13 @@ use Rattle.cyc_syntax.specs.declared.tree.Item.{Item as ItemCode}
 use Rattle.cyc_syntax.specs.declared.tree.Clause.{Clause}
 use Rattle.cyc_syntax.specs.Symbols.{Symbol}
 use Rattle.cyc_syntax.specs.Trees.{Item, NoItems, MoreItems, Clauses}
-use Rattle.cyc_syntax.specs.TreeView.{view_item, items_of, clauses_of}
+use Rattle.cyc_syntax.specs.inside.TreeView.{view_item, items_of, clauses_of}
 use Rattle.cyc_parse.specs.declared.stop.Stop.{Stop}
 use Rattle.cyc_parse.specs.declared.stop.Stop.TheVariants as stops
-use Rattle.cyc_parse.specs.Code.{Stops, view_reason}
-use Rattle.cyc_parse.specs.Parsing.{Parser, Outcome, and_then, bind, pure, next, starts, if_starts, sign, word, identifier}
-use Rattle.cyc_parse.specs.Statements.{Nested, begins_item, is_case, caught, clauses_in, item, items_in}
-use Rattle.cyc_parse.specs.StatementSteps.{one_item, clause_head, with_items, one_clause, then_clause, default_clause}
+use Rattle.cyc_parse.specs.inside.Code.{Stops, view_reason}
+use Rattle.cyc_parse.specs.inside.Parsing.{Parser, Outcome, and_then, bind, pure, next, starts, if_starts, sign, word, identifier}
+use Rattle.cyc_parse.specs.inside.Statements.{Nested, begins_item, is_case, caught, clauses_in, item, items_in}
+use Rattle.cyc_parse.specs.inside.StatementSteps.{one_item, clause_head, with_items, one_clause, then_clause, default_clause}
 use Rattle.cyc_parse.proofs.Loops.{Steps, behind, onto, with_front, lift, by_test}
 
 pub onto-items : (xs : List ItemCode) → onto view_item MoreItems xs NoItems ≡ items_of xs

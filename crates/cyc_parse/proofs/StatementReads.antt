@@ -8,10 +8,10 @@ use Rattle.cyc_syntax.specs.Trees.{Named, Expression, Number, Character, Null, H
 use Rattle.cyc_syntax.specs.Yields.{Leaf, Yield}
 use Rattle.cyc_syntax.specs.Yields as yields
 use Rattle.cyc_syntax.specs.Grammar.{IsExpression, IsExpressionOrNone, wants_else}
-use Rattle.cyc_parse.specs.Parsing.{Parser, pure, next, sees, sees_terminal, if_sees, starts, sign, bind, choose}
-use Rattle.cyc_parse.specs.Expressions.{begins_expression, nested, primary, unary}
-use Rattle.cyc_parse.specs.Statements.{begins_item, begins_clause, is_else, is_unary, end_of_swap, nested_statements, body, expression_from, swap, behind, statement_from_name, else_part, return_value, thrown, if_statement, while_statement, throw_statement, try_statement, statement, statement_by, clauses}
-use Rattle.cyc_parse.specs.Statements as statements
+use Rattle.cyc_parse.specs.inside.Parsing.{Parser, pure, next, sees, sees_terminal, if_sees, starts, sign, bind, choose}
+use Rattle.cyc_parse.specs.inside.Expressions.{begins_expression, nested, primary, unary}
+use Rattle.cyc_parse.specs.inside.Statements.{begins_item, begins_clause, is_else, is_unary, end_of_swap, nested_statements, body, expression_from, swap, behind, statement_from_name, else_part, return_value, thrown, if_statement, while_statement, throw_statement, try_statement, statement, statement_by, clauses}
+use Rattle.cyc_parse.specs.inside.Statements as statements
 use Rattle.cyc_parse.proofs.Rules.{Front, Reads, Fits, Always, starts-next, leaf_of, leaf_at, front-next, then_reads, last_reads, nothing_reads, pure_reads, reads_as, reads_before, word_reads, sign_reads, sign_reads_at, identifier_reads, choose_reads, advance_reads_at, sees_reads, unseen_reads, seen_reads, starts_reads, unstarted_reads, between_then}
 use Rattle.cyc_parse.proofs.Stops.{Stops, stops_leaf, binds_terminal}
 use Rattle.cyc_parse.proofs.Starts.{expression_starts, IsSecond, alone, goes_on, second}

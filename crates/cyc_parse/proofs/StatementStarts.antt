@@ -9,9 +9,9 @@ use Rattle.cyc_syntax.specs.Symbols as terminals
 use Rattle.cyc_syntax.specs.Trees.{Statement, Block, Labelled, Empty, Evaluate, Swap, If, IfElse, While, Return, Break, Continue, Throw, Try, Braces, Item, Execute, Local, Region, Alias, DynamicRegion}
 use Rattle.cyc_syntax.specs.Yields.{Yield}
 use Rattle.cyc_syntax.specs.Yields as yields
-use Rattle.cyc_parse.specs.Types.{begins_type, is_type_word}
-use Rattle.cyc_parse.specs.Expressions.{begins_expression, begins_by_word, begins_by_sign}
-use Rattle.cyc_parse.specs.Statements.{begins_statement, begins_item, statement_word, statement_sign, item_word}
+use Rattle.cyc_parse.specs.inside.Types.{begins_type, is_type_word}
+use Rattle.cyc_parse.specs.inside.Expressions.{begins_expression, begins_by_word, begins_by_sign}
+use Rattle.cyc_parse.specs.inside.Statements.{begins_statement, begins_item, statement_word, statement_sign, item_word}
 use Rattle.cyc_parse.proofs.Rules.{Starts, starts_append, leaf_at}
 use Rattle.cyc_parse.proofs.Starts.{expression_starts, OpensParen, opens_append, char_opens}
 use Rattle.cyc_parse.proofs.TypeReads.{type_starts}

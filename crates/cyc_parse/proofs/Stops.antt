@@ -7,8 +7,8 @@ use Rattle.cyc_syntax.specs.declared.tree.BinaryOperator.{BinaryOperator}
 use Rattle.cyc_syntax.specs.Symbols.{Terminal, Identifier, RegionName, Number, Character, Word, Mark, Symbol}
 use Rattle.cyc_syntax.specs.Yields.{Leaf, Yield}
 use Rattle.cyc_syntax.specs.Grammar.{level}
-use Rattle.cyc_parse.specs.Parsing.{sees, sees_terminal, next, opens_regions}
-use Rattle.cyc_parse.specs.Expressions.{binary_operator, of_level, operator_at}
+use Rattle.cyc_parse.specs.inside.Parsing.{sees, sees_terminal, next, opens_regions}
+use Rattle.cyc_parse.specs.inside.Expressions.{binary_operator, of_level, operator_at}
 use Rattle.cyc_parse.proofs.Rules.{Front}
 
 abbrev pub operator_level : Option BinaryOperator → ℕ

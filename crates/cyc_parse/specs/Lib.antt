@@ -2,15 +2,5 @@
 pub mod Acceptance
 pub mod Refusals
 pub mod Faults
--- what the functions inside the crate promise each other: the parser as functions on lists of symbols
-pub mod Parsing
-pub mod Types
-pub mod Expressions
-pub mod Statements
-pub mod Declarations
-pub mod Answers
--- and what the code has to do with them
-pub mod Code
-pub mod Boxes
-pub mod Steps
-pub mod StatementSteps
+-- What the functions of this crate promise each other and what its proofs say: no public contract of the product means it.
+pub mod inside

@@ -1,15 +1,15 @@
 //! The symbols that are left, and the parsers of one symbol.
-#![tactic(auto, unfolding(crate::specs::Parsing::take))]
+#![tactic(auto, unfolding(crate::specs::inside::Parsing::take))]
 
 ghost use Rattle.std.specs.Prelude.{◌≡◌, ℕ, suc, true, length, map, option_map, is_some, IfSome, IfNone, Ok, if◌then◌else◌};
 ghost use Rattle.cyc_parse.specs.declared.stop.Reason.TheVariants as reasons;
 ghost use Rattle.cyc_parse.specs.declared.stop.Stop.TheVariants.{Refused};
-ghost use Rattle.cyc_syntax.specs.TreeView.{place_of_span, view_name};
-ghost use Rattle.cyc_parse.specs.Code.{Gives, view_terminal, view_symbol, accepted};
+ghost use Rattle.cyc_syntax.specs.inside.TreeView.{place_of_span, view_name};
+ghost use Rattle.cyc_parse.specs.inside.Code.{Gives, view_terminal, view_symbol, accepted};
 ghost use Rattle.cyc_parse.specs.Faults.{place_at};
-ghost use Rattle.cyc_parse.specs.Declarations.{number_value};
-ghost use Rattle.cyc_parse.specs.Steps.{behind};
-ghost use Rattle.cyc_parse.specs.Parsing.{next, sees, opens_regions, opens_low_byte, advance, take, sign, word, identifier, region_name};
+ghost use Rattle.cyc_parse.specs.inside.Declarations.{number_value};
+ghost use Rattle.cyc_parse.specs.inside.Steps.{behind};
+ghost use Rattle.cyc_parse.specs.inside.Parsing.{next, sees, opens_regions, opens_low_byte, advance, take, sign, word, identifier, region_name};
 
 use crate::stop::{Reason, Stop};
 use crate::symbol::{Symbol, Terminal};
@@ -28,7 +28,7 @@ pub(crate) struct Parser<'a> {
 impl<'a> Model for Parser<'a> {
     ghost use Rattle.std.specs.Prelude.{List, map};
     ghost use Rattle.cyc_syntax.specs.Symbols.{Symbol};
-    ghost use Rattle.cyc_parse.specs.Code.{view_symbol};
+    ghost use Rattle.cyc_parse.specs.inside.Code.{view_symbol};
 
     ghost Value = { List Symbol };
 

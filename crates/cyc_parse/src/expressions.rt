@@ -1,17 +1,17 @@
 //! The parser of expressions: chains of binary operators by their levels, from the tightest. A function with `room`
 //! reads at a level of nesting below which so many are left.
-#![tactic(auto, unfolding(crate::specs::Parsing::bind, crate::specs::Parsing::choose, crate::specs::Parsing::if_sees, crate::specs::Parsing::if_starts, crate::specs::Parsing::if_is, crate::specs::Parsing::refuse_item, crate::specs::Expressions::nested), using(crate::proofs::Levels::levels))]
+#![tactic(auto, unfolding(crate::specs::inside::Parsing::bind, crate::specs::inside::Parsing::choose, crate::specs::inside::Parsing::if_sees, crate::specs::inside::Parsing::if_starts, crate::specs::inside::Parsing::if_is, crate::specs::inside::Parsing::refuse_item, crate::specs::inside::Expressions::nested), using(crate::proofs::Levels::levels))]
 
 ghost use Rattle.std.specs.Prelude.{◌≡◌, ◌<◌, ◌≤◌, ◌-◌, suc, true, ◌||◌, ℕ, map, option_map, is_some, List, [], Ok, IfSome, IfNone};
 ghost use Rattle.cyc_syntax.specs.declared.tokens.Sign.TheVariants as signs;
-ghost use Rattle.cyc_syntax.specs.TreeView.{place_of_span, view_name, view_expression, view_initial, expressions_of, postfixes_of, operations_of, then_postfix};
-ghost use Rattle.cyc_parse.specs.Boxes.{view_boxed, view_boxed_initial};
-ghost use Rattle.cyc_parse.specs.Code.{Gives};
-ghost use Rattle.cyc_parse.specs.Parsing.{next, sees, starts, advance, separated, no_more_items, opens_regions};
-ghost use Rattle.cyc_parse.specs.Steps.{after_comma, one_postfix, one_field, one_operation, then_operation, prefixed, created, created_in, freed_key, bracketed, lone, end_of_group, end_of_bracketed, end_of_call, end_of_index, end_of_fields, end_of_array, with_chain, level_at, behind, is_continued, operand, climb_from, one_level};
+ghost use Rattle.cyc_syntax.specs.inside.TreeView.{place_of_span, view_name, view_expression, view_initial, expressions_of, postfixes_of, operations_of, then_postfix};
+ghost use Rattle.cyc_parse.specs.inside.Boxes.{view_boxed, view_boxed_initial};
+ghost use Rattle.cyc_parse.specs.inside.Code.{Gives};
+ghost use Rattle.cyc_parse.specs.inside.Parsing.{next, sees, starts, advance, separated, no_more_items, opens_regions};
+ghost use Rattle.cyc_parse.specs.inside.Steps.{after_comma, one_postfix, one_field, one_operation, then_operation, prefixed, created, created_in, freed_key, bracketed, lone, end_of_group, end_of_bracketed, end_of_call, end_of_index, end_of_fields, end_of_array, with_chain, level_at, behind, is_continued, operand, climb_from, one_level};
 ghost use Rattle.cyc_syntax.specs.Grammar.{level};
 ghost use Rattle.cyc_syntax.specs.Trees.{Expression, NoPostfixes, NoOperations, Call, Plain, Fields};
-ghost use Rattle.cyc_parse.specs.Expressions.{binary_operator, chained, binary_of, nested, begins_expression, begins_initial, operator_at, no_more_operations, operations, climb, group, arguments, from_name, primary, no_more_postfixes, postfixes, with_postfixes, unary, assignment, binary, expression, values, fields, initial_from_name, array, initial};
+ghost use Rattle.cyc_parse.specs.inside.Expressions.{binary_operator, chained, binary_of, nested, begins_expression, begins_initial, operator_at, no_more_operations, operations, climb, group, arguments, from_name, primary, no_more_postfixes, postfixes, with_postfixes, unary, assignment, binary, expression, values, fields, initial_from_name, array, initial};
 
 use crate::cursor::{Parser, refusal};
 use crate::growth::append;
@@ -317,7 +317,7 @@ impl<'a> Parser<'a> {
     }
 
     #[cycle(expression)]
-    #[tactic(auto, unfolding(crate::specs::Expressions::primary, crate::specs::Parsing::choose, crate::specs::Parsing::bind))]
+    #[tactic(auto, unfolding(crate::specs::inside::Expressions::primary, crate::specs::inside::Parsing::choose, crate::specs::inside::Parsing::bind))]
     fn parse_primary(&mut self, room: u32) -> Result<Box<Expr>, Stop>
         ensures { Gives view_boxed result (primary room (nested room) self.old) self.new }
     {
@@ -470,7 +470,7 @@ impl<'a> Parser<'a> {
 
     /// An operand with its prefixes and postfixes.
     #[cycle(expression)]
-    #[tactic(auto, unfolding(crate::specs::Expressions::unary, crate::specs::Parsing::choose, crate::specs::Parsing::bind))]
+    #[tactic(auto, unfolding(crate::specs::inside::Expressions::unary, crate::specs::inside::Parsing::choose, crate::specs::inside::Parsing::bind))]
     pub(crate) fn parse_unary_here(&mut self, room: u32) -> Result<Box<Expr>, Stop>
         ensures { Gives view_boxed result (unary room (nested room) self.old) self.new }
     {
@@ -578,7 +578,7 @@ impl<'a> Parser<'a> {
     }
 
     /// Takes the next symbol, if it is a binary operator of the level above this one.
-    #[tactic(auto, unfolding(crate::specs::Parsing::take), using(crate::proofs::Levels::operator_comes))]
+    #[tactic(auto, unfolding(crate::specs::inside::Parsing::take), using(crate::proofs::Levels::operator_comes))]
     fn take_operator(&mut self, below: u32) -> Option<(BinaryOperator, Span)>
         ensures seen { option_map (λ taken. taken.0) result ≡ operator_at (suc below) (next self.old) }
         ensures taken { IfSome result (λ taken. advance self.old ≡ Ok (place_of_span taken.1, self.new)) }
@@ -812,7 +812,7 @@ impl<'a> Parser<'a> {
     }
 
     #[cycle(expression)]
-    #[tactic(auto, unfolding(crate::specs::Expressions::initial, crate::specs::Parsing::choose, crate::specs::Parsing::bind))]
+    #[tactic(auto, unfolding(crate::specs::inside::Expressions::initial, crate::specs::inside::Parsing::choose, crate::specs::inside::Parsing::bind))]
     fn parse_initial_here(&mut self, room: u32) -> Result<Box<Initial>, Stop>
         ensures { Gives view_boxed_initial result (initial room (nested room) self.old) self.new }
     {

@@ -3,7 +3,7 @@ ghost use Rattle.std.specs.Prelude.{◌≡◌, List};
 ghost use Rattle.cyc_syntax.specs.Symbols.{Symbol};
 ghost use Rattle.cyc_syntax.specs.Trees.{Declaration};
 ghost use Rattle.cyc_syntax.specs.Grammar.{HasTree, IsWithinLimits};
-ghost use Rattle.cyc_parse.specs.Parsing.{Refusal};
+ghost use Rattle.cyc_parse.specs.inside.Parsing.{Refusal};
 ghost use Rattle.cyc_parse.specs.Refusals.{IsRefused};
 
 /// The grammar leaves no choice: where a list of symbols has a tree that keeps the limits, it has no other.

@@ -1,5 +1,5 @@
 //! The parser: the tree of a list of tokens, exactly where there is one.
-#![tactic(auto, unfolding(crate::specs::Parsing::bind, crate::specs::Parsing::choose, crate::specs::Parsing::if_sees, crate::specs::Parsing::if_starts, crate::specs::Parsing::if_is, crate::specs::Parsing::refuse_item))]
+#![tactic(auto, unfolding(crate::specs::inside::Parsing::bind, crate::specs::inside::Parsing::choose, crate::specs::inside::Parsing::if_sees, crate::specs::inside::Parsing::if_starts, crate::specs::inside::Parsing::if_is, crate::specs::inside::Parsing::refuse_item))]
 
 mod cursor;
 mod declarations;

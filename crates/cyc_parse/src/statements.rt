@@ -1,17 +1,17 @@
 //! The parser of statements and of the items of blocks. A function with `room` reads at a level of nesting below which
 //! so many are left.
-#![tactic(auto, unfolding(crate::specs::Parsing::bind, crate::specs::Parsing::choose, crate::specs::Parsing::if_sees, crate::specs::Parsing::if_starts, crate::specs::Parsing::refuse_item, crate::specs::Expressions::nested, crate::specs::Statements::nested_statements), using(crate::proofs::StatementLevels::nested_statement, crate::proofs::StatementLevels::nested_items))]
+#![tactic(auto, unfolding(crate::specs::inside::Parsing::bind, crate::specs::inside::Parsing::choose, crate::specs::inside::Parsing::if_sees, crate::specs::inside::Parsing::if_starts, crate::specs::inside::Parsing::refuse_item, crate::specs::inside::Expressions::nested, crate::specs::inside::Statements::nested_statements), using(crate::proofs::StatementLevels::nested_statement, crate::proofs::StatementLevels::nested_items))]
 
 ghost use Rattle.std.specs.Prelude.{◌≡◌, ℕ, suc, true, length, option_map, is_some, Ok, IfSome, IfNone};
 ghost use Rattle.cyc_syntax.specs.declared.tokens.Keyword.TheVariants as words;
-ghost use Rattle.cyc_syntax.specs.TreeView.{place_of_span, view_name, view_expression, view_initial, view_statement, view_item, view_block, items_of, clauses_of, default_of};
+ghost use Rattle.cyc_syntax.specs.inside.TreeView.{place_of_span, view_name, view_expression, view_initial, view_statement, view_item, view_block, items_of, clauses_of, default_of};
 ghost use Rattle.cyc_syntax.specs.Trees as trees;
-ghost use Rattle.cyc_parse.specs.Boxes.{view_boxed, view_boxed_statement};
-ghost use Rattle.cyc_parse.specs.Code.{Gives};
-ghost use Rattle.cyc_parse.specs.Parsing.{next, starts, inside, sign, word};
-ghost use Rattle.cyc_parse.specs.Types.{region_of};
-ghost use Rattle.cyc_parse.specs.Statements.{begins_statement, begins_item, is_case, is_default, begins_clause, is_else, is_unary, ends_in_new, ends_in_name, end_of_swap, nested_statements, body, expression_from, swap, behind, else_part, return_value, thrown, caught, clauses_in, clauses, if_statement, while_statement, throw_statement, try_statement, statement, local_value, local, opened_key, region, alias, new_key, dynamic_region, item, items};
-ghost use Rattle.cyc_parse.specs.StatementSteps.{view_clause_head, clause_head, one_clause, then_clause, default_clause, end_of_block, end_of_try, statement_from, conditional, plain_statement, after_symbol, return_statement, named_statement, block_statement, expression_statement, let_item};
+ghost use Rattle.cyc_parse.specs.inside.Boxes.{view_boxed, view_boxed_statement};
+ghost use Rattle.cyc_parse.specs.inside.Code.{Gives};
+ghost use Rattle.cyc_parse.specs.inside.Parsing.{next, starts, inside, sign, word};
+ghost use Rattle.cyc_parse.specs.inside.Types.{region_of};
+ghost use Rattle.cyc_parse.specs.inside.Statements.{begins_statement, begins_item, is_case, is_default, begins_clause, is_else, is_unary, ends_in_new, ends_in_name, end_of_swap, nested_statements, body, expression_from, swap, behind, else_part, return_value, thrown, caught, clauses_in, clauses, if_statement, while_statement, throw_statement, try_statement, statement, local_value, local, opened_key, region, alias, new_key, dynamic_region, item, items};
+ghost use Rattle.cyc_parse.specs.inside.StatementSteps.{view_clause_head, clause_head, one_clause, then_clause, default_clause, end_of_block, end_of_try, statement_from, conditional, plain_statement, after_symbol, return_statement, named_statement, block_statement, expression_statement, let_item};
 
 use crate::cursor::{Parser, refusal};
 use crate::expressions::LEVELS;
@@ -232,7 +232,7 @@ impl<'a> Parser<'a> {
     }
 
     /// Takes `else`, if it comes next.
-    #[tactic(auto, unfolding(crate::specs::Parsing::take))]
+    #[tactic(auto, unfolding(crate::specs::inside::Parsing::take))]
     fn take_else(&mut self) -> Option<Span>
         ensures seen { starts is_else (next self.old) ≡ is_some result }
         ensures taken { IfSome result (λ span. (room : ℕ) → word (suc room) words.Else self.old ≡ Ok (place_of_span span, self.new)) }
@@ -481,7 +481,7 @@ impl<'a> Parser<'a> {
     }
 
     #[cycle(statement)]
-    #[tactic(auto, unfolding(crate::specs::Statements::statement, crate::specs::Parsing::choose, crate::specs::Parsing::bind))]
+    #[tactic(auto, unfolding(crate::specs::inside::Statements::statement, crate::specs::inside::Parsing::choose, crate::specs::inside::Parsing::bind))]
     fn parse_statement_here(&mut self, room: u32) -> Result<Stmt, Stop>
         ensures { Gives view_statement result (statement room (nested_statements room) self.old) self.new }
     {
@@ -615,7 +615,7 @@ impl<'a> Parser<'a> {
     }
 
     #[cycle(statement)]
-    #[tactic(auto, unfolding(crate::specs::Statements::item, crate::specs::Parsing::choose, crate::specs::Parsing::bind))]
+    #[tactic(auto, unfolding(crate::specs::inside::Statements::item, crate::specs::inside::Parsing::choose, crate::specs::inside::Parsing::bind))]
     fn parse_item(&mut self, room: u32) -> Result<Item, Stop>
         ensures { Gives view_item result (item room (nested_statements room) self.old) self.new }
     {

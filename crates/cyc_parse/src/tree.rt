@@ -6,12 +6,12 @@ ghost use Rattle.cyc_syntax.specs.Names.{with_text, distinct_texts};
 ghost use Rattle.cyc_syntax.specs.Tokens.{token_of};
 ghost use Rattle.cyc_syntax.specs.TokenRule.{LiesIn, AreTokensOf, max_bytes};
 ghost use Rattle.cyc_syntax.specs.Symbols.{texts_in, symbol_of};
-ghost use Rattle.cyc_syntax.specs.TreeView.{place_of_span, view_declaration, declarations_of};
-ghost use Rattle.cyc_syntax.specs.Weight.{tree_weight};
-ghost use Rattle.cyc_parse.specs.Code.{Gives, view_reason, view_symbol};
+ghost use Rattle.cyc_syntax.specs.inside.TreeView.{place_of_span, view_declaration, declarations_of};
+ghost use Rattle.cyc_syntax.specs.inside.Weight.{tree_weight};
+ghost use Rattle.cyc_parse.specs.inside.Code.{Gives, view_reason, view_symbol};
 ghost use Rattle.cyc_parse.specs.Faults.{end_of, code_of, fault_of};
-ghost use Rattle.cyc_parse.specs.Answers.{whole_program, IsAnswer};
-ghost use Rattle.cyc_parse.specs.Answers as answers;
+ghost use Rattle.cyc_parse.specs.inside.Answers.{whole_program, IsAnswer};
+ghost use Rattle.cyc_parse.specs.inside.Answers as answers;
 ghost use Rattle.cyc_parse.specs.Acceptance.{IsAccepted, IsRefused, IsFaulty};
 
 use crate::cursor::Parser;

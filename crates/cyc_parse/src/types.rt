@@ -1,11 +1,11 @@
 //! The parser of types.
 ghost use Rattle.std.specs.Prelude.{◌≡◌, ℕ, suc, map, option_map, List, []};
-ghost use Rattle.cyc_syntax.specs.TreeView.{place_of_span, view_name, view_pointer, view_base, view_type};
+ghost use Rattle.cyc_syntax.specs.inside.TreeView.{place_of_span, view_name, view_pointer, view_base, view_type};
 ghost use Rattle.cyc_syntax.specs.Trees.{Named};
-ghost use Rattle.cyc_parse.specs.Code.{Gives};
-ghost use Rattle.cyc_parse.specs.Parsing.{next, starts, begins_region, region_name, no_more_items, regions, region_list};
-ghost use Rattle.cyc_parse.specs.Steps.{after_comma, one_pointer};
-ghost use Rattle.cyc_parse.specs.Types.{begins_type, mark_at, optional_region, region_of, no_more_pointers, pointers_of, with_pointers, optional_regions, written_type};
+ghost use Rattle.cyc_parse.specs.inside.Code.{Gives};
+ghost use Rattle.cyc_parse.specs.inside.Parsing.{next, starts, begins_region, region_name, no_more_items, regions, region_list};
+ghost use Rattle.cyc_parse.specs.inside.Steps.{after_comma, one_pointer};
+ghost use Rattle.cyc_parse.specs.inside.Types.{begins_type, mark_at, optional_region, region_of, no_more_pointers, pointers_of, with_pointers, optional_regions, written_type};
 
 use crate::cursor::{Parser, refusal};
 use crate::growth::append;
@@ -85,7 +85,7 @@ impl<'a> Parser<'a> {
         Ok(regions)
     }
 
-    #[tactic(auto, unfolding(crate::specs::Types::optional_regions, crate::specs::Parsing::if_sees))]
+    #[tactic(auto, unfolding(crate::specs::inside::Types::optional_regions, crate::specs::inside::Parsing::if_sees))]
     pub(crate) fn parse_optional_regions(&mut self) -> Result<Vec<Ident>, Stop>
         ensures { (room : ℕ) → Gives (λ v. map view_name v.items) result (optional_regions (suc room) self.old) self.new }
     {
@@ -173,7 +173,7 @@ impl<'a> Parser<'a> {
         Ok(WrittenType { span, base, marks })
     }
 
-    #[tactic(auto, unfolding(crate::specs::Types::written_type, crate::specs::Parsing::choose, crate::specs::Parsing::bind))]
+    #[tactic(auto, unfolding(crate::specs::inside::Types::written_type, crate::specs::inside::Parsing::choose, crate::specs::inside::Parsing::bind))]
     pub(crate) fn parse_type(&mut self) -> Result<WrittenType, Stop>
         ensures { (room : ℕ) → Gives view_type result (written_type (suc room) self.old) self.new }
     {

@@ -3,19 +3,19 @@ use Rattle.std.proofs.Common.{ℕ, zero, suc, ◌%◌, List, [], ◌∷◌, Opti
 use Rattle.std.specs.Prelude.{◌==◌, if◌then◌else◌}
 use Rattle.cyc_words.specs.Ending.{Uncaught}
 use Rattle.cyc_words.specs.Word.{signed, add_of}
-use Rattle.cyc_words.specs.WordBytes.{with_byte, word_of}
+use Rattle.cyc_words.specs.Bytes.{with_byte, word_of}
 use Rattle.cyc_words.specs.Simulation.{Run}
 use Rattle.cyc_store.specs.State.{StoreState}
 use Rattle.cyc_store.specs.Services as services
 use Rattle.cyc_store.specs.Services.{Call, Refusal, refusal}
 use Rattle.cyc_plain.specs.declared.instruction.Instruction.{Instruction}
 use Rattle.cyc_plain.specs.declared.instruction.Instruction.TheVariants as instructions
-use Rattle.cyc_plain.specs.Operators.{has_no_result, binary_result}
-use Rattle.cyc_plain.specs.Requests.{destination_of}
-use Rattle.cyc_plain.specs.Program.{Program, routine_at}
-use Rattle.cyc_plain.specs.State.{put, Handler, Open, Caught, Activation, Frame, Configuration, State, Running, Ended, Stuck, place_of}
-use Rattle.cyc_plain.specs.Memory.{slots_end, IsBelow, AreBelow, LieBelow, Range, OfGlobals, OfStore, OfSlots, range_of, global_at, slot_at, memory_at, with_global, with_slot, with_word}
-use Rattle.cyc_plain.specs.Step.{Choice, MayLie, gives, operand_word, returns, loads, saves, loads_byte, saves_byte, advanced, asks, is_intact, tries, closes, lands, throws, finishes, call_in, callee_of, called, performed, executed, instruction_at, step, Step, start, machine}
+use Rattle.cyc_plain.specs.inside.Operators.{has_no_result, binary_result}
+use Rattle.cyc_plain.specs.inside.Requests.{destination_of}
+use Rattle.cyc_plain.specs.inside.Program.{Program, routine_at}
+use Rattle.cyc_plain.specs.inside.State.{put, Handler, Open, Caught, Activation, Frame, Configuration, State, Running, Ended, Stuck, place_of}
+use Rattle.cyc_plain.specs.inside.Memory.{slots_end, IsBelow, AreBelow, LieBelow, Range, OfGlobals, OfStore, OfSlots, range_of, global_at, slot_at, memory_at, with_global, with_slot, with_word}
+use Rattle.cyc_plain.specs.inside.Step.{Choice, MayLie, gives, operand_word, returns, loads, saves, loads_byte, saves_byte, advanced, asks, is_intact, tries, closes, lands, throws, finishes, call_in, callee_of, called, performed, executed, instruction_at, step, Step, start, machine}
 use Rattle.cyc_plain.proofs.RunLaws.{limited_either, if_either}
 use Rattle.cyc_plain.proofs.MemoryLaws.{waiting-below}
 

@@ -18,9 +18,9 @@ use Rattle.cyc_plain.specs.declared.instruction.BinaryOperator.{BinaryOperator}
 use Rattle.cyc_plain.specs.declared.instruction.BinaryOperator.TheVariants as binary
 use Rattle.cyc_words.specs.Simulation.{Status, Ended, Failed}
 use Rattle.cyc_words.specs.Simulation as simulation
-use Rattle.cyc_plain.specs.Program.{Routine, Program, size, places_of}
-use Rattle.cyc_plain.specs.State.{State, output_of, input_of, status_of, depth}
-use Rattle.cyc_plain.specs.Step.{run, start}
+use Rattle.cyc_plain.specs.inside.Program.{Routine, Program, size, places_of}
+use Rattle.cyc_plain.specs.inside.State.{State, output_of, input_of, status_of, depth}
+use Rattle.cyc_plain.specs.inside.Step.{run, start}
 use Rattle.cyc_plain.proofs.RunLaws.{zeros}
 
 -- a function with four slots that takes so many words and returns one

@@ -8,10 +8,10 @@ use Rattle.cyc_store.specs.declared.range.TheConstants.{STORE_BASE}
 use Rattle.cyc_plain.specs.declared.instruction.Instruction.{Instruction}
 use Rattle.cyc_plain.specs.declared.instruction.Instruction.TheVariants as instructions
 use Rattle.cyc_plain.specs.declared.limits.TheConstants.{GLOBALS_BASE}
-use Rattle.cyc_plain.specs.Program.{Program, routine_at}
-use Rattle.cyc_plain.specs.State.{put, Frame, Configuration}
-use Rattle.cyc_plain.specs.WellFormed.{IsInRange, IsWellFormed}
-use Rattle.cyc_plain.specs.Memory.{slots_base, slots_end, AreBelow, Range, pins, is_pinned, numbered, global_at, slot_at, word_or, word_waiting, put_or, with_waiting, OfGlobals, OfStore, OfSlots, range_of, word_in, memory_at, with_global, with_slot, with_word, with_memory}
+use Rattle.cyc_plain.specs.inside.Program.{Program, routine_at}
+use Rattle.cyc_plain.specs.inside.State.{put, Frame, Configuration}
+use Rattle.cyc_plain.specs.inside.WellFormed.{IsInRange, IsWellFormed}
+use Rattle.cyc_plain.specs.inside.Memory.{slots_base, slots_end, AreBelow, Range, pins, is_pinned, numbered, global_at, slot_at, word_or, word_waiting, put_or, with_waiting, OfGlobals, OfStore, OfSlots, range_of, word_in, memory_at, with_global, with_slot, with_word, with_memory}
 use Rattle.cyc_plain.proofs.Placed.{holds_at, routine_in}
 use Rattle.cyc_plain.proofs.Steps.{function_known}
 

@@ -4,25 +4,24 @@ use Rattle.std.specs.Prelude.{◌==◌, if◌then◌else◌}
 use Rattle.std.proofs.lemmas.Bool.{le-leb, and_from}
 use Rattle.cyc_words.specs.Ending.{Ending, Uncaught, Full}
 use Rattle.cyc_words.specs.Word.{signed, add_of}
-use Rattle.cyc_words.specs.WordBytes.{with_byte, word_of}
-use Rattle.cyc_words.specs.Prefix.{IsPrefix}
+use Rattle.cyc_words.specs.Bytes.{with_byte, word_of}
+use Rattle.cyc_words.specs.Seen.{IsPrefix}
 use Rattle.cyc_words.proofs.PrefixLemmas.{IsPrefix-refl, IsPrefix-append}
-use Rattle.cyc_store.specs.State.{StoreState}
+use Rattle.cyc_store.specs.State.{StoreState, IsNew}
 use Rattle.cyc_store.specs.Services as services
 use Rattle.cyc_store.specs.Services.{Call, Refusal, refusal}
-use Rattle.cyc_store.specs.New.{IsNew}
 use Rattle.cyc_store.proofs.NewStores.{new_demand}
 use Rattle.cyc_plain.specs.declared.instruction.Instruction.{Instruction}
 use Rattle.cyc_plain.specs.declared.instruction.Instruction.TheVariants as instructions
-use Rattle.cyc_plain.specs.Operators.{has_no_result, binary_result}
-use Rattle.cyc_plain.specs.Requests.{destination_of}
+use Rattle.cyc_plain.specs.inside.Operators.{has_no_result, binary_result}
+use Rattle.cyc_plain.specs.inside.Requests.{destination_of}
 use Rattle.cyc_words.specs.Simulation as simulation
 use Rattle.cyc_words.specs.Simulation.{Status, Run}
-use Rattle.cyc_words.specs.Following.{IsLawful}
-use Rattle.cyc_plain.specs.Program.{Program, routine_at}
-use Rattle.cyc_plain.specs.State.{Words, AreWords, put, Handler, Open, Caught, Activation, Frame, Configuration, State, Running, Ended, Stuck, output_of, input_of, status_of, place_of}
-use Rattle.cyc_plain.specs.Memory.{IsBelow, Range, OfGlobals, OfStore, OfSlots, range_of, global_at, slot_at, memory_at, with_global, with_slot, with_word}
-use Rattle.cyc_plain.specs.Step.{Choice, IsAllowed, MayServe, MayLie, gives, operand_word, returns, loads, saves, loads_byte, saves_byte, advanced, asks, is_intact, tries, closes, lands, throws, finishes, call_in, call_of, asked, callee_of, called, performed, executed, instruction_at, step, is_within, limited, limited_step, Step, start, machine}
+use Rattle.cyc_words.specs.inside.Following.{IsLawful}
+use Rattle.cyc_plain.specs.inside.Program.{Program, routine_at}
+use Rattle.cyc_plain.specs.inside.State.{Words, AreWords, put, Handler, Open, Caught, Activation, Frame, Configuration, State, Running, Ended, Stuck, output_of, input_of, status_of, place_of}
+use Rattle.cyc_plain.specs.inside.Memory.{IsBelow, Range, OfGlobals, OfStore, OfSlots, range_of, global_at, slot_at, memory_at, with_global, with_slot, with_word}
+use Rattle.cyc_plain.specs.inside.Step.{Choice, IsAllowed, MayServe, MayLie, gives, operand_word, returns, loads, saves, loads_byte, saves_byte, advanced, asks, is_intact, tries, closes, lands, throws, finishes, call_in, call_of, asked, callee_of, called, performed, executed, instruction_at, step, is_within, limited, limited_step, Step, start, machine}
 use Rattle.cyc_words.proofs.Simulation.{Run-grows, Run-stays}
 
 -- ---- limits

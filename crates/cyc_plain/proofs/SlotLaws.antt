@@ -2,7 +2,7 @@
 use Rattle.std.proofs.Common.{◌≡◌, ◌≢◌, ℕ, ◌+◌, ◌-◌, ◌≤◌, ◌<◌, Bool, true, false, ◌&&◌, refl, ap, ◌∙◌, arith}
 use Rattle.std.specs.Prelude.{◌==◌, nat_le, nat_lt, if◌then◌else◌}
 use Rattle.std.proofs.lemmas.Bool.{eq-eqb, le-leb, lt-ltb, and_from, and_left, and_right, false_from_ne_true, eqb-true, ltb-true, leb-true}
-use Rattle.cyc_plain.specs.State.{Words, put, copied}
+use Rattle.cyc_plain.specs.inside.State.{Words, put, copied}
 
 chosen : (b c : Bool) (x y : ℕ) → b ≡ c → (if b then x else y) ≡ (if c then x else y)
 chosen b c x y same = ap (λ (a : Bool). if a then x else y) same

@@ -13,10 +13,10 @@ use Rattle.cyc_store.specs.Services.{Call, refusal}
 use Rattle.cyc_plain.specs.declared.instruction.Instruction.{Instruction}
 use Rattle.cyc_plain.specs.declared.instruction.Instruction.TheVariants as instructions
 use Rattle.cyc_plain.specs.declared.instruction.Request.{Request}
-use Rattle.cyc_plain.specs.Requests.{destination_of}
-use Rattle.cyc_plain.specs.Program.{Routine, Program, CodePlace, no_routine, routine_at, places_from, places_of}
-use Rattle.cyc_plain.specs.State.{Configuration, State, Running, Ended, place_of}
-use Rattle.cyc_plain.specs.Step.{Choice, IsAllowed, IsServed, MayServe, call_in, call_of, served_to, asks, performed, executed, instruction_at, step, is_within, Step}
+use Rattle.cyc_plain.specs.inside.Requests.{destination_of}
+use Rattle.cyc_plain.specs.inside.Program.{Routine, Program, CodePlace, no_routine, routine_at, places_from, places_of}
+use Rattle.cyc_plain.specs.inside.State.{Configuration, State, Running, Ended, place_of}
+use Rattle.cyc_plain.specs.inside.Step.{Choice, IsAllowed, IsServed, MayServe, call_in, call_of, served_to, asks, performed, executed, instruction_at, step, is_within, Step}
 use Rattle.cyc_plain.proofs.RunLaws.{limited-within, over_within}
 use Rattle.cyc_plain.proofs.Placed.{below_of_get}
 

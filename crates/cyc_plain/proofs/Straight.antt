@@ -2,17 +2,17 @@
 use Rattle.std.proofs.Common.{◌≡◌, ◌≢◌, ℕ, zero, suc, ◌+◌, ◌<◌, true, false, List, [], ◌∷◌, ◌++◌, length, Some, slice_get, refl, sym, ap, subst, ◌∙◌, arith, length-append, append_assoc}
 use Rattle.std.specs.List.{AllByRecursion}
 use Rattle.cyc_words.specs.Distinct.{IsDistinct}
-use Rattle.cyc_words.specs.Following.{Path, Comes}
+use Rattle.cyc_words.specs.inside.Following.{Path, Comes}
 use Rattle.cyc_store.specs.State.{StoreState}
 use Rattle.cyc_plain.specs.declared.instruction.Instruction.{Instruction}
 use Rattle.cyc_plain.specs.declared.instruction.Instruction.TheVariants as instructions
 use Rattle.cyc_plain.specs.declared.instruction.BinaryOperator.{BinaryOperator}
 use Rattle.cyc_plain.specs.declared.instruction.BinaryOperator.TheVariants as binary
 use Rattle.cyc_plain.specs.declared.instruction.Operand.{Operand}
-use Rattle.cyc_plain.specs.Program.{Program, CodePlace, routine_at}
-use Rattle.cyc_plain.specs.State.{Frame, Configuration, State, Running}
-use Rattle.cyc_plain.specs.Step.{Choice, performed, is_within, Step, machine}
-use Rattle.cyc_plain.specs.Straight.{At, HasAt, is_total, is_straight, AreStraight, configuration_or, executed_in, places_behind}
+use Rattle.cyc_plain.specs.inside.Program.{Program, CodePlace, routine_at}
+use Rattle.cyc_plain.specs.inside.State.{Frame, Configuration, State, Running}
+use Rattle.cyc_plain.specs.inside.Step.{Choice, performed, is_within, Step, machine}
+use Rattle.cyc_plain.specs.inside.Straight.{At, HasAt, is_total, is_straight, AreStraight, configuration_or, executed_in, places_behind}
 use Rattle.cyc_plain.proofs.Steps.{step_performs}
 
 -- ---- where code stands

@@ -1,10 +1,2 @@
--- what the type `Plain` and its facts rest on
-pub mod Requests
-pub mod Program
-pub mod WellFormed
--- what a plain program means
-pub mod Operators
-pub mod State
-pub mod Memory
-pub mod Step
-pub mod Straight
+-- What the functions of this crate promise each other and what its proofs say: no public contract of the product means it.
+pub mod inside

@@ -4,29 +4,28 @@
 ghost use Rattle.std.specs.Prelude.{◌≡◌, ◌≢◌, ◌⊎◌, ℕ, ◌+◌, ◌*◌, ◌<◌, ◌≤◌, List, length, ◌++◌, true, false, Some, None, slice_get, Contains};
 ghost use Rattle.std.specs.List.{AllByRecursion};
 ghost use Rattle.cyc_words.specs.Ending.{Ending, Full};
-ghost use Rattle.cyc_words.specs.Prefix.{IsPrefix};
-ghost use Rattle.cyc_store.specs.State.{StoreState, word_at};
+ghost use Rattle.cyc_words.specs.Seen.{IsPrefix};
+ghost use Rattle.cyc_store.specs.State.{StoreState, word_at, IsNew};
 ghost use Rattle.cyc_store.specs.State as stores;
-ghost use Rattle.cyc_store.specs.New.{IsNew};
 ghost use Rattle.cyc_store.specs.Services as services;
 ghost use Rattle.cyc_store.specs.Services.{Call, Refusal, refusal};
-ghost use Rattle.cyc_plain.specs.Requests.{destination_of};
+ghost use Rattle.cyc_plain.specs.inside.Requests.{destination_of};
 ghost use Rattle.cyc_plain.specs.declared.instruction.Request.{Request};
-ghost use Rattle.cyc_plain.specs.Program.{Program, CodePlace, routine_at, places_of};
+ghost use Rattle.cyc_plain.specs.inside.Program.{Program, CodePlace, routine_at, places_of};
 ghost use Rattle.cyc_plain.specs.declared.instruction.Instruction.{Instruction};
 ghost use Rattle.cyc_plain.specs.declared.instruction.Instruction.TheVariants as instructions;
 ghost use Rattle.cyc_words.specs.Simulation.{Run};
 ghost use Rattle.cyc_words.specs.Distinct.{IsDistinct};
-ghost use Rattle.cyc_words.specs.Following.{Path};
+ghost use Rattle.cyc_words.specs.inside.Following.{Path};
 ghost use Rattle.cyc_words.specs.Simulation as simulation;
-ghost use Rattle.cyc_plain.specs.State.{Words, Frame, Configuration, State, HoldsWords, put, copied, output_of, input_of, place_of, status_of};
-ghost use Rattle.cyc_plain.specs.State as state;
-ghost use Rattle.cyc_plain.specs.Memory.{slots_base, slots_end, IsBelow, LieBelow, is_pinned, memory_at};
+ghost use Rattle.cyc_plain.specs.inside.State.{Words, Frame, Configuration, State, HoldsWords, put, copied, output_of, input_of, place_of, status_of};
+ghost use Rattle.cyc_plain.specs.inside.State as state;
+ghost use Rattle.cyc_plain.specs.inside.Memory.{slots_base, slots_end, IsBelow, LieBelow, is_pinned, memory_at};
 ghost use Rattle.cyc_plain.specs.declared.limits.TheConstants.{GLOBALS_BASE};
 ghost use Rattle.cyc_store.specs.declared.range.TheConstants.{STORE_BASE};
-ghost use Rattle.cyc_plain.specs.Step.{Choice, IsServed, Step, asked, call_in, called, instruction_at, is_within, limited_step, machine, served_to, start, step};
-ghost use Rattle.cyc_plain.specs.Straight.{HasAt, AreStraight, executed_in, places_behind};
-ghost use Rattle.cyc_plain.specs.WellFormed.{IsWellFormed, HasWords, DividesByZero, AsksForNoWord, AsksInVain, AsksForHandlers};
+ghost use Rattle.cyc_plain.specs.inside.Step.{Choice, IsServed, Step, asked, call_in, called, instruction_at, is_within, limited_step, machine, served_to, start, step};
+ghost use Rattle.cyc_plain.specs.inside.Straight.{HasAt, AreStraight, executed_in, places_behind};
+ghost use Rattle.cyc_plain.specs.inside.WellFormed.{IsWellFormed, HasWords, DividesByZero, AsksForNoWord, AsksInVain, AsksForHandlers};
 
 /// A run that is over stays as it is.
 pub fn ended_stays()

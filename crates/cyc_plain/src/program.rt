@@ -1,7 +1,7 @@
 //! A plain program: its functions and its globals.
 ghost use Rattle.std.specs.Prelude.{◌≡◌, ◌↔◌, ◌<◌, IsTrue, length, map};
-ghost use Rattle.cyc_plain.specs.Program.{program_of, routine_at, routine_of};
-ghost use Rattle.cyc_plain.specs.WellFormed.{IsPlain, IsWellFormed};
+ghost use Rattle.cyc_plain.specs.inside.Program.{program_of, routine_at, routine_of};
+ghost use Rattle.cyc_plain.specs.inside.WellFormed.{IsPlain, IsWellFormed};
 
 use crate::instruction::Instruction;
 use cyc_words::Span;
@@ -33,8 +33,8 @@ pub struct Plain {
 }
 
 impl Model for Plain {
-    ghost use Rattle.cyc_plain.specs.Program.{Program, program_of};
-    ghost use Rattle.cyc_plain.specs.WellFormed.{IsPlain};
+    ghost use Rattle.cyc_plain.specs.inside.Program.{Program, program_of};
+    ghost use Rattle.cyc_plain.specs.inside.WellFormed.{IsPlain};
 
     ghost Value = { Program };
 

@@ -3,8 +3,8 @@ use Rattle.std.proofs.Common.{◌≡◌, ℕ, ◌+◌, ◌*◌, ◌%◌, ◌<◌
 use Rattle.std.specs.Prelude.{◌==◌, ◌&&◌, ◌⊎◌, nat_le, nat_lt, slice_index, slice_index_or}
 use Rattle.std.specs.Int.{bit_at}
 use Rattle.std.proofs.lemmas.Bool.{cases_eq, cases_lt, and_right, cond-true, cond-false, le-leb, lt-leb, le-ltb, lt-ltb}
-use Rattle.cyc_rawpages.specs.Words.{Parts, headed}
-use Rattle.cyc_rawpages.specs.Pool.{tabulate, bits_at, bit_of, between}
+use Rattle.cyc_rawpages.specs.inside.Words.{Parts, headed}
+use Rattle.cyc_rawpages.specs.inside.Pool.{tabulate, bits_at, bit_of, between}
 use Rattle.cyc_rawpages.proofs.Columns.{tab-read, tab-past}
 
 between-in : (old : ℕ → Bool) (first count : ℕ) (value : Bool) (number : ℕ) → first ≤ number → number < first + count → between old first count value number ≡ value

@@ -3,9 +3,9 @@ use Rattle.std.proofs.Common.{◌≡◌, ℕ, zero, suc, ◌+◌, ◌*◌, ◌%�
 use Rattle.std.specs.Prelude.{◌==◌, Bool, slice_index, slice_index_or}
 use Rattle.std.specs.Int.{bit_at}
 use Rattle.std.proofs.lemmas.Bool.{cases_eq}
-use Rattle.cyc_rawpages.specs.Lists.{Lists, is_among}
-use Rattle.cyc_rawpages.specs.Words.{Parts, headed}
-use Rattle.cyc_rawpages.specs.Pool.{tabulate, header_at, field_of, serial_of, state_of, bits_at, bit_of}
+use Rattle.cyc_rawpages.specs.inside.Lists.{Lists, is_among}
+use Rattle.cyc_rawpages.specs.inside.Words.{Parts, headed}
+use Rattle.cyc_rawpages.specs.inside.Pool.{tabulate, header_at, field_of, serial_of, state_of, bits_at, bit_of}
 use Rattle.cyc_rawpages.specs.declared.header.TheConstants.{FILL, OWNER, LOW, HIGH}
 
 pub tab-read : {A : Type 0} (n : ℕ) (f : ℕ → A) (i : ℕ) (none : A) → i < n → slice_index_or (tabulate n f) i none ≡ f i

@@ -3,8 +3,8 @@ use Rattle.std.proofs.Common.{◌≡◌, ℕ, ◌<◌, List, [], ◌∷◌, ◌+
 use Rattle.std.specs.Prelude.{◌==◌, true, false}
 use Rattle.std.specs.List.{AllByRecursion}
 use Rattle.std.proofs.lemmas.Bool.{cases_eq, cond-true, cond-false, eq-eqb, ne_eqb}
-use Rattle.cyc_rawpages.specs.Lists.{is_among, freed}
-use Rattle.cyc_rawpages.specs.Pool.{tabulate, IsFree}
+use Rattle.cyc_rawpages.specs.inside.Lists.{is_among, freed}
+use Rattle.cyc_rawpages.specs.inside.Pool.{tabulate, IsFree}
 use Rattle.cyc_rawpages.proofs.Columns.{tab-read, tab-set, tab-all}
 
 pub first-among : (x : ℕ) (xs : List ℕ) → is_among (x ∷ xs) x ≡ true

@@ -6,9 +6,9 @@ use Rattle.std.specs.Int.{bit_at}
 use Rattle.std.proofs.lemmas.Nat.Bits.{bit_at-zero}
 use Rattle.std.proofs.lemmas.Bool.{cases_eq, cond-true, cond-false, eq-eqb, ne_eqb}
 use Rattle.std.proofs.lemmas.List.{length-replicate}
-use Rattle.cyc_rawpages.specs.Lists.{Lists, chain_at, numbers_from, all_free, is_among}
-use Rattle.cyc_rawpages.specs.Words.{Parts, headed}
-use Rattle.cyc_rawpages.specs.Pool.{header_at, field_of, serial_of, bits_at, bit_of, state_of, put, IsLinked, IsDistinct, IsIn, IsChain, LinksAll, IsPool, new_pool}
+use Rattle.cyc_rawpages.specs.inside.Lists.{Lists, chain_at, numbers_from, all_free, is_among}
+use Rattle.cyc_rawpages.specs.inside.Words.{Parts, headed}
+use Rattle.cyc_rawpages.specs.inside.Pool.{header_at, field_of, serial_of, bits_at, bit_of, state_of, put, IsLinked, IsDistinct, IsIn, IsChain, LinksAll, IsPool, new_pool}
 use Rattle.cyc_rawpages.specs.declared.header.TheConstants.{FILL, OWNER, LOW, HIGH, NEXT, TAIL, NONE}
 use Rattle.cyc_rawpages.proofs.Columns.{tab-all, linked}
 use Rattle.cyc_rawpages.proofs.Links.{put-same, put-other, all-map, linked-same}

@@ -1,7 +1,7 @@
 -- The heads of chains after a call.
 use Rattle.std.proofs.Common.{◌≡◌, ℕ, zero, suc, ◌<◌, List, [], ◌∷◌, ◌++◌, length, set, ap, ◌∙◌, arith, get_or-set_same, get_or-set_other}
-use Rattle.cyc_rawpages.specs.Lists.{chain_at}
-use Rattle.cyc_rawpages.specs.Pool.{IsHead}
+use Rattle.cyc_rawpages.specs.inside.Lists.{chain_at}
+use Rattle.cyc_rawpages.specs.inside.Pool.{IsHead}
 
 chain-within : (chains : List (List ℕ)) (i x : ℕ) (xs : List ℕ) → chain_at chains i ≡ x ∷ xs → i < length chains
 chain-within [] i x xs e = cc

@@ -3,9 +3,9 @@ use Rattle.std.proofs.Common.{◌≡◌, ℕ, ◌<◌, List, [], ◌∷◌, ◌+
 use Rattle.std.specs.Prelude.{◌==◌, if◌then◌else◌}
 use Rattle.std.specs.List.{AllByRecursion}
 use Rattle.std.proofs.lemmas.Bool.{cases_eq, cond-true, cond-false, eq-eqb, ne_eqb}
-use Rattle.cyc_rawpages.specs.Lists.{Lists, chain_at, after}
+use Rattle.cyc_rawpages.specs.inside.Lists.{Lists, chain_at, after}
 use Rattle.cyc_rawpages.specs.declared.change.Change.TheVariants.{Taken, Pushed, Given}
-use Rattle.cyc_rawpages.specs.Pool.{put, IsLinked, Runs, IsDistinct, IsIn, IsChain, IsLinkedUp}
+use Rattle.cyc_rawpages.specs.inside.Pool.{put, IsLinked, Runs, IsDistinct, IsIn, IsChain, IsLinkedUp}
 use Rattle.cyc_rawpages.specs.declared.header.TheConstants.{NONE}
 
 pub put-same : (f : ℕ → ℕ) (at v i : ℕ) → i ≡ at → put f at v i ≡ v

@@ -16,7 +16,7 @@ use types.Kit.{‵, ◌⊛◌, ◌$◌, ◌∵◌, !, qed, by, move, keep, use1,
 use denote.Plain.{uint_out}
 use denote.Steps.{nothing}
 use Rattle.std.specs.Prelude.{Option, Some, None}
-use Rattle.cyc_rawpages.specs.Ownership.{place, places, place_lent, places_lent}
+use Rattle.cyc_rawpages.specs.inside.Ownership.{place, places, place_lent, places_lent}
 
 pub filled_within : (cs : List (Option ℕ)) (i w : ℕ) → get_or cs i None ≡ Some w → i < length cs
 filled_within [] i w e = cc

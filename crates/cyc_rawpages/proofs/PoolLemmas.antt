@@ -4,10 +4,10 @@ use Rattle.std.specs.Prelude.{◌==◌, false, slice_index, slice_index_or}
 use Rattle.std.specs.List.{AllByRecursion}
 use Rattle.std.specs.Int.{bit_at}
 use Rattle.std.proofs.lemmas.Bool.{cases_eq}
-use Rattle.cyc_rawpages.specs.Lists.{Lists, chain_at, after, is_among, freed}
+use Rattle.cyc_rawpages.specs.inside.Lists.{Lists, chain_at, after, is_among, freed}
 use Rattle.cyc_rawpages.specs.declared.change.Change.TheVariants.{Taken, Pushed, Given}
-use Rattle.cyc_rawpages.specs.Words.{Parts, headed}
-use Rattle.cyc_rawpages.specs.Pool.{PoolState, tabulate, header_at, field_of, bits_at, bit_of, state_of, put, IsFree, IsHead, IsDistinct, IsChain, IsLinkedUp, IsPool}
+use Rattle.cyc_rawpages.specs.inside.Words.{Parts, headed}
+use Rattle.cyc_rawpages.specs.inside.Pool.{PoolState, tabulate, header_at, field_of, bits_at, bit_of, state_of, put, IsFree, IsHead, IsDistinct, IsChain, IsLinkedUp, IsPool}
 use Rattle.cyc_rawpages.specs.declared.header.TheConstants.{NEXT, TAIL, NONE}
 use Rattle.cyc_rawpages.proofs.Columns.{tab-read, field-kept}
 use Rattle.cyc_rawpages.proofs.FreePages.{other-among, among-behind, free-none as none-free, free-first, free-taken, free-given}

@@ -2,9 +2,9 @@
 use Rattle.std.proofs.Common.{◌≡◌, ℕ, ◌+◌, ◌*◌, ◌^◌, ◌<◌, false, ap, sym, ◌∙◌, arith, inl, inr}
 use Rattle.std.specs.Prelude.{◌==◌, nat_eq, slice_index}
 use Rattle.std.proofs.lemmas.Bool.{cases_eq, eq-eqb, ne_eqb}
-use Rattle.cyc_rawpages.specs.Lists.{Lists}
-use Rattle.cyc_rawpages.specs.Words.{Parts}
-use Rattle.cyc_rawpages.specs.Pool.{PoolState, serial_of, state_of}
+use Rattle.cyc_rawpages.specs.inside.Lists.{Lists}
+use Rattle.cyc_rawpages.specs.inside.Words.{Parts}
+use Rattle.cyc_rawpages.specs.inside.Pool.{PoolState, serial_of, state_of}
 use Rattle.cyc_rawpages.proofs.Columns.{tab-read}
 use Rattle.cyc_rawpages.proofs.PoolLemmas.{there-in}
 

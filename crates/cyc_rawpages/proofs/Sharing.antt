@@ -15,7 +15,7 @@ use denote.Struct.Field.{u32-field}
 use denote.Struct.Laws.{u32-copy}
 use denote.Struct.Lending.{Lends, Lends-both, Lends-nothing, Lends-false}
 use mir.Syntax.{w32}
-use Rattle.cyc_rawpages.specs.Ownership.{place, places, places_at, place_lent, places_lent, lent_at}
+use Rattle.cyc_rawpages.specs.inside.Ownership.{place, places, places_at, place_lent, places_lent, lent_at}
 
 place_lent_laws : (b o : ℕ) (c : Option ℕ) → ShrLaws (place_lent b o c)
 place_lent_laws b o (Some w) = uint_row_laws w32 w b o

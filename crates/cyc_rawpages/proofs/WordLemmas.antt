@@ -4,7 +4,7 @@ use Rattle.std.specs.Prelude.{Option, Some, None, slice_index}
 use Rattle.std.proofs.lemmas.Bool.{cases_eq, cases_lt}
 use Rattle.std.proofs.lemmas.List.{length-take, length-drop, take-set-le, drop-set-lt, drop-set-add, get_or-take, get_or-drop}
 use lib.Seq.{take-set-lt}
-use Rattle.cyc_rawpages.specs.Words.{Parts, headed, value_of, words_of, parts_of, AreWritten}
+use Rattle.cyc_rawpages.specs.inside.Words.{Parts, headed, value_of, words_of, parts_of, AreWritten}
 
 length-words : (cs : List (Option ℕ)) → length (words_of cs) ≡ length cs
 length-words [] = refl

@@ -1,7 +1,7 @@
 //! A block of words, as lists. Nothing here or above has a raw pointer.
 
 ghost use Rattle.std.specs.Prelude.{◌≡◌, ℕ, ◌+◌, ◌<◌, ◌≤◌, ◌^◌, None, Some, IfOk, get_or, length, replicate, slice_index, slice_set};
-ghost use Rattle.cyc_rawpages.specs.Words.{headed};
+ghost use Rattle.cyc_rawpages.specs.inside.Words.{headed};
 
 use super::cells::{Cells, Lease, Start, acquire, release};
 use std::alloc::{AllocError, Global};
@@ -26,7 +26,7 @@ pub struct Block {
 }
 
 impl Model for Block {
-    ghost use Rattle.cyc_rawpages.specs.Words.{Parts, parts_of, IsBlock};
+    ghost use Rattle.cyc_rawpages.specs.inside.Words.{Parts, parts_of, IsBlock};
 
     ghost Value = { Parts };
 

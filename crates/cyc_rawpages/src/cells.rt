@@ -2,7 +2,7 @@
 
 ghost use Rattle.std.specs.Prelude.{◌≡◌, ℕ, ◌<◌, ◌≤◌, ◌^◌, List, Option, None, Some, IfSome, length, replicate, get_or, slice_set};
 ghost use denote.RawPtr.{Ptr};
-ghost use Rattle.cyc_rawpages.specs.Ownership.{places_at, lent_at, words_type, IsFilled};
+ghost use Rattle.cyc_rawpages.specs.inside.Ownership.{places_at, lent_at, words_type, IsFilled};
 
 use std::alloc::Allocator;
 use std::marker::{Model, PhantomData};

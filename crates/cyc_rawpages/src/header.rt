@@ -2,7 +2,7 @@
 
 ghost use Rattle.std.specs.Int.{bit_at};
 ghost use Rattle.std.specs.Prelude.{◌==◌, if◌then◌else◌, ◌≡◌, ◌≢◌, ℕ, ◌+◌, ◌*◌, ◌<◌, ◌≤◌, ◌⊎◌};
-ghost use Rattle.cyc_rawpages.specs.Pool.{header_at, bits_at};
+ghost use Rattle.cyc_rawpages.specs.inside.Pool.{header_at, bits_at};
 
 /// The words of a page, and its bits.
 pub const PAGE_WORDS: u32 = 1024;

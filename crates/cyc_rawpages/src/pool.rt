@@ -1,8 +1,8 @@
 //! A pool of pages over one block of memory.
 
 ghost use Rattle.std.specs.Prelude.{◌==◌, ◌≡◌, ◌≢◌, ℕ, [], ◌∷◌, ◌++◌, ◌+◌, ◌*◌, ◌%◌, ◌<◌, ◌≤◌, ◌⊎◌, IfOk, MatchOption, false, length, replicate, set, slice_index, slice_index_or};
-ghost use Rattle.cyc_rawpages.specs.Lists.{chain_at, freed};
-ghost use Rattle.cyc_rawpages.specs.Pool.{IsFree, IsHead, LinksAll, between, new_pool};
+ghost use Rattle.cyc_rawpages.specs.inside.Lists.{chain_at, freed};
+ghost use Rattle.cyc_rawpages.specs.inside.Pool.{IsFree, IsHead, LinksAll, between, new_pool};
 
 use super::block::Block;
 use super::change::Change;
@@ -42,7 +42,7 @@ pub struct Pool {
 }
 
 impl Model for Pool {
-    ghost use Rattle.cyc_rawpages.specs.Pool.{PoolState, state_of, IsPool};
+    ghost use Rattle.cyc_rawpages.specs.inside.Pool.{PoolState, state_of, IsPool};
 
     ghost Value = { PoolState };
 

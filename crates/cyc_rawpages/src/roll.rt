@@ -2,7 +2,7 @@
 
 ghost use Rattle.std.specs.Prelude.{◌≡◌};
 ghost use Rattle.std.specs.Borrow.{ftrue};
-ghost use Rattle.cyc_rawpages.specs.Lists.{Lists, no_pages, after};
+ghost use Rattle.cyc_rawpages.specs.inside.Lists.{Lists, no_pages, after};
 
 use super::change::Change;
 use std::marker::Model;

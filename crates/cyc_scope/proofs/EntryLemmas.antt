@@ -17,8 +17,8 @@ use Rattle.cyc_types.specs.typing.Programs.{parameter_locals}
 use Rattle.cyc_scope.specs.declared.program.Field.{Field}
 use Rattle.cyc_scope.specs.declared.exceptions.Entry.{Entry as ExceptionEntry}
 use Rattle.cyc_scope.specs.declared.declared.Entry.{Entry}
-use Rattle.cyc_scope.specs.Tables.{first_place, exception_names, declared_names, first_declared}
-use Rattle.cyc_scope.specs.Entries.{view_fields, view_exception, view_entry}
+use Rattle.cyc_scope.specs.inside.Tables.{first_place, exception_names, declared_names, first_declared}
+use Rattle.cyc_scope.specs.inside.Entries.{view_fields, view_exception, view_entry}
 use Rattle.cyc_scope.proofs.TableLemmas.{first_found, lent, seen_through, among_first}
 
 -- ---- functions and globals

@@ -12,9 +12,9 @@ use Rattle.cyc_words.proofs.Numbers.{nat_eq-false}
 use Rattle.cyc_syntax.specs.Trees.{Named}
 use Rattle.cyc_types.specs.typing.Scopes.{LocalVariable, Meaning, Declared, meaning_in, local_meaning, meaning_among, is_declared_in}
 use Rattle.cyc_scope.specs.declared.locals.Binding.{Binding}
-use Rattle.cyc_scope.specs.Marks.{Descends}
-use Rattle.cyc_scope.specs.Tables.{newest_place}
-use Rattle.cyc_scope.specs.Entries.{view_binding, locals_of, local_names, newest, Finds}
+use Rattle.cyc_scope.specs.inside.Marks.{Descends}
+use Rattle.cyc_scope.specs.inside.Tables.{newest_place}
+use Rattle.cyc_scope.specs.inside.Entries.{view_binding, locals_of, local_names, newest, Finds}
 use Rattle.cyc_scope.proofs.TableLemmas.{lent, seen_through}
 
 -- ---- lists from their end

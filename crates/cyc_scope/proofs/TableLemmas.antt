@@ -8,7 +8,7 @@ use denote.Ref.{Bor}
 use Rattle.std.specs.Slice.{IsItemAt}
 use Rattle.cyc_types.specs.typing.Scopes.{Exception, Declared, meaning_in}
 use Rattle.cyc_types.specs.typing.Statements.{exception_among, exception_number}
-use Rattle.cyc_scope.specs.Tables.{first_place, first_by, exception_names, first_declared, meaning_by}
+use Rattle.cyc_scope.specs.inside.Tables.{first_place, first_by, exception_names, first_declared, meaning_by}
 
 -- ---- a name more, at the end
 

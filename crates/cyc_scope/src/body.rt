@@ -1,12 +1,12 @@
 //! The scope of a function's body, and the tables that one function hands to the next.
 ghost use Rattle.std.specs.Prelude.{◌≡◌, [], ◌∷◌, map, option_map, IfOk, OnOk, IfErr};
-ghost use Rattle.cyc_syntax.specs.TreeView.{view_name, view_member};
+ghost use Rattle.cyc_syntax.specs.inside.TreeView.{view_name, view_member};
 ghost use Rattle.cyc_types.specs.TypeView.{view_ty};
-ghost use Rattle.cyc_types.specs.SignatureView.{view_signature};
+ghost use Rattle.cyc_types.specs.inside.SignatureView.{view_signature};
 ghost use Rattle.cyc_types.specs.typing.Programs.{parameter_locals, body_regions};
 ghost use Rattle.cyc_scope.specs.declared.stop.Stop.TheVariants.{Memory};
-ghost use Rattle.cyc_scope.specs.Marks.{Descends};
-ghost use Rattle.cyc_scope.specs.Bodies.{body_with};
+ghost use Rattle.cyc_scope.specs.inside.Marks.{Descends};
+ghost use Rattle.cyc_scope.specs.inside.Bodies.{body_with};
 
 use crate::locals::{Local, Locals, Sort};
 use crate::program::Program;

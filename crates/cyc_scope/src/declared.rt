@@ -39,14 +39,14 @@ impl Model for Declared {
     ghost use Rattle.std.specs.Prelude.{◌≡◌, ℕ, List, map, get_or, None};
     ghost use Rattle.std.specs.Coded.{codes};
     ghost use Rattle.cyc_types.specs.typing.Scopes.{Declared as DeclaredValue};
-    ghost use Rattle.cyc_scope.specs.Codes.{ty_code};
-    ghost use Rattle.cyc_scope.specs.Tables.{first_place, declared_names};
+    ghost use Rattle.cyc_scope.specs.inside.Codes.{ty_code};
+    ghost use Rattle.cyc_scope.specs.inside.Tables.{first_place, declared_names};
 
     ghost Value = { List DeclaredValue };
 
     ghost coded = { Prim.hlevel (codes, ty_code) };
 
-    ghost use Rattle.cyc_scope.specs.Entries.{view_entry};
+    ghost use Rattle.cyc_scope.specs.inside.Entries.{view_entry};
 
     ghost view = { λ d. map view_entry d.entries.items };
 
@@ -55,8 +55,8 @@ impl Model for Declared {
 
 impl Entry {
     ghost use Rattle.std.specs.Prelude.{◌≡◌};
-    ghost use Rattle.cyc_scope.specs.Meanings.{view_meaning};
-    ghost use Rattle.cyc_scope.specs.Entries.{view_entity};
+    ghost use Rattle.cyc_scope.specs.inside.Meanings.{view_meaning};
+    ghost use Rattle.cyc_scope.specs.inside.Entries.{view_entity};
 
     fn meaning(&self) -> Meaning<'_>
         ensures { view_meaning result ≡ view_entity self.now.entity }
@@ -79,9 +79,9 @@ impl Declared {
     ghost use Rattle.std.specs.Prelude.{◌≡◌, [], ◌∷◌, ◌++◌, option_map, OnOk, IfErr};
     ghost use Rattle.cyc_types.specs.typing.Scopes.{meaning_in};
     ghost use Rattle.cyc_scope.specs.declared.stop.Stop.TheVariants.{Memory};
-    ghost use Rattle.cyc_scope.specs.Tables.{first_place, declared_names, first_declared};
-    ghost use Rattle.cyc_scope.specs.Meanings.{view_meaning};
-    ghost use Rattle.cyc_scope.specs.Entries.{view_entity, view_entry};
+    ghost use Rattle.cyc_scope.specs.inside.Tables.{first_place, declared_names, first_declared};
+    ghost use Rattle.cyc_scope.specs.inside.Meanings.{view_meaning};
+    ghost use Rattle.cyc_scope.specs.inside.Entries.{view_entity, view_entry};
 
     pub(crate) fn new(alloc: Global) -> Declared
         ensures { result ≡ [] }

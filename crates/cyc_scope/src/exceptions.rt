@@ -29,8 +29,8 @@ pub(crate) struct Exceptions {
 impl Model for Exceptions {
     ghost use Rattle.std.specs.Prelude.{◌≡◌, ℕ, List, map, get_or, None};
     ghost use Rattle.cyc_types.specs.typing.Scopes.{Exception};
-    ghost use Rattle.cyc_scope.specs.Tables.{first_place, exception_names};
-    ghost use Rattle.cyc_scope.specs.Entries.{view_exception};
+    ghost use Rattle.cyc_scope.specs.inside.Tables.{first_place, exception_names};
+    ghost use Rattle.cyc_scope.specs.inside.Entries.{view_exception};
 
     ghost Value = { List Exception };
 
@@ -43,7 +43,7 @@ impl Exceptions {
     ghost use Rattle.std.specs.Prelude.{◌≡◌, ◌<◌, [], ◌∷◌, ◌++◌, length, option_map, OnOk, IfErr, IfSome};
     ghost use Rattle.cyc_types.specs.typing.Statements.{exception_among, exception_number};
     ghost use Rattle.cyc_scope.specs.declared.stop.Stop.TheVariants.{Memory};
-    ghost use Rattle.cyc_scope.specs.Tables.{first_place, exception_names};
+    ghost use Rattle.cyc_scope.specs.inside.Tables.{first_place, exception_names};
 
     pub(crate) fn new(alloc: Global) -> Exceptions
         ensures { result ≡ [] }

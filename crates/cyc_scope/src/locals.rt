@@ -51,13 +51,13 @@ impl Model for Locals {
     ghost use Rattle.std.specs.Prelude.{List};
     ghost use Rattle.std.specs.Coded.{codes};
     ghost use Rattle.cyc_types.specs.typing.Scopes.{LocalVariable};
-    ghost use Rattle.cyc_scope.specs.Codes.{ty_code};
+    ghost use Rattle.cyc_scope.specs.inside.Codes.{ty_code};
 
     ghost Value = { List LocalVariable };
 
     ghost coded = { Prim.hlevel (codes, ty_code) };
 
-    ghost use Rattle.cyc_scope.specs.Entries.{locals_of, Finds};
+    ghost use Rattle.cyc_scope.specs.inside.Entries.{locals_of, Finds};
 
     ghost view = { λ l. locals_of l.bindings.items };
 
@@ -66,10 +66,10 @@ impl Model for Locals {
 
 impl Local {
     ghost use Rattle.std.specs.Prelude.{◌≡◌};
-    ghost use Rattle.cyc_syntax.specs.TreeView.{view_name, place_of_span};
+    ghost use Rattle.cyc_syntax.specs.inside.TreeView.{view_name, place_of_span};
     ghost use Rattle.cyc_types.specs.typing.Scopes.{local_meaning};
-    ghost use Rattle.cyc_scope.specs.Meanings.{view_meaning};
-    ghost use Rattle.cyc_scope.specs.Entries.{view_sort, view_local};
+    ghost use Rattle.cyc_scope.specs.inside.Meanings.{view_meaning};
+    ghost use Rattle.cyc_scope.specs.inside.Entries.{view_sort, view_local};
 
     /// What a name at this place means that means this local.
     fn meaning(&self, name: Ident) -> Meaning<'_>
@@ -94,13 +94,13 @@ impl Local {
 
 impl Locals {
     ghost use Rattle.std.specs.Prelude.{◌≡◌, ℕ, ◌-◌, ◌<◌, List, [], ◌∷◌, length, drop, option_map, get_or, None, OnOk, OnErr, IfErr};
-    ghost use Rattle.cyc_syntax.specs.TreeView.{view_name};
+    ghost use Rattle.cyc_syntax.specs.inside.TreeView.{view_name};
     ghost use Rattle.cyc_types.specs.typing.Scopes.{Declared, meaning_in, meaning_among, is_declared_in};
     ghost use Rattle.cyc_scope.specs.declared.stop.Stop.TheVariants.{Memory};
-    ghost use Rattle.cyc_scope.specs.Meanings.{view_meaning};
-    ghost use Rattle.cyc_scope.specs.Marks.{Descends};
-    ghost use Rattle.cyc_scope.specs.Tables.{newest_place};
-    ghost use Rattle.cyc_scope.specs.Entries.{view_local, view_binding, local_names, newest, meaning_or};
+    ghost use Rattle.cyc_scope.specs.inside.Meanings.{view_meaning};
+    ghost use Rattle.cyc_scope.specs.inside.Marks.{Descends};
+    ghost use Rattle.cyc_scope.specs.inside.Tables.{newest_place};
+    ghost use Rattle.cyc_scope.specs.inside.Entries.{view_local, view_binding, local_names, newest, meaning_or};
 
     pub(crate) fn new(alloc: Global) -> Locals
         ensures { result ≡ [] }

@@ -31,13 +31,13 @@ impl Model for Program {
     ghost use Rattle.std.specs.Prelude.{map};
     ghost use Rattle.std.specs.Coded.{codes};
     ghost use Rattle.cyc_types.specs.typing.Programs.{Program as ProgramValue};
-    ghost use Rattle.cyc_scope.specs.Codes.{ty_code};
+    ghost use Rattle.cyc_scope.specs.inside.Codes.{ty_code};
 
     ghost Value = { ProgramValue };
 
     ghost coded = { Prim.hlevel (codes, ty_code) };
 
-    ghost use Rattle.cyc_scope.specs.Entries.{view_fields};
+    ghost use Rattle.cyc_scope.specs.inside.Entries.{view_fields};
 
     ghost view = { λ p. record { known = p.known; fields = map view_fields p.fields.items; exceptions = p.exceptions; declared = p.declared } };
 }
@@ -47,12 +47,12 @@ impl Program {
     ghost use Rattle.cyc_types.specs.declared.region.Region.TheVariants as regions;
     ghost use Rattle.cyc_types.specs.TypedTrees as typed;
     ghost use Rattle.cyc_types.specs.TypeView.{view_ty};
-    ghost use Rattle.cyc_types.specs.SignatureView.{view_signature};
+    ghost use Rattle.cyc_types.specs.inside.SignatureView.{view_signature};
     ghost use Rattle.cyc_types.specs.typing.Scopes as scopes;
     ghost use Rattle.cyc_types.specs.typing.Statements.{exception_among, exception_number};
     ghost use Rattle.cyc_scope.specs.declared.stop.Stop.TheVariants.{Memory};
-    ghost use Rattle.cyc_scope.specs.Meanings.{view_meaning};
-    ghost use Rattle.cyc_scope.specs.Entries.{view_field, view_fields};
+    ghost use Rattle.cyc_scope.specs.inside.Meanings.{view_meaning};
+    ghost use Rattle.cyc_scope.specs.inside.Entries.{view_field, view_fields};
 
     /// A program of which only this is known so far.
     pub fn new(alloc: Global, known: Known) -> Program

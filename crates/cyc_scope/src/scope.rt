@@ -55,13 +55,13 @@ impl<'a> Model for Scope<'a> {
     ghost use Rattle.std.specs.Coded.{codes};
     ghost use Rattle.cyc_types.specs.TypeView.{view_ty};
     ghost use Rattle.cyc_types.specs.typing.Scopes.{Scope as ScopeValue};
-    ghost use Rattle.cyc_scope.specs.Codes.{ty_code};
+    ghost use Rattle.cyc_scope.specs.inside.Codes.{ty_code};
 
     ghost Value = { ScopeValue };
 
     ghost coded = { Prim.hlevel (codes, ty_code) };
 
-    ghost use Rattle.cyc_scope.specs.Marks.{Descends};
+    ghost use Rattle.cyc_scope.specs.inside.Marks.{Descends};
 
     ghost view = { λ s. record {
       structs = s.program.now.known.structs;
@@ -85,7 +85,7 @@ impl<'a> Model for Scope<'a> {
 
 impl<'a> Scope<'a> {
     ghost use Rattle.std.specs.Prelude.{◌≡◌, [], map, slice_get, unwrap_or, option_map, OnOk, IfErr, IfSome};
-    ghost use Rattle.cyc_syntax.specs.TreeView.{view_name};
+    ghost use Rattle.cyc_syntax.specs.inside.TreeView.{view_name};
     ghost use Rattle.cyc_types.specs.declared.scope.Kind.TheVariants as kinds;
     ghost use Rattle.cyc_types.specs.TypeView.{view_ty};
     ghost use Rattle.cyc_types.specs.Closure.{is_outliving};
@@ -93,9 +93,9 @@ impl<'a> Scope<'a> {
     ghost use Rattle.cyc_types.specs.typing.Scopes.{is_taken, is_live, is_declared, meaning_of, in_block, with_name, in_labelled, in_body, with_local, with_counter, with_opened, with_region, with_key_opened};
     ghost use Rattle.cyc_types.specs.typing.Statements.{exception_among, exception_number};
     ghost use Rattle.cyc_scope.specs.declared.stop.Stop.TheVariants.{Memory};
-    ghost use Rattle.cyc_scope.specs.Meanings.{view_meaning};
-    ghost use Rattle.cyc_scope.specs.Entries.{view_field, view_sort};
-    ghost use Rattle.cyc_scope.specs.Marks.{IsInOrder, mark_of, left_to, with_next_opened};
+    ghost use Rattle.cyc_scope.specs.inside.Meanings.{view_meaning};
+    ghost use Rattle.cyc_scope.specs.inside.Entries.{view_field, view_sort};
+    ghost use Rattle.cyc_scope.specs.inside.Marks.{IsInOrder, mark_of, left_to, with_next_opened};
 
     pub fn alloc(&self) -> Global {
         self.alloc

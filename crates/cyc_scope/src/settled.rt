@@ -1,8 +1,8 @@
 //! The demands of a construct, settled one after the other: of those that are broken the lowest code counts, and at one code the first.
 ghost use Rattle.std.specs.Prelude.{◌≡◌, None};
-ghost use Rattle.cyc_syntax.specs.TreeView.{place_of_span};
+ghost use Rattle.cyc_syntax.specs.inside.TreeView.{place_of_span};
 ghost use Rattle.cyc_types.specs.Rules.{demand, noted};
-ghost use Rattle.cyc_scope.specs.Code.{Ends};
+ghost use Rattle.cyc_scope.specs.inside.Code.{Ends};
 
 use crate::stop::Stop;
 use cyc_words::{Code, Fault, Span};

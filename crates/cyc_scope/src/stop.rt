@@ -1,9 +1,9 @@
 //! Why checking stops.
 ghost use Rattle.std.specs.Prelude.{◌≡◌};
-ghost use Rattle.cyc_syntax.specs.TreeView.{place_of_span};
+ghost use Rattle.cyc_syntax.specs.inside.TreeView.{place_of_span};
 ghost use Rattle.cyc_types.specs.Rules.{fault_at};
 ghost use Rattle.cyc_scope.specs.declared.stop.Stop.TheVariants.{Memory, Refused};
-ghost use Rattle.cyc_scope.specs.Code.{fault_of};
+ghost use Rattle.cyc_scope.specs.inside.Code.{fault_of};
 
 use cyc_words::{Code, Fault, Span};
 use std::alloc::{AllocError, AllocFailed};

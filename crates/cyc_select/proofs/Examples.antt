@@ -7,10 +7,10 @@ use Rattle.cyc_plain.specs.declared.instruction.Operand.TheVariants.{Slot, Word}
 use Rattle.cyc_plain.specs.declared.instruction.Request.TheVariants.{OpenLexical, CloseTo, Allocate}
 use Rattle.cyc_plain.specs.declared.instruction.Comparison.TheVariants.{Equal, GreaterOrEqualUnsigned}
 use Rattle.cyc_plain.specs.declared.instruction.BinaryOperator.TheVariants.{Add, ShiftLeft}
-use Rattle.cyc_plain.specs.Program.{Program}
-use Rattle.cyc_frame.specs.Frame.{Frame}
+use Rattle.cyc_plain.specs.inside.Program.{Program}
+use Rattle.cyc_frame.specs.inside.Frame.{Frame}
 use Rattle.cyc_isa.specs.declared.instr.MemoryOp.TheVariants.{LoadWord, LoadByte, StoreByte}
-use Rattle.cyc_select.specs.Selection.{body_count, load_at, store_at}
+use Rattle.cyc_select.specs.inside.Selection.{body_count, load_at, store_at}
 
 abbrev nothing : Program
 nothing = record { functions = []; globals = []; main = 0 }

@@ -12,12 +12,12 @@ use Rattle.cyc_machine.specs.declared.event.Event.TheVariants.{Ran, WantsByte, P
 use Rattle.cyc_machine.specs.declared.phase.Phase.{Phase}
 use Rattle.cyc_machine.specs.declared.phase.Phase.TheVariants as phases
 use Rattle.cyc_words.specs.Simulation as simulation
-use Rattle.cyc_words.specs.Following.{IsLawful}
+use Rattle.cyc_words.specs.inside.Following.{IsLawful}
 use Rattle.cyc_select.specs.declared.code.Line.{Line}
 use Rattle.cyc_select.specs.declared.code.Line.TheVariants as lines
-use Rattle.cyc_select.specs.Labelled.{Labelled, is_ordinary}
-use Rattle.cyc_select.specs.Machine as labelled
-use Rattle.cyc_select.specs.Machine.{Configuration, State, Running, Stopped, world_of, settled, closed, Performs, PerformsOrdinary, Executes, ExecutesAt, Step, machine, seen_of, status_of}
+use Rattle.cyc_select.specs.inside.Labelled.{Labelled, is_ordinary}
+use Rattle.cyc_select.specs.inside.Machine as labelled
+use Rattle.cyc_select.specs.inside.Machine.{Configuration, State, Running, Stopped, world_of, settled, closed, Performs, PerformsOrdinary, Executes, ExecutesAt, Step, machine, seen_of, status_of}
 
 one_read : (input : List ℕ) → (read : List ℕ) × (input ≡ read ++ drop 1 input)
 one_read [] = ([], refl)

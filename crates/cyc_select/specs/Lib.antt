@@ -1,9 +1,2 @@
--- what the contract of `select` rests on
-pub mod Labelled
-pub mod Machine
-pub mod Selected
--- what the functions inside the crate promise each other
-pub mod Numbers
-pub mod Plans
-pub mod Selection
-pub mod Emission
+-- What the functions of this crate promise each other and what its proofs say: no public contract of the product means it.
+pub mod inside

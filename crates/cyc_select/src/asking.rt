@@ -1,8 +1,8 @@
 //! The lines that call the store.
 ghost use Rattle.std.specs.Prelude.{◌≡◌, ◌+◌, ◌≤◌, [], ◌∷◌, OnOk};
-ghost use Rattle.cyc_plain.specs.Requests.{first_operand, second_operand, answer_count, destination_of};
-ghost use Rattle.cyc_select.specs.Selection.{ordinary, give_code, argument_code, service_number, regions_code, answer_code, ask_code, ask_count};
-ghost use Rattle.cyc_select.specs.Emission.{AddsLines, IsReached, IsArgumentFound, AreReached, IsRequestFound};
+ghost use Rattle.cyc_plain.specs.inside.Requests.{first_operand, second_operand, answer_count, destination_of};
+ghost use Rattle.cyc_select.specs.inside.Selection.{ordinary, give_code, argument_code, service_number, regions_code, answer_code, ask_code, ask_count};
+ghost use Rattle.cyc_select.specs.inside.Emission.{AddsLines, IsReached, IsArgumentFound, AreReached, IsRequestFound};
 
 use crate::calling::RESULTS;
 use crate::constants::REGIONS;

@@ -1,9 +1,9 @@
 //! The lines of an instruction.
 ghost use Rattle.std.specs.Prelude.{◌≡◌, ◌+◌, ◌<◌, ◌≤◌, ◌++◌, OnOk, length};
-ghost use Rattle.cyc_plain.specs.Program.{routine_at};
-ghost use Rattle.cyc_plain.specs.WellFormed.{IsInRange};
-ghost use Rattle.cyc_select.specs.Selection.{body, behind, place_lines, instruction_line};
-ghost use Rattle.cyc_select.specs.Emission.{AddsLines, IsKnown, most_lines};
+ghost use Rattle.cyc_plain.specs.inside.Program.{routine_at};
+ghost use Rattle.cyc_plain.specs.inside.WellFormed.{IsInRange};
+ghost use Rattle.cyc_select.specs.inside.Selection.{body, behind, place_lines, instruction_line};
+ghost use Rattle.cyc_select.specs.inside.Emission.{AddsLines, IsKnown, most_lines};
 
 use crate::code::Line;
 use crate::counting::{is_idle, spills_count};

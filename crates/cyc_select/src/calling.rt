@@ -1,7 +1,7 @@
 //! The lines of calls and returns, and of moves of several words.
 ghost use Rattle.std.specs.Prelude.{◌≡◌, ◌+◌, ◌*◌, ◌<◌, ◌≤◌, [], ◌∷◌, ◌++◌, true, length, OnOk};
-ghost use Rattle.cyc_select.specs.Selection.{pass, spill, spills, copies, ordinary, load_all, load_words, store_all, moves, all_moved, move_words, calling_code, returned_code, saving_code, restoring_code, ending_code, returning_code};
-ghost use Rattle.cyc_select.specs.Emission.{AddsLines, IsReached, AreReached, most_lines, enter_code};
+ghost use Rattle.cyc_select.specs.inside.Selection.{pass, spill, spills, copies, ordinary, load_all, load_words, store_all, moves, all_moved, move_words, calling_code, returned_code, saving_code, restoring_code, ending_code, returning_code};
+ghost use Rattle.cyc_select.specs.inside.Emission.{AddsLines, IsReached, AreReached, most_lines, enter_code};
 
 use crate::code::Line;
 use crate::constants::{FIRST_RESULT, FRAME, LOWEST, SECOND_RESULT, THIRD_RESULT, ZERO};

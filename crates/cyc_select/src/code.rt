@@ -1,6 +1,6 @@
 //! Labelled code: machine code before its addresses are known.
 ghost use Rattle.std.specs.Prelude.{◌≡◌};
-ghost use Rattle.cyc_select.specs.Labelled.{IsCode};
+ghost use Rattle.cyc_select.specs.inside.Labelled.{IsCode};
 
 use cyc_isa::{BranchOp, BranchZeroOp, Instr, Register};
 use std::marker::Model;
@@ -45,7 +45,7 @@ pub struct Code {
 }
 
 impl Model for Code {
-    ghost use Rattle.cyc_select.specs.Labelled.{Labelled, IsCode};
+    ghost use Rattle.cyc_select.specs.inside.Labelled.{Labelled, IsCode};
 
     ghost Value = { Labelled };
 

@@ -1,11 +1,11 @@
 //! How many lines each instruction has, and which number the first of them has.
 ghost use Rattle.std.specs.Prelude.{◌≡◌, ◌+◌, ◌*◌, ◌<◌, ◌≤◌, length, map, sum_by, All, IfOk};
-ghost use Rattle.cyc_plain.specs.Program.{routine_of, routine_at, instruction_size, size};
-ghost use Rattle.cyc_plain.specs.WellFormed.{IsPlain, IsInRange};
-ghost use Rattle.cyc_frame.specs.Layout.{AreFrames, frame_at};
+ghost use Rattle.cyc_plain.specs.inside.Program.{routine_of, routine_at, instruction_size, size};
+ghost use Rattle.cyc_plain.specs.inside.WellFormed.{IsPlain, IsInRange};
+ghost use Rattle.cyc_frame.specs.inside.Layout.{AreFrames, frame_at};
 ghost use Rattle.cyc_frame.specs.declared.home.TheConstants.{MOST_BOTH};
-ghost use Rattle.cyc_select.specs.Selection.{saving_count, reload_count, spill_count, spills_count, pass_count, copies_count, moves_count, move_words_count, operator_count, ending_count, body_count, behind_count, is_idle, count_of, code_count, function_count};
-ghost use Rattle.cyc_select.specs.Emission.{AreFew, most_lines, instruction_lines, function_starts};
+ghost use Rattle.cyc_select.specs.inside.Selection.{saving_count, reload_count, spill_count, spills_count, pass_count, copies_count, moves_count, move_words_count, operator_count, ending_count, body_count, behind_count, is_idle, count_of, code_count, function_count};
+ghost use Rattle.cyc_select.specs.inside.Emission.{AreFew, most_lines, instruction_lines, function_starts};
 
 use crate::asking::ask_count;
 use crate::constants::START_LINES;

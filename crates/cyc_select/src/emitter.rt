@@ -3,8 +3,8 @@ ghost use Rattle.std.specs.Prelude.{◌≡◌, [], ◌∷◌, OnOk};
 ghost use Rattle.cyc_isa.specs.Decoding.{register_of};
 ghost use Rattle.cyc_select.specs.declared.code.Condition.TheVariants as conditions;
 ghost use Rattle.cyc_select.specs.declared.code.Line.TheVariants as lines;
-ghost use Rattle.cyc_select.specs.Selection.{ordinary};
-ghost use Rattle.cyc_select.specs.Emission.{AddsLines};
+ghost use Rattle.cyc_select.specs.inside.Selection.{ordinary};
+ghost use Rattle.cyc_select.specs.inside.Emission.{AddsLines};
 
 use crate::code::{Condition, Line};
 use crate::instructions::register;

@@ -1,7 +1,7 @@
 //! Words of globals. The first globals are reached from a register, and each other one from a half that comes before it.
 ghost use Rattle.std.specs.Prelude.{◌≡◌, ◌<◌};
-ghost use Rattle.cyc_select.specs.Selection.{is_near, upper_of_global, reach_code, reach_count, at_global, ordinary, load_global, store_global};
-ghost use Rattle.cyc_select.specs.Emission.{AddsLines, IsReached, IsFound};
+ghost use Rattle.cyc_select.specs.inside.Selection.{is_near, upper_of_global, reach_code, reach_count, at_global, ordinary, load_global, store_global};
+ghost use Rattle.cyc_select.specs.inside.Emission.{AddsLines, IsReached, IsFound};
 
 use crate::constants::{FIRST, GLOBALS, NEAR_GLOBALS, SECOND};
 use crate::emitter::Emitter;

@@ -1,8 +1,8 @@
 //! Single instructions of the machine, by what they are used for.
 ghost use Rattle.std.specs.Prelude.{◌≡◌, ◌+◌, ◌*◌, ◌<◌, ◌≤◌};
 ghost use Rattle.cyc_isa.specs.Decoding.{register_of, shift_amount_of, trap_code_of};
-ghost use Rattle.cyc_select.specs.Selection.{load, store, copy, slot_offset, load_slot, store_slot, add_immediate, small, or_immediate, minus, is_zero, syscall, load_upper, or_lower, push_frame, pop_frame};
-ghost use Rattle.cyc_select.specs.Emission.{IsReached};
+ghost use Rattle.cyc_select.specs.inside.Selection.{load, store, copy, slot_offset, load_slot, store_slot, add_immediate, small, or_immediate, minus, is_zero, syscall, load_upper, or_lower, push_frame, pop_frame};
+ghost use Rattle.cyc_select.specs.inside.Emission.{IsReached};
 
 use crate::constants::{FRAME, ZERO};
 use crate::operands::value_register;

@@ -1,6 +1,6 @@
 //! Numbers that stand in an instruction.
 ghost use Rattle.std.specs.Prelude.{◌≡◌};
-ghost use Rattle.cyc_select.specs.Numbers.{fits_signed, half_of, signed_half, negated_half, next_half, low_half, is_word, is_zero_word, is_plain_divisor, shift_amount, power_of};
+ghost use Rattle.cyc_select.specs.inside.Numbers.{fits_signed, half_of, signed_half, negated_half, next_half, low_half, is_word, is_zero_word, is_plain_divisor, shift_amount, power_of};
 
 use cyc_plain::Operand;
 use cyc_words::{add, sub};

@@ -1,9 +1,9 @@
 //! The lines that bring an operand into a register.
 ghost use Rattle.std.specs.Prelude.{◌≡◌, ◌≤◌, length, OnOk};
-ghost use Rattle.cyc_frame.specs.Homes.{home_of, both_count};
+ghost use Rattle.cyc_frame.specs.inside.Homes.{home_of, both_count};
 ghost use Rattle.cyc_frame.specs.declared.home.TheConstants.{MOST_BOTH};
-ghost use Rattle.cyc_select.specs.Selection.{ordinary, value_register, is_kept, made_in, keep_code, keep_count, give_code, give_count, bring_code, bring_all, is_taken, passed_from, move_count, reload, reloads, reload_count, word_code, load_code, operand_code, operand_register, word_count, load_count, operand_count};
-ghost use Rattle.cyc_select.specs.Emission.{AddsLines, IsReached, AreReached, IsFound};
+ghost use Rattle.cyc_select.specs.inside.Selection.{ordinary, value_register, is_kept, made_in, keep_code, keep_count, give_code, give_count, bring_code, bring_all, is_taken, passed_from, move_count, reload, reloads, reload_count, word_code, load_code, operand_code, operand_register, word_count, load_count, operand_count};
+ghost use Rattle.cyc_select.specs.inside.Emission.{AddsLines, IsReached, AreReached, IsFound};
 
 use crate::constants::{FIRST, ZERO};
 use crate::emitter::Emitter;

@@ -1,12 +1,12 @@
 //! The labelled code of a plain program.
 ghost use Rattle.std.specs.Prelude.{◌≡◌, ℕ, ◌+◌, ◌<◌, ◌≤◌, ◌++◌, length, sum_by, IfOk, IfErr, OnOk};
-ghost use Rattle.cyc_plain.specs.Program.{routine_at};
-ghost use Rattle.cyc_plain.specs.WellFormed.{IsPlain};
-ghost use Rattle.cyc_frame.specs.Layout.{AreFrames, frame_at};
+ghost use Rattle.cyc_plain.specs.inside.Program.{routine_at};
+ghost use Rattle.cyc_plain.specs.inside.WellFormed.{IsPlain};
+ghost use Rattle.cyc_frame.specs.inside.Layout.{AreFrames, frame_at};
 ghost use Rattle.cyc_words.specs.Fault.{memory_fault};
-ghost use Rattle.cyc_select.specs.Selected.{IsCodeOf};
-ghost use Rattle.cyc_select.specs.Selection.{saving_count, routine_lines, start_code, code_lines, function_lines, function_line, select_of};
-ghost use Rattle.cyc_select.specs.Emission.{AddsLines, IsKnown, IsReady};
+ghost use Rattle.cyc_select.specs.inside.Selected.{IsCodeOf};
+ghost use Rattle.cyc_select.specs.inside.Selection.{saving_count, routine_lines, start_code, code_lines, function_lines, function_line, select_of};
+ghost use Rattle.cyc_select.specs.inside.Emission.{AddsLines, IsKnown, IsReady};
 
 use crate::code::{Code, Line};
 use crate::constants::{FRAME, FRAME_SHIFT, GLOBALS, GLOBALS_MIDDLE, LOWEST, START_LINES};

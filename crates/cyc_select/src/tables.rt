@@ -1,10 +1,10 @@
 //! What the lines of a function are made from.
 ghost use Rattle.std.specs.Prelude.{◌≡◌, ◌+◌, ◌<◌, ◌≤◌, ◌==◌, length};
-ghost use Rattle.cyc_plain.specs.Program.{routine_at};
-ghost use Rattle.cyc_frame.specs.Layout.{frame_at};
+ghost use Rattle.cyc_plain.specs.inside.Program.{routine_at};
+ghost use Rattle.cyc_frame.specs.inside.Layout.{frame_at};
 ghost use Rattle.cyc_frame.specs.declared.home.TheConstants.{MOST_BOTH};
-ghost use Rattle.cyc_select.specs.Selection.{reload_count, function_line, instruction_line};
-ghost use Rattle.cyc_select.specs.Emission.{AreReached, IsKnown};
+ghost use Rattle.cyc_select.specs.inside.Selection.{reload_count, function_line, instruction_line};
+ghost use Rattle.cyc_select.specs.inside.Emission.{AreReached, IsKnown};
 
 use crate::counting::{frame_in, results_of};
 use cyc_frame::{Frame, MOST_FRAME_WORDS};

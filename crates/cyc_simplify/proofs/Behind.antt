@@ -11,15 +11,15 @@ use Rattle.cyc_plain.specs.declared.instruction.Request.{Request}
 use Rattle.cyc_plain.specs.declared.instruction.Request.TheVariants as requests
 use Rattle.cyc_plain.specs.declared.instruction.BinaryOperator.{BinaryOperator}
 use Rattle.cyc_plain.specs.declared.instruction.Comparison.{Comparison}
-use Rattle.cyc_plain.specs.Requests.{destination_of, answer_count}
-use Rattle.cyc_plain.specs.Operators.{binary_result, has_no_result, compares}
-use Rattle.cyc_plain.specs.State.{Words, put, copied}
-use Rattle.cyc_plain.specs.Step.{operand_word, call_in, told}
+use Rattle.cyc_plain.specs.inside.Requests.{destination_of, answer_count}
+use Rattle.cyc_plain.specs.inside.Operators.{binary_result, has_no_result, compares}
+use Rattle.cyc_plain.specs.inside.State.{Words, put, copied}
+use Rattle.cyc_plain.specs.inside.Step.{operand_word, call_in, told}
 use Rattle.cyc_plain.proofs.SlotLaws.{put-same, put-other}
-use Rattle.cyc_frame.specs.Uses.{is_slot, is_among}
+use Rattle.cyc_frame.specs.inside.Uses.{is_slot, is_among}
 use Rattle.cyc_simplify.specs.declared.fact.Fact.TheVariants as facts_are
 use Rattle.cyc_simplify.specs.declared.fact.Written.{Written}
-use Rattle.cyc_simplify.specs.Facts.{IsTrueIn, IsTrueIfAny, leaves_slot, negated, is_any_slot, suited, shown}
+use Rattle.cyc_simplify.specs.inside.Facts.{IsTrueIn, IsTrueIfAny, leaves_slot, negated, is_any_slot, suited, shown}
 use Rattle.cyc_simplify.proofs.Truth.{IsLeft, suited_any}
 use Rattle.cyc_simplify.proofs.Same.{negated_compares}
 

@@ -4,7 +4,7 @@ use Rattle.std.specs.Prelude.{◌==◌, if◌then◌else◌}
 use Rattle.std.proofs.lemmas.Bool.{eq-eqb, or_left, or_right}
 use Rattle.cyc_words.specs.Ending.{Uncaught}
 use Rattle.cyc_words.specs.Word.{signed, add_of}
-use Rattle.cyc_words.specs.WordBytes.{with_byte, word_of}
+use Rattle.cyc_words.specs.Bytes.{with_byte, word_of}
 use Rattle.cyc_store.specs.State.{StoreState}
 use Rattle.cyc_store.specs.Services as services
 use Rattle.cyc_store.specs.Services.{Call, Refusal, refusal, answer}
@@ -13,22 +13,22 @@ use Rattle.cyc_plain.specs.declared.instruction.Instruction.TheVariants as instr
 use Rattle.cyc_plain.specs.declared.instruction.Operand.{Operand}
 use Rattle.cyc_plain.specs.declared.instruction.BinaryOperator.{BinaryOperator}
 use Rattle.cyc_plain.specs.declared.instruction.Comparison.{Comparison}
-use Rattle.cyc_plain.specs.Operators.{has_no_result, binary_result, compares}
-use Rattle.cyc_plain.specs.Requests.{destination_of}
-use Rattle.cyc_plain.specs.Program.{Program, routine_at}
-use Rattle.cyc_plain.specs.State.{Words, put, copied, Handler, Open, Caught, Activation, Frame, Configuration, State, Running, Ended, Stuck}
-use Rattle.cyc_plain.specs.Memory.{Range, OfGlobals, OfStore, OfSlots, range_of, is_pinned, global_at, slot_at, put_or, with_waiting, memory_at, with_global, with_slot, with_word}
-use Rattle.cyc_plain.specs.Step.{Choice, gives, operand_word, returns, loads, saves, loads_byte, saves_byte, advanced, asks, is_intact, tries, closes, lands, throws, finishes, call_in, told, performed, start}
+use Rattle.cyc_plain.specs.inside.Operators.{has_no_result, binary_result, compares}
+use Rattle.cyc_plain.specs.inside.Requests.{destination_of}
+use Rattle.cyc_plain.specs.inside.Program.{Program, routine_at}
+use Rattle.cyc_plain.specs.inside.State.{Words, put, copied, Handler, Open, Caught, Activation, Frame, Configuration, State, Running, Ended, Stuck}
+use Rattle.cyc_plain.specs.inside.Memory.{Range, OfGlobals, OfStore, OfSlots, range_of, is_pinned, global_at, slot_at, put_or, with_waiting, memory_at, with_global, with_slot, with_word}
+use Rattle.cyc_plain.specs.inside.Step.{Choice, gives, operand_word, returns, loads, saves, loads_byte, saves_byte, advanced, asks, is_intact, tries, closes, lands, throws, finishes, call_in, told, performed, start}
 use Rattle.cyc_plain.proofs.Placed.{below_of_get}
 use Rattle.cyc_plain.proofs.RunLaws.{if_either}
 use Rattle.cyc_plain.proofs.MemoryLaws.{numbered-from}
 use Rattle.cyc_plain.proofs.SlotLaws.{put-other}
-use Rattle.cyc_frame.specs.Homes.{At}
-use Rattle.cyc_frame.specs.Uses.{is_slot, leads}
+use Rattle.cyc_frame.specs.inside.Homes.{At}
+use Rattle.cyc_frame.specs.inside.Uses.{is_slot, leads}
 use Rattle.cyc_simplify.specs.declared.fact.Fact.{Fact}
-use Rattle.cyc_simplify.specs.Facts.{AreTrueIn, IsTrueIfAny, is_free, are_suited, written, kept, suited, made}
+use Rattle.cyc_simplify.specs.inside.Facts.{AreTrueIn, IsTrueIfAny, is_free, are_suited, written, kept, suited, made}
 use Rattle.cyc_simplify.specs.declared.fact.Fact.TheVariants as facts_are
-use Rattle.cyc_simplify.specs.Table.{IsReplaced}
+use Rattle.cyc_simplify.specs.inside.Table.{IsReplaced}
 use Rattle.cyc_simplify.proofs.Truth.{IsLeft, kept_true, suited_true}
 use Rattle.cyc_simplify.proofs.Behind.{nothing_left, put_left, put_itself, copied_left, told_left, moved_made, itself_word, computed_made, shown_true}
 

@@ -6,12 +6,12 @@ use Rattle.std.proofs.lemmas.List.{length-append}
 use Rattle.std.proofs.lemmas.Option.{none-some}
 use Rattle.cyc_plain.specs.declared.instruction.Instruction.{Instruction}
 use Rattle.cyc_plain.specs.declared.instruction.Instruction.TheVariants as instructions
-use Rattle.cyc_plain.specs.Memory.{pins, is_pinned}
-use Rattle.cyc_plain.specs.Program.{Routine}
+use Rattle.cyc_plain.specs.inside.Memory.{pins, is_pinned}
+use Rattle.cyc_plain.specs.inside.Program.{Routine}
 use Rattle.cyc_simplify.specs.declared.fact.Written.{Written}
-use Rattle.cyc_simplify.specs.Facts.{leaves_slot, is_free}
-use Rattle.cyc_simplify.specs.Pins.{is_within, range_of, AreRanges, AreFirstPins}
-use Rattle.cyc_simplify.specs.Table.{ArePins}
+use Rattle.cyc_simplify.specs.inside.Facts.{leaves_slot, is_free}
+use Rattle.cyc_simplify.specs.inside.Pins.{is_within, range_of, AreRanges, AreFirstPins}
+use Rattle.cyc_simplify.specs.inside.Table.{ArePins}
 
 -- each slot that the code pins is in a range, or is pinned by what is still to be looked at
 abbrev pub AreRangesBut : (code left : List Instruction) → List Written → Type 0

@@ -5,26 +5,26 @@ use Rattle.std.proofs.lemmas.Bool.{cases_lt}
 use Rattle.std.proofs.lemmas.List.{get_or_past}
 use Rattle.std.proofs.lemmas.Option.{slice_get_past}
 use Rattle.cyc_words.specs.Simulation.{Machine, NeverFails}
-use Rattle.cyc_words.specs.Following.{Matching, Steps, Follows}
+use Rattle.cyc_words.specs.inside.Following.{Matching, Steps, Follows}
 use Rattle.cyc_words.proofs.Simulation.{running_ended, running_failed, simulates}
 use Rattle.cyc_words.proofs.Matching.{by_one}
 use Rattle.cyc_words.proofs.Lists.{slice_get_below}
 use Rattle.cyc_words.specs.Word.{add_of}
-use Rattle.cyc_words.specs.WordBytes.{with_byte, word_of}
+use Rattle.cyc_words.specs.Bytes.{with_byte, word_of}
 use Rattle.cyc_store.specs.State.{StoreState}
 use Rattle.cyc_store.specs.Services.{Call}
 use Rattle.cyc_plain.specs.declared.instruction.Instruction.{Instruction}
 use Rattle.cyc_plain.specs.declared.instruction.Instruction.TheVariants as instructions
-use Rattle.cyc_plain.specs.Program.{Routine, Program, CodePlace, no_routine, routine_at}
-use Rattle.cyc_plain.specs.State.{Activation, Frame, Configuration, State, Running, Ended, Stuck, seen_of, status_of, place_of}
-use Rattle.cyc_plain.specs.Memory.{pins, is_pinned, global_at, slot_at, word_or, word_waiting, put_or, with_waiting, Range, OfGlobals, OfStore, OfSlots, range_of, word_in, memory_at, with_global, with_slot, with_word, with_memory}
-use Rattle.cyc_plain.specs.Step.{Choice, operand_word, IsAllowed, MayLie, MayServe, returns, finishes, loads, saves, loads_byte, saves_byte, advanced, call_of, callee_of, called, performed, executed, instruction_at, step, limited, limited_step, Step, start, machine}
+use Rattle.cyc_plain.specs.inside.Program.{Routine, Program, CodePlace, no_routine, routine_at}
+use Rattle.cyc_plain.specs.inside.State.{Activation, Frame, Configuration, State, Running, Ended, Stuck, seen_of, status_of, place_of}
+use Rattle.cyc_plain.specs.inside.Memory.{pins, is_pinned, global_at, slot_at, word_or, word_waiting, put_or, with_waiting, Range, OfGlobals, OfStore, OfSlots, range_of, word_in, memory_at, with_global, with_slot, with_word, with_memory}
+use Rattle.cyc_plain.specs.inside.Step.{Choice, operand_word, IsAllowed, MayLie, MayServe, returns, finishes, loads, saves, loads_byte, saves_byte, advanced, call_of, callee_of, called, performed, executed, instruction_at, step, limited, limited_step, Step, start, machine}
 use Rattle.cyc_plain.proofs.RunLaws.{lawful, limited_either}
 use Rattle.cyc_simplify.specs.declared.fact.Fact.{Fact}
 use Rattle.cyc_simplify.specs.declared.fact.Fact.TheVariants as facts_are
-use Rattle.cyc_simplify.specs.Facts.{is_known}
-use Rattle.cyc_simplify.specs.Replacement.{simplified_operand, holder_in, simplified_binary, simplified_move, decision_in, simplified_branch, simplified_instruction}
-use Rattle.cyc_simplify.specs.Table.{IsReplaced, AreReplaced}
+use Rattle.cyc_simplify.specs.inside.Facts.{is_known}
+use Rattle.cyc_simplify.specs.inside.Replacement.{simplified_operand, holder_in, simplified_binary, simplified_move, decision_in, simplified_branch, simplified_instruction}
+use Rattle.cyc_simplify.specs.inside.Table.{IsReplaced, AreReplaced}
 use Rattle.cyc_simplify.proofs.Kept.{facts_in, IsKnown, known_behind, known_start}
 use Rattle.cyc_simplify.proofs.Steps.{performs_same, callee_same, request_same}
 use Rattle.cyc_simplify.proofs.Tables.{unchanged}

@@ -8,13 +8,13 @@ use Rattle.cyc_plain.specs.declared.instruction.Operand.TheVariants as operands
 use Rattle.cyc_plain.specs.declared.instruction.BinaryOperator.{BinaryOperator}
 use Rattle.cyc_plain.specs.declared.instruction.Comparison.{Comparison}
 use Rattle.cyc_plain.specs.declared.instruction.Comparison.TheVariants as comparisons
-use Rattle.cyc_plain.specs.Operators.{compares}
-use Rattle.cyc_plain.specs.State.{Words}
-use Rattle.cyc_plain.specs.Step.{operand_word}
+use Rattle.cyc_plain.specs.inside.Operators.{compares}
+use Rattle.cyc_plain.specs.inside.State.{Words}
+use Rattle.cyc_plain.specs.inside.Step.{operand_word}
 use Rattle.cyc_simplify.specs.declared.fact.Fact.{Fact}
 use Rattle.cyc_simplify.specs.declared.fact.Fact.TheVariants as facts_are
-use Rattle.cyc_simplify.specs.Facts.{IsTrueIn, AreTrueIn, is_same_operator, is_same_operand, negated}
-use Rattle.cyc_simplify.specs.Replacement.{is_cheap, instead, simplified_operand, holder, or_slot, holder_in, implies, verdict, decision, or_verdict, decision_in}
+use Rattle.cyc_simplify.specs.inside.Facts.{IsTrueIn, AreTrueIn, is_same_operator, is_same_operand, negated}
+use Rattle.cyc_simplify.specs.inside.Replacement.{is_cheap, instead, simplified_operand, holder, or_slot, holder_in, implies, verdict, decision, or_verdict, decision_in}
 use Rattle.cyc_simplify.proofs.Truth.{same_operator, same_comparison, same_operand}
 
 -- ---- comparisons

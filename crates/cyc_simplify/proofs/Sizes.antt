@@ -16,18 +16,18 @@ use Rattle.cyc_plain.specs.declared.instruction.Request.TheVariants as requests
 use Rattle.cyc_plain.specs.declared.instruction.BinaryOperator.{BinaryOperator}
 use Rattle.cyc_plain.specs.declared.instruction.BinaryOperator.TheVariants as binary
 use Rattle.cyc_plain.specs.declared.limits.TheConstants.{MOST_GLOBALS, RECORD_WORDS}
-use Rattle.cyc_plain.specs.Requests.{first_operand, second_operand, request_size}
-use Rattle.cyc_plain.specs.Program.{Routine, Program, no_routine, routine_at, operator_size, instruction_size, size}
-use Rattle.cyc_plain.specs.WellFormed.{HasSlots, IsOperand, IsCallInRange, IsRequestInRange, IsInRange, IsRoutine, IsWellFormed, is_return, leaves, IsOfWord, IsArgumentOfWord, HasWord, HasWords, IsPlain}
+use Rattle.cyc_plain.specs.inside.Requests.{first_operand, second_operand, request_size}
+use Rattle.cyc_plain.specs.inside.Program.{Routine, Program, no_routine, routine_at, operator_size, instruction_size, size}
+use Rattle.cyc_plain.specs.inside.WellFormed.{HasSlots, IsOperand, IsCallInRange, IsRequestInRange, IsInRange, IsRoutine, IsWellFormed, is_return, leaves, IsOfWord, IsArgumentOfWord, HasWord, HasWords, IsPlain}
 use Rattle.cyc_plain.proofs.Placed.{below_of_get, holds_at}
-use Rattle.cyc_frame.specs.Homes.{At}
-use Rattle.cyc_frame.specs.Uses.{is_slot}
+use Rattle.cyc_frame.specs.inside.Homes.{At}
+use Rattle.cyc_frame.specs.inside.Uses.{is_slot}
 use Rattle.cyc_simplify.specs.declared.fact.Fact.{Fact}
 use Rattle.cyc_simplify.specs.declared.fact.Fact.TheVariants as facts_are
-use Rattle.cyc_simplify.specs.Facts.{is_same_operator, is_same_operand, is_known, is_free, suits_operand, suits, are_suited}
-use Rattle.cyc_simplify.specs.Replacement.{is_cheap, instead, simplified_operand, holder, or_slot, holder_in, simplified_binary, simplified_move, decision_in, simplified_branch, simplified_request, simplified_instruction}
-use Rattle.cyc_simplify.specs.Simplified.{IsLike, IsSimplified}
-use Rattle.cyc_simplify.specs.Table.{IsReplaced, AreReplaced}
+use Rattle.cyc_simplify.specs.inside.Facts.{is_same_operator, is_same_operand, is_known, is_free, suits_operand, suits, are_suited}
+use Rattle.cyc_simplify.specs.inside.Replacement.{is_cheap, instead, simplified_operand, holder, or_slot, holder_in, simplified_binary, simplified_move, decision_in, simplified_branch, simplified_request, simplified_instruction}
+use Rattle.cyc_simplify.specs.inside.Simplified.{IsLike, IsSimplified}
+use Rattle.cyc_simplify.specs.inside.Table.{IsReplaced, AreReplaced}
 use Rattle.cyc_simplify.proofs.Runs.{each_replaced, follows}
 
 -- ---- lists

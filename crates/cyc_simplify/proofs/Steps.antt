@@ -3,7 +3,7 @@ use Rattle.std.proofs.Common.{◌≡◌, ℕ, ◌%◌, ◌++◌, Bool, true, fal
 use Rattle.std.specs.Prelude.{if◌then◌else◌}
 use Rattle.cyc_words.specs.Ending.{Uncaught}
 use Rattle.cyc_words.specs.Word.{signed, add_of}
-use Rattle.cyc_words.specs.WordBytes.{word_of}
+use Rattle.cyc_words.specs.Bytes.{word_of}
 use Rattle.cyc_store.specs.Services.{Call, refusal}
 use Rattle.cyc_store.specs.Services as services
 use Rattle.cyc_plain.specs.declared.instruction.Instruction.{Instruction}
@@ -13,16 +13,16 @@ use Rattle.cyc_plain.specs.declared.instruction.Request.{Request}
 use Rattle.cyc_plain.specs.declared.instruction.Request.TheVariants as requests
 use Rattle.cyc_plain.specs.declared.instruction.BinaryOperator.{BinaryOperator}
 use Rattle.cyc_plain.specs.declared.instruction.Comparison.{Comparison}
-use Rattle.cyc_plain.specs.Requests.{destination_of}
-use Rattle.cyc_plain.specs.Operators.{unary_result, binary_result, has_no_result, compares}
-use Rattle.cyc_plain.specs.Program.{Program}
-use Rattle.cyc_plain.specs.State.{Words, put, Configuration, Running, Ended, Stuck}
-use Rattle.cyc_plain.specs.Memory.{memory_at}
-use Rattle.cyc_plain.specs.Step.{Choice, gives, branches, operand_word, advanced, loads, saves, loads_byte, saves_byte, call_in, call_of, asks, throws, callee_of, performed}
+use Rattle.cyc_plain.specs.inside.Requests.{destination_of}
+use Rattle.cyc_plain.specs.inside.Operators.{unary_result, binary_result, has_no_result, compares}
+use Rattle.cyc_plain.specs.inside.Program.{Program}
+use Rattle.cyc_plain.specs.inside.State.{Words, put, Configuration, Running, Ended, Stuck}
+use Rattle.cyc_plain.specs.inside.Memory.{memory_at}
+use Rattle.cyc_plain.specs.inside.Step.{Choice, gives, branches, operand_word, advanced, loads, saves, loads_byte, saves_byte, call_in, call_of, asks, throws, callee_of, performed}
 use Rattle.cyc_simplify.specs.declared.fact.Fact.{Fact}
 use Rattle.cyc_simplify.specs.declared.fact.Fact.TheVariants as facts_are
-use Rattle.cyc_simplify.specs.Facts.{AreTrueIn, is_known}
-use Rattle.cyc_simplify.specs.Replacement.{simplified_operand, holder_in, simplified_binary, simplified_move, decision_in, simplified_branch, simplified_request, simplified_instruction}
+use Rattle.cyc_simplify.specs.inside.Facts.{AreTrueIn, is_known}
+use Rattle.cyc_simplify.specs.inside.Replacement.{simplified_operand, holder_in, simplified_binary, simplified_move, decision_in, simplified_branch, simplified_request, simplified_instruction}
 use Rattle.cyc_simplify.proofs.Truth.{known_true}
 use Rattle.cyc_simplify.proofs.Same.{operand_same, HoldsResult, holder_in_true, IsDecidedRight, decision_in_right}
 

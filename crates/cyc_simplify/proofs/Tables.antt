@@ -10,20 +10,20 @@ use Rattle.cyc_plain.specs.declared.instruction.Operand.TheVariants as operands
 use Rattle.cyc_plain.specs.declared.instruction.Comparison.{Comparison}
 use Rattle.cyc_plain.specs.declared.instruction.Request.{Request}
 use Rattle.cyc_plain.specs.declared.instruction.Request.TheVariants as requests
-use Rattle.cyc_plain.specs.Operators.{compares}
-use Rattle.cyc_plain.specs.Program.{Routine, Program}
-use Rattle.cyc_plain.specs.State.{Words}
-use Rattle.cyc_plain.specs.Step.{operand_word}
+use Rattle.cyc_plain.specs.inside.Operators.{compares}
+use Rattle.cyc_plain.specs.inside.Program.{Routine, Program}
+use Rattle.cyc_plain.specs.inside.State.{Words}
+use Rattle.cyc_plain.specs.inside.Step.{operand_word}
 use Rattle.cyc_plain.proofs.Placed.{below_of_get}
-use Rattle.cyc_frame.specs.Homes.{At}
-use Rattle.cyc_frame.specs.Uses.{is_slot, is_among, leads}
+use Rattle.cyc_frame.specs.inside.Homes.{At}
+use Rattle.cyc_frame.specs.inside.Uses.{is_slot, is_among, leads}
 use Rattle.cyc_simplify.specs.declared.fact.Fact.{Fact}
 use Rattle.cyc_simplify.specs.declared.fact.Fact.TheVariants as facts_are
 use Rattle.cyc_simplify.specs.declared.fact.Written.{Written}
 use Rattle.cyc_simplify.specs.declared.fact.TheConstants.{MOST_FACTS}
-use Rattle.cyc_simplify.specs.Facts.{IsTrueIn, AreTrueIn, IsTrueIfAny, is_known, suits, are_suited, written, leaves_slot, leaves_operand, keeps, kept, suited, made, negated, is_any_slot, remembered, facts_behind}
-use Rattle.cyc_simplify.specs.Replacement.{simplified_operand, simplified_request, simplified_instruction}
-use Rattle.cyc_simplify.specs.Table.{ArePins, IsTable, IsReplaced, entered_or, facts_behind_place, facts_at, is_more, is_known_with, resolved_fact, follows, are_known, may_jump, may_go_on, is_entry_suited, is_empty, leads_well, is_checked_at, IsChecked}
+use Rattle.cyc_simplify.specs.inside.Facts.{IsTrueIn, AreTrueIn, IsTrueIfAny, is_known, suits, are_suited, written, leaves_slot, leaves_operand, keeps, kept, suited, made, negated, is_any_slot, remembered, facts_behind}
+use Rattle.cyc_simplify.specs.inside.Replacement.{simplified_operand, simplified_request, simplified_instruction}
+use Rattle.cyc_simplify.specs.inside.Table.{ArePins, IsTable, IsReplaced, entered_or, facts_behind_place, facts_at, is_more, is_known_with, resolved_fact, follows, are_known, may_jump, may_go_on, is_entry_suited, is_empty, leads_well, is_checked_at, IsChecked}
 use Rattle.cyc_simplify.proofs.Truth.{same_fact, known_true, remembered_true}
 use Rattle.cyc_simplify.proofs.Same.{operand_same}
 

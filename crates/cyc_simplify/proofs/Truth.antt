@@ -10,14 +10,14 @@ use Rattle.cyc_plain.specs.declared.instruction.BinaryOperator.{BinaryOperator}
 use Rattle.cyc_plain.specs.declared.instruction.BinaryOperator.TheVariants as binary
 use Rattle.cyc_plain.specs.declared.instruction.Comparison.{Comparison}
 use Rattle.cyc_plain.specs.declared.instruction.Comparison.TheVariants as comparisons
-use Rattle.cyc_plain.specs.Operators.{binary_result, has_no_result, compares}
-use Rattle.cyc_plain.specs.State.{Words}
-use Rattle.cyc_plain.specs.Step.{operand_word}
+use Rattle.cyc_plain.specs.inside.Operators.{binary_result, has_no_result, compares}
+use Rattle.cyc_plain.specs.inside.State.{Words}
+use Rattle.cyc_plain.specs.inside.Step.{operand_word}
 use Rattle.cyc_simplify.specs.declared.fact.Fact.{Fact}
 use Rattle.cyc_simplify.specs.declared.fact.Fact.TheVariants as facts_are
 use Rattle.cyc_simplify.specs.declared.fact.Written.{Written}
 use Rattle.cyc_simplify.specs.declared.fact.TheConstants.{MOST_FACTS}
-use Rattle.cyc_simplify.specs.Facts.{IsTrueIn, AreTrueIn, IsTrueIfAny, operator_number, comparison_number, is_same_operator, is_same_comparison, is_same_operand, is_same_fact, is_known, is_free, suits_operand, suits, are_suited, leaves_slot, leaves_operand, keeps, kept, suited, remembered}
+use Rattle.cyc_simplify.specs.inside.Facts.{IsTrueIn, AreTrueIn, IsTrueIfAny, operator_number, comparison_number, is_same_operator, is_same_comparison, is_same_operand, is_same_fact, is_known, is_free, suits_operand, suits, are_suited, leaves_slot, leaves_operand, keeps, kept, suited, remembered}
 
 -- ---- what is the same
 

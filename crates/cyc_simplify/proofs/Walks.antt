@@ -6,15 +6,15 @@ use Rattle.std.proofs.lemmas.List.{length-append, length-map}
 use Rattle.cyc_plain.specs.declared.instruction.Instruction.{Instruction}
 use Rattle.cyc_plain.specs.declared.instruction.Instruction.TheVariants as instructions
 use Rattle.cyc_plain.specs.declared.program.Function.{Function}
-use Rattle.cyc_plain.specs.Program.{Routine, Program, no_routine, routine_of, routine_at, program_of}
+use Rattle.cyc_plain.specs.inside.Program.{Routine, Program, no_routine, routine_of, routine_at, program_of}
 use Rattle.cyc_plain.proofs.Placed.{below_of_get}
-use Rattle.cyc_frame.specs.Homes.{At}
+use Rattle.cyc_frame.specs.inside.Homes.{At}
 use Rattle.cyc_simplify.specs.declared.entry.Entry.{Entry}
 use Rattle.cyc_simplify.specs.declared.fact.Fact.{Fact}
-use Rattle.cyc_simplify.specs.Facts.{facts_behind}
-use Rattle.cyc_simplify.specs.Replacement.{simplified_instruction}
-use Rattle.cyc_simplify.specs.Table.{ArePins, IsReplaced, AreReplaced, entered_or, facts_behind_place, facts_at, may_jump, is_entry_suited, leads_well, is_checked_at}
-use Rattle.cyc_simplify.specs.Entries.{entry_in, jumps_well, goes_well, AreWalked, IsWalked, with_code, AreFirstReplaced}
+use Rattle.cyc_simplify.specs.inside.Facts.{facts_behind}
+use Rattle.cyc_simplify.specs.inside.Replacement.{simplified_instruction}
+use Rattle.cyc_simplify.specs.inside.Table.{ArePins, IsReplaced, AreReplaced, entered_or, facts_behind_place, facts_at, may_jump, is_entry_suited, leads_well, is_checked_at}
+use Rattle.cyc_simplify.specs.inside.Entries.{entry_in, jumps_well, goes_well, AreWalked, IsWalked, with_code, AreFirstReplaced}
 use Rattle.cyc_simplify.proofs.Tables.{replaced, unchanged}
 
 -- ---- the two halves of the check

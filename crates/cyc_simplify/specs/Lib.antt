@@ -1,8 +1,2 @@
--- what the contract of `simplify` rests on
-pub mod Simplified
--- the functions inside the crate
-pub mod Facts
-pub mod Replacement
-pub mod Table
-pub mod Entries
-pub mod Pins
+-- What the functions of this crate promise each other and what its proofs say: no public contract of the product means it.
+pub mod inside

@@ -1,9 +1,9 @@
 //! What is known behind an instruction.
 ghost use Rattle.std.specs.Prelude.{◌≡◌, ◌+◌, ◌<◌, ◌^◌, OnOk};
-ghost use Rattle.cyc_plain.specs.Program.{routine_at};
-ghost use Rattle.cyc_plain.specs.Requests as requests_of;
-ghost use Rattle.cyc_simplify.specs.Entries as keeping;
-ghost use Rattle.cyc_simplify.specs.Facts as facts_of;
+ghost use Rattle.cyc_plain.specs.inside.Program.{routine_at};
+ghost use Rattle.cyc_plain.specs.inside.Requests as requests_of;
+ghost use Rattle.cyc_simplify.specs.inside.Entries as keeping;
+ghost use Rattle.cyc_simplify.specs.inside.Facts as facts_of;
 
 use crate::fact::{Fact, MOST_FACTS, Written};
 use crate::known::is_slot;

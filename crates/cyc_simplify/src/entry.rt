@@ -1,8 +1,8 @@
 //! What is known at the places that are jumped to.
 ghost use Rattle.std.specs.Prelude.{◌≡◌, OnOk, None};
-ghost use Rattle.cyc_simplify.specs.Facts as facts_of;
-ghost use Rattle.cyc_simplify.specs.Entries as entries_of;
-ghost use Rattle.cyc_simplify.specs.Table as table;
+ghost use Rattle.cyc_simplify.specs.inside.Facts as facts_of;
+ghost use Rattle.cyc_simplify.specs.inside.Entries as entries_of;
+ghost use Rattle.cyc_simplify.specs.inside.Table as table;
 
 use crate::fact::Fact;
 use crate::known::are_known;

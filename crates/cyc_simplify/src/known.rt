@@ -1,8 +1,8 @@
 //! Which facts are the same, and which are among others.
 ghost use Rattle.std.specs.Prelude.{◌≡◌, ◌&&◌};
-ghost use Rattle.cyc_frame.specs.Uses as uses;
-ghost use Rattle.cyc_simplify.specs.Facts as facts_of;
-ghost use Rattle.cyc_simplify.specs.Table as table;
+ghost use Rattle.cyc_frame.specs.inside.Uses as uses;
+ghost use Rattle.cyc_simplify.specs.inside.Facts as facts_of;
+ghost use Rattle.cyc_simplify.specs.inside.Table as table;
 
 use crate::fact::Fact;
 use crate::replacement::simplified_operand;

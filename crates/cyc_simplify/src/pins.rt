@@ -1,10 +1,10 @@
 //! Which slots of a function have their address taken: a store by an address may change them, and nothing is known of them.
 ghost use Rattle.std.specs.Prelude.{◌≡◌, IfOk};
-ghost use Rattle.cyc_plain.specs.Program.{routine_of};
-ghost use Rattle.cyc_simplify.specs.Facts as facts_of;
-ghost use Rattle.cyc_simplify.specs.Pins as pins;
-ghost use Rattle.cyc_simplify.specs.Pins.{AreRanges};
-ghost use Rattle.cyc_simplify.specs.Table.{ArePins};
+ghost use Rattle.cyc_plain.specs.inside.Program.{routine_of};
+ghost use Rattle.cyc_simplify.specs.inside.Facts as facts_of;
+ghost use Rattle.cyc_simplify.specs.inside.Pins as pins;
+ghost use Rattle.cyc_simplify.specs.inside.Pins.{AreRanges};
+ghost use Rattle.cyc_simplify.specs.inside.Table.{ArePins};
 
 use crate::effects::{leaves_slot, suits};
 use crate::fact::{Fact, Written};

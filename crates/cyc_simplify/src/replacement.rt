@@ -1,7 +1,7 @@
 //! What stands for an instruction where facts are known.
 ghost use Rattle.std.specs.Prelude.{◌≡◌};
-ghost use Rattle.cyc_simplify.specs.Replacement as replacement;
-ghost use Rattle.cyc_simplify.specs.Facts as facts_of;
+ghost use Rattle.cyc_simplify.specs.inside.Replacement as replacement;
+ghost use Rattle.cyc_simplify.specs.inside.Facts as facts_of;
 ghost use Rattle.cyc_simplify.specs.declared.fact.Fact.TheVariants as facts_are;
 
 use crate::effects::negated;

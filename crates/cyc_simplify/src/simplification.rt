@@ -1,9 +1,9 @@
 //! Plain programs in which what is known is not computed, tested or moved once more.
 ghost use Rattle.std.specs.Prelude.{IfOk};
-ghost use Rattle.cyc_plain.specs.Program.{routine_of};
-ghost use Rattle.cyc_simplify.specs.Entries.{with_code};
-ghost use Rattle.cyc_simplify.specs.Simplified.{IsSimplified};
-ghost use Rattle.cyc_simplify.specs.Table.{IsReplaced};
+ghost use Rattle.cyc_plain.specs.inside.Program.{routine_of};
+ghost use Rattle.cyc_simplify.specs.inside.Entries.{with_code};
+ghost use Rattle.cyc_simplify.specs.inside.Simplified.{IsSimplified};
+ghost use Rattle.cyc_simplify.specs.inside.Table.{IsReplaced};
 
 use crate::candidates::is_candidate;
 use crate::entries::entries_of;

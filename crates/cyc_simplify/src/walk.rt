@@ -1,10 +1,10 @@
 //! The code of a function, each instruction by what is known where it stands.
 ghost use Rattle.std.specs.Prelude.{◌≡◌, ◌+◌, ◌<◌, ◌^◌, true, IfOk, IfSome, length};
-ghost use Rattle.cyc_plain.specs.Program.{routine_of};
-ghost use Rattle.cyc_frame.specs.Homes.{At};
-ghost use Rattle.cyc_simplify.specs.Entries as entries_of;
-ghost use Rattle.cyc_simplify.specs.Facts as facts_of;
-ghost use Rattle.cyc_simplify.specs.Table as table;
+ghost use Rattle.cyc_plain.specs.inside.Program.{routine_of};
+ghost use Rattle.cyc_frame.specs.inside.Homes.{At};
+ghost use Rattle.cyc_simplify.specs.inside.Entries as entries_of;
+ghost use Rattle.cyc_simplify.specs.inside.Facts as facts_of;
+ghost use Rattle.cyc_simplify.specs.inside.Table as table;
 
 use crate::effects::{go_on, made};
 use crate::entry::{Entry, enter, is_entry_suited, may_go_on, may_jump};

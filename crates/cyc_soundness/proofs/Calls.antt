@@ -24,14 +24,14 @@ use Rattle.cyc_meaning.specs.Values as values
 use Rattle.cyc_meaning.specs.State.{Stack, new_region, World, opened, Environment, no_locals, region_at, Entry, Rest, Caller, Given, Proceeding, Entering, Binding, Naming, Throwing, Catching, Running}
 use Rattle.cyc_meaning.specs.Parts.{wrong, inside, region_end, declared}
 use Rattle.cyc_meaning.specs.Exceptions.{catches, step_catching}
-use Rattle.cyc_meaning.specs.Nesting.{ends_of, IsNested}
+use Rattle.cyc_meaning.specs.inside.Nesting.{ends_of, IsNested}
 use Rattle.cyc_meaning.specs.Step.{called, values_of, prints, reads, step_calling, step_entering, step_binding}
-use Rattle.cyc_soundness.specs.Lives.{Life, OfRegion, Kept, RunTy, RunValue, Value, Lives, at, value_at, lives_of, Reading, AsHeap, ByScope}
-use Rattle.cyc_soundness.specs.Lives as lives
-use Rattle.cyc_soundness.specs.Worlds.{Hand, IsHere, lent_now, IsOpenIn, Stays, Typing, IsKnownLife, HasType, AreOperands, IsTyped, Grows, KeyOf, PointerTo}
-use Rattle.cyc_soundness.specs.Frames.{InScope, Variable, Names, Instance, Home, lives_in, read, IsScope, AreBelow, IsBound, AreVariables, IsLasting, LiveIn, Within, itself, older, AreSet, Holds, Implies, Exits, HasResult, loop_of, around, AreBreaks, Stand, IsHome, IsContext, KnowsProgram, frees_in}
-use Rattle.cyc_soundness.specs.Classes.{IsDeclarable, InItems, InClauses, Source}
-use Rattle.cyc_soundness.specs.Stacks.{regions_at_call, IsInstance, Continues, Catches, IsAccepted, Val, Go, turned, operands_in, AreClaimed, AreGiven, IsCalled, IsBlocked, AreFull, AreOwn, IsBody, IsStack, IsWell}
+use Rattle.cyc_soundness.specs.inside.Lives.{Life, OfRegion, Kept, RunTy, RunValue, Value, Lives, at, value_at, lives_of, Reading, AsHeap, ByScope}
+use Rattle.cyc_soundness.specs.inside.Lives as lives
+use Rattle.cyc_soundness.specs.inside.Worlds.{Hand, IsHere, lent_now, IsOpenIn, Stays, Typing, IsKnownLife, HasType, AreOperands, IsTyped, Grows, KeyOf, PointerTo}
+use Rattle.cyc_soundness.specs.inside.Frames.{InScope, Variable, Names, Instance, Home, lives_in, read, IsScope, AreBelow, IsBound, AreVariables, IsLasting, LiveIn, Within, itself, older, AreSet, Holds, Implies, Exits, HasResult, loop_of, around, AreBreaks, Stand, IsHome, IsContext, KnowsProgram, frees_in}
+use Rattle.cyc_soundness.specs.inside.Classes.{IsDeclarable, InItems, InClauses, Source}
+use Rattle.cyc_soundness.specs.inside.Stacks.{regions_at_call, IsInstance, Continues, Catches, IsAccepted, Val, Go, turned, operands_in, AreClaimed, AreGiven, IsCalled, IsBlocked, AreFull, AreOwn, IsBody, IsStack, IsWell}
 use Rattle.cyc_soundness.proofs.TypeLemmas.{is_kind_same, kind_meant}
 use Rattle.cyc_soundness.proofs.FlowLemmas.{implies_self, implies_after, meet_second, each_full_implies}
 use Rattle.cyc_soundness.proofs.RuleLemmas.{breaks_clauses, clauses_implied}

@@ -32,15 +32,15 @@ use Rattle.cyc_meaning.specs.Conversion.{conversion, thinned}
 use Rattle.cyc_meaning.specs.Pointers.{takes_kind, followed}
 use Rattle.cyc_meaning.specs.State.{InRegion, Unique, World, heap_number, cell_at, Environment, ConvertTo, Operate, Chain, Apply, ApplyPointer, Decide, Store, FreeObject, CloseByKey, Pass, CountElements, PlaceBy, LoadFrom, TakeAddress, StoreTo, Entry, Needs, NeedsPlace, Focus, Evaluating, Locating, Given, Calling, Running}
 use Rattle.cyc_meaning.specs.Parts.{target_of_value, target_by, leads_to, wrong, computed, loaded_from, stored}
-use Rattle.cyc_meaning.specs.Nesting.{ends_of, AreOpen}
+use Rattle.cyc_meaning.specs.inside.Nesting.{ends_of, AreOpen}
 use Rattle.cyc_meaning.specs.Step.{step_evaluating, addressed, counts, passes, assigned, decided, tested, awaits_right, chained, converts}
-use Rattle.cyc_soundness.specs.Lives.{Life, OfRegion, Owned, Kept, heap_life, as_heap, Reading, Lives, AsHeap, ByScope, RunTy, RunValue, Value, Into, looked, kind_at, Seen}
-use Rattle.cyc_soundness.specs.Lives as lives
-use Rattle.cyc_soundness.specs.Worlds.{Thing, Holder, Nobody, Hand, At, thing_of, Owns, AtStart, Claims, ClaimsPart, ClaimsBy, IsLookedAt, IsSlot, IsHere, given, marked, handing, Settled, IsOpenObject, IsNewOwner, IsPlain, HasType, Typing, IsFull, global_type, Outlasts, globals as with_globals, AgreesWith, IsResult, AreOperands, IsTyped, IsHiding, life_at, Here, Gone, Away}
-use Rattle.cyc_soundness.specs.Frames.{IsAmong, Bound, local_type, InScope, Variable, IsBound, AreVariables, IsHomed, LiveIn, IsSet, IsFullIn, Holds, Implies, Exits, IsContext, KnowsProgram, lives_in, read, read_value, frees_in}
-use Rattle.cyc_soundness.specs.Classes.{Relied, frees_of, and_looked, IsSpared, HasScopes, InExpression, InArguments, InOperations, Source, SparesAssigned}
-use Rattle.cyc_soundness.specs.Stacks.{KeepsUnique, IsCommonLife, IsPlainValue, IsChained, Evaluates, Val, Go, turned, relied_at, IsCalled, null, IsStack, IsFocus, IsWell}
-use Rattle.cyc_soundness.specs.Stacks as stacks
+use Rattle.cyc_soundness.specs.inside.Lives.{Life, OfRegion, Owned, Kept, heap_life, as_heap, Reading, Lives, AsHeap, ByScope, RunTy, RunValue, Value, Into, looked, kind_at, Seen}
+use Rattle.cyc_soundness.specs.inside.Lives as lives
+use Rattle.cyc_soundness.specs.inside.Worlds.{Thing, Holder, Nobody, Hand, At, thing_of, Owns, AtStart, Claims, ClaimsPart, ClaimsBy, IsLookedAt, IsSlot, IsHere, given, marked, handing, Settled, IsOpenObject, IsNewOwner, IsPlain, HasType, Typing, IsFull, global_type, Outlasts, globals as with_globals, AgreesWith, IsResult, AreOperands, IsTyped, IsHiding, life_at, Here, Gone, Away}
+use Rattle.cyc_soundness.specs.inside.Frames.{IsAmong, Bound, local_type, InScope, Variable, IsBound, AreVariables, IsHomed, LiveIn, IsSet, IsFullIn, Holds, Implies, Exits, IsContext, KnowsProgram, lives_in, read, read_value, frees_in}
+use Rattle.cyc_soundness.specs.inside.Classes.{Relied, frees_of, and_looked, IsSpared, HasScopes, InExpression, InArguments, InOperations, Source, SparesAssigned}
+use Rattle.cyc_soundness.specs.inside.Stacks.{KeepsUnique, IsCommonLife, IsPlainValue, IsChained, Evaluates, Val, Go, turned, relied_at, IsCalled, null, IsStack, IsFocus, IsWell}
+use Rattle.cyc_soundness.specs.inside.Stacks as stacks
 use Rattle.cyc_soundness.proofs.Numbers.{some_same}
 use Rattle.cyc_soundness.proofs.TypeLemmas.{place_type, target_typed, is_kind_same, kind_read, kind_meant}
 use Rattle.cyc_soundness.proofs.FlowLemmas.{full_set, used_full, implies_self, meet_first, meet_second, vacant_implied, holds_implied, reached_with}

@@ -20,7 +20,7 @@ use Rattle.cyc_types.proofs.RuleLaws.{answers_tree}
 use Rattle.cyc_types.proofs.typing.ProgramLemmas.{program_well}
 use Rattle.cyc_meaning.specs.State.{Status, HasEnded, status_of}
 use Rattle.cyc_meaning.specs.Run.{run}
-use Rattle.cyc_soundness.specs.Classes.{IsOfTheHeap, IsOfScopes, FreesNoObject}
+use Rattle.cyc_soundness.specs.inside.Classes.{IsOfTheHeap, IsOfScopes, FreesNoObject}
 use Rattle.cyc_soundness.specs.Sound.{IsSound}
 use Rattle.cyc_soundness.proofs.Whole.{heap_sound, lending_sound, scopes_sound}
 use Rattle.cyc_soundness.proofs.FormedLemmas.{typed_sound}

@@ -25,15 +25,15 @@ use Rattle.cyc_meaning.specs.State.{Stack, Lexical, new_region, opened_as, Close
 use Rattle.cyc_meaning.specs.State as state
 use Rattle.cyc_meaning.specs.Parts.{target_by, loaded_from, inside, region_end}
 use Rattle.cyc_meaning.specs.Exceptions.{throws}
-use Rattle.cyc_meaning.specs.Nesting.{ends_of, IsNested}
+use Rattle.cyc_meaning.specs.inside.Nesting.{ends_of, IsNested}
 use Rattle.cyc_meaning.specs.Step.{step_executing, returns, continues_with}
 use Rattle.cyc_soundness.proofs.Looking.{looked_side}
-use Rattle.cyc_soundness.specs.Lives.{Life, Value, Reading, AsHeap, ByScope}
-use Rattle.cyc_soundness.specs.Worlds.{IsNumber, Typing, lent_now, IsTyped, Thing}
-use Rattle.cyc_soundness.specs.Frames.{InScope, Names, Home, life_named, lives_in, read, read_value, IsBound, AreVariables, LiveIn, Within, itself, older, IsSet, Holds, Implies, LoopExit, Exits, loop_of, around, lending, relying, AreBreaks, is_loop, IsContext, KnowsProgram, IsFullIn}
-use Rattle.cyc_soundness.specs.Classes.{HasScopes, IsDeclarable, InStatement, InItems, InValue, InThrown, Source, may_end}
-use Rattle.cyc_soundness.specs.Stacks.{IsByType, Evaluates, Executes, Continues, Catches, IsLoop, Val, Go, operands_in, IsReturn, IsStack, IsFocus, IsWell}
-use Rattle.cyc_soundness.specs.Stacks as stacks
+use Rattle.cyc_soundness.specs.inside.Lives.{Life, Value, Reading, AsHeap, ByScope}
+use Rattle.cyc_soundness.specs.inside.Worlds.{IsNumber, Typing, lent_now, IsTyped, Thing}
+use Rattle.cyc_soundness.specs.inside.Frames.{InScope, Names, Home, life_named, lives_in, read, read_value, IsBound, AreVariables, LiveIn, Within, itself, older, IsSet, Holds, Implies, LoopExit, Exits, loop_of, around, lending, relying, AreBreaks, is_loop, IsContext, KnowsProgram, IsFullIn}
+use Rattle.cyc_soundness.specs.inside.Classes.{HasScopes, IsDeclarable, InStatement, InItems, InValue, InThrown, Source, may_end}
+use Rattle.cyc_soundness.specs.inside.Stacks.{IsByType, Evaluates, Executes, Continues, Catches, IsLoop, Val, Go, operands_in, IsReturn, IsStack, IsFocus, IsWell}
+use Rattle.cyc_soundness.specs.inside.Stacks as stacks
 use Rattle.cyc_soundness.proofs.TypeLemmas.{target_typed, kind_read, kind_meant}
 use Rattle.cyc_soundness.proofs.FlowLemmas.{used_full, implies_self, implies_after, meet_first, meet_second, at_least_implies, emptied_implied, holds_implied, full_last}
 use Rattle.cyc_soundness.proofs.RuleLemmas.{breaks_statement, breaks_items, breaks_clauses, clauses_implied, nothing_locked}
@@ -44,7 +44,7 @@ use Rattle.cyc_soundness.proofs.Sharing.{keeps_by}
 use Rattle.cyc_soundness.proofs.Cells.{running}
 use Rattle.cyc_soundness.proofs.Evaluation.{looks_bound, unique_moved}
 use Rattle.cyc_soundness.proofs.Loans.{type_known, keys_on}
-use Rattle.cyc_guard.specs.Held.{nowhere, updated}
+use Rattle.cyc_guard.specs.inside.Held.{nowhere, updated}
 use Rattle.cyc_guard.proofs.Bools.{updated_same}
 use Rattle.cyc_guard.proofs.WellNumbered.{InScope as AreScoped, found_below, lent_below, next_in_scope, statement_fresh, items_fresh}
 use Rattle.cyc_soundness.proofs.Locking.{IsLockedIn, ends_so, locked_items, now_locked, scope_below}

@@ -4,9 +4,9 @@ use Rattle.std.specs.Prelude.{◌≢◌, get_or, slice_set, if◌then◌else◌}
 use Rattle.std.proofs.lemmas.List.{get_or-set_other}
 use Rattle.std.proofs.lemmas.Bool.{not-true, and_parts}
 use Rattle.cyc_types.specs.flow.States.{Fullness, Vacant, Locked, Full, State, Unreached, Reached, lower, lower_each, meet, is_as_full, are_as_full, is_at_least, is_reached, fullness, with_fullness, with_each, is_vacant, is_locked, emptied}
-use Rattle.cyc_soundness.specs.Worlds.{IsAmong, first as newest, later as behind, Typing}
-use Rattle.cyc_soundness.specs.Classes.{is_full}
-use Rattle.cyc_soundness.specs.Frames.{InScope, Variable, HoldsIts, IsSet, IsFullIn, AreSet, Holds, Implies}
+use Rattle.cyc_soundness.specs.inside.Worlds.{IsAmong, first as newest, later as behind, Typing}
+use Rattle.cyc_soundness.specs.inside.Classes.{is_full}
+use Rattle.cyc_soundness.specs.inside.Frames.{InScope, Variable, HoldsIts, IsSet, IsFullIn, AreSet, Holds, Implies}
 
 pub implies_self : (f : State) → Implies f f
 implies_self f = record { reached = λ h. h; set = λ n s. s; full = λ n s. s }

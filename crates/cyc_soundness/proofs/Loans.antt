@@ -23,15 +23,15 @@ use Rattle.cyc_meaning.specs.Values as values
 use Rattle.cyc_meaning.specs.State as state
 use Rattle.cyc_meaning.specs.State.{World, Found, Closed, found_region, region_at, opened_as, Environment, Entry, EndLoan, Focus, Proceeding, Naming, closed, State, Running, Object}
 use Rattle.cyc_meaning.specs.Parts.{wrong}
-use Rattle.cyc_meaning.specs.Nesting.{ends_of, IsNested}
+use Rattle.cyc_meaning.specs.inside.Nesting.{ends_of, IsNested}
 use Rattle.cyc_meaning.specs.Regions.{is_dynamic, opened_by, opens_with, opens_dynamic, closes_dynamic, closes_with, aliased, frees_owned, frees_object, frees}
 use Rattle.cyc_meaning.specs.Objects.{freed}
-use Rattle.cyc_soundness.specs.Lives.{Life, OfRegion, Kept, heap_life, Value, at, Reading, AsHeap, ByScope, AllIn, IsKnown, owned_life}
-use Rattle.cyc_soundness.specs.Lives as lives
-use Rattle.cyc_soundness.specs.Worlds.{OfLocal, Thing, KeyOf, PointerTo, Nobody, Hand, At, Lent, thing_of, Owns, Claims, IsSlot, IsHere, giving, given, marked, handing, variable_type, IsHeld, is_lent_by, IsOpenIn, Stays, Grows, IsFull, Typing, IsKnownLife, IsNumber, IsKeyOf, HasType, IsResult, IsTyped, IsDynamic, IsKnownOwner, Settled, Holder, lent_now, IsTarget, ObjectType, Outlasts, alike, life_at, Away, Here}
-use Rattle.cyc_soundness.specs.Classes.{IsSpared, HasLoans, IsDeclarable, Source}
-use Rattle.cyc_soundness.specs.Frames.{IsAmong, first, later, Bound, InScope, Variable, Names, life_named, lives_in, read, IsBound, AreVariables, IsLasting, LiveIn, Within, older, IsFullIn, Holds, Implies, Exits, lending, AreKnownLocals, AreKnown, IsContext, KnowsProgram, frees_in, local_type}
-use Rattle.cyc_soundness.specs.Stacks.{operands_in, Continues, Go, IsStack, IsWell, IsCommonLife}
+use Rattle.cyc_soundness.specs.inside.Lives.{Life, OfRegion, Kept, heap_life, Value, at, Reading, AsHeap, ByScope, AllIn, IsKnown, owned_life}
+use Rattle.cyc_soundness.specs.inside.Lives as lives
+use Rattle.cyc_soundness.specs.inside.Worlds.{OfLocal, Thing, KeyOf, PointerTo, Nobody, Hand, At, Lent, thing_of, Owns, Claims, IsSlot, IsHere, giving, given, marked, handing, variable_type, IsHeld, is_lent_by, IsOpenIn, Stays, Grows, IsFull, Typing, IsKnownLife, IsNumber, IsKeyOf, HasType, IsResult, IsTyped, IsDynamic, IsKnownOwner, Settled, Holder, lent_now, IsTarget, ObjectType, Outlasts, alike, life_at, Away, Here}
+use Rattle.cyc_soundness.specs.inside.Classes.{IsSpared, HasLoans, IsDeclarable, Source}
+use Rattle.cyc_soundness.specs.inside.Frames.{IsAmong, first, later, Bound, InScope, Variable, Names, life_named, lives_in, read, IsBound, AreVariables, IsLasting, LiveIn, Within, older, IsFullIn, Holds, Implies, Exits, lending, AreKnownLocals, AreKnown, IsContext, KnowsProgram, frees_in, local_type}
+use Rattle.cyc_soundness.specs.inside.Stacks.{operands_in, Continues, Go, IsStack, IsWell, IsCommonLife}
 use Rattle.cyc_soundness.proofs.Numbers.{some_same}
 use Rattle.cyc_soundness.proofs.TypeLemmas.{all_in, read_alike}
 use Rattle.cyc_soundness.proofs.FlowLemmas.{full_set, reached_with}

@@ -13,7 +13,7 @@ use Rattle.cyc_types.specs.flow.Touched.{touched_statement}
 use Rattle.cyc_types.specs.flow.Expressions.{is_free, stored, and_peeked, peek_of, peek_behind, rule, rule_place, rule_placement, rule_initial, rule_converted, rule_arguments, rule_operations}
 use Rattle.cyc_types.specs.flow.Statements.{Around, Known, at, at_end, in_loop, left_loop, peeked_side, rule_value, rule_thrown, rule_side, rule_swapped, rule_declared, locked_by, locks_of, caught, or_clause, rule_statement, rule_items, rule_item, rule_clauses}
 use Rattle.cyc_types.specs.flow.Statements as statements
-use Rattle.cyc_guard.specs.Held.{Guard, nowhere, updated}
+use Rattle.cyc_guard.specs.inside.Held.{Guard, nowhere, updated}
 use Rattle.cyc_guard.proofs.Bools.{updated_true}
 use Rattle.cyc_guard.proofs.Fitting.{Fits, Leaves}
 use Rattle.cyc_guard.proofs.Numbers.{IsFreshCaught, IsFresh, AreFresh, AreFreshClauses}
@@ -21,10 +21,10 @@ use Rattle.cyc_guard.proofs.Followed.{ItemsFit, followed_items}
 use Rattle.cyc_types.specs.typing.WellTyped.{LocalInScope, Context}
 use Rattle.cyc_guard.proofs.WellNumbered.{InScope as AreScoped}
 use Rattle.cyc_guard.proofs.States.{set_there}
-use Rattle.cyc_soundness.specs.Lives.{Reading, Lives}
-use Rattle.cyc_soundness.specs.Frames.{InScope, Variable, Level, Names, Instance, Home, lives_in, IsScope, AreBelow, Exits, IsContext}
-use Rattle.cyc_soundness.specs.Worlds.{IsAmong, first, later}
-use Rattle.cyc_soundness.specs.Classes.{Source, Relied, only, may_end, items_may_end, clauses_may_end, SparesAssigned, InExpression, InPlace, InPlacement, InInitial, InConverted, InArguments, InOperations, InValue, InThrown, InSide, InStatement, InItems, InClauses}
+use Rattle.cyc_soundness.specs.inside.Lives.{Reading, Lives}
+use Rattle.cyc_soundness.specs.inside.Frames.{InScope, Variable, Level, Names, Instance, Home, lives_in, IsScope, AreBelow, Exits, IsContext}
+use Rattle.cyc_soundness.specs.inside.Worlds.{IsAmong, first, later}
+use Rattle.cyc_soundness.specs.inside.Classes.{Source, Relied, only, may_end, items_may_end, clauses_may_end, SparesAssigned, InExpression, InPlace, InPlacement, InInitial, InConverted, InArguments, InOperations, InValue, InThrown, InSide, InStatement, InItems, InClauses}
 use Rattle.cyc_soundness.proofs.Touched.{asked, asked_of, asked_nothing}
 use Rattle.cyc_soundness.proofs.Looking.{only_other}
 

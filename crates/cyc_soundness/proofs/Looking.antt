@@ -10,9 +10,9 @@ use Rattle.cyc_types.specs.flow.States as flow
 use Rattle.cyc_types.specs.flow.States.{Fullness, Vacant, Full, Unreached, Reached, is_reached, meet, with_fullness, is_locked, fullness}
 use Rattle.cyc_types.specs.flow.Expressions.{is_free, stored, and_peeked, peek_of, peek_behind, rule, rule_place, rule_placement, rule_initial, rule_converted, rule_arguments, rule_operations}
 use Rattle.cyc_types.specs.flow.Statements.{rule_side}
-use Rattle.cyc_soundness.specs.Lives.{Reading}
-use Rattle.cyc_soundness.specs.Worlds.{IsAmong, first, later}
-use Rattle.cyc_soundness.specs.Classes.{is_full, Relied, only, and_looked, InExpression, InPlace, InPlacement, InInitial, InConverted, InArguments, InOperations, InSide, SparesAssigned}
+use Rattle.cyc_soundness.specs.inside.Lives.{Reading}
+use Rattle.cyc_soundness.specs.inside.Worlds.{IsAmong, first, later}
+use Rattle.cyc_soundness.specs.inside.Classes.{is_full, Relied, only, and_looked, InExpression, InPlace, InPlacement, InInitial, InConverted, InArguments, InOperations, InSide, SparesAssigned}
 use Rattle.cyc_soundness.proofs.FlowLemmas.{before_last, at_last, meet_first, reached_with}
 
 -- ---- a local that is free is another one

@@ -30,15 +30,15 @@ use Rattle.cyc_meaning.specs.State.{Object, World, Found, Environment, ConvertTo
 use Rattle.cyc_meaning.specs.Objects.{object_at, both_found, compared}
 use Rattle.cyc_meaning.specs.Parts.{target_of, target_of_value, target_by, is_target, cell_of, leads_to, wrong, computed, stored_at}
 use Rattle.cyc_meaning.specs.Places.{arrives, follows, field_of, member_of, follows_member, indexes, advances, locates_member, step_locating, placed}
-use Rattle.cyc_meaning.specs.Nesting.{ends_of, AreOpen}
+use Rattle.cyc_meaning.specs.inside.Nesting.{ends_of, AreOpen}
 use Rattle.cyc_meaning.specs.Step.{tells, applies_pointer}
-use Rattle.cyc_soundness.specs.Lives.{Life, RunTy, RunValue, Value, looked, Lives, at, value_at, kind_at}
-use Rattle.cyc_soundness.specs.Lives as lives
-use Rattle.cyc_soundness.specs.Worlds.{ObjectType, Typing, IsFilled, IsPart, IsTarget, HasType, IsResult, Fits, AreCells, IsObject, IsTyped}
-use Rattle.cyc_soundness.specs.Frames.{InScope, IsBound, AreVariables, LiveIn, lives_among, Holds, Exits, IsContext, KnowsProgram, lives_in, read, read_value, IsThere}
-use Rattle.cyc_soundness.specs.Classes.{and_looked, InExpression, InPlace, Source, frees_of}
-use Rattle.cyc_soundness.specs.Stacks.{IsThrough, seen_by, EvaluatesWhole, relied_at, Val, PlaceOf, null, WaitsPlace, of_cell, left_cell, IsByType, KeepsPlace, IsStack, IsFocus, IsWell}
-use Rattle.cyc_soundness.specs.Stacks as stacks
+use Rattle.cyc_soundness.specs.inside.Lives.{Life, RunTy, RunValue, Value, looked, Lives, at, value_at, kind_at}
+use Rattle.cyc_soundness.specs.inside.Lives as lives
+use Rattle.cyc_soundness.specs.inside.Worlds.{ObjectType, Typing, IsFilled, IsPart, IsTarget, HasType, IsResult, Fits, AreCells, IsObject, IsTyped}
+use Rattle.cyc_soundness.specs.inside.Frames.{InScope, IsBound, AreVariables, LiveIn, lives_among, Holds, Exits, IsContext, KnowsProgram, lives_in, read, read_value, IsThere}
+use Rattle.cyc_soundness.specs.inside.Classes.{and_looked, InExpression, InPlace, Source, frees_of}
+use Rattle.cyc_soundness.specs.inside.Stacks.{IsThrough, seen_by, EvaluatesWhole, relied_at, Val, PlaceOf, null, WaitsPlace, of_cell, left_cell, IsByType, KeepsPlace, IsStack, IsFocus, IsWell}
+use Rattle.cyc_soundness.specs.inside.Stacks as stacks
 use Rattle.cyc_soundness.proofs.Numbers.{some_same, inside, mapped}
 use Rattle.cyc_soundness.proofs.TypeLemmas.{target_typed, is_kind_same, mark_kinds, kind_meant}
 use Rattle.cyc_soundness.proofs.WorldLemmas.{result_grown, typed_cell}
@@ -48,7 +48,7 @@ use Rattle.cyc_soundness.proofs.StackLemmas.{stack_changed, part_alone, IsPresen
 use Rattle.cyc_soundness.proofs.RegionLemmas.{agrees_of, there_of, field_means}
 use Rattle.cyc_soundness.proofs.Looking.{looked_expression, peeked_so}
 use Rattle.cyc_soundness.proofs.Swapping.{left_spot, finds_right_on, both_on}
-use Rattle.cyc_soundness.specs.Worlds.{Hand, pointer_at, thing_of, Claims, ClaimsPart, ClaimsBy, IsHad, IsPlain}
+use Rattle.cyc_soundness.specs.inside.Worlds.{Hand, pointer_at, thing_of, Claims, ClaimsPart, ClaimsBy, IsHad, IsPlain}
 use Rattle.cyc_soundness.proofs.Cells.{plain_claims, pointer_plain, part_had, running, part_at, target_live, reads_target, writes_target}
 
 -- ---- pointers

@@ -8,18 +8,17 @@ use Rattle.cyc_types.specs.declared.scope.Scope.{Scope}
 use Rattle.cyc_types.specs.declared.scope.Kind.{Kind}
 use Rattle.cyc_types.specs.declared.scope.Kind.TheVariants as scopes
 use Rattle.cyc_types.specs.Outlives.{RegionContext, live_regions, is_outlived_by_live, IsLiveAtOpening, IsGiven, OutlivesIn}
-use Rattle.cyc_types.specs.Regions.{substituted_region}
+use Rattle.cyc_types.specs.Types.{substituted_region, Ty, ValueType, result_type, substituted_ty}
 use Rattle.cyc_types.specs.TypedTrees.{Dereference, Target, Member, Element, StructType, Function, Program}
-use Rattle.cyc_types.specs.Types.{Ty, ValueType, result_type, substituted_ty}
 use Rattle.cyc_types.specs.Types as types
 use Rattle.cyc_types.specs.typing.Scopes.{with_scope}
 use Rattle.cyc_types.specs.typing.WellTyped.{LocalInScope, Context, IsLive, AreLive, AreOutliving, IsCell, body_context, parameters_in_scope, IsNamed, AreNamed as AreNamedRegions, IsNamedIn, AreNamedIn, IsNamedResult, AreConstraints, IsWellTypedFunction, in_block, with_local, with_region, with_opened, with_key_opened, AreNotUnique}
 use Rattle.cyc_types.proofs.typing.FormedLemmas.{known_more}
-use Rattle.cyc_soundness.specs.Lives.{Life, OfRegion, Kept, Lives, at, value_at, heap_life, lives_of, as_heap, Reading, AsHeap, ByScope, AllOf, AllIn, AllInValue, IsKnown, IsOther, owned_life, Owned}
-use Rattle.cyc_soundness.specs.Worlds.{Thing, KeyOf, PointerTo, Typing, IsKnownLife, IsOpenIn, lent_now, Outlasts, heap as for_ever, stays, encloses, whole, behind, AgreesWith, IsNumber, IsKnownOwner}
-use Rattle.cyc_soundness.specs.Classes.{HasLoans, IsDeclarable, Source, frees_of}
-use Rattle.cyc_soundness.specs.Frames.{later, InScope, Variable, Level, Names, Instance, Home, life_named, is_live_named, lives_in, read, read_value, home_of, AreVariables, lives_among, IsThereBy, IsThere, IsHomed, IsScope, IsLasting, IsLiveIn, AreLiveIn, Exits, AreNamed, StandBy, Stand, IsHome, AreKnownLocals, AreKnown, IsContext, frees_in}
-use Rattle.cyc_soundness.specs.Stacks.{IsNew, regions_at_call, IsInstance}
+use Rattle.cyc_soundness.specs.inside.Lives.{Life, OfRegion, Kept, Lives, at, value_at, heap_life, lives_of, as_heap, Reading, AsHeap, ByScope, AllOf, AllIn, AllInValue, IsKnown, IsOther, owned_life, Owned}
+use Rattle.cyc_soundness.specs.inside.Worlds.{Thing, KeyOf, PointerTo, Typing, IsKnownLife, IsOpenIn, lent_now, Outlasts, heap as for_ever, stays, encloses, whole, behind, AgreesWith, IsNumber, IsKnownOwner}
+use Rattle.cyc_soundness.specs.inside.Classes.{HasLoans, IsDeclarable, Source, frees_of}
+use Rattle.cyc_soundness.specs.inside.Frames.{later, InScope, Variable, Level, Names, Instance, Home, life_named, is_live_named, lives_in, read, read_value, home_of, AreVariables, lives_among, IsThereBy, IsThere, IsHomed, IsScope, IsLasting, IsLiveIn, AreLiveIn, Exits, AreNamed, StandBy, Stand, IsHome, AreKnownLocals, AreKnown, IsContext, frees_in}
+use Rattle.cyc_soundness.specs.inside.Stacks.{IsNew, regions_at_call, IsInstance}
 use Rattle.cyc_soundness.proofs.TypeLemmas.{all_in, every_in, read_alike, value_alike, lives_by, instance_by, result_by}
 use Rattle.cyc_soundness.proofs.ValueLemmas.{given_agree}
 

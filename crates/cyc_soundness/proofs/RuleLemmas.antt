@@ -5,7 +5,7 @@ use Rattle.cyc_types.specs.Rules.{Derives}
 use Rattle.cyc_types.specs.flow.States.{State, Unreached, Full, meet, with_each}
 use Rattle.cyc_types.specs.flow.Statements.{Around, Known, left_loop, locks_of, behind_item, at_end, or_clause, with_caught, rule_statement, rule_items, rule_item, rule_clauses}
 use Rattle.cyc_types.specs.flow.Statements as statements
-use Rattle.cyc_soundness.specs.Frames.{Implies}
+use Rattle.cyc_soundness.specs.inside.Frames.{Implies}
 use Rattle.cyc_soundness.proofs.FlowLemmas.{implies_self, implies_after, meet_first}
 
 carried : (b : State) (k m : Known) → m ≡ k → Implies b k.breaks → Implies b m.breaks

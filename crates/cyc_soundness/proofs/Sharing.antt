@@ -7,11 +7,11 @@ use Rattle.cyc_types.specs.Outlives.{RegionContext, OutlivesIn, itself, given, t
 use Rattle.cyc_types.specs.Types.{Ty, substituted_ty}
 use Rattle.cyc_types.specs.Types as types
 use Rattle.cyc_types.specs.typing.Tests.{is_key, is_moved, is_unique}
-use Rattle.cyc_soundness.specs.Lives.{Life, OfRegion, Owned, Kept, heap_life, RunTy, Pointer, Reading, AsHeap, ByScope, Lives, at}
-use Rattle.cyc_soundness.specs.Worlds.{Typing, IsKnownLife, IsKeyless, IsPlain, AtStart}
-use Rattle.cyc_soundness.specs.Classes.{HasFrees}
-use Rattle.cyc_soundness.specs.Frames.{InScope, AreVariables, lives_in, life_named, frees_in, read, Stand}
-use Rattle.cyc_soundness.specs.Stacks.{KeepsUnique, IsCommonLife, IsByType}
+use Rattle.cyc_soundness.specs.inside.Lives.{Life, OfRegion, Owned, Kept, heap_life, RunTy, Pointer, Reading, AsHeap, ByScope, Lives, at}
+use Rattle.cyc_soundness.specs.inside.Worlds.{Typing, IsKnownLife, IsKeyless, IsPlain, AtStart}
+use Rattle.cyc_soundness.specs.inside.Classes.{HasFrees}
+use Rattle.cyc_soundness.specs.inside.Frames.{InScope, AreVariables, lives_in, life_named, frees_in, read, Stand}
+use Rattle.cyc_soundness.specs.inside.Stacks.{KeepsUnique, IsCommonLife, IsByType}
 use Rattle.cyc_soundness.proofs.RegionLemmas.{name_known, heap_lives}
 
 -- ---- lives

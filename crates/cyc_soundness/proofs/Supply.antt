@@ -24,18 +24,18 @@ use Rattle.cyc_meaning.specs.State.{InRegion, World, region_at, variable, made, 
 use Rattle.cyc_meaning.specs.State as state
 use Rattle.cyc_meaning.specs.Parts.{wrong, declared}
 use Rattle.cyc_meaning.specs.Exceptions.{throws_value}
-use Rattle.cyc_meaning.specs.Nesting.{ends_of, AreOpen, IsNested}
-use Rattle.cyc_meaning.specs.Nesting as nesting
+use Rattle.cyc_meaning.specs.inside.Nesting.{ends_of, AreOpen, IsNested}
+use Rattle.cyc_meaning.specs.inside.Nesting as nesting
 use Rattle.cyc_meaning.specs.Step.{chosen, looped, supplied}
 use Rattle.cyc_meaning.proofs.ListLemmas.{slice_get-end}
 use Rattle.cyc_meaning.proofs.NestingLemmas.{home_found}
-use Rattle.cyc_soundness.specs.Lives.{Life, OfRegion, Kept, Reading, Lives, at, AsHeap, ByScope, RunTy, RunValue, Value, kind_at}
-use Rattle.cyc_soundness.specs.Lives as lives
-use Rattle.cyc_soundness.specs.Worlds.{OfLocal, Thing, Holder, Hand, At, pointer_at, thing_of, Owns, Claims, ClaimsBy, ClaimsAlone, IsHere, giving, marked, AreOwned, IsOpenIn, ObjectType, IsKnownLife, IsNumber, IsOwner, Typing, IsFilled, variable_type, HasType, IsResult, AreCells, IsObject, IsTyped, Grows, Slot, KeyOf, PointerTo, Here}
-use Rattle.cyc_soundness.specs.Worlds.{given as given_to}
-use Rattle.cyc_soundness.specs.Frames.{later, Bound, InScope, Variable, Level, life_named, lives_in, read, read_value, IsThere, IsHomed, AreBelow, IsBound, AreVariables, IsLasting, home_in, LiveIn, Within, itself, older, Holds, Implies, LoopExit, Exits, IsHome, IsContext, KnowsProgram}
-use Rattle.cyc_soundness.specs.Stacks.{Executes, Continues, IsLoop, Repeats, IsArray, IsNew, Want, Val, Go, operands_in, Comes, Keeps, inside, Waits, IsReturn, IsStack, IsFocus, IsWell, relied_at}
-use Rattle.cyc_soundness.specs.Stacks as stacks
+use Rattle.cyc_soundness.specs.inside.Lives.{Life, OfRegion, Kept, Reading, Lives, at, AsHeap, ByScope, RunTy, RunValue, Value, kind_at}
+use Rattle.cyc_soundness.specs.inside.Lives as lives
+use Rattle.cyc_soundness.specs.inside.Worlds.{OfLocal, Thing, Holder, Hand, At, pointer_at, thing_of, Owns, Claims, ClaimsBy, ClaimsAlone, IsHere, giving, marked, AreOwned, IsOpenIn, ObjectType, IsKnownLife, IsNumber, IsOwner, Typing, IsFilled, variable_type, HasType, IsResult, AreCells, IsObject, IsTyped, Grows, Slot, KeyOf, PointerTo, Here}
+use Rattle.cyc_soundness.specs.inside.Worlds.{given as given_to}
+use Rattle.cyc_soundness.specs.inside.Frames.{later, Bound, InScope, Variable, Level, life_named, lives_in, read, read_value, IsThere, IsHomed, AreBelow, IsBound, AreVariables, IsLasting, home_in, LiveIn, Within, itself, older, Holds, Implies, LoopExit, Exits, IsHome, IsContext, KnowsProgram}
+use Rattle.cyc_soundness.specs.inside.Stacks.{Executes, Continues, IsLoop, Repeats, IsArray, IsNew, Want, Val, Go, operands_in, Comes, Keeps, inside, Waits, IsReturn, IsStack, IsFocus, IsWell, relied_at}
+use Rattle.cyc_soundness.specs.inside.Stacks as stacks
 use Rattle.cyc_soundness.proofs.Numbers.{some_same}
 use Rattle.cyc_soundness.proofs.TypeLemmas.{is_kind_same, kind_read}
 use Rattle.cyc_soundness.proofs.FlowLemmas.{holds_implied, reached_with, full_put, vacant_now}
@@ -45,7 +45,7 @@ use Rattle.cyc_soundness.proofs.Sharing.{plain_read}
 use Rattle.cyc_soundness.proofs.StackLemmas.{stack_changed, there_present, fields_kept, passed_kept, comes_alone, claimed_next, below_more, local_new, bound_more, set_more, home_is, home_lasting, found_is, within_bound, within_variables, within_live, within_holds}
 use Rattle.cyc_soundness.proofs.RegionLemmas.{region_known, there_open, there_lasting, known_local, owner_known}
 use Rattle.cyc_soundness.proofs.ValueLemmas.{negated, complemented, widened, narrowed, combined, zero_is}
-use Rattle.cyc_soundness.specs.Classes.{InInitial, Source}
+use Rattle.cyc_soundness.specs.inside.Classes.{InInitial, Source}
 use Rattle.cyc_soundness.proofs.Cells.{part_had, running, plain_unkept}
 use Rattle.cyc_soundness.proofs.Loans.{opens_on, aliases_on, closes_on, frees_on}
 use Rattle.cyc_soundness.proofs.Objects.{plain_on, fields_on, array_on, fill_on, makes_on}

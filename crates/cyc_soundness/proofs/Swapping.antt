@@ -17,15 +17,15 @@ use Rattle.cyc_meaning.specs.Values as values
 use Rattle.cyc_meaning.specs.State.{World, Environment, SwapLeft, SwapRight, Write, Entry, NeedsPlace, Locating, Proceeding, Writing, Swapping, Focus, Running, written}
 use Rattle.cyc_meaning.specs.Parts.{wrong, stored_at, step_writing, stored}
 use Rattle.cyc_meaning.specs.Swaps.{both_places, finds_right_object, finds_right, finds_left_object, swaps, swap_read, swap_content, swap_loaded, swap_loaded_at, step_swapping}
-use Rattle.cyc_meaning.specs.Nesting.{ends_of, AreOpen}
+use Rattle.cyc_meaning.specs.inside.Nesting.{ends_of, AreOpen}
 use Rattle.cyc_soundness.proofs.Looking.{peeked_so}
-use Rattle.cyc_soundness.specs.Lives.{Life, RunTy, as_heap, kind_at, Value}
-use Rattle.cyc_soundness.specs.Lives as lives
-use Rattle.cyc_soundness.specs.Worlds.{At, IsKept, thing_of, IsHad, Claims, IsOpenObject, ObjectType, Typing, global_type, IsFilled, HasType, IsTyped, Awaits, Pending, Settled, Thing, Holder, Nobody, Hand, IsHeld, Owns, Stays, Grows, IsHere, given, giving, IsResult, Away, Lent}
-use Rattle.cyc_soundness.specs.Frames.{InScope, local_type, IsBound, AreVariables, LiveIn, Holds, Exits, IsContext, KnowsProgram, lives_in, read, IsFullIn}
-use Rattle.cyc_soundness.specs.Classes.{InSide, Source, and_looked, frees_of, IsSpared}
-use Rattle.cyc_soundness.specs.Stacks.{IsByType, relied_at, operands_in, Finds, Go, IsSpot, of_local, of_global, of_cell, IsLeftSpot, left_variable, left_cell, IsRead, AreSwapped, IsStack, IsWell, ClaimsAt, IsWrite, IsAwaited, IsFocus}
-use Rattle.cyc_soundness.specs.Stacks as stacks
+use Rattle.cyc_soundness.specs.inside.Lives.{Life, RunTy, as_heap, kind_at, Value}
+use Rattle.cyc_soundness.specs.inside.Lives as lives
+use Rattle.cyc_soundness.specs.inside.Worlds.{At, IsKept, thing_of, IsHad, Claims, IsOpenObject, ObjectType, Typing, global_type, IsFilled, HasType, IsTyped, Awaits, Pending, Settled, Thing, Holder, Nobody, Hand, IsHeld, Owns, Stays, Grows, IsHere, given, giving, IsResult, Away, Lent}
+use Rattle.cyc_soundness.specs.inside.Frames.{InScope, local_type, IsBound, AreVariables, LiveIn, Holds, Exits, IsContext, KnowsProgram, lives_in, read, IsFullIn}
+use Rattle.cyc_soundness.specs.inside.Classes.{InSide, Source, and_looked, frees_of, IsSpared}
+use Rattle.cyc_soundness.specs.inside.Stacks.{IsByType, relied_at, operands_in, Finds, Go, IsSpot, of_local, of_global, of_cell, IsLeftSpot, left_variable, left_cell, IsRead, AreSwapped, IsStack, IsWell, ClaimsAt, IsWrite, IsAwaited, IsFocus}
+use Rattle.cyc_soundness.specs.inside.Stacks as stacks
 use Rattle.cyc_soundness.proofs.Numbers.{some_same}
 use Rattle.cyc_soundness.proofs.TypeLemmas.{is_kind_same, kind_meant, place_type}
 use Rattle.cyc_soundness.proofs.FlowLemmas.{full_set, used_full}

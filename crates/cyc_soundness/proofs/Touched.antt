@@ -7,9 +7,9 @@ use Rattle.cyc_types.specs.Declarations.{declared_regions, item_regions}
 use Rattle.cyc_types.specs.flow.States as flow
 use Rattle.cyc_types.specs.flow.States.{Fullness, Vacant, Locked, Full, Unreached, Reached, is_locked, fullness, with_fullness, emptied}
 use Rattle.cyc_types.specs.flow.Touched.{and_local, and_assigned, touched, touched_place, touched_placement, touched_initial, touched_converted, touched_arguments, touched_operations, touched_side, touched_value, touched_thrown, touched_declaration, touched_statement, touched_items, touched_item, touched_clauses}
-use Rattle.cyc_soundness.specs.Lives.{Reading}
-use Rattle.cyc_soundness.specs.Worlds.{IsAmong, first, later}
-use Rattle.cyc_soundness.specs.Classes.{is_full, Relied, IsSparedBy, InExpression, InPlace, InPlacement, InInitial, InConverted, InArguments, InOperations, InValue, InThrown, InSide, InStatement, InItems, InClauses, SparesAssigned, Asked, may_end}
+use Rattle.cyc_soundness.specs.inside.Lives.{Reading}
+use Rattle.cyc_soundness.specs.inside.Worlds.{IsAmong, first, later}
+use Rattle.cyc_soundness.specs.inside.Classes.{is_full, Relied, IsSparedBy, InExpression, InPlace, InPlacement, InInitial, InConverted, InArguments, InOperations, InValue, InThrown, InSide, InStatement, InItems, InClauses, SparesAssigned, Asked, may_end}
 use Rattle.cyc_soundness.proofs.FlowLemmas.{before_last, at_last}
 
 -- ---- what was touched before is so behind

@@ -6,8 +6,7 @@ use Rattle.cyc_syntax.specs.declared.tree.PointerKind.TheVariants as marks
 use Rattle.cyc_types.specs.declared.region.Region.{Region}
 use Rattle.cyc_types.specs.declared.typed.Kind.{Kind}
 use Rattle.cyc_types.specs.declared.typed.Kind.TheVariants as kinds
-use Rattle.cyc_types.specs.Regions.{substituted_region}
-use Rattle.cyc_types.specs.Types.{Ty, ValueType, substituted_ty, result_type}
+use Rattle.cyc_types.specs.Types.{substituted_region, Ty, ValueType, substituted_ty, result_type}
 use Rattle.cyc_types.specs.Types as types
 use Rattle.cyc_types.specs.TypedTrees.{Expression, Number, NullPointer, HeapRegion, Counter, Copy, Move, Peek, Load, AddressOf, AddressOfCell, NumberOfElements, FreeUnique, FreeKey, Call, Unary, Binary, Assign, Store, New, Dereference, Target, Member, Element, type_of, type_of_place}
 use Rattle.cyc_types.specs.typing.Tests as tests
@@ -15,8 +14,8 @@ use Rattle.cyc_types.specs.typing.WellTyped.{Context, WellTyped, IsPeek, IsCell}
 use Rattle.cyc_meaning.specs.Values.{is_kind}
 use Rattle.cyc_meaning.specs.Values as values
 use Rattle.cyc_meaning.specs.Parts.{target_of_value, target_by}
-use Rattle.cyc_soundness.specs.Lives.{Lives, Value, at, value_at, kind_at, AllOf, AllIn, AllInValue}
-use Rattle.cyc_soundness.specs.Lives as lives
+use Rattle.cyc_soundness.specs.inside.Lives.{Lives, Value, at, value_at, kind_at, AllOf, AllIn, AllInValue}
+use Rattle.cyc_soundness.specs.inside.Lives as lives
 
 -- ---- kinds
 

@@ -10,14 +10,14 @@ use Rattle.cyc_meaning.specs.Values as values
 use Rattle.cyc_meaning.specs.State.{World, closed, region_at, Environment, Test, Entry, Needs, NeedsPlace, Discard, Rest, Join, Loop, CloseRegion, CloseLexical, EndLoan, Handler, Caller, Main, Focus, Evaluating, Given, Proceeding, Breaking, Continuing, Returning, Throwing, Catching, Running, Object}
 use Rattle.cyc_meaning.specs.Parts.{closing}
 use Rattle.cyc_meaning.specs.Regions.{closing_lexical}
-use Rattle.cyc_meaning.specs.Nesting.{IsNested}
+use Rattle.cyc_meaning.specs.inside.Nesting.{IsNested}
 use Rattle.cyc_meaning.specs.Step.{step_proceeding, step_breaking, step_continuing, returned, main_returned, step_returning, step_throwing}
-use Rattle.cyc_soundness.specs.Lives.{Life, RunTy, RunValue, Value}
-use Rattle.cyc_soundness.specs.Lives as lives
-use Rattle.cyc_soundness.specs.Worlds.{OfLocal, Hand, At, Lent, thing_of, Claims, given, marked, handing, variable_type, Typing, HasType, IsTyped, Here, Thing, Holder, Owns, IsHere}
-use Rattle.cyc_soundness.specs.Frames.{InScope, Names, Home, IsBound, AreVariables, AreFullAt, LiveIn, Holds, Implies, LoopExit, Exits, HasResult, is_loop, KnowsProgram}
-use Rattle.cyc_soundness.specs.Stacks.{IsByType, IsLentOut, IsLoop, Want, Nothing, Val, PlaceOf, Go, operands_in, IsBlocked, IsReturn, IsStack, IsFocus, IsWell}
-use Rattle.cyc_soundness.specs.Stacks as stacks
+use Rattle.cyc_soundness.specs.inside.Lives.{Life, RunTy, RunValue, Value}
+use Rattle.cyc_soundness.specs.inside.Lives as lives
+use Rattle.cyc_soundness.specs.inside.Worlds.{OfLocal, Hand, At, Lent, thing_of, Claims, given, marked, handing, variable_type, Typing, HasType, IsTyped, Here, Thing, Holder, Owns, IsHere}
+use Rattle.cyc_soundness.specs.inside.Frames.{InScope, Names, Home, IsBound, AreVariables, AreFullAt, LiveIn, Holds, Implies, LoopExit, Exits, HasResult, is_loop, KnowsProgram}
+use Rattle.cyc_soundness.specs.inside.Stacks.{IsByType, IsLentOut, IsLoop, Want, Nothing, Val, PlaceOf, Go, operands_in, IsBlocked, IsReturn, IsStack, IsFocus, IsWell}
+use Rattle.cyc_soundness.specs.inside.Stacks as stacks
 use Rattle.cyc_soundness.proofs.Numbers.{some_same}
 use Rattle.cyc_soundness.proofs.FlowLemmas.{holds_implied, full_added}
 use Rattle.cyc_soundness.proofs.StackLemmas.{void_goes, given_back, stack_changed, none_lent, full_at_grown, not_heap, lexical_not_heap, within_bound, within_variables, within_live, within_holds, found_is, waits_within}
@@ -25,7 +25,7 @@ use Rattle.cyc_soundness.proofs.WorldLemmas.{closed_typed, result_grown, typed_c
 use Rattle.cyc_soundness.proofs.Hands.{Changed, at_not_lent, given_now, marked_now, handing_changed, alone_kept, alone_comes, variables_kept, hands_globals, moment_grows, moment_typed, moment_globals, holds_lent, returned_typed, away_same}
 use Rattle.cyc_soundness.proofs.Cells.{running}
 use Rattle.cyc_soundness.proofs.Execution.{continue_with}
-use Rattle.cyc_soundness.specs.Classes.{Source}
+use Rattle.cyc_soundness.specs.inside.Classes.{Source}
 
 never_loop : (o : Option LoopExit) (l : LoopExit) → is_loop o ≡ false → o ≡ Some l → ⊥
 never_loop o l none same = let z : true ≡ false = subst (λ u. is_loop u ≡ false) same none in absurd (cc)

@@ -18,8 +18,8 @@ use Rattle.cyc_meaning.specs.Values.{Operand}
 use Rattle.cyc_meaning.specs.Values as values
 use Rattle.cyc_meaning.specs.Operators.{Gives, Raises, is_zero, binary_result, has_no_result, unary_result, binary_word, division_by_zero, array_bounds}
 use Rattle.cyc_meaning.specs.Conversion.{conversion, thinned}
-use Rattle.cyc_soundness.specs.Lives.{Life, OfRegion, Owned, Kept, RunTy, Int, Char, Pointer, Handle, Key, Lives, at, value_at}
-use Rattle.cyc_soundness.specs.Worlds.{Typing, Outlasts, alike, heap as for_ever, globals as with_globals, stays, encloses, borrows, life_at, IsEndOf, whole, behind, AgreesWith, IsTarget, HasType, IsResult, Fits}
+use Rattle.cyc_soundness.specs.inside.Lives.{Life, OfRegion, Owned, Kept, RunTy, Int, Char, Pointer, Handle, Key, Lives, at, value_at}
+use Rattle.cyc_soundness.specs.inside.Worlds.{Typing, Outlasts, alike, heap as for_ever, globals as with_globals, stays, encloses, borrows, life_at, IsEndOf, whole, behind, AgreesWith, IsTarget, HasType, IsResult, Fits}
 use Rattle.cyc_soundness.proofs.TypeLemmas.{kind_read}
 
 -- ---- what lasts as long

@@ -1,8 +1,4 @@
--- how the states of a run are typed
-pub mod Lives
-pub mod Worlds
-pub mod Frames
-pub mod Stacks
 -- which programs a theorem speaks of
-pub mod Classes
 pub mod Sound
+-- What the functions of this crate promise each other and what its proofs say: no public contract of the product means it.
+pub mod inside

@@ -12,11 +12,11 @@ ghost use Rattle.cyc_types.specs.flow.Programs.{IsAllowedProgram};
 ghost use Rattle.cyc_meaning.specs.Values.{Value, Operand};
 ghost use Rattle.cyc_meaning.specs.Conversion.{conversion};
 ghost use Rattle.cyc_meaning.specs.State.{Entry};
-ghost use Rattle.cyc_soundness.specs.Lives.{RunTy, Lives, at, value_at};
-ghost use Rattle.cyc_soundness.specs.Worlds.{Typing, AgreesWith, HasType, IsResult, Fits, Grows, Stays};
-ghost use Rattle.cyc_soundness.specs.Frames.{InScope, Exits};
-ghost use Rattle.cyc_soundness.specs.Stacks.{Want, IsStack};
-ghost use Rattle.cyc_soundness.specs.Classes.{IsOfTheHeap, IsOfScopes, FreesNoObject, FreesObjects, Source};
+ghost use Rattle.cyc_soundness.specs.inside.Lives.{RunTy, Lives, at, value_at};
+ghost use Rattle.cyc_soundness.specs.inside.Worlds.{Typing, AgreesWith, HasType, IsResult, Fits, Grows, Stays};
+ghost use Rattle.cyc_soundness.specs.inside.Frames.{InScope, Exits};
+ghost use Rattle.cyc_soundness.specs.inside.Stacks.{Want, IsStack};
+ghost use Rattle.cyc_soundness.specs.inside.Classes.{IsOfTheHeap, IsOfScopes, FreesNoObject, FreesObjects, Source};
 ghost use Rattle.cyc_soundness.specs.Sound.{IsSound};
 
 /// What is known of a world only grows, and what was typed stays so: a value keeps its type for good, and a control stack

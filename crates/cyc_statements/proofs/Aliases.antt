@@ -10,8 +10,8 @@ use Rattle.cyc_types.specs.typing.Scopes.{Scope, Meaning, Unknown, Variable, Fix
 use Rattle.cyc_types.specs.typing.Formation.{type_demanded}
 use Rattle.cyc_types.specs.typing.Statements.{new_name_demanded, aliased, rule_alias}
 use Rattle.cyc_scope.specs.declared.stop.Stop.{Stop}
-use Rattle.cyc_scope.specs.Code.{Stops}
-use Rattle.cyc_statements.specs.Aliases.{alias_of}
+use Rattle.cyc_scope.specs.inside.Code.{Stops}
+use Rattle.cyc_statements.specs.inside.Aliases.{alias_of}
 
 -- what the alias of a name is behind a scope
 abbrev alias_in : (s : Scope) (own : ℕ) (x : Named) → WrittenType → (y : Named) → Rule typed.Item

@@ -1,3 +1,2 @@
--- Each function says what it gives by the rules of `cyc_types`. This is how its results are seen.
-pub mod Nodes
-pub mod Aliases
+-- What the functions of this crate promise each other and what its proofs say: no public contract of the product means it.
+pub mod inside

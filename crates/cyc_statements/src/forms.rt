@@ -1,7 +1,7 @@
 //! What statements ask of their own, and the walk over those that have expressions alone.
 ghost use Rattle.std.specs.Prelude.{◌≡◌, ◌&&◌, not, [], ◌∷◌, None, Ok, OnOk, option_map};
 ghost use Rattle.cyc_words.specs.declared.fault.Code.TheVariants as codes;
-ghost use Rattle.cyc_syntax.specs.TreeView.{place_of_span, view_name, view_expression};
+ghost use Rattle.cyc_syntax.specs.inside.TreeView.{place_of_span, view_name, view_expression};
 ghost use Rattle.cyc_syntax.specs.Trees.{Return, Swap, Throw, Evaluate};
 ghost use Rattle.cyc_types.specs.TypeView.{view_ty};
 ghost use Rattle.cyc_types.specs.TypedTrees as nodes;
@@ -10,9 +10,9 @@ ghost use Rattle.cyc_types.specs.Rules.{demand, settled, run};
 ghost use Rattle.cyc_types.specs.typing.Tests.{is_left_out, ty_eq, is_struct};
 ghost use Rattle.cyc_types.specs.typing.Expressions.{type_of_side, conversion};
 ghost use Rattle.cyc_types.specs.typing.Statements.{rule_condition, returned, rule_returned, in_loop_alone, swapped, exception_among, rule_thrown, thrown_demanded, thrown, caught, rule_statement};
-ghost use Rattle.cyc_scope.specs.Code.{Gives, Ends};
-ghost use Rattle.cyc_forms.specs.Forms.{view_given, view_boxed, view_found};
-ghost use Rattle.cyc_statements.specs.Nodes.{view_boxed_statement};
+ghost use Rattle.cyc_scope.specs.inside.Code.{Gives, Ends};
+ghost use Rattle.cyc_forms.specs.inside.Forms.{view_given, view_boxed, view_found};
+ghost use Rattle.cyc_statements.specs.inside.Nodes.{view_boxed_statement};
 
 use crate::nodes::{boxed, evaluation, return_of, throw_of};
 use cyc_expressions::{check_expression, check_looked, check_place};

@@ -2,7 +2,7 @@
 ghost use Rattle.std.specs.Prelude.{◌≡◌, [], ◌∷◌, None, OnOk, IfOk, IfErr, option_map};
 ghost use Rattle.cyc_words.specs.declared.fault.Code.TheVariants as codes;
 ghost use Rattle.cyc_syntax.specs.Trees.{Named};
-ghost use Rattle.cyc_syntax.specs.TreeView.{place_of_span, view_name, view_type, view_expression};
+ghost use Rattle.cyc_syntax.specs.inside.TreeView.{place_of_span, view_name, view_type, view_expression};
 ghost use Rattle.cyc_types.specs.declared.scope.Kind.TheVariants as kinds;
 ghost use Rattle.cyc_types.specs.declared.region.Region.TheVariants as regions;
 ghost use Rattle.cyc_types.specs.Types as types;
@@ -18,10 +18,10 @@ ghost use Rattle.cyc_types.specs.typing.Tests as tests;
 ghost use Rattle.cyc_types.specs.typing.Expressions.{conversion};
 ghost use Rattle.cyc_types.specs.typing.Statements.{new_demanded, new_name_demanded, left_out_of, local_type, initialised, rule_initial, rule_local, rule_lexical, rule_dynamic, number_of_region, local_number, open_demanded, opened, rule_opened, is_local, with_region_of, rule_alias, declared_type, with_caught};
 ghost use Rattle.cyc_scope.specs.declared.stop.Stop.TheVariants as stops;
-ghost use Rattle.cyc_scope.specs.Code.{Gives, Ends};
-ghost use Rattle.cyc_forms.specs.Forms.{view_given, view_boxed};
-ghost use Rattle.cyc_statements.specs.Aliases.{alias_asked, alias_of};
-ghost use Rattle.cyc_statements.specs.Nodes.{view_initialised};
+ghost use Rattle.cyc_scope.specs.inside.Code.{Gives, Ends};
+ghost use Rattle.cyc_forms.specs.inside.Forms.{view_given, view_boxed};
+ghost use Rattle.cyc_statements.specs.inside.Aliases.{alias_asked, alias_of};
+ghost use Rattle.cyc_statements.specs.inside.Nodes.{view_initialised};
 
 use cyc_expressions::check_expression;
 use cyc_forms::types::{is_key, is_unique, region_of as region_of_type, same_type};

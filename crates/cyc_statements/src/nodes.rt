@@ -1,12 +1,12 @@
 //! The nodes of typed statements. What makes or moves a node is a function of its own beside the walk, so that the walk's frames are
 //! small however large a node is.
 ghost use Rattle.std.specs.Prelude.{◌≡◌, Ok, option_map};
-ghost use Rattle.cyc_syntax.specs.TreeView.{place_of_span};
+ghost use Rattle.cyc_syntax.specs.inside.TreeView.{place_of_span};
 ghost use Rattle.cyc_types.specs.TypedTrees as nodes;
 ghost use Rattle.cyc_types.specs.TypedTreeView as typed_view;
-ghost use Rattle.cyc_scope.specs.Code.{Gives};
-ghost use Rattle.cyc_forms.specs.Forms.{view_boxed};
-ghost use Rattle.cyc_statements.specs.Nodes.{view_boxed_statement};
+ghost use Rattle.cyc_scope.specs.inside.Code.{Gives};
+ghost use Rattle.cyc_forms.specs.inside.Forms.{view_boxed};
+ghost use Rattle.cyc_statements.specs.inside.Nodes.{view_boxed_statement};
 
 use cyc_scope::Stop;
 use cyc_types::typed;

@@ -4,8 +4,7 @@ use Rattle.std.specs.Prelude.{is_some, if◌then◌else◌}
 use Rattle.std.proofs.lemmas.Bool.{cases_eq}
 use Rattle.cyc_words.proofs.Booleans.{some_there}
 use Rattle.cyc_words.proofs.Numbers.{when_equal}
-use Rattle.cyc_store.specs.Lookup.{lookup, without, changed}
-use Rattle.cyc_store.specs.State.{Block, address_of, Uniques, Home, handle_of, StoreState, homes, covers, block_in, block_at, with_block, room}
+use Rattle.cyc_store.specs.State.{lookup, without, changed, Block, address_of, Uniques, Home, handle_of, StoreState, homes, covers, block_in, block_at, with_block, room}
 use Rattle.cyc_store.specs.Services.{Allocate, CloseDynamic, Free, Refusal, BadHandle, BadSize, Refused, Done, Allocated, block_of, made, is_full, full_at, is_size, refusal, IsPlaced, IsApart, ServesBy, Serves}
 use Rattle.cyc_store.specs.Soundness.{IsSound}
 use Rattle.cyc_store.specs.declared.range.TheConstants.{UNIQUE}

@@ -6,8 +6,7 @@ use Rattle.cyc_words.specs.Word.{IsWord}
 use Rattle.cyc_words.specs.Demand.{greatest_class, class_of, blocks_in_page, demand_of}
 use Rattle.cyc_words.proofs.Booleans.{some_there}
 use Rattle.cyc_words.proofs.Numbers.{none_below, one_less, when_equal}
-use Rattle.cyc_store.specs.Lookup.{lookup, without}
-use Rattle.cyc_store.specs.State.{Memory, AreWords, Block, address_of, Sort, Heap, Lexical, Dynamic, Uniques, Home, handle_of, StoreState, homes, sizes_in, start, word_at, has_saved, saved, demand, live_in, raised, opened, down_to, made_in, made_unique, room}
+use Rattle.cyc_store.specs.State.{lookup, without, Memory, AreWords, Block, address_of, Sort, Heap, Lexical, Dynamic, Uniques, Home, handle_of, StoreState, homes, sizes_in, start, word_at, has_saved, saved, demand, live_in, raised, opened, down_to, made_in, made_unique, room}
 use Rattle.cyc_store.specs.Services.{Call, OpenLexical, CloseTo, OpenDynamic, CloseDynamic, Allocate, Free, Refusal, BadHandle, BadSize, NotABlock, Refused, Choice, block_of, served, answer, any_choice, is_full, full_at, is_dynamic, names_dynamic, is_size, refusal, IsPlaced, IsApart, IsFresh, IsAllowed}
 use Rattle.cyc_store.specs.Soundness.{IsSound}
 use Rattle.cyc_store.specs.Run.{Service}
@@ -15,7 +14,7 @@ use Rattle.cyc_store.specs.Pages.{page_start, Pages, mark_of, HasChain, IsPaged}
 use Rattle.cyc_store.specs.Slots.{place_of, slots_from, slot_block, Layout, IsLiveSlot, IsLaidOut, with_page}
 use Rattle.cyc_store.specs.Ordered.{IsOrdered, HasChoice, Answers}
 use Rattle.cyc_store.specs.Ledger.{store_of}
-use Rattle.cyc_store.specs.Kept.{numbers_from}
+use Rattle.cyc_store.specs.inside.Kept.{numbers_from}
 use Rattle.cyc_store.specs.declared.range.TheConstants.{HEAP, UNIQUE, PAGE_WORDS, MOST_BLOCK_WORDS, MOST_PAGES}
 use Rattle.cyc_store.proofs.LookupLemmas.{when_other, not_both, cases_option, lookup-there, lookup-key, lookup-without_other, IsPart, IsPart-without}
 use Rattle.cyc_store.proofs.HolderLemmas.{IsPart-down_to}

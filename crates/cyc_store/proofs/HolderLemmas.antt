@@ -3,8 +3,7 @@ use Rattle.std.proofs.Common.{◌≡◌, ℕ, zero, suc, ◌+◌, ◌*◌, ◌<�
 use Rattle.std.specs.Prelude.{◌⊎◌, nat_le, nat_lt}
 use Rattle.std.proofs.lemmas.Bool.{cases_eq, cases_Bool, cond-true, cond-false, le-leb, lt-ltb, and_from}
 use Rattle.cyc_words.proofs.Numbers.{when_equal}
-use Rattle.cyc_store.specs.Lookup.{lookup, without, changed, AreDistinct}
-use Rattle.cyc_store.specs.State.{Block, address_of, Sort, Home, handle_of, empty_home, Holder, covers, holder_in, or_else, holder, block_in, block_at, with_block, is_lexical, down_to}
+use Rattle.cyc_store.specs.State.{lookup, without, changed, AreDistinct, Block, address_of, Sort, Home, handle_of, empty_home, Holder, covers, holder_in, or_else, holder, block_in, block_at, with_block, is_lexical, down_to}
 use Rattle.cyc_store.specs.Services.{IsPlaced, IsApart}
 use Rattle.cyc_store.specs.Soundness.{AreSound}
 use Rattle.cyc_store.proofs.LookupLemmas.{when_other, not_both, same_some, IsPart, is_empty, is_left, is_kept, lookup-here, lookup-there, lookup-none, lookup-key, lookup-append_cases, AreDistinct-append, lookup-part_none, lookup-part, AreDistinct-part, IsPart-without, lookup-without, lookup-changed_same, lookup-changed_other, AreDistinct-changed}

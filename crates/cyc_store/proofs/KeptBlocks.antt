@@ -6,12 +6,11 @@ use Rattle.std.proofs.lemmas.List.{get_or_default}
 use Rattle.std.proofs.lemmas.Nat.{pow_pos}
 use Rattle.cyc_words.specs.Demand.{greatest_class}
 use Rattle.cyc_words.proofs.Booleans.{some_there}
-use Rattle.cyc_store.specs.Lookup.{lookup}
-use Rattle.cyc_store.specs.State.{address_of, handle_of, StoreState}
+use Rattle.cyc_store.specs.State.{lookup, address_of, handle_of, StoreState}
 use Rattle.cyc_store.specs.Ledger.{Blocks, store_of}
 use Rattle.cyc_store.specs.Slots.{place_of, IsSlot, IsLiveSlot}
-use Rattle.cyc_store.specs.Table.{row_at}
-use Rattle.cyc_store.specs.Kept.{sort_of, handle_of_page, IsKept, table_of}
+use Rattle.cyc_store.specs.inside.Table.{row_at}
+use Rattle.cyc_store.specs.inside.Kept.{sort_of, handle_of_page, IsKept, table_of}
 use Rattle.cyc_store.specs.declared.row.PageTable.{PageTable}
 use Rattle.cyc_store.specs.declared.row.Role.TheVariants as role
 use Rattle.cyc_store.specs.declared.row.Row.{Row}

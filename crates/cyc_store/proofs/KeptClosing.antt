@@ -4,14 +4,13 @@ use Rattle.std.specs.Prelude.{◌⊎◌, if◌then◌else◌, is_some, slice_ind
 use Rattle.std.specs.List.{AllByRecursion}
 use Rattle.std.proofs.lemmas.Bool.{cases_eq, cases_lt}
 use Rattle.cyc_words.proofs.Numbers.{when_equal}
-use Rattle.cyc_store.specs.Lookup.{lookup, without, AreDistinct}
-use Rattle.cyc_store.specs.State.{Sort, Heap, Lexical, Dynamic, Uniques, Home, handle_of, is_lexical, StoreState}
+use Rattle.cyc_store.specs.State.{lookup, without, AreDistinct, Sort, Heap, Lexical, Dynamic, Uniques, Home, handle_of, is_lexical, StoreState}
 use Rattle.cyc_store.specs.Services.{CloseDynamic, Done, is_dynamic, names_dynamic, Serves}
 use Rattle.cyc_store.specs.Ledger.{Blocks, store_of}
 use Rattle.cyc_store.specs.Pages.{given_back}
 use Rattle.cyc_store.specs.Slots.{IsLaidOut}
-use Rattle.cyc_store.specs.Table.{row_at, given_rows, given_free, AreThere}
-use Rattle.cyc_store.specs.Kept.{role_of, role_of_sort, role_of_owner, sort_of, handle_of_page, IsRooted, lexical_handles, IsTied, IsKept, table_of, no_slots}
+use Rattle.cyc_store.specs.inside.Table.{row_at, given_rows, given_free, AreThere}
+use Rattle.cyc_store.specs.inside.Kept.{role_of, role_of_sort, role_of_owner, sort_of, handle_of_page, IsRooted, lexical_handles, IsTied, IsKept, table_of, no_slots}
 use Rattle.cyc_store.specs.declared.row.PageTable.{PageTable}
 use Rattle.cyc_store.specs.declared.row.Role.TheVariants as role
 use Rattle.cyc_store.specs.declared.row.Row.{Row}

@@ -7,14 +7,13 @@ use Rattle.std.proofs.lemmas.Bool.{cases_lt}
 use Rattle.std.proofs.lemmas.Nat.{pow_pos}
 use Rattle.cyc_words.specs.Demand.{greatest_class}
 use Rattle.cyc_words.proofs.Numbers.{when_equal}
-use Rattle.cyc_store.specs.Lookup.{lookup, without}
-use Rattle.cyc_store.specs.State.{Memory, put, AreWords, Block, address_of, Holder, StoreState, homes, holder}
+use Rattle.cyc_store.specs.State.{lookup, without, Memory, put, AreWords, Block, address_of, Holder, StoreState, homes, holder}
 use Rattle.cyc_store.specs.Services.{Free, Done, Serves}
 use Rattle.cyc_store.specs.Soundness.{IsSound}
 use Rattle.cyc_store.specs.Ledger.{Blocks, memory_of, store_of, after}
 use Rattle.cyc_store.specs.Slots.{place_of, slot_block, IsSlot, IsLiveSlot, IsDeadSlot, IsLaidOut}
-use Rattle.cyc_store.specs.Table.{marked_between}
-use Rattle.cyc_store.specs.Kept.{IsChain, IsStocked, IsTied, IsKept, table_of, no_slots}
+use Rattle.cyc_store.specs.inside.Table.{marked_between}
+use Rattle.cyc_store.specs.inside.Kept.{IsChain, IsStocked, IsTied, IsKept, table_of, no_slots}
 use Rattle.cyc_store.specs.declared.change.Change.TheVariants.{Freed}
 use Rattle.cyc_store.specs.declared.row.PageTable.{PageTable}
 use Rattle.cyc_store.specs.declared.row.ClassSlots.{ClassSlots}

@@ -7,7 +7,7 @@ use Rattle.cyc_words.proofs.Booleans.{some_there}
 use Rattle.cyc_words.proofs.Numbers.{when_equal}
 use Rattle.cyc_store.specs.State.{StoreState, homes, Holder, holder, word_in, word_at}
 use Rattle.cyc_store.specs.Ledger.{Blocks, memory_of, store_of}
-use Rattle.cyc_store.specs.Kept.{IsKept}
+use Rattle.cyc_store.specs.inside.Kept.{IsKept}
 use Rattle.cyc_store.specs.declared.row.PageTable.{PageTable}
 use Rattle.cyc_store.specs.declared.row.ClassSlots.{ClassSlots}
 use Rattle.cyc_store.proofs.LookupLemmas.{when_other, cases_option}

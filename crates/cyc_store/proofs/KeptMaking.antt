@@ -4,14 +4,13 @@ use Rattle.std.specs.Prelude.{◌==◌, if◌then◌else◌, slice_index, slice_
 use Rattle.std.specs.List.{AllByRecursion}
 use Rattle.std.proofs.lemmas.Bool.{cases_eq}
 use Rattle.cyc_words.specs.Demand.{region_pages, demand_of}
-use Rattle.cyc_store.specs.Lookup.{lookup}
-use Rattle.cyc_store.specs.State.{Block, address_of, Home, handle_of, StoreState, homes, sizes_of, sizes_in, demand, made_in}
+use Rattle.cyc_store.specs.State.{lookup, Block, address_of, Home, handle_of, StoreState, homes, sizes_of, sizes_in, demand, made_in}
 use Rattle.cyc_store.specs.Services.{Allocate, Allocated, Refused, Full, refusal, IsPlaced, IsApart, Serves}
 use Rattle.cyc_store.specs.Ledger.{Blocks, store_of, plain_store, blocks_of}
 use Rattle.cyc_store.specs.Pages.{page_start, IsPaged, drawn, filled_to, mark_of}
 use Rattle.cyc_store.specs.Slots.{IsLaidOut}
-use Rattle.cyc_store.specs.Table.{Draws, row_at}
-use Rattle.cyc_store.specs.Kept.{limit, handle_of_page, IsRooted, IsTied, IsKept, table_of, no_slots}
+use Rattle.cyc_store.specs.inside.Table.{Draws, row_at}
+use Rattle.cyc_store.specs.inside.Kept.{limit, handle_of_page, IsRooted, IsTied, IsKept, table_of, no_slots}
 use Rattle.cyc_store.specs.declared.row.PageTable.{PageTable}
 use Rattle.cyc_store.specs.declared.row.Row.{Row}
 use Rattle.cyc_store.specs.declared.row.ClassSlots.{ClassSlots}

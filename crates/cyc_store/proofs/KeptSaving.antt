@@ -6,7 +6,7 @@ use Rattle.cyc_words.proofs.Booleans.{some_there}
 use Rattle.cyc_store.specs.State.{Memory, put, StoreState, homes, holder, word_at, has_saved, saved}
 use Rattle.cyc_store.specs.Ledger.{Blocks, memory_of, store_of}
 use Rattle.cyc_store.specs.Slots.{place_of, IsDeadSlot, IsLaidOut}
-use Rattle.cyc_store.specs.Kept.{IsTied, IsKept, table_of, no_slots}
+use Rattle.cyc_store.specs.inside.Kept.{IsTied, IsKept, table_of, no_slots}
 use Rattle.cyc_store.specs.declared.row.PageTable.{PageTable}
 use Rattle.cyc_store.specs.declared.row.ClassSlots.{ClassSlots}
 use Rattle.cyc_store.specs.declared.range.TheConstants.{PAGE_WORDS}

@@ -7,14 +7,13 @@ use Rattle.std.proofs.lemmas.List.{append-nil}
 use mathlib.Core.Path.{fun_ext}
 use Rattle.cyc_words.specs.Demand.{page_words, demand_of, pages_from, region_pages}
 use Rattle.cyc_words.proofs.Numbers.{when_equal}
-use Rattle.cyc_store.specs.Lookup.{lookup}
-use Rattle.cyc_store.specs.State.{Sort, Lexical, Dynamic, Uniques, Home, handle_of, is_lexical, StoreState, homes, sizes_of, sizes_in, demand, opened, lexical_count}
+use Rattle.cyc_store.specs.State.{lookup, Sort, Lexical, Dynamic, Uniques, Home, handle_of, is_lexical, StoreState, homes, sizes_of, sizes_in, demand, opened, lexical_count}
 use Rattle.cyc_store.specs.Soundness.{IsSound}
 use Rattle.cyc_store.specs.Ledger.{Blocks, memory_of, store_of, plain_store, blocks_of}
 use Rattle.cyc_store.specs.Pages.{IsPaged, drawn}
 use Rattle.cyc_store.specs.Slots.{IsLaidOut}
-use Rattle.cyc_store.specs.Table.{IsWhole, IsSame, Draws, free_row, row_at}
-use Rattle.cyc_store.specs.Kept.{numbers_from, handle_of_page, lexical_handles, IsTied, IsKept, table_of, no_slots}
+use Rattle.cyc_store.specs.inside.Table.{IsWhole, IsSame, Draws, free_row, row_at}
+use Rattle.cyc_store.specs.inside.Kept.{numbers_from, handle_of_page, lexical_handles, IsTied, IsKept, table_of, no_slots}
 use Rattle.cyc_store.specs.declared.row.PageTable.{PageTable}
 use Rattle.cyc_store.specs.declared.row.Row.{Row}
 use Rattle.cyc_store.specs.declared.row.TheConstants.{NONE}

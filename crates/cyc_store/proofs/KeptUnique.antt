@@ -10,7 +10,7 @@ use Rattle.cyc_store.specs.Answers.{refused, Responds}
 use Rattle.cyc_store.specs.Services.{Allocate, Allocated, Refused, Full, refusal, Serves}
 use Rattle.cyc_store.specs.Ledger.{Blocks, store_of}
 use Rattle.cyc_store.specs.Slots.{HasSlot, IsSpent, with_page, Fills, Stocks}
-use Rattle.cyc_store.specs.Kept.{IsKept}
+use Rattle.cyc_store.specs.inside.Kept.{IsKept}
 use Rattle.cyc_store.specs.declared.answer.No.{No}
 use Rattle.cyc_store.specs.declared.answer.No.TheVariants as no
 use Rattle.cyc_store.specs.declared.row.PageTable.{PageTable}

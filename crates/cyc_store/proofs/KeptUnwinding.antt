@@ -3,10 +3,9 @@ use Rattle.std.proofs.Common.{◌≡◌, ℕ, zero, suc, ◌+◌, ◌*◌, ◌/�
 use Rattle.std.specs.Prelude.{◌⊎◌}
 use Rattle.std.proofs.lemmas.Bool.{cases_Bool, cond-true, cond-false}
 use Rattle.cyc_words.proofs.Numbers.{zero_least, when_equal}
-use Rattle.cyc_store.specs.Lookup.{lookup, without, AreDistinct}
-use Rattle.cyc_store.specs.State.{Home, handle_of, is_lexical, lexical_count, down_to}
+use Rattle.cyc_store.specs.State.{lookup, without, AreDistinct, Home, handle_of, is_lexical, lexical_count, down_to}
 use Rattle.cyc_store.specs.Ledger.{Blocks, Stored, held_of, Unwinds}
-use Rattle.cyc_store.specs.Kept.{handle_of_page, lexical_handles, IsKept}
+use Rattle.cyc_store.specs.inside.Kept.{handle_of_page, lexical_handles, IsKept}
 use Rattle.cyc_store.specs.declared.row.PageTable.{PageTable}
 use Rattle.cyc_store.specs.declared.row.ClassSlots.{ClassSlots}
 use Rattle.cyc_store.proofs.LookupLemmas.{when_other, not_both, lookup-here, lookup-there}

@@ -6,11 +6,10 @@ use Rattle.std.proofs.lemmas.Bool.{cases_eq, cases_lt}
 use Rattle.std.proofs.lemmas.Nat.{pow_pos}
 use Rattle.cyc_words.specs.Demand.{greatest_class, blocks_in_page}
 use Rattle.cyc_words.proofs.Numbers.{when_equal}
-use Rattle.cyc_store.specs.Lookup.{lookup}
-use Rattle.cyc_store.specs.State.{address_of, Sort, Heap, Lexical, Dynamic, Uniques, Home, handle_of, StoreState, homes, covers, holder}
+use Rattle.cyc_store.specs.State.{lookup, address_of, Sort, Heap, Lexical, Dynamic, Uniques, Home, handle_of, StoreState, homes, covers, holder}
 use Rattle.cyc_store.specs.Ledger.{Blocks, store_of}
 use Rattle.cyc_store.specs.Slots.{place_of, Layout, slot_block, IsSlot, IsLaidOut}
-use Rattle.cyc_store.specs.Kept.{Table, limit, role_of, role_of_owner, role_of_sort, sort_of, handle_of_page, IsRooted, IsTied}
+use Rattle.cyc_store.specs.inside.Kept.{Table, limit, role_of, role_of_owner, role_of_sort, sort_of, handle_of_page, IsRooted, IsTied}
 use Rattle.cyc_store.specs.declared.row.Role.{Role}
 use Rattle.cyc_store.specs.declared.row.Role.TheVariants as role
 use Rattle.cyc_store.specs.declared.row.ClassSlots.{ClassSlots}

@@ -1,7 +1,6 @@
 -- What is true of a new store: it holds words, and asks for the heap's first page.
 use Rattle.std.proofs.Common.{◌≡◌, ℕ, sym, ap, subst}
-use Rattle.cyc_store.specs.State.{AreWords, StoreState, demand}
-use Rattle.cyc_store.specs.New.{IsNew}
+use Rattle.cyc_store.specs.State.{AreWords, StoreState, demand, IsNew}
 
 pub new_words : (pages : ℕ) (s : StoreState) → IsNew pages s → AreWords s.memory
 new_words pages s (memory, words, is) = subst (λ (t : StoreState). AreWords t.memory) (sym is) words

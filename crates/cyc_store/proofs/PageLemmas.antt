@@ -5,8 +5,7 @@ use Rattle.std.proofs.Math.Nat.{add-mul-mod_self_left}
 use Rattle.std.proofs.lemmas.Bool.{cases_eq, cases_Bool, and_parts, leb-true, ltb-true}
 use Rattle.cyc_words.specs.Demand.{page_words, pages_from}
 use Rattle.cyc_words.proofs.Numbers.{when_equal}
-use Rattle.cyc_store.specs.Lookup.{lookup, changed}
-use Rattle.cyc_store.specs.State.{put, Block, Sort, Home, handle_of, empty_home, Holder, covers, holder_in, holder, with_block}
+use Rattle.cyc_store.specs.State.{lookup, changed, put, Block, Sort, Home, handle_of, empty_home, Holder, covers, holder_in, holder, with_block}
 use Rattle.cyc_store.specs.Services.{IsPlaced, IsApart}
 use Rattle.cyc_store.specs.declared.range.TheConstants.{STORE_BASE, PAGE_WORDS}
 use Rattle.cyc_store.proofs.LookupLemmas.{when_other, cases_option, not_both, same_some, IsPart, is_empty, is_left, is_kept, lookup-none}

@@ -6,8 +6,7 @@ use Rattle.std.proofs.lemmas.List.{map-append}
 use Rattle.std.proofs.lemmas.Bool.{cases_eq, cond-true, cond-false, le-leb, lt-leb}
 use Rattle.cyc_words.specs.Demand.{region_pages, demand_of}
 use Rattle.cyc_words.proofs.Numbers.{when_equal}
-use Rattle.cyc_store.specs.Lookup.{lookup, changed}
-use Rattle.cyc_store.specs.State.{put, Block, Home, handle_of, StoreState, homes, sizes_of, sizes_in, demand, with_block, made_in}
+use Rattle.cyc_store.specs.State.{lookup, changed, put, Block, Home, handle_of, StoreState, homes, sizes_of, sizes_in, demand, with_block, made_in}
 use Rattle.cyc_store.specs.Services.{IsPlaced, IsApart}
 use Rattle.cyc_store.specs.declared.range.TheConstants.{PAGE_WORDS}
 use Rattle.cyc_store.proofs.LookupLemmas.{when_other, same_some, lookup-here, lookup-there}

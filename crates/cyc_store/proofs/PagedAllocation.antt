@@ -4,8 +4,7 @@ use Rattle.std.specs.Prelude.{◌⊎◌, nat_le, is_some, if◌then◌else◌}
 use Rattle.std.proofs.lemmas.Bool.{cases_lt, and_parts, leb-true}
 use Rattle.cyc_words.specs.Demand.{class_of}
 use Rattle.cyc_words.proofs.Booleans.{some_there}
-use Rattle.cyc_store.specs.Lookup.{lookup}
-use Rattle.cyc_store.specs.State.{Uniques, Home, handle_of, StoreState, homes, demand, made_in, room}
+use Rattle.cyc_store.specs.State.{lookup, Uniques, Home, handle_of, StoreState, homes, demand, made_in, room}
 use Rattle.cyc_store.specs.Services.{Allocate, BadHandle, BadSize, Choice, block_of, served, any_choice, is_full, full_at, is_size, refusal, IsPlaced, IsApart, IsAllowed}
 use Rattle.cyc_store.specs.Soundness.{IsSound}
 use Rattle.cyc_store.specs.declared.range.TheConstants.{PAGE_WORDS, MOST_BLOCK_WORDS, UNIQUE}

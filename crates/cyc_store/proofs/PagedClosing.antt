@@ -5,8 +5,7 @@ use Rattle.std.proofs.lemmas.Bool.{cases_eq}
 use Rattle.cyc_words.specs.Demand.{region_pages, demand_of}
 use Rattle.cyc_words.specs.Distinct.{IsDistinct}
 use Rattle.cyc_words.proofs.Numbers.{when_equal}
-use Rattle.cyc_store.specs.Lookup.{lookup, without, AreDistinct}
-use Rattle.cyc_store.specs.State.{Uniques, Home, handle_of, StoreState, sizes_of, sizes_in, demand}
+use Rattle.cyc_store.specs.State.{lookup, without, AreDistinct, Uniques, Home, handle_of, StoreState, sizes_of, sizes_in, demand}
 use Rattle.cyc_store.specs.Soundness.{IsSound}
 use Rattle.cyc_store.specs.declared.range.TheConstants.{UNIQUE}
 use Rattle.cyc_store.proofs.LookupLemmas.{when_other, same_some, not_both, is_kept, lookup-here, lookup-there, lookup-none, lookup-key, lookup-part, lookup-without, IsPart-without}

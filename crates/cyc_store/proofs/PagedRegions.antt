@@ -3,8 +3,7 @@ use Rattle.std.proofs.Common.{◌≡◌, ◌≢◌, ℕ, suc, ◌+◌, ◌*◌, 
 use Rattle.std.specs.List.{AllByRecursion}
 use Rattle.std.proofs.lemmas.Bool.{cases_eq}
 use Rattle.cyc_words.proofs.Numbers.{zero_least, at_most_itself, when_equal}
-use Rattle.cyc_store.specs.Lookup.{lookup, changed}
-use Rattle.cyc_store.specs.State.{Block, Uniques, Home, handle_of, StoreState, homes, demand, with_block, made_in}
+use Rattle.cyc_store.specs.State.{lookup, changed, Block, Uniques, Home, handle_of, StoreState, homes, demand, with_block, made_in}
 use Rattle.cyc_store.specs.declared.range.TheConstants.{PAGE_WORDS, UNIQUE}
 use Rattle.cyc_store.proofs.LookupLemmas.{when_other, same_some, not_both, lookup-key, lookup-changed_same, lookup-changed_other}
 use Rattle.cyc_store.specs.Pages.{page_start, Pages, AreFilled, AreLaid, filled_to, drawn, Mark, mark_of, HasNewest, HasChain, IsFree, IsPaged}

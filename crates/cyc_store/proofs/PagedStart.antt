@@ -4,7 +4,7 @@ use Rattle.std.specs.List.{AllByRecursion}
 use Rattle.cyc_words.specs.Distinct.{IsDistinct}
 use Rattle.cyc_words.proofs.Numbers.{below_next}
 use Rattle.cyc_store.specs.State.{Memory, Sort, Heap, StoreState, start, demand, opened}
-use Rattle.cyc_store.specs.Kept.{numbers_from}
+use Rattle.cyc_store.specs.inside.Kept.{numbers_from}
 use Rattle.cyc_store.specs.declared.range.TheConstants.{HEAP, PAGE_WORDS}
 use Rattle.cyc_store.specs.Pages.{Pages, drawn, IsFree, IsPaged}
 use Rattle.cyc_store.proofs.PagedAllocation.{ArePages}

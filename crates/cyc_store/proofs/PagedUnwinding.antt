@@ -3,8 +3,7 @@ use Rattle.std.proofs.Common.{◌≡◌, ℕ, zero, suc, ◌<◌, ◌≤◌, Lis
 use Rattle.std.specs.Prelude.{◌⊎◌}
 use Rattle.std.proofs.lemmas.Bool.{cases_eq}
 use Rattle.cyc_words.proofs.Numbers.{none_below, one_less, when_equal}
-use Rattle.cyc_store.specs.Lookup.{lookup, without, AreDistinct}
-use Rattle.cyc_store.specs.State.{Home, handle_of, StoreState, down_to}
+use Rattle.cyc_store.specs.State.{lookup, without, AreDistinct, Home, handle_of, StoreState, down_to}
 use Rattle.cyc_store.specs.Soundness.{IsSound}
 use Rattle.cyc_store.specs.declared.range.TheConstants.{UNIQUE}
 use Rattle.cyc_store.proofs.LookupLemmas.{when_other, not_both, IsPart, is_empty, is_left, is_kept, lookup-here, lookup-there, IsPart-without}

@@ -5,8 +5,7 @@ use Rattle.std.specs.List.{AllByRecursion}
 use Rattle.std.proofs.lemmas.Bool.{cases_eq, cases_lt}
 use Rattle.cyc_words.specs.Distinct.{IsDistinct}
 use Rattle.cyc_words.proofs.Numbers.{when_equal}
-use Rattle.cyc_store.specs.Lookup.{lookup, without, changed}
-use Rattle.cyc_store.specs.State.{Memory, Block, address_of, Sort, Home, handle_of, empty_home, StoreState, covers, block_in, block_at, demand, opened, with_block, made_in}
+use Rattle.cyc_store.specs.State.{lookup, without, changed, Memory, Block, address_of, Sort, Home, handle_of, empty_home, StoreState, covers, block_in, block_at, demand, opened, with_block, made_in}
 use Rattle.cyc_store.specs.Soundness.{IsSound}
 use Rattle.cyc_store.specs.declared.range.TheConstants.{STORE_BASE, PAGE_WORDS, UNIQUE}
 use Rattle.cyc_store.proofs.LookupLemmas.{when_other, not_both, same_some, lookup-key, lookup-append, lookup-append_new, lookup-changed_same, lookup-changed_other, lookup-without_other}

@@ -4,8 +4,7 @@ use Rattle.std.specs.Prelude.{◌⊎◌, ◌&&◌, nat_le, is_some}
 use Rattle.std.proofs.lemmas.Bool.{cases_Bool, cond-true, cond-false, le-leb, lt-leb, ltb-true, ltb-false}
 use Rattle.cyc_words.specs.Demand.{class_of}
 use Rattle.cyc_words.proofs.Numbers.{when_equal}
-use Rattle.cyc_store.specs.Lookup.{lookup, without}
-use Rattle.cyc_store.specs.State.{Memory, AreWords, Block, address_of, Sort, Lexical, Dynamic, Uniques, Home, handle_of, Holder, StoreState, homes, holder, demand, opened, lexical_count, down_to, made_in, made_unique}
+use Rattle.cyc_store.specs.State.{lookup, without, Memory, AreWords, Block, address_of, Sort, Lexical, Dynamic, Uniques, Home, handle_of, Holder, StoreState, homes, holder, demand, opened, lexical_count, down_to, made_in, made_unique}
 use Rattle.cyc_store.specs.Services.{Call, OpenLexical, OpenDynamic, CloseTo, CloseDynamic, Allocate, Free, Refusal, BadMark, BadHandle, BadSize, NotABlock, Full, Refused, Done, Opened, OpenedLexical, Allocated, Choice, block_of, served, answer, any_choice, is_full, full_at, is_dynamic, names_dynamic, is_size, refusal, IsPlaced, IsApart, IsAllowed, ServesBy, Serves}
 use Rattle.cyc_store.specs.Soundness.{IsSound}
 use Rattle.cyc_store.specs.Pages.{IsPaged}

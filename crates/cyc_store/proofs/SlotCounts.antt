@@ -6,8 +6,7 @@ use Rattle.std.proofs.lemmas.Bool.{cases_eq, cases_lt}
 use Rattle.std.proofs.lemmas.List.{set-get_or}
 use Rattle.cyc_words.specs.Demand.{greatest_class, class_of, blocks_in_page, pages_for, total, demand_of}
 use Rattle.cyc_words.proofs.Numbers.{when_equal}
-use Rattle.cyc_store.specs.Lookup.{lookup, without, AreDistinct}
-use Rattle.cyc_store.specs.State.{Block, address_of, live_in, raised}
+use Rattle.cyc_store.specs.State.{lookup, without, AreDistinct, Block, address_of, live_in, raised}
 use Rattle.cyc_store.proofs.LookupLemmas.{when_other, same_some, lookup-here, lookup-there, lookup-none}
 use Rattle.cyc_store.proofs.CountLemmas.{blocks-some, live-here, live-there}
 

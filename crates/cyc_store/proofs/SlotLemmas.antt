@@ -3,8 +3,7 @@ use Rattle.std.proofs.Common.{◌≡◌, ℕ, suc, ◌+◌, ◌*◌, ◌^◌, �
 use Rattle.std.proofs.Math.Nat.{mul-le-mul_right, suc-mul}
 use Rattle.std.proofs.lemmas.Bool.{cases_Bool, cases_lt}
 use Rattle.std.proofs.lemmas.Nat.{pow_pos}
-use Rattle.cyc_store.specs.Lookup.{lookup, AreDistinct}
-use Rattle.cyc_store.specs.State.{Block, address_of, Uniques, handle_of, StoreState, homes, covers, Holder, holder_in, holder, block_in}
+use Rattle.cyc_store.specs.State.{lookup, AreDistinct, Block, address_of, Uniques, handle_of, StoreState, homes, covers, Holder, holder_in, holder, block_in}
 use Rattle.cyc_store.specs.Services.{IsApart}
 use Rattle.cyc_store.specs.Soundness.{IsSound}
 use Rattle.cyc_store.specs.declared.range.TheConstants.{STORE_BASE, PAGE_WORDS, UNIQUE}

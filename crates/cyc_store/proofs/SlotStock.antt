@@ -8,8 +8,7 @@ use Rattle.std.proofs.lemmas.Nat.{pow_pos}
 use Rattle.cyc_words.specs.Demand.{page_words, greatest_class, blocks_in_page, pages_for}
 use Rattle.cyc_words.specs.Distinct.{IsDistinct}
 use Rattle.cyc_words.proofs.Numbers.{zero_least, when_equal}
-use Rattle.cyc_store.specs.Lookup.{lookup}
-use Rattle.cyc_store.specs.State.{put, address_of, Home, handle_of, StoreState, homes, sizes_in, demand, live_in}
+use Rattle.cyc_store.specs.State.{lookup, put, address_of, Home, handle_of, StoreState, homes, sizes_in, demand, live_in}
 use Rattle.cyc_store.specs.Soundness.{IsSound}
 use Rattle.cyc_store.specs.declared.range.TheConstants.{PAGE_WORDS, UNIQUE}
 use Rattle.cyc_store.proofs.LookupLemmas.{when_other, cases_option, not_both, same_some, lookup-key}

@@ -6,13 +6,12 @@ use Rattle.std.proofs.lemmas.Bool.{cases_eq}
 use Rattle.cyc_words.specs.Distinct.{IsDistinct}
 use Rattle.cyc_words.proofs.Lists.{all_append}
 use Rattle.cyc_words.proofs.Numbers.{when_equal}
-use Rattle.cyc_store.specs.Lookup.{lookup, without}
-use Rattle.cyc_store.specs.State.{Home, handle_of}
+use Rattle.cyc_store.specs.State.{lookup, without, Home, handle_of}
 use Rattle.cyc_store.specs.Ledger.{Blocks}
 use Rattle.cyc_store.specs.Pages.{owner_without, given_back}
 use Rattle.cyc_store.specs.Slots.{Layout}
-use Rattle.cyc_store.specs.Table.{free_row, row_at, given_rows, given_free, AreThere}
-use Rattle.cyc_store.specs.Kept.{Table, IsChain, IsOneOf, numbers_from, limit, role_of, sort_of, handle_of_page, IsRooted, lexical_handles, IsTied}
+use Rattle.cyc_store.specs.inside.Table.{free_row, row_at, given_rows, given_free, AreThere}
+use Rattle.cyc_store.specs.inside.Kept.{Table, IsChain, IsOneOf, numbers_from, limit, role_of, sort_of, handle_of_page, IsRooted, lexical_handles, IsTied}
 use Rattle.cyc_store.specs.declared.row.Role.TheVariants as role
 use Rattle.cyc_store.specs.declared.row.Row.{Row}
 use Rattle.cyc_store.specs.declared.row.TheConstants.{NONE}

@@ -4,12 +4,11 @@ use Rattle.std.specs.Prelude.{if◌then◌else◌}
 use Rattle.std.specs.List.{AllByRecursion}
 use Rattle.std.proofs.lemmas.Bool.{cases_eq}
 use Rattle.cyc_words.proofs.Numbers.{when_equal}
-use Rattle.cyc_store.specs.Lookup.{lookup, changed}
-use Rattle.cyc_store.specs.State.{Block, Home, handle_of, is_lexical, with_block, made_in}
+use Rattle.cyc_store.specs.State.{lookup, changed, Block, Home, handle_of, is_lexical, with_block, made_in}
 use Rattle.cyc_store.specs.Ledger.{Blocks, plain_store, blocks_of}
 use Rattle.cyc_store.specs.Pages.{Pages, filled_to, drawn, Mark, mark_of, HasChain}
 use Rattle.cyc_store.specs.Slots.{Layout}
-use Rattle.cyc_store.specs.Kept.{Table, IsChain, limit, role_of, sort_of, handle_of_page, IsRow, IsRooted, lexical_handles, IsTied}
+use Rattle.cyc_store.specs.inside.Kept.{Table, IsChain, limit, role_of, sort_of, handle_of_page, IsRow, IsRooted, lexical_handles, IsTied}
 use Rattle.cyc_store.specs.declared.row.Role.TheVariants as role
 use Rattle.cyc_store.specs.declared.row.Row.{Row}
 use Rattle.cyc_store.specs.declared.row.TheConstants.{NONE}

@@ -4,12 +4,11 @@ use Rattle.std.specs.Prelude.{◌==◌, if◌then◌else◌}
 use Rattle.std.specs.List.{AllByRecursion}
 use Rattle.std.proofs.lemmas.Bool.{cases_eq}
 use Rattle.cyc_words.proofs.Numbers.{when_equal}
-use Rattle.cyc_store.specs.Lookup.{lookup}
-use Rattle.cyc_store.specs.State.{Sort, Heap, Lexical, Dynamic, Uniques, Home, handle_of, empty_home, is_lexical, opened}
+use Rattle.cyc_store.specs.State.{lookup, Sort, Heap, Lexical, Dynamic, Uniques, Home, handle_of, empty_home, is_lexical, opened}
 use Rattle.cyc_store.specs.Ledger.{Blocks, plain_store, blocks_of}
 use Rattle.cyc_store.specs.Pages.{Pages, drawn}
 use Rattle.cyc_store.specs.Slots.{Layout}
-use Rattle.cyc_store.specs.Kept.{Table, IsChain, numbers_from, limit, role_of, role_of_sort, sort_of, handle_of_page, IsRow, IsRooted, lexical_handles, IsTied}
+use Rattle.cyc_store.specs.inside.Kept.{Table, IsChain, numbers_from, limit, role_of, role_of_sort, sort_of, handle_of_page, IsRow, IsRooted, lexical_handles, IsTied}
 use Rattle.cyc_store.specs.declared.row.Row.{Row}
 use Rattle.cyc_store.specs.declared.row.TheConstants.{NONE}
 use Rattle.cyc_store.specs.declared.row.ClassSlots.{ClassSlots}

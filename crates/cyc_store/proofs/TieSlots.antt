@@ -8,13 +8,12 @@ use Rattle.std.proofs.Math.Nat.{div-mul-le_self, lt-div-mul-add}
 use Rattle.std.proofs.lemmas.Nat.{pow_pos}
 use Rattle.cyc_words.specs.Demand.{greatest_class, blocks_in_page}
 use Rattle.cyc_words.proofs.Numbers.{when_equal}
-use Rattle.cyc_store.specs.Lookup.{lookup}
-use Rattle.cyc_store.specs.State.{Block, address_of, Home, handle_of}
+use Rattle.cyc_store.specs.State.{lookup, Block, address_of, Home, handle_of}
 use Rattle.cyc_store.specs.Ledger.{Blocks}
 use Rattle.cyc_store.specs.Pages.{drawn}
 use Rattle.cyc_store.specs.Slots.{place_of, Layout, IsSlot, slots_from}
-use Rattle.cyc_store.specs.Table.{marked_between}
-use Rattle.cyc_store.specs.Kept.{Table, limit, role_of, role_of_owner, sort_of, handle_of_page, IsRow, IsRooted, IsStocked, IsTied}
+use Rattle.cyc_store.specs.inside.Table.{marked_between}
+use Rattle.cyc_store.specs.inside.Kept.{Table, limit, role_of, role_of_owner, sort_of, handle_of_page, IsRow, IsRooted, IsStocked, IsTied}
 use Rattle.cyc_store.specs.declared.row.Role.TheVariants as role
 use Rattle.cyc_store.specs.declared.row.Row.{Row}
 use Rattle.cyc_store.specs.declared.row.TheConstants.{NONE}

@@ -1,8 +1,7 @@
 -- The blocks of a store as data, beside the words of its pages: what a store that stands on an array of words holds.
 -- (This project's own choice.)
 use Rattle.std.specs.Prelude.{◌≡◌, ℕ, ◌+◌, ◌-◌, ◌/◌, ◌%◌, ◌==◌, ◌&&◌, nat_le, if◌then◌else◌, ◌*◌, ◌≤◌, length, suc, List, [], slice_index, set}
-use Rattle.cyc_store.specs.Lookup.{without}
-use Rattle.cyc_store.specs.State.{Memory, Block, address_of, Lexical, Dynamic, Home, handle_of, StoreState, start, demand, opened, lexical_count, down_to, made_in, made_unique}
+use Rattle.cyc_store.specs.State.{without, Memory, Block, address_of, Lexical, Dynamic, Home, handle_of, StoreState, start, demand, opened, lexical_count, down_to, made_in, made_unique}
 use Rattle.cyc_store.specs.declared.change.Change.{Change}
 use Rattle.cyc_store.specs.declared.change.Change.TheVariants.{OpenedLexical, OpenedDynamic, Closed, Made, Stocked, MadeUnique, Freed}
 use Rattle.cyc_store.specs.declared.range.TheConstants.{STORE_BASE, PAGE_WORDS}

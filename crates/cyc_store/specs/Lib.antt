@@ -1,9 +1,6 @@
 pub mod Answers
-pub mod Kept
 pub mod Ledger
-pub mod Lookup
 pub mod Made
-pub mod New
 pub mod Ordered
 pub mod Pages
 pub mod Run
@@ -11,4 +8,5 @@ pub mod Services
 pub mod Slots
 pub mod Soundness
 pub mod State
-pub mod Table
+-- What the functions of this crate promise each other and what its proofs say: no public contract of the product means it.
+pub mod inside

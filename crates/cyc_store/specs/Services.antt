@@ -2,8 +2,7 @@
 -- where blocks lie and which handles regions have; this relation allows every choice that does no harm. (Regions are those of
 -- Grossman et al. 2002; services, refusals and their order are this project's own choice.)
 use Rattle.std.specs.Prelude.{◌≡◌, ℕ, ◌+◌, ◌*◌, ◌<◌, ◌≤◌, ◌%◌, ◌^◌, ◌==◌, ◌&&◌, nat_le, nat_lt, Bool, true, false, if◌then◌else◌, Option, Some, None, is_some, List}
-use Rattle.cyc_store.specs.Lookup.{lookup, without}
-use Rattle.cyc_store.specs.State.{Memory, AreWords, Block, address_of, Sort, Heap, Lexical, Dynamic, Uniques, Home, handle_of, StoreState, homes, covers, Holder, holder, demand, opened, lexical_count, down_to, made_in, made_unique, room}
+use Rattle.cyc_store.specs.State.{lookup, without, Memory, AreWords, Block, address_of, Sort, Heap, Lexical, Dynamic, Uniques, Home, handle_of, StoreState, homes, covers, Holder, holder, demand, opened, lexical_count, down_to, made_in, made_unique, room}
 use Rattle.cyc_store.specs.declared.range.TheConstants.{STORE_BASE, PAGE_WORDS, MOST_BLOCK_WORDS, UNIQUE}
 
 pub data Call : Type 0 where

@@ -4,8 +4,7 @@ use Rattle.std.specs.Prelude.{◌≡◌, ℕ, zero, suc, ◌+◌, ◌*◌, ◌^�
 use Rattle.std.specs.List.{AllByRecursion}
 use Rattle.cyc_words.specs.Demand.{greatest_class, class_of, blocks_in_page}
 use Rattle.cyc_words.specs.Distinct.{IsDistinct}
-use Rattle.cyc_store.specs.Lookup.{lookup}
-use Rattle.cyc_store.specs.State.{Block, address_of, Home, StoreState, homes, covers, block_at, demand, live_in, raised, made_unique}
+use Rattle.cyc_store.specs.State.{lookup, Block, address_of, Home, StoreState, homes, covers, block_at, demand, live_in, raised, made_unique}
 use Rattle.cyc_store.specs.Services.{IsPlaced, IsApart}
 use Rattle.cyc_store.specs.Soundness.{IsSound}
 use Rattle.cyc_store.specs.declared.range.TheConstants.{STORE_BASE, PAGE_WORDS, UNIQUE}

@@ -1,8 +1,7 @@
 -- What is true of every store that began empty and was served. (This project's own choice.)
 use Rattle.std.specs.Prelude.{◌≡◌, ℕ, ◌≤◌, true, List, Some, length, slice_index}
 use Rattle.cyc_words.specs.Demand.{pages_for, greatest_class}
-use Rattle.cyc_store.specs.Lookup.{AreDistinct}
-use Rattle.cyc_store.specs.State.{AreWords, Block, address_of, Home, handle_of, StoreState, homes, covers, holder, block_at, demand, live_in}
+use Rattle.cyc_store.specs.State.{AreDistinct, AreWords, Block, address_of, Home, handle_of, StoreState, homes, covers, holder, block_at, demand, live_in}
 use Rattle.cyc_store.specs.Services.{IsPlaced}
 
 -- Handles name one region each, and a block is found at each of its addresses. So no two blocks overlap.

@@ -1,11 +1,32 @@
 -- What a store holds: regions and unique blocks, and the words of memory beside them. The regions are those of Grossman et al.
 -- (2002); a block is an address and a size, and all words are one function of the address, so that writing a word changes no
 -- block. What a store does to place blocks is its own affair: nothing here says where a page begins.
-use Rattle.std.specs.Prelude.{ℕ, zero, suc, ◌+◌, ◌*◌, ◌%◌, ◌^◌, ◌==◌, ◌&&◌, nat_le, nat_lt, max, Bool, true, false, if◌then◌else◌, List, [], ◌∷◌, ◌++◌, map, Option, Some, None, slice_index, set}
+use Rattle.std.specs.Prelude.{ℕ, zero, suc, ◌+◌, ◌*◌, ◌%◌, ◌^◌, ◌==◌, ◌&&◌, nat_le, nat_lt, max, Bool, true, false, if◌then◌else◌, List, [], ◌∷◌, ◌++◌, map, Option, Some, None, slice_index, set, ◌≡◌}
 use Rattle.cyc_words.specs.Word.{IsWord}
 use Rattle.cyc_words.specs.Demand.{class_of, pages_for, demand_of}
-use Rattle.cyc_store.specs.Lookup.{lookup, changed}
 use Rattle.cyc_store.specs.declared.range.TheConstants.{HEAP, UNIQUE}
+
+-- ---- lists that are looked up by a number of each element's own, its key, so that nothing shifts where one is taken out
+
+-- the first element with this number
+abbrev pub lookup : {A : Type 0} → (key : A → ℕ) → List A → (number : ℕ) → Option A
+lookup key [] number = None
+lookup key (x ∷ xs) number = if key x == number then Some x else lookup key xs number
+
+-- all but those with this number
+abbrev pub without : {A : Type 0} → (key : A → ℕ) → List A → (number : ℕ) → List A
+without key [] number = []
+without key (x ∷ xs) number = if key x == number then without key xs number else x ∷ without key xs number
+
+-- the first element with this number is changed
+abbrev pub changed : {A : Type 0} → (key : A → ℕ) → (change : A → A) → List A → (number : ℕ) → List A
+changed key change [] number = []
+changed key change (x ∷ xs) number = if key x == number then change x ∷ xs else x ∷ changed key change xs number
+
+-- no number stands twice
+abbrev pub AreDistinct : {A : Type 0} → (key : A → ℕ) → List A → Type 0
+AreDistinct key [] = Unit {0}
+AreDistinct key (x ∷ xs) = (lookup key xs (key x) ≡ None) × AreDistinct key xs
 
 -- ---- memory
 
@@ -180,3 +201,9 @@ made_unique s b = record s {
 -- the words of a block that is asked for with so many: a unique block has those of its class
 abbrev pub room : (handle words : ℕ) → ℕ
 room handle words = if handle == UNIQUE then 2 ^ class_of words else words
+
+-- ---- the stores that a run may begin with
+
+-- a new store of so many pages, in which the heap is open; its words are anything
+abbrev pub IsNew : (pages : ℕ) → StoreState → Type 0
+IsNew pages store = (memory : Memory) × AreWords memory × (store ≡ start pages memory)

@@ -4,8 +4,7 @@
 ghost use Rattle.std.specs.Prelude.{◌≡◌, ◌≢◌, ℕ, ◌+◌, ◌*◌, ◌^◌, ◌<◌, ◌≤◌, max, List, [], ◌∷◌, true, Some, None, slice_index};
 ghost use Rattle.cyc_words.specs.Word.{IsWord};
 ghost use Rattle.cyc_words.specs.Demand.{page_words, greatest_class, class_of, pages_for, region_pages};
-ghost use Rattle.cyc_store.specs.Lookup.{lookup};
-ghost use Rattle.cyc_store.specs.State.{Memory, AreWords, Block, handle_of, StoreState, homes, start, covers, Holder, holder, block_at, word_at, saved, demand, live_in, room};
+ghost use Rattle.cyc_store.specs.State.{lookup, Memory, AreWords, Block, handle_of, StoreState, homes, start, covers, Holder, holder, block_at, word_at, saved, demand, live_in, room};
 ghost use Rattle.cyc_store.specs.Services.{Call, Allocate, CloseDynamic, Free, Refusal, Full, Answer, Refused, Done, Allocated, Choice, served, any_choice, refusal, IsPlaced, IsAllowed, Serves};
 ghost use Rattle.cyc_store.specs.Soundness.{IsSound};
 ghost use Rattle.cyc_store.specs.Run.{Exchange, Run};

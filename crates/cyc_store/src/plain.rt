@@ -4,12 +4,11 @@ ghost use Rattle.std.specs.Prelude.{◌≡◌, ◌≢◌, ◌+◌, ◌*◌, ◌%
 ghost use Rattle.cyc_words.specs.Demand.{class_of};
 ghost use Rattle.cyc_store.specs.Answers.{Responds, allocated, opened_dynamic, opened_lexical};
 ghost use Rattle.cyc_store.specs.Ledger.{HasNoRoom, IsUsedUp, Unwinds, held_of, memory_of};
-ghost use Rattle.cyc_store.specs.Lookup.{lookup};
+ghost use Rattle.cyc_store.specs.State.{lookup, AreWords, start, homes, holder, address_of, handle_of, lexical_count, demand, word_at};
 ghost use Rattle.cyc_store.specs.Services.{Allocate, Free, Done, OpenDynamic, OpenLexical, Serves};
-ghost use Rattle.cyc_store.specs.Kept.{next_slot_of};
+ghost use Rattle.cyc_store.specs.inside.Kept.{next_slot_of};
 ghost use Rattle.cyc_store.specs.Ordered.{IsOrdered};
 ghost use Rattle.cyc_store.specs.Slots.{HasSlot, IsSpent, Stocks, Fills};
-ghost use Rattle.cyc_store.specs.State.{AreWords, start, homes, holder, address_of, handle_of, lexical_count, demand, word_at};
 
 use super::answer::{BadHandle, BadMark, No, NotABlock};
 use super::change::Change;
@@ -37,7 +36,7 @@ impl Model for PlainStore {
 
     ghost Value = { Stored };
 
-    ghost use Rattle.cyc_store.specs.Kept.{IsKept};
+    ghost use Rattle.cyc_store.specs.inside.Kept.{IsKept};
 
     ghost view = { λ s. record { pages = s.table.most; words = s.table.words.items; blocks = s.ledger.blocks; room = vec_capacity s.lexicals } };
 

@@ -70,7 +70,7 @@ pub struct PageTable {
 }
 
 impl PageTable {
-    ghost use Rattle.cyc_store.specs.Table.{IsWhole, IsSame, Draws, given_rows, given_free, AreThere, marked_between};
+    ghost use Rattle.cyc_store.specs.inside.Table.{IsWhole, IsSame, Draws, given_rows, given_free, AreThere, marked_between};
 
     /// A table of no pages.
     pub(crate) fn new(alloc: Global, most: u32) -> PageTable

@@ -2,9 +2,8 @@
 
 ghost use Rattle.std.specs.Prelude.{◌≡◌, ℕ, ◌≤◌, List, None};
 ghost use Rattle.cyc_words.specs.Word.{IsWord};
-ghost use Rattle.cyc_store.specs.State.{StoreState, saved};
+ghost use Rattle.cyc_store.specs.State.{StoreState, saved, IsNew};
 ghost use Rattle.cyc_store.specs.Services.{Call, refusal};
-ghost use Rattle.cyc_store.specs.New.{IsNew};
 ghost use Rattle.cyc_store.specs.Ordered.{IsOrdered, HasChoice, Answers};
 ghost use Rattle.cyc_store.specs.Made.{Makes, MakesAll};
 ghost use Rattle.cyc_store.specs.declared.runs.Asked.TheVariants.{Save};

@@ -1,7 +1,7 @@
 //! Pools of pages: which pages are taken and given back, and the largest pool, with words of every page written.
 
 ghost use Rattle.std.specs.Prelude.{◌≡◌, ◌<◌, IfSome};
-ghost use Rattle.cyc_rawpages.specs.Pool.{IsHead, new_pool};
+ghost use Rattle.cyc_rawpages.specs.inside.Pool.{IsHead, new_pool};
 
 use crate::expect::expect;
 use cyc_rawpages::{Chain, PageNo, Pool};
@@ -99,7 +99,7 @@ struct Largest {
 
 impl Model for Largest {
     ghost use Rattle.std.specs.Prelude.{◌≡◌};
-    ghost use Rattle.cyc_rawpages.specs.Pool.{PoolState};
+    ghost use Rattle.cyc_rawpages.specs.inside.Pool.{PoolState};
 
     ghost Value = { PoolState };
 

@@ -8,12 +8,12 @@ ghost use Rattle.cyc_syntax.specs.TokenRule.{AreTokensOf, max_bytes, max_tokens}
 ghost use Rattle.cyc_types.specs.TypedTreeView.{view_program};
 ghost use Rattle.cyc_types.specs.Weight.{program_weight};
 ghost use Rattle.cyc_types.specs.typing.WellTyped.{IsWellTypedProgram};
-ghost use Rattle.cyc_lower.specs.Lowered.{CanBeLowered};
-ghost use Rattle.cyc_frame.specs.Layout.{AreFrames};
+ghost use Rattle.cyc_lower.specs.inside.Lowered.{CanBeLowered};
+ghost use Rattle.cyc_frame.specs.inside.Layout.{AreFrames};
 ghost use Rattle.cyc_elf.specs.Image.{contents_of, IsWellFormed};
 ghost use Rattle.cyc_elf.specs.Layout.{FitsFields};
-ghost use Rattle.cyc_rawpages.specs.Lists.{chain_at};
-ghost use Rattle.cyc_rawpages.specs.Pool.{IsHead};
+ghost use Rattle.cyc_rawpages.specs.inside.Lists.{chain_at};
+ghost use Rattle.cyc_rawpages.specs.inside.Pool.{IsHead};
 
 use cyc_asm::assemble;
 use cyc_check::check;

@@ -6,3 +6,5 @@ pub mod PlaceLemmas
 pub mod NameLemmas
 pub mod WeightLemmas
 pub mod TreeViewLemmas
+-- worked examples, by computation
+pub mod TokenExamples

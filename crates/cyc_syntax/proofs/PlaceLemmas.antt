@@ -4,7 +4,7 @@ use Rattle.std.specs.List.{suffix_len, prefix_len, count_by}
 use Rattle.std.proofs.lemmas.List.{length-drop, reverse-append, take_more, append_assoc}
 use Rattle.std.proofs.lemmas.List.Sums.{suffix_len-le-length, sum_by_push}
 use Rattle.cyc_words.specs.declared.span.Span.{Span}
-use Rattle.cyc_syntax.specs.Place.{IsBehind}
+use Rattle.cyc_syntax.specs.inside.Place.{IsBehind}
 use Rattle.cyc_syntax.specs.Spelling.{is_line_feed}
 use Rattle.cyc_syntax.specs.TokenRule.{line_behind, column_behind}
 

@@ -1,9 +1,7 @@
 -- texts and their tokens
-pub mod Place
 pub mod Spelling
 pub mod Tokens
 pub mod TokenRule
-pub mod TokenExamples
 -- symbols and their trees
 pub mod Names
 pub mod Symbols
@@ -11,6 +9,5 @@ pub mod Trees
 pub mod Yields
 pub mod Grammar
 pub mod Sums
-pub mod Weight
--- the trees of the code, seen as pure ones
-pub mod TreeView
+-- What the functions of this crate promise each other and what its proofs say: no public contract of the product means it.
+pub mod inside

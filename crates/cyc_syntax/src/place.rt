@@ -1,6 +1,6 @@
 //! Places of a text.
 ghost use Rattle.std.specs.Prelude.{◌≡◌, ℕ, ◌+◌, ◌^◌, ◌<◌, List, ◌++◌, length};
-ghost use Rattle.cyc_syntax.specs.Place.{IsBehind};
+ghost use Rattle.cyc_syntax.specs.inside.Place.{IsBehind};
 
 use cyc_words::Span;
 

@@ -3,7 +3,7 @@ ghost use Rattle.std.specs.Prelude.{◌≡◌, List, length};
 ghost use Rattle.cyc_syntax.specs.Symbols.{Symbol};
 ghost use Rattle.cyc_syntax.specs.Trees.{Declaration};
 ghost use Rattle.cyc_syntax.specs.Grammar.{HasTree};
-ghost use Rattle.cyc_syntax.specs.Weight.{tree_weight};
+ghost use Rattle.cyc_syntax.specs.inside.Weight.{tree_weight};
 
 /// The weight of a tree is the number of tokens of each list that has the tree. The weight of a tree is the sum of the
 /// weights of its declarations, so all functions of a text together weigh no more than its tokens.

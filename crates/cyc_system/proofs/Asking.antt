@@ -4,8 +4,7 @@ use Rattle.std.specs.List.{AllByRecursion}
 use Rattle.cyc_words.specs.Seen.{showing}
 use Rattle.cyc_words.proofs.Lists.{all_append}
 use Rattle.cyc_elf.specs.Image.{ImageContents}
-use Rattle.cyc_store.specs.New.{IsNew}
-use Rattle.cyc_store.specs.State.{StoreState}
+use Rattle.cyc_store.specs.State.{IsNew, StoreState}
 use Rattle.cyc_machine.specs.declared.event.Event.{Event}
 use Rattle.cyc_machine.specs.declared.event.Event.TheVariants.{Ran, WantsByte, Puts, Ended, NoMemory}
 use Rattle.cyc_machine.specs.Bounds.{Bounds, AreAllowed}

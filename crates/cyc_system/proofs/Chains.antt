@@ -11,18 +11,18 @@ use Rattle.cyc_machine.specs.Run.{World}
 use Rattle.cyc_machine.specs.Start.{start_world}
 use Rattle.cyc_types.specs.TypedTrees.{Function, Program}
 use Rattle.cyc_types.specs.Weight.{function_weight}
-use Rattle.cyc_syntax.specs.Weight.{sum_of}
+use Rattle.cyc_syntax.specs.inside.Weight.{sum_of}
 use Rattle.cyc_meaning.specs.Run.{start}
 use Rattle.cyc_meaning.specs.Sizes.{size_per_weight}
 use Rattle.cyc_words.specs.Simulation.{Preserves}
-use Rattle.cyc_plain.specs.Program.{Routine, Program as PlainProgram, size}
+use Rattle.cyc_plain.specs.inside.Program.{Routine, Program as PlainProgram, size}
 use Rattle.cyc_soundness.specs.Sound.{IsSound}
-use Rattle.cyc_lower.specs.Lowered.{AreLoweredFunctions, IsLowered}
+use Rattle.cyc_lower.specs.inside.Lowered.{AreLoweredFunctions, IsLowered}
 use Rattle.cyc_meaning.specs.SourceMachine.{source_machine}
-use Rattle.cyc_select.specs.Labelled.{Labelled, IsCode}
-use Rattle.cyc_select.specs.Selected.{IsCodeOf}
-use Rattle.cyc_asm.specs.Text.{IsTextOf}
-use Rattle.cyc_asm.specs.Machine.{Runs}
+use Rattle.cyc_select.specs.inside.Labelled.{Labelled, IsCode}
+use Rattle.cyc_select.specs.inside.Selected.{IsCodeOf}
+use Rattle.cyc_asm.specs.inside.Text.{IsTextOf}
+use Rattle.cyc_asm.specs.inside.Machine.{Runs}
 use Rattle.cyc_asm.proofs.Stretches.{text_has_words}
 use Rattle.cyc_machine.specs.WorldMachine.{world_machine}
 use Rattle.cyc_system.specs.FullPreservation.{DoesTheSame, IsImageOf}

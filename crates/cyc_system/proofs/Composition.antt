@@ -12,24 +12,23 @@ use Rattle.cyc_meaning.specs.State as meaning
 use Rattle.cyc_meaning.specs.Run.{start}
 use Rattle.cyc_meaning.proofs.RunLaws.{limited_step_goes_on, over_limited}
 use Rattle.cyc_words.specs.Simulation.{Machine, NeverFails, Preserves}
-use Rattle.cyc_words.specs.Following.{IsLawful, Follows}
+use Rattle.cyc_words.specs.inside.Following.{IsLawful, Follows}
 use Rattle.cyc_words.specs.Simulation as simulation
 use Rattle.cyc_words.proofs.Simulation.{in_a_row, follows-never_fails, follows-preserves}
 use Rattle.cyc_plain.proofs.RunLaws.{lawful}
-use Rattle.cyc_plain.specs.Program.{Program as PlainProgram, places_of}
-use Rattle.cyc_plain.specs.Step as plain
-use Rattle.cyc_lower.specs.Lowered.{FollowsSource}
+use Rattle.cyc_plain.specs.inside.Program.{Program as PlainProgram, places_of}
+use Rattle.cyc_plain.specs.inside.Step as plain
+use Rattle.cyc_lower.specs.inside.Lowered.{FollowsSource}
 use Rattle.cyc_meaning.specs.SourceMachine.{source_machine, seen_of, status_in}
-use Rattle.cyc_select.specs.Labelled.{Labelled}
-use Rattle.cyc_select.specs.Machine as labelled
-use Rattle.cyc_select.specs.Selected.{IsCodeOf}
-use Rattle.cyc_asm.specs.Text.{IsTextOf, stretch, own}
+use Rattle.cyc_select.specs.inside.Labelled.{Labelled}
+use Rattle.cyc_select.specs.inside.Machine as labelled
+use Rattle.cyc_select.specs.inside.Selected.{IsCodeOf}
+use Rattle.cyc_asm.specs.inside.Text.{IsTextOf, stretch, own}
 use Rattle.cyc_asm.proofs.Stretches.{length-stretch}
-use Rattle.cyc_asm.specs.Machine as words
-use Rattle.cyc_asm.specs.Machine.{Runs}
-use Rattle.cyc_store.specs.New.{IsNew}
+use Rattle.cyc_asm.specs.inside.Machine as words
+use Rattle.cyc_asm.specs.inside.Machine.{Runs}
+use Rattle.cyc_store.specs.State.{IsNew, StoreState}
 use Rattle.cyc_machine.specs.WorldMachine.{world_machine}
-use Rattle.cyc_store.specs.State.{StoreState}
 
 -- ---- the source as a machine
 

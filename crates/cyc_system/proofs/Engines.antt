@@ -25,7 +25,7 @@ use Rattle.cyc_system.specs.declared.report.Stop.TheVariants as stops
 use Rattle.cyc_system.specs.declared.report.RunFault.{RunFault}
 use Rattle.cyc_system.specs.declared.report.RunFault.TheVariants.{Elf, Load, Read, Write, Memory}
 use Rattle.cyc_system.specs.Engine.{Devices, Rests, Tells, Leaves, Counted, Executes, Runs, Refuses, Starts, Answers, AnswersAnew, IsReported, limit_at}
-use Rattle.cyc_system.specs.Turn.{Asked, Turned}
+use Rattle.cyc_system.specs.inside.Turn.{Asked, Turned}
 
 -- one more instruction at the end of a run
 pub Run-more : (count : ℕ) (u v w : World) → Run count u v → Goes v w → Run (suc count) u w

@@ -2,17 +2,15 @@
 use Rattle.std.proofs.Common.{◌≡◌, ◌≢◌, ℕ, zero, suc, ◌+◌, ◌-◌, ◌*◌, ◌<◌, ◌≤◌, List, Option, Some, None, refl, sym, ap, subst, ◌∙◌, arith}
 use Rattle.std.specs.List.{AllByRecursion}
 use Rattle.cyc_words.specs.Ending.{Ending, Full}
-use Rattle.cyc_words.specs.Prefix.{IsPrefix}
-use Rattle.cyc_words.specs.Seen.{Seen}
+use Rattle.cyc_words.specs.Seen.{IsPrefix, Seen}
 use Rattle.cyc_words.proofs.PrefixLemmas.{IsPrefix-refl}
 use Rattle.cyc_words.proofs.SeenLemmas.{ComesTo-trans}
 use Rattle.cyc_elf.specs.Image.{ImageContents}
 use Rattle.cyc_machine.specs.Bounds.{Bounds, AreAllowed}
 use Rattle.cyc_machine.specs.Run.{World, Run, end_in, end_of, ending_of}
 use Rattle.cyc_machine.proofs.RunLaws.{Run-over, Run-output, Run-input, Run-split, over-end_of}
-use Rattle.cyc_store.specs.New.{IsNew}
+use Rattle.cyc_store.specs.State.{IsNew, StoreState}
 use Rattle.cyc_machine.specs.Start.{start_world}
-use Rattle.cyc_store.specs.State.{StoreState}
 use Rattle.cyc_machine.specs.declared.event.Cause.{Cause}
 use Rattle.cyc_machine.specs.declared.event.End.{End}
 use Rattle.cyc_machine.specs.declared.event.End.TheVariants.{Trap}

@@ -22,10 +22,10 @@ use Rattle.cyc_machine.specs.Run.{World}
 use Rattle.cyc_store.specs.State.{StoreState}
 use Rattle.cyc_machine.specs.Start.{lies_in_text, lies_in_data, is_outside, segment_end, segment_word, word_in, image_word, image_words, text_length, start_core, start_world}
 use Rattle.cyc_machine.specs.declared.phase.Phase.TheVariants.{Running}
-use Rattle.cyc_select.specs.Labelled.{Labelled}
-use Rattle.cyc_select.specs.Machine.{globals_of}
-use Rattle.cyc_asm.specs.Text.{text_of}
-use Rattle.cyc_asm.specs.Machine as assembled
+use Rattle.cyc_select.specs.inside.Labelled.{Labelled}
+use Rattle.cyc_select.specs.inside.Machine.{globals_of}
+use Rattle.cyc_asm.specs.inside.Text.{text_of}
+use Rattle.cyc_asm.specs.inside.Machine as assembled
 use Rattle.cyc_system.specs.FullPreservation.{text_words, IsLoadable}
 use Rattle.cyc_system.specs.Notes.{AreAllowedIfAny}
 use Rattle.cyc_system.specs.declared.image.TheConstants.{READ_AND_EXECUTE, READ_AND_WRITE}

@@ -8,8 +8,7 @@ use Rattle.cyc_elf.specs.Header.{field, program_header_at, headers_from}
 use Rattle.cyc_elf.specs.Note.{is_note, is_named, limits_at}
 use Rattle.cyc_elf.specs.Reading.{reading, file_rules, own_rules, entry_rules}
 use Rattle.cyc_elf.specs.Layout.{layout, file_header, program_header}
-use Rattle.cyc_store.specs.New.{IsNew}
-use Rattle.cyc_store.specs.State.{StoreState}
+use Rattle.cyc_store.specs.State.{IsNew, StoreState}
 use Rattle.cyc_store.specs.State as stores
 use Rattle.cyc_machine.specs.declared.event.Event.{Event}
 use Rattle.cyc_machine.specs.declared.event.Event.TheVariants.{Ran, WantsByte}

@@ -5,12 +5,12 @@ use Rattle.cyc_words.specs.declared.fault.Fault.{Fault}
 use Rattle.cyc_words.specs.Decision.{Decides}
 use Rattle.cyc_words.specs.Fault.{memory_fault}
 use Rattle.cyc_types.specs.TypedTrees.{Program}
-use Rattle.cyc_plain.specs.Program.{Program as PlainProgram}
+use Rattle.cyc_plain.specs.inside.Program.{Program as PlainProgram}
 use Rattle.cyc_meaning.specs.Sizes.{max_functions, HasTooMany}
-use Rattle.cyc_lower.specs.Lowered as lowering
-use Rattle.cyc_lower.specs.Lowered.{IsLowered}
-use Rattle.cyc_frame.specs.Layout as frames
-use Rattle.cyc_frame.specs.Layout.{HasSmallFrames}
+use Rattle.cyc_lower.specs.inside.Lowered as lowering
+use Rattle.cyc_lower.specs.inside.Lowered.{IsLowered}
+use Rattle.cyc_frame.specs.inside.Layout as frames
+use Rattle.cyc_frame.specs.inside.Layout.{HasSmallFrames}
 use Rattle.cyc_system.specs.FullPreservation.{IsImageOf}
 use Rattle.cyc_system.specs.declared.compiler.Compilation.{Compilation}
 use Rattle.cyc_system.specs.Front.{IsAcceptedText, IsRefusedText, HasFault}

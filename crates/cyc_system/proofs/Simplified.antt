@@ -3,18 +3,18 @@ use Rattle.std.proofs.Common.{◌≡◌, ℕ, suc, ◌<◌, List, [], ◌∷◌,
 use Rattle.std.specs.Prelude.{flat_map, map, slice_index_or}
 use Rattle.std.specs.List.{range_with_len}
 use Rattle.cyc_words.specs.Simulation.{Machine}
-use Rattle.cyc_words.specs.Following.{Follows}
+use Rattle.cyc_words.specs.inside.Following.{Follows}
 use Rattle.cyc_words.proofs.Simulation.{in_a_row, follows-never_fails}
 use Rattle.cyc_store.specs.State.{StoreState}
 use Rattle.cyc_types.specs.TypedTrees.{Function, Program}
 use Rattle.cyc_meaning.specs.Run.{start}
 use Rattle.cyc_meaning.specs.SourceMachine.{source_machine}
-use Rattle.cyc_plain.specs.Memory.{IsBelow, slots_end}
-use Rattle.cyc_plain.specs.Program.{Routine, Program as PlainProgram, CodePlace, no_routine, places_from, places_of}
-use Rattle.cyc_plain.specs.Step as plain
-use Rattle.cyc_plain.specs.Step.{machine}
-use Rattle.cyc_lower.specs.Lowered.{IsLoweredFunction, AreLoweredFunctions, FollowsSource, IsLowered}
-use Rattle.cyc_simplify.specs.Simplified.{IsLike, IsSimplified}
+use Rattle.cyc_plain.specs.inside.Memory.{IsBelow, slots_end}
+use Rattle.cyc_plain.specs.inside.Program.{Routine, Program as PlainProgram, CodePlace, no_routine, places_from, places_of}
+use Rattle.cyc_plain.specs.inside.Step as plain
+use Rattle.cyc_plain.specs.inside.Step.{machine}
+use Rattle.cyc_lower.specs.inside.Lowered.{IsLoweredFunction, AreLoweredFunctions, FollowsSource, IsLowered}
+use Rattle.cyc_simplify.specs.inside.Simplified.{IsLike, IsSimplified}
 use Rattle.cyc_system.proofs.Composition.{source_lawful}
 
 -- ---- function by function

@@ -3,12 +3,12 @@ use Rattle.std.proofs.Common.{◌≡◌, ℕ, zero, suc, ◌≤◌, ◌<◌, Lis
 use Rattle.std.specs.Prelude.{slice_index_or}
 use Rattle.cyc_words.specs.declared.fault.Fault.{Fault}
 use Rattle.cyc_types.specs.TypedTrees.{Function, Program}
-use Rattle.cyc_plain.specs.Program.{Routine, Program as PlainProgram, no_routine}
+use Rattle.cyc_plain.specs.inside.Program.{Routine, Program as PlainProgram, no_routine}
 use Rattle.cyc_meaning.specs.FrameCount.{frame_count}
-use Rattle.cyc_lower.specs.Lowered.{IsLoweredFunction, AreLoweredFunctions, IsLowered}
+use Rattle.cyc_lower.specs.inside.Lowered.{IsLoweredFunction, AreLoweredFunctions, IsLowered}
 use Rattle.cyc_meaning.specs.Sizes.{max_frame_words}
-use Rattle.cyc_frame.specs.Layout.{HasSmallFrames}
-use Rattle.cyc_frame.specs.Layout as frames
+use Rattle.cyc_frame.specs.inside.Layout.{HasSmallFrames}
+use Rattle.cyc_frame.specs.inside.Layout as frames
 use Rattle.cyc_system.specs.Compiled.{HasLargeFrame, IsSmallEnough}
 
 -- each function of the source has its own below, and the other way round

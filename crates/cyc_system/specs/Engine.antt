@@ -1,8 +1,7 @@
 -- What it means to run an image between a reader and a writer. This project's own choice.
 use Rattle.std.specs.Prelude.{◌≡◌, ℕ, zero, suc, ◌≤◌, ◌<◌, ◌==◌, if◌then◌else◌, Bool, List, Option, None, Some, Result, Ok, Err, MatchBool, ◌⊎◌}
 use Rattle.std.specs.Io.KnownBytes.{Keeps, Appends}
-use Rattle.cyc_store.specs.State.{StoreState}
-use Rattle.cyc_store.specs.New.{IsNew}
+use Rattle.cyc_store.specs.State.{StoreState, IsNew}
 use Rattle.cyc_elf.specs.declared.fault.ElfFault.{ElfFault}
 use Rattle.cyc_elf.specs.Image.{ImageContents}
 use Rattle.cyc_machine.specs.declared.fault.LoadFault.TheVariants as load

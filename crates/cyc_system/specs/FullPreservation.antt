@@ -7,13 +7,11 @@
 use Rattle.std.specs.Prelude.{◌≡◌, ℕ, ◌+◌, ◌*◌, ◌/◌, ◌<◌, ◌≤◌, false, List, map, Some, Ok, sum_by, if◌then◌else◌}
 use Rattle.std.specs.List.{AllByRecursion}
 use Rattle.cyc_words.specs.Ending.{Ending}
-use Rattle.cyc_words.specs.Prefix.{IsPrefix}
-use Rattle.cyc_words.specs.Seen.{ComesTo}
+use Rattle.cyc_words.specs.Seen.{IsPrefix, ComesTo}
 use Rattle.cyc_elf.specs.Image.{ImageContents, padded}
 use Rattle.cyc_elf.specs.Layout.{layout}
 use Rattle.cyc_elf.specs.Reading.{reading}
-use Rattle.cyc_store.specs.State.{StoreState}
-use Rattle.cyc_store.specs.New.{IsNew}
+use Rattle.cyc_store.specs.State.{StoreState, IsNew}
 use Rattle.cyc_machine.specs.Bounds.{Bounds, AreAllowed}
 use Rattle.cyc_machine.specs.Run.{World, Run, end_of, ending_of}
 use Rattle.cyc_machine.specs.Start.{lies_in_text, has_outside, start_world}

@@ -12,5 +12,5 @@ pub mod Faults
 pub mod Listing
 -- the two together
 pub mod CompiledRuns
--- what the functions inside the crate promise each other
-pub mod Turn
+-- What the functions of this crate promise each other and what its proofs say: no public contract of the product means it.
+pub mod inside

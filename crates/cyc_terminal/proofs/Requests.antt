@@ -10,8 +10,8 @@ use Rattle.clap.specs.declared.parser.matches.ArgMatches.{ArgMatches}
 use Rattle.clap.specs.declared.parser.matches.ArgMatches.TheViews.{out-ArgMatches, out-SubCommand}
 use Rattle.clap.specs.declared.parser.matches.Found.{Found}
 use Rattle.clap.specs.declared.parser.matches.SubCommand.{SubCommand}
-use Rattle.cyc_terminal.specs.Limits.{Given}
-use Rattle.cyc_terminal.specs.Request.{AreLimitsOf, IsAskedOf, IsCompileRequest, IsNumberIfGiven, IsRequestOf, IsRunRequest, IsWithinBudget}
+use Rattle.cyc_terminal.specs.inside.Limits.{Given}
+use Rattle.cyc_terminal.specs.inside.Request.{AreLimitsOf, IsAskedOf, IsCompileRequest, IsNumberIfGiven, IsRequestOf, IsRunRequest, IsWithinBudget}
 use Rattle.cyc_terminal.specs.declared.arguments.Request.{Request}
 use Rattle.cyc_terminal.specs.declared.arguments.Request.TheVariants.{Check, Compile, Run, Disassemble}
 

@@ -1,4 +1,2 @@
--- what a command line asks for, what becomes of the limits that it gives, and how a place in a text is shown
-pub mod Request
-pub mod Limits
-pub mod Excerpt
+-- What the functions of this crate promise each other and what its proofs say: no public contract of the product means it.
+pub mod inside

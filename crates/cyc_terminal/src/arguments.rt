@@ -2,7 +2,7 @@
 ghost use Rattle.std.specs.Prelude.{◌≡◌, ◌≤◌, Some, IfOk, IfSome, codes, map, string_bytes};
 ghost use Rattle.std.specs.Str.Parse.{digits_value};
 ghost use Rattle.clap.specs.Words.{app_of, first_value, found_of};
-ghost use Rattle.cyc_terminal.specs.Request.{AreLimitsOf, IsCompileRequest, IsNumberIfGiven, IsNumberOf, IsAskedOf, IsRequestOf, IsRunRequest, IsWithinBudget};
+ghost use Rattle.cyc_terminal.specs.inside.Request.{AreLimitsOf, IsCompileRequest, IsNumberIfGiven, IsNumberOf, IsAskedOf, IsRequestOf, IsRunRequest, IsWithinBudget};
 
 use crate::limits::GivenLimits;
 use crate::number;

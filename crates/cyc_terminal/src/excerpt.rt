@@ -2,7 +2,7 @@
 ghost use Rattle.std.specs.Prelude.{◌≡◌, Some, slice_get, option_map, ◌≤◌, ◌<◌, ◌+◌, flat_map};
 ghost use Rattle.std.specs.Fmt.{WritesOnOk};
 ghost use Rattle.std.specs.Str.{chars};
-ghost use Rattle.cyc_terminal.specs.Excerpt.{IsExcerpt, bytes_before, dots, escaped_byte, excerpt_text, shown_byte, shown_bytes, shown_char, blank_byte, blank_bytes, blank_char, line_at, lines_of};
+ghost use Rattle.cyc_terminal.specs.inside.Excerpt.{IsExcerpt, bytes_before, dots, escaped_byte, excerpt_text, shown_byte, shown_bytes, shown_char, blank_byte, blank_bytes, blank_char, line_at, lines_of};
 
 use std::{fmt, str};
 

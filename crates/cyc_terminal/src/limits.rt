@@ -2,7 +2,7 @@
 
 ghost use Rattle.std.specs.Prelude.{◌≡◌, IfSome};
 ghost use Rattle.cyc_machine.specs.Bounds.{AreAllowed};
-ghost use Rattle.cyc_terminal.specs.Limits.{carried_by, limits_by};
+ghost use Rattle.cyc_terminal.specs.inside.Limits.{carried_by, limits_by};
 
 use cyc_machine::Limits;
 use std::marker::Model;
@@ -22,7 +22,7 @@ pub struct GivenLimits {
 
 // Clauses see both.
 impl Model for GivenLimits {
-    ghost use Rattle.cyc_terminal.specs.Limits.{Given, AreInRange};
+    ghost use Rattle.cyc_terminal.specs.inside.Limits.{Given, AreInRange};
 
     ghost Value = { Given };
 

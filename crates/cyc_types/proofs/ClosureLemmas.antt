@@ -7,7 +7,7 @@ use Rattle.std.proofs.lemmas.List.Elements.{Contains-push, Contains-push_cases, 
 use Rattle.cyc_types.specs.declared.region.Region.{Region}
 use Rattle.cyc_types.specs.declared.region.Region.TheVariants.{Heap, Unique}
 use Rattle.cyc_types.specs.declared.scope.Scope.{Scope}
-use Rattle.cyc_types.specs.Regions.{region_eq}
+use Rattle.cyc_types.specs.Types.{region_eq}
 use Rattle.cyc_types.specs.Outlives.{RegionContext, live_regions, is_outlived_by_live, IsLiveAtOpening, IsGiven, OutlivesIn, itself, given, through, names_no_unique}
 use Rattle.cyc_types.specs.Closure.{above, above_one_of, leads, is_outliving, names_no_unique_scope}
 use Rattle.cyc_types.proofs.RegionLemmas.{region_eq-refl, region_eq-true}

@@ -2,13 +2,13 @@
 use Rattle.std.proofs.Common.{◌≡◌, ℕ, ◌+◌, ◌-◌, ◌<◌, ◌≤◌, List, [], ◌∷◌, length, map, drop, refl, sym, ap, ◌∙◌, arith}
 use Rattle.std.proofs.lemmas.List.{drop_all, length-drop}
 use Rattle.cyc_syntax.specs.declared.tree.Pointer.{Pointer as PointerCode}
-use Rattle.cyc_syntax.specs.TreeView.{view_pointer}
+use Rattle.cyc_syntax.specs.inside.TreeView.{view_pointer}
 use Rattle.cyc_types.specs.declared.region.Region.{Region}
 use Rattle.cyc_types.specs.Types.{Ty}
 use Rattle.cyc_types.specs.Types as types
 use Rattle.cyc_types.specs.typing.Scopes.{RegionName}
 use Rattle.cyc_types.specs.typing.Formation.{region_or, left_out_at, pointers_written}
-use Rattle.cyc_types.specs.WrittenMarks.{left_out_by}
+use Rattle.cyc_types.specs.inside.WrittenMarks.{left_out_by}
 
 -- the marks from this one on make this type of what the marks before have made
 abbrev pub MarksLeft : List RegionName → Region → List PointerCode → (i : ℕ) → Ty → Ty → Type 0

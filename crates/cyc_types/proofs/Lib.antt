@@ -12,3 +12,7 @@ pub mod OpeningLemmas
 pub mod NameLemmas
 pub mod StructLemmas
 pub mod FormationLemmas
+-- worked examples, by computation
+pub mod RuleExamples
+pub mod OutlivesExamples
+pub mod flow

@@ -9,7 +9,7 @@ use Rattle.cyc_types.specs.declared.region.Region.{Region}
 use Rattle.cyc_types.specs.declared.names.Binding.{Binding}
 use Rattle.cyc_types.specs.typing.Scopes.{region_among}
 use Rattle.cyc_types.specs.typing.Heads.{region_numbers}
-use Rattle.cyc_types.specs.Names.{names_of, Finds}
+use Rattle.cyc_types.specs.inside.Names.{names_of, Finds}
 
 -- a name that a binding has, has a place in the table
 pub in_range : (table : List (Option Region)) (bs old : List Binding) (b : Binding) → Finds table old → old ≡ bs ++ b ∷ [] → b.name < length table

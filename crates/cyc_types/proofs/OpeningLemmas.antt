@@ -9,10 +9,10 @@ use Rattle.cyc_types.specs.declared.region.Region.{Region}
 use Rattle.cyc_types.specs.declared.region.Region.TheVariants.{Heap, Unique}
 use Rattle.cyc_types.specs.declared.scope.Kind.TheVariants.{Block}
 use Rattle.cyc_types.specs.declared.scope.Scope.{Scope}
-use Rattle.cyc_types.specs.Regions.{region_eq, is_region_among}
+use Rattle.cyc_types.specs.Types.{region_eq, is_region_among}
 use Rattle.cyc_types.specs.Outlives.{live_regions, is_outlived_by_live}
 use Rattle.cyc_types.specs.Closure.{above, above_one_of, leads}
-use Rattle.cyc_types.specs.Openings.{opening_of, scope_at, live_before, IsOrderly, IsInOrder}
+use Rattle.cyc_types.specs.inside.Openings.{opening_of, scope_at, live_before, IsOrderly, IsInOrder}
 use Rattle.cyc_types.proofs.RegionLemmas.{region_eq-true}
 use Rattle.cyc_types.proofs.ClosureLemmas.{any-true, any-from, above-refl, leads-refl, leads-cases, newest-parts}
 use Rattle.cyc_types.proofs.SearchLemmas.{live_among, reverse-take_more, leads-found}

@@ -6,7 +6,7 @@ use Rattle.std.proofs.lemmas.Bool.{eqb-true, eq-eqb}
 use Rattle.cyc_types.specs.declared.region.Region.{Region}
 use Rattle.cyc_types.specs.declared.region.Region.TheVariants.{Heap, Unique, Variable}
 use Rattle.cyc_types.specs.contracts.region.RegionPartialEq.TheImpl.{ghosts}
-use Rattle.cyc_types.specs.Regions.{region_eq, is_region_among}
+use Rattle.cyc_types.specs.Types.{region_eq, is_region_among}
 
 pub region_eq-refl : (a : Region) → region_eq a a ≡ true
 region_eq-refl Heap = refl

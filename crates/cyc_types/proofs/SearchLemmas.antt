@@ -9,7 +9,7 @@ use Rattle.std.proofs.lemmas.List.Folds.{list_any-append}
 use Rattle.cyc_types.specs.declared.region.Region.{Region}
 use Rattle.cyc_types.specs.declared.region.Region.TheVariants.{Unique}
 use Rattle.cyc_types.specs.declared.scope.Scope.{Scope}
-use Rattle.cyc_types.specs.Regions.{region_eq, is_region_among}
+use Rattle.cyc_types.specs.Types.{region_eq, is_region_among}
 use Rattle.cyc_types.specs.Outlives.{RegionContext, OutlivesIn, live_regions, is_outlived_by_live}
 use Rattle.cyc_types.specs.Closure.{above, above_one_of, above_one_opened, leads, is_outliving, is_above_known, HasNoUnique}
 use Rattle.cyc_types.proofs.TableLemmas.{or_comm, or_false}

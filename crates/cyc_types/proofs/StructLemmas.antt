@@ -5,7 +5,7 @@ use Rattle.std.proofs.lemmas.List.{get_or-set_same, get_or-set_other}
 use Rattle.cyc_types.specs.declared.structs.Known.{Known}
 use Rattle.cyc_types.specs.typing.Scopes.{StructName}
 use Rattle.cyc_types.specs.typing.Formation.{struct_number, parameters_among}
-use Rattle.cyc_types.specs.StructTables.{known_from}
+use Rattle.cyc_types.specs.inside.StructTables.{known_from}
 
 number_from : (n : ℕ) (ss : List StructName) (x : ℕ) (k : Known) → known_from n ss x ≡ Some k → k.number ≡ n + struct_number ss x
 number_from n [] x k e = cc

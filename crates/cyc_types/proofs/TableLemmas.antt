@@ -4,7 +4,7 @@ use Rattle.std.proofs.lemmas.Bool.{or_left, or_right, true≢false, false_from_n
 use Rattle.std.proofs.lemmas.List.{take_more, map-append}
 use Rattle.cyc_types.specs.declared.region.Region.{Region}
 use Rattle.cyc_types.specs.declared.constraints.Constraint.{Constraint}
-use Rattle.cyc_types.specs.Regions.{region_eq, is_region_among}
+use Rattle.cyc_types.specs.Types.{region_eq, is_region_among}
 use Rattle.cyc_types.specs.Closure.{entry_leads, table_leads, has_entry, written_in}
 use Rattle.cyc_types.proofs.RegionLemmas.{region_eq-refl, region_eq-true}
 

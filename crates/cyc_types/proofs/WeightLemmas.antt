@@ -1,8 +1,8 @@
 -- What typed trees, written types and programs weigh at least, or at most.
 use Rattle.std.proofs.Common.{◌≡◌, ℕ, zero, suc, ◌+◌, ◌*◌, ◌≤◌, List, [], ◌∷◌, Option, Some, None, ap, arith, length, slice_get}
 use Rattle.cyc_syntax.specs.Trees.{BaseType, Int, Char, WrittenType}
-use Rattle.cyc_syntax.specs.Weight.{sum_of, separated_weight, optional_weight, type_weight, result_weight}
-use Rattle.cyc_syntax.specs.Weight as written
+use Rattle.cyc_syntax.specs.inside.Weight.{sum_of, separated_weight, optional_weight, type_weight, result_weight}
+use Rattle.cyc_syntax.specs.inside.Weight as written
 use Rattle.cyc_types.specs.Types.{Ty}
 use Rattle.cyc_types.specs.TypedTrees as typed
 use Rattle.cyc_types.specs.Weight.{expression_weight, else_weight, statement_weight, constant_weight, global_weight, function_weight, program_weight}

@@ -10,3 +10,5 @@ pub mod FormedPrograms
 pub mod ProgramLemmas
 pub mod WeightLemmas
 pub mod TextLemmas
+-- worked examples, by computation
+pub mod Examples

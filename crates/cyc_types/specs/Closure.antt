@@ -6,7 +6,7 @@ use Rattle.cyc_types.specs.declared.region.Region.{Region}
 use Rattle.cyc_types.specs.declared.region.Region.TheVariants.{Heap, Unique}
 use Rattle.cyc_types.specs.declared.scope.Scope.{Scope}
 use Rattle.cyc_types.specs.declared.constraints.Constraint.{Constraint}
-use Rattle.cyc_types.specs.Regions.{region_eq, is_region_among}
+use Rattle.cyc_types.specs.Types.{region_eq, is_region_among}
 use Rattle.cyc_types.specs.Outlives.{RegionContext, live_regions, is_outlived_by_live, names_no_unique}
 
 -- whether the pairs lead from a to b: a path that uses the first pair goes to it, over it, and on from it

@@ -1,5 +1,4 @@
 -- what the contracts of the checker, of the flow check and of later phases rest on
-pub mod Regions
 pub mod Types
 pub mod TypeView
 pub mod TypedTrees
@@ -14,12 +13,5 @@ pub mod Weight
 pub mod Outlives
 -- what the functions inside these crates promise each other: the rules as functions, and the table of constraints
 pub mod Closure
-pub mod Openings
-pub mod Names
-pub mod StructTables
-pub mod WrittenMarks
-pub mod Namings
-pub mod SignatureView
--- examples
-pub mod RuleExamples
-pub mod OutlivesExamples
+-- What the functions of this crate promise each other and what its proofs say: no public contract of the product means it.
+pub mod inside

@@ -8,7 +8,7 @@ use Rattle.cyc_types.specs.declared.region.Region.TheVariants.{Heap, Unique}
 use Rattle.cyc_types.specs.declared.scope.Kind.{Kind}
 use Rattle.cyc_types.specs.declared.scope.Kind.TheVariants.{Block, Lexical, Dynamic, Alias}
 use Rattle.cyc_types.specs.declared.scope.Scope.{Scope}
-use Rattle.cyc_types.specs.Regions.{region_eq}
+use Rattle.cyc_types.specs.Types.{region_eq}
 
 -- What the relation stands on.
 pub record RegionContext : Type 0 where

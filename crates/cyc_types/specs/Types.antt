@@ -1,11 +1,34 @@
 -- Types as all definitions speak of them: values with no memory behind them. (Types, marks of pointers, handles and
 -- keys are Cyclone's, Grossman et al. 2002 and the User's Manual, 1.0; which of them there are is this project's own
 -- choice.)
-use Rattle.std.specs.Prelude.{ℕ, List, map, Option, None, Some}
+use Rattle.std.specs.Prelude.{ℕ, List, map, Option, None, Some, ◌==◌, Bool, true, false, slice_index_or}
 use Rattle.cyc_syntax.specs.declared.tree.PointerKind.{PointerKind}
 use Rattle.cyc_syntax.specs.declared.tree.PointerKind.TheVariants.{Nullable, NonNull, Fat}
 use Rattle.cyc_types.specs.declared.region.Region.{Region}
-use Rattle.cyc_types.specs.Regions.{substituted_region}
+use Rattle.std.specs.List.{list_any}
+use Rattle.cyc_types.specs.declared.region.Region.TheVariants.{Heap, Unique, Variable}
+
+-- ---- regions: their equality as a test, and the substitution of region variables
+
+-- a variable becomes the region at its number, if there is one
+abbrev pub substituted_region : List Region → Region → Region
+substituted_region regions Heap = Heap
+substituted_region regions Unique = Unique
+substituted_region regions (Variable n) = slice_index_or regions n (Variable n)
+
+abbrev pub region_eq : Region → Region → Bool
+region_eq Heap Heap = true
+region_eq Heap Unique = false
+region_eq Heap (Variable n) = false
+region_eq Unique Heap = false
+region_eq Unique Unique = true
+region_eq Unique (Variable n) = false
+region_eq (Variable m) Heap = false
+region_eq (Variable m) Unique = false
+region_eq (Variable m) (Variable n) = m == n
+
+abbrev pub is_region_among : Region → List Region → Bool
+is_region_among a regions = list_any (λ r. region_eq r a) regions
 
 pub data Ty : Type 0 where
   Int : Ty

@@ -4,5 +4,3 @@ pub mod Touched
 pub mod Expressions
 pub mod Statements
 pub mod Programs
-pub mod Readings
-pub mod Examples

@@ -7,6 +7,3 @@ pub mod Statements
 pub mod Heads
 pub mod Programs
 pub mod WellTyped
-pub mod Formed
-pub mod Readings
-pub mod Examples

@@ -1,7 +1,7 @@
 //! The outlives constraints of a function, closed under transitivity once and for all.
 ghost use Rattle.std.specs.Prelude.{◌≡◌, ◌||◌, ◌&&◌, [], IfOk, OnOk, MatchOption, IfSome, IsTrue};
 ghost use Rattle.cyc_types.specs.declared.region.Region.{Region};
-ghost use Rattle.cyc_types.specs.Regions.{region_eq, is_region_among};
+ghost use Rattle.cyc_types.specs.Types.{region_eq, is_region_among};
 ghost use Rattle.cyc_types.specs.Closure.{above, entry_leads, table_leads, written_in, IsClosed, has_entry};
 
 use crate::Region;

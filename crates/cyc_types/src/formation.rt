@@ -1,12 +1,12 @@
 //! The types that written types mean, by functions that always answer: what is left out has a default, and so has what is not known.
 //! What may be wrong with a written type is told apart from that.
 ghost use Rattle.std.specs.Prelude.{◌≡◌, ℕ, map, option_map, replicate, unwrap_or, IfOk, OnOk, List};
-ghost use Rattle.cyc_syntax.specs.TreeView.{view_name, view_base, view_pointer, view_type};
+ghost use Rattle.cyc_syntax.specs.inside.TreeView.{view_name, view_base, view_pointer, view_type};
 ghost use Rattle.cyc_types.specs.declared.region.Region.TheVariants.{Heap};
 ghost use Rattle.cyc_types.specs.Types as types;
 ghost use Rattle.cyc_types.specs.TypeView.{view_ty};
 ghost use Rattle.cyc_types.specs.typing.Formation.{region_of, region_or, arguments_or, base_written, pointers_written, type_written};
-ghost use Rattle.cyc_types.specs.WrittenMarks.{left_out_by};
+ghost use Rattle.cyc_types.specs.inside.WrittenMarks.{left_out_by};
 
 use crate::names::RegionNames;
 use crate::structs::StructNames;

@@ -1,6 +1,6 @@
 //! What is known in the whole text of a program.
 ghost use Rattle.std.specs.Prelude.{◌≡◌, map, IfOk};
-ghost use Rattle.cyc_syntax.specs.TreeView.{view_declaration};
+ghost use Rattle.cyc_syntax.specs.inside.TreeView.{view_declaration};
 ghost use Rattle.cyc_types.specs.typing.Heads.{structs_of};
 
 use crate::{NameSet, Region, RegionNames, StructNames};
@@ -22,7 +22,7 @@ pub struct Known {
 impl Model for Known {
     ghost use Rattle.std.specs.Prelude.{◌≡◌};
     ghost use Rattle.cyc_types.specs.typing.Heads.{Known as KnownValue};
-    ghost use Rattle.cyc_types.specs.Namings.{first_regions};
+    ghost use Rattle.cyc_types.specs.inside.Namings.{first_regions};
 
     ghost Value = { KnownValue };
 
@@ -46,9 +46,9 @@ fn structs_of(alloc: Global, declarations: &[Declaration]) -> Result<StructNames
 
 impl Known {
     ghost use Rattle.std.specs.Prelude.{◌≡◌, map, IfOk, OnOk};
-    ghost use Rattle.cyc_syntax.specs.TreeView.{view_declaration};
+    ghost use Rattle.cyc_syntax.specs.inside.TreeView.{view_declaration};
     ghost use Rattle.cyc_types.specs.typing.Heads.{structs_of, is_among, region_numbers};
-    ghost use Rattle.cyc_types.specs.Namings.{first_regions};
+    ghost use Rattle.cyc_types.specs.inside.Namings.{first_regions};
 
     /// What is known in a program of these declarations, where the heap, the unique region and `main` have these names.
     pub fn new(

@@ -2,11 +2,11 @@
 ghost use Rattle.std.specs.Prelude.{◌≡◌, ◌↔◌, ℕ, ◌+◌, ◌*◌, ◌≤◌, List, Some, Ok, Err, length, slice_get};
 ghost use Rattle.cyc_words.specs.declared.fault.Fault.{Fault};
 ghost use Rattle.cyc_syntax.specs.Trees.{Declaration};
-ghost use Rattle.cyc_syntax.specs.Weight.{tree_weight};
+ghost use Rattle.cyc_syntax.specs.inside.Weight.{tree_weight};
 ghost use Rattle.cyc_types.specs.TypedTrees.{Statement, Function, Program};
 ghost use Rattle.cyc_types.specs.typing.Programs.{IsTypedProgram, IsRefusedProgram, check_of};
 ghost use Rattle.cyc_types.specs.typing.WellTyped.{IsWellTypedProgram};
-ghost use Rattle.cyc_types.specs.typing.Formed.{IsFormedProgram};
+ghost use Rattle.cyc_types.specs.inside.typing.Formed.{IsFormedProgram};
 ghost use Rattle.cyc_types.specs.flow.Programs.{IsAllowedProgram, IsStoppedProgram, flow_of};
 ghost use Rattle.cyc_types.specs.Weight.{else_weight, statement_weight, function_weight, program_weight};
 

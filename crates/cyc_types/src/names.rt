@@ -24,7 +24,7 @@ pub struct RegionNames {
 impl Model for RegionNames {
     ghost use Rattle.std.specs.Prelude.{List};
     ghost use Rattle.cyc_types.specs.typing.Scopes.{RegionName};
-    ghost use Rattle.cyc_types.specs.Names.{names_of, Finds};
+    ghost use Rattle.cyc_types.specs.inside.Names.{names_of, Finds};
 
     ghost Value = { List RegionName };
 
@@ -108,7 +108,7 @@ impl RegionNames {
 
 ghost use Rattle.std.specs.Prelude.{◌≡◌, ℕ, ◌<◌, ◌++◌, length, get_or, None, OnOk};
 ghost use Rattle.cyc_types.specs.typing.Heads.{region_numbers};
-ghost use Rattle.cyc_types.specs.Names.{names_of};
+ghost use Rattle.cyc_types.specs.inside.Names.{names_of};
 
 /// Adds the names of bindings to a set, the oldest first.
 #[tactic(auto, using(crate::proofs::NameLemmas::name_more, std::proofs::lemmas::List::take_all))]

@@ -5,9 +5,9 @@ ghost use Rattle.cyc_types.specs.declared.region.Region.{Region};
 ghost use Rattle.cyc_types.specs.declared.region.Region.TheVariants.{Unique};
 ghost use Rattle.cyc_types.specs.declared.scope.Scope.{Scope};
 ghost use Rattle.cyc_types.specs.Outlives.{is_outlived_by_live};
-ghost use Rattle.cyc_types.specs.Regions.{region_eq, is_region_among};
+ghost use Rattle.cyc_types.specs.Types.{region_eq, is_region_among};
 ghost use Rattle.cyc_types.specs.Closure.{IsClosed, above, above_one_of, leads, table_leads, written_in};
-ghost use Rattle.cyc_types.specs.Openings.{IsInOrder, live_before, opening_of};
+ghost use Rattle.cyc_types.specs.inside.Openings.{IsInOrder, live_before, opening_of};
 
 use crate::Region;
 use crate::constraints::{Constraint, entry_of, is_region_among, table_leads};

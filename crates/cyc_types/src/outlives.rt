@@ -4,7 +4,7 @@ ghost use Rattle.std.specs.List.{list_any};
 ghost use Rattle.std.specs.Option.{ForSome};
 ghost use Rattle.cyc_types.specs.declared.scope.Scope.{Scope};
 ghost use Rattle.cyc_types.specs.Outlives.{OutlivesIn, live_regions, is_outlived_by_live};
-ghost use Rattle.cyc_types.specs.Regions.{region_eq, is_region_among};
+ghost use Rattle.cyc_types.specs.Types.{region_eq, is_region_among};
 ghost use Rattle.cyc_types.specs.Closure.{HasNoUnique, IsClosed, above, above_one_of, above_one_opened, context_of, is_outliving, is_above_known, leads, written_in};
 
 use crate::Region;
@@ -34,7 +34,7 @@ pub struct Outlives {
 impl Model for Outlives {
     ghost use Rattle.cyc_types.specs.Outlives.{RegionContext};
     ghost use Rattle.cyc_types.specs.Closure.{IsClosed, context_of, written_in};
-    ghost use Rattle.cyc_types.specs.Openings.{IsInOrder};
+    ghost use Rattle.cyc_types.specs.inside.Openings.{IsInOrder};
 
     ghost Value = { RegionContext };
 

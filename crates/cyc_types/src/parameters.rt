@@ -1,11 +1,11 @@
 //! The types of parameters: they declare the names of regions that stand in them, and what they leave out is a region of its own.
 ghost use Rattle.std.specs.Prelude.{◌≡◌, suc, map, option_map, IfOk, OnOk};
-ghost use Rattle.cyc_syntax.specs.TreeView.{view_name, view_base, view_pointer, view_type, view_member};
+ghost use Rattle.cyc_syntax.specs.inside.TreeView.{view_name, view_base, view_pointer, view_type, view_member};
 ghost use Rattle.cyc_types.specs.declared.region.Region.TheVariants.{Variable};
 ghost use Rattle.cyc_types.specs.Types as types;
 ghost use Rattle.cyc_types.specs.TypeView.{view_ty};
 ghost use Rattle.cyc_types.specs.typing.Formation.{region_for, after_region, mark_for, after_mark, regions_for, after_regions, arguments_for, base_for, after_base, pointers_for, after_marks, type_for, after_type, types_for, after_members};
-ghost use Rattle.cyc_types.specs.Namings.{naming};
+ghost use Rattle.cyc_types.specs.inside.Namings.{naming};
 
 use crate::formation::heaps;
 use crate::names::RegionNames;

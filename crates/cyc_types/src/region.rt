@@ -15,7 +15,7 @@ pub enum Region {
 
 impl Region {
     ghost use Rattle.std.specs.Prelude.{◌≡◌};
-    ghost use Rattle.cyc_types.specs.Regions.{substituted_region};
+    ghost use Rattle.cyc_types.specs.Types.{substituted_region};
 
     /// The region at this variable's number in `map`. A variable past the end of `map` stays, as do the heap and the unique region.
     pub fn substituted(self, map: &[Region]) -> Region

@@ -1,9 +1,8 @@
 //! What a caller knows of a function.
 ghost use Rattle.std.specs.Prelude.{◌≡◌, List, map, option_map, IfOk};
-ghost use Rattle.cyc_types.specs.Regions.{substituted_region};
-ghost use Rattle.cyc_types.specs.Types.{substituted_ty};
+ghost use Rattle.cyc_types.specs.Types.{substituted_region, substituted_ty};
 ghost use Rattle.cyc_types.specs.TypeView.{view_ty};
-ghost use Rattle.cyc_types.specs.SignatureView.{substituted_pair};
+ghost use Rattle.cyc_types.specs.inside.SignatureView.{substituted_pair};
 
 use crate::{Region, Ty};
 use smallvec::SmallVec;
@@ -26,7 +25,7 @@ pub struct Signature {
 impl Signature {
     ghost use Rattle.std.specs.Prelude.{◌≡◌, IfOk};
     ghost use Rattle.cyc_types.specs.typing.Expressions.{instantiated};
-    ghost use Rattle.cyc_types.specs.SignatureView.{view_signature};
+    ghost use Rattle.cyc_types.specs.inside.SignatureView.{view_signature};
 
     /// The signature at a call, where each region variable is the region at its number in `instance`.
     pub fn instantiated(&self, alloc: Global, instance: &[Region]) -> Result<Signature, AllocError>

@@ -28,7 +28,7 @@ pub struct StructNames {
 impl Model for StructNames {
     ghost use Rattle.std.specs.Prelude.{◌≡◌, ℕ, List, map, get_or, None};
     ghost use Rattle.cyc_types.specs.typing.Scopes.{StructName};
-    ghost use Rattle.cyc_types.specs.StructTables.{view_entry, known_from};
+    ghost use Rattle.cyc_types.specs.inside.StructTables.{view_entry, known_from};
 
     ghost Value = { List StructName };
 
@@ -40,7 +40,7 @@ impl Model for StructNames {
 impl StructNames {
     ghost use Rattle.std.specs.Prelude.{◌≡◌, ℕ, [], ◌∷◌, ◌++◌, length, OnOk};
     ghost use Rattle.cyc_types.specs.typing.Formation.{struct_number, parameters_among};
-    ghost use Rattle.cyc_types.specs.StructTables.{known_from};
+    ghost use Rattle.cyc_types.specs.inside.StructTables.{known_from};
 
     pub fn new(alloc: Global) -> StructNames
         ensures { result ≡ [] }

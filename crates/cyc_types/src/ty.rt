@@ -151,7 +151,7 @@ impl Ty {
 }
 
 ghost use Rattle.std.specs.Prelude.{◌≡◌, IfOk, map};
-ghost use Rattle.cyc_types.specs.Regions.{substituted_region};
+ghost use Rattle.cyc_types.specs.Types.{substituted_region};
 
 /// Each region of a list substituted.
 fn all_substituted(

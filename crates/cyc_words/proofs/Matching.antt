@@ -4,7 +4,7 @@ use Rattle.std.specs.Prelude.{Contains}
 use Rattle.cyc_words.specs.Seen.{ComesTo}
 use Rattle.cyc_words.proofs.SeenLemmas.{ComesTo-refl}
 use Rattle.cyc_words.specs.Simulation.{Running, Machine}
-use Rattle.cyc_words.specs.Following.{Matching, IsOnTheWay, IsMatchedStep, IsStepped}
+use Rattle.cyc_words.specs.inside.Following.{Matching, IsOnTheWay, IsMatchedStep, IsStepped}
 
 module _ (above below : Machine) (m : Matching above below) where
   -- on the way before anything of the step is seen, and after all of it is

@@ -1,6 +1,6 @@
 -- The prefix order on lists of bytes.
 use Rattle.std.proofs.Common.{◌≡◌, ℕ, List, [], ◌∷◌, ◌++◌, refl, sym, ap, ◌∙◌, append_assoc, append-nil}
-use Rattle.cyc_words.specs.Prefix.{IsPrefix}
+use Rattle.cyc_words.specs.Seen.{IsPrefix}
 
 pub IsPrefix-nil : (xs : List ℕ) → IsPrefix [] xs
 IsPrefix-nil xs = (xs, refl)

@@ -8,7 +8,7 @@ use Rattle.cyc_words.specs.Ending.{Ending}
 use Rattle.cyc_words.specs.Seen.{ComesTo}
 use Rattle.cyc_words.proofs.SeenLemmas.{ComesTo-refl, ComesTo-trans}
 use Rattle.cyc_words.specs.Simulation.{Status, Running, Ended, Failed, Machine, Run, NeverFails, Preserves}
-use Rattle.cyc_words.specs.Following.{Path, IsLawful, MayShow, IsUnderWay, IsOver, Follows, Comes, IsOnTheWay, Matching, IsMatchedStep, Steps}
+use Rattle.cyc_words.specs.inside.Following.{Path, IsLawful, MayShow, IsUnderWay, IsOver, Follows, Comes, IsOnTheWay, Matching, IsMatchedStep, Steps}
 use Rattle.cyc_words.proofs.Prices.{sum_by-distinct, sum_by-flat_map, sum_by-one, sum_by-at_most}
 
 -- ---- runs and paths of one machine

@@ -1,6 +1,6 @@
 -- A byte of a word is written, and the other three stay.
 use Rattle.std.proofs.Common.{◌≡◌, ◌≢◌, ℕ, zero, suc, ◌+◌, ◌*◌, ◌/◌, ◌%◌, ◌<◌, ◌≤◌, refl, arith}
-use Rattle.cyc_words.specs.WordBytes.{byte_in, with_byte}
+use Rattle.cyc_words.specs.Bytes.{byte_in, with_byte}
 
 -- every place behind the third is the last
 pub byte-last : (w p : ℕ) → 3 ≤ p → byte_in w p ≡ w % 256

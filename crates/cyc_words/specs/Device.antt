@@ -1,7 +1,7 @@
 -- What a call of a device does to the bytes that it tells. `None` tells nothing, and nothing is claimed then. This project's own choice.
 use Rattle.std.specs.Prelude.{ℕ, List, [], ◌∷◌, Bool, true, false, Option, None, Some, Result, Ok, Err}
 use Rattle.std.specs.Io.KnownBytes.{Consumes, Appends, Keeps, IsAtEnd}
-use Rattle.cyc_words.specs.Prefix.{IsPrefix}
+use Rattle.cyc_words.specs.Seen.{IsPrefix}
 
 -- a call of `next`: a byte is the first of those still to be read, and leaves the rest; `None` is the end of
 -- them; a failure leaves them

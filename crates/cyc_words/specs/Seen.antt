@@ -1,6 +1,9 @@
 -- What is seen of a run from without, at some moment. This project's own choice.
 use Rattle.std.specs.Prelude.{◌≡◌, ℕ, List, ◌++◌}
-use Rattle.cyc_words.specs.Prefix.{IsPrefix}
+
+-- a list of bytes at the front of another: ys is xs and then some rest
+abbrev pub IsPrefix : List ℕ → List ℕ → Type 0
+IsPrefix xs ys = (rest : List ℕ) × (ys ≡ xs ++ rest)
 
 -- all that was printed, together with what is left of the input
 pub record Seen : Type 0 where

@@ -1,8 +1,7 @@
 //! A word as four bytes, big-endian.
 
 ghost use Rattle.std.specs.Prelude.{◌≡◌};
-ghost use Rattle.cyc_words.specs.Bytes.{bytes_of_word, word_of_bytes};
-ghost use Rattle.cyc_words.specs.WordBytes.{byte_in, with_byte};
+ghost use Rattle.cyc_words.specs.Bytes.{bytes_of_word, word_of_bytes, byte_in, with_byte};
 
 /// The word of four bytes, the highest first.
 pub fn word_at(bytes: &[u8; 4]) -> u32

@@ -4,9 +4,8 @@
 ghost use Rattle.std.specs.Prelude.{◌≡◌, ◌≢◌, ℕ, ◌+◌, ◌-◌, ◌*◌, ◌/◌, ◌%◌, ◌^◌, ◌<◌, ◌≤◌, ◌⊎◌, ◌↔◌, ℤ, pos, ◌+ℤ◌, ◌-ℤ◌, ◌*ℤ◌, ◌<ℤ◌, List, [], ◌∷◌, length, All, FitsSigned, int_div, int_rem, bit_or};
 ghost use Rattle.std.specs.Int.{w16, w32, bit_at};
 ghost use Rattle.cyc_words.specs.Word.{IsWord, IsHalf, signed, unsigned, signed_half, sign_extended, floor_div, add_of, sub_of, mul_of, shl_of, sar_of, div_of, rem_of};
-ghost use Rattle.cyc_words.specs.Bytes.{IsByte, bytes_of_word, word_of_bytes};
-ghost use Rattle.cyc_words.specs.WordBytes.{byte_in, with_byte};
-ghost use Rattle.cyc_words.specs.Prefix.{IsPrefix};
+ghost use Rattle.cyc_words.specs.Bytes.{IsByte, bytes_of_word, word_of_bytes, byte_in, with_byte};
+ghost use Rattle.cyc_words.specs.Seen.{IsPrefix};
 ghost use Rattle.cyc_words.specs.Ending.{Ending, Alike};
 
 /// The signed and the unsigned meaning of a word agree modulo 2^32, and each leads back to the other.

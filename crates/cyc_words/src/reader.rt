@@ -18,7 +18,7 @@ pub struct Reader<R> {
 }
 
 impl<R> Reader<R> {
-    ghost use Rattle.cyc_words.specs.Reader.{
+    ghost use Rattle.cyc_words.specs.inside.Reader.{
       reader_inner,
       reader_has_failed,
       reader_has_ended,

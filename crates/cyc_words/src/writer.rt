@@ -16,7 +16,7 @@ pub struct Writer<W> {
 }
 
 impl<W> Writer<W> {
-    ghost use Rattle.cyc_words.specs.Writer.{writer_inner, writer_has_failed};
+    ghost use Rattle.cyc_words.specs.inside.Writer.{writer_inner, writer_has_failed};
 
     /// A device over `inner` that has not failed.
     pub fn new(inner: W) -> Self

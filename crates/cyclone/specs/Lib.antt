@@ -1,6 +1,2 @@
--- what the program answers: its last line, its exit status, and what they stand for
-pub mod Answer
-pub mod Work
-pub mod Refusal
--- the two devices of a run
-pub mod Console
+-- What the functions of this crate promise each other and what its proofs say: no public contract of the product means it.
+pub mod inside

@@ -1,6 +1,6 @@
 //! What the program answers: its exit status, and its last line on standard error.
 ghost use Rattle.std.specs.Prelude.{◌≡◌, Some};
-ghost use Rattle.cyclone.specs.Answer.{last_line, status_of, cause_words, ending_of};
+ghost use Rattle.cyclone.specs.inside.Answer.{last_line, status_of, cause_words, ending_of};
 
 use cyc_elf::ElfFault;
 use cyc_machine::{Cause, End, Limits, LoadFault};
@@ -102,7 +102,7 @@ impl fmt::Display for Answer {
 }
 
 impl From<Fault> for Answer {
-    ghost use Rattle.cyclone.specs.Answer.{answer_of_fault};
+    ghost use Rattle.cyclone.specs.inside.Answer.{answer_of_fault};
 
     ghost from_gives = { λ fault answer. answer ≡ answer_of_fault fault };
 
@@ -116,7 +116,7 @@ impl From<Fault> for Answer {
 }
 
 impl From<Stop> for Answer {
-    ghost use Rattle.cyclone.specs.Answer.{answer_of_stop};
+    ghost use Rattle.cyclone.specs.inside.Answer.{answer_of_stop};
 
     ghost from_gives = { λ stop answer. answer ≡ answer_of_stop stop };
 
@@ -132,7 +132,7 @@ impl From<Stop> for Answer {
 }
 
 impl From<RunFault> for Answer {
-    ghost use Rattle.cyclone.specs.Answer.{answer_of_run_fault};
+    ghost use Rattle.cyclone.specs.inside.Answer.{answer_of_run_fault};
 
     ghost from_gives = { λ fault answer. answer ≡ answer_of_run_fault fault };
 

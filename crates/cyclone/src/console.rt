@@ -23,7 +23,7 @@ pub struct Screen<W: Write + Drop> {
 }
 
 impl<W: Write + Drop> Screen<W> {
-    ghost use Rattle.cyclone.specs.Console.{screen_written, screen_held};
+    ghost use Rattle.cyclone.specs.inside.Console.{screen_written, screen_held};
 
     /// A screen that holds nothing back yet; with `by_lines` each line is passed on as it ends. It fails where there is no memory.
     pub fn new(alloc: Global, output: W, by_lines: bool) -> io::Result<Self>
@@ -53,7 +53,7 @@ impl<W: Write + Drop> Screen<W> {
 }
 
 impl<W: Write + Drop> ByteOut for Screen<W> {
-    ghost use Rattle.cyclone.specs.Console.{screen_written};
+    ghost use Rattle.cyclone.specs.inside.Console.{screen_written};
 
     ghost written = { screen_written W.contents };
 
@@ -111,7 +111,7 @@ fn read_byte<R: Read>(input: &mut R, byte: &mut [u8]) -> io::Result<usize>
 }
 
 impl<R: Read + Drop> Keyboard<R> {
-    ghost use Rattle.cyclone.specs.Console.{keyboard_remaining};
+    ghost use Rattle.cyclone.specs.inside.Console.{keyboard_remaining};
 
     /// A keyboard of which nothing was asked yet. It fails where there is no memory.
     pub fn new(alloc: Global, input: R) -> io::Result<Self>
@@ -127,7 +127,7 @@ impl<R: Read + Drop> Keyboard<R> {
 }
 
 impl<R: Read> ByteIn for Keyboard<R> {
-    ghost use Rattle.cyclone.specs.Console.{keyboard_remaining};
+    ghost use Rattle.cyclone.specs.inside.Console.{keyboard_remaining};
 
     ghost remaining = { keyboard_remaining R.remaining };
 

@@ -1,7 +1,7 @@
 //! What a person reads of a refusal by names, types or regions, beside what its code says.
 ghost use Rattle.std.specs.Prelude.{◌≡◌, IfOk, IfSome};
 ghost use Rattle.cyc_system.specs.Front.{IsRefusedText};
-ghost use Rattle.cyclone.specs.Refusal.{HasTree, is_explained};
+ghost use Rattle.cyclone.specs.inside.Refusal.{HasTree, is_explained};
 
 use cyc_check::refusal;
 use cyc_explain::explain;

@@ -1,6 +1,6 @@
 //! From the words of the command line to the answer, over files and the standard streams.
 ghost use Rattle.std.specs.Prelude.{◌≡◌};
-ghost use Rattle.cyclone.specs.Answer.{answer_of_fault};
+ghost use Rattle.cyclone.specs.inside.Answer.{answer_of_fault};
 
 use crate::answer::{Answer, ending, explanation};
 use crate::console::{Keyboard, Screen};

@@ -4,8 +4,8 @@ ghost use Rattle.std.specs.Io.KnownBytes.{Keeps};
 ghost use Rattle.cyc_words.specs.Fault.{memory_fault};
 ghost use Rattle.cyc_system.specs.Compiled.{HasFaultAtLast};
 ghost use Rattle.cyc_system.specs.Front.{HasFault};
-ghost use Rattle.cyclone.specs.Console.{keyboard_remaining, screen_held, screen_written};
-ghost use Rattle.cyclone.specs.Work.{AnswersCheck, AnswersCompile, AnswersListing, AnswersNoImage, AnswersRun, AreLimitsFor, EndsAs, EndsListing, EndsRun};
+ghost use Rattle.cyclone.specs.inside.Console.{keyboard_remaining, screen_held, screen_written};
+ghost use Rattle.cyclone.specs.inside.Work.{AnswersCheck, AnswersCompile, AnswersListing, AnswersNoImage, AnswersRun, AreLimitsFor, EndsAs, EndsListing, EndsRun};
 
 use crate::answer::Answer;
 use crate::console::{Keyboard, Screen};

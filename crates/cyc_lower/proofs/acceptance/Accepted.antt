@@ -14,7 +14,7 @@ use Rattle.cyc_syntax.specs.Symbols.{Symbol, terminal_of, symbol_of, symbols_of,
 use Rattle.cyc_syntax.specs.Names.{distinct_texts}
 use Rattle.cyc_syntax.specs.Trees.{Declaration}
 use Rattle.cyc_syntax.specs.Grammar.{HasTree, IsWithinLimits as IsTreeWithinLimits}
-use Rattle.cyc_syntax.specs.Weight.{tree_weight}
+use Rattle.cyc_syntax.specs.inside.Weight.{tree_weight}
 use Rattle.cyc_syntax.proofs.WeightLemmas.{tree_weight-length}
 use Rattle.cyc_types.specs.TypedTrees.{Program, GlobalVariable}
 use Rattle.cyc_types.specs.typing.Programs.{IsTypedProgram}
@@ -25,12 +25,12 @@ use Rattle.cyc_types.proofs.typing.ProgramLemmas.{program_well}
 use Rattle.cyc_types.proofs.typing.TextLemmas.{program_of_text}
 use Rattle.cyc_types.proofs.typing.WeightLemmas.{program_lighter}
 use Rattle.cyc_lower.proofs.acceptance.LowerableLemmas.{lowerable_program}
-use Rattle.cyc_lower.specs.Lowered.{CanBeLowered}
+use Rattle.cyc_lower.specs.inside.Lowered.{CanBeLowered}
 use Rattle.cyc_lower.proofs.acceptance.TreeConstants.{IsOfWordsTerminal, AreOfWordsSymbols, tree_constants}
 use Rattle.cyc_lower.proofs.acceptance.TypedConstants.{typed_constants}
 use Rattle.cyc_meaning.specs.FrameCount.{words_of_all}
 use Rattle.cyc_meaning.specs.Values.{kind_of}
-use Rattle.cyc_lower.specs.Slots.{global_types}
+use Rattle.cyc_lower.specs.inside.Slots.{global_types}
 use Rattle.cyc_lower.proofs.slots.Widths.{kind_few, type_words}
 
 -- a global has at most three words

@@ -19,8 +19,8 @@ use Rattle.cyc_types.specs.Numbered.{signatures_of, Numbering, IsSignature, argu
 use Rattle.cyc_types.specs.typing.Tests.{is_thin_mark, kind_of_mark, kind_of, kind_of_value}
 use Rattle.cyc_types.specs.typing.WellTyped.{Converts, with_counter, Context, IsVariable, IsPlace, IsCallee, WellTyped, IsPeek, IsLeft, IsSide, IsUnaryOperand, IsConverted, ArePassed, IsCell, IsMade, IsChain, IsCondition, behind, in_block, in_body, with_local, with_opened, with_key_opened, with_region, IsInitial, IsReturned, WellTypedStatement, WellTypedItems, body_context, AreWellTypedFunctions, IsWellTypedProgram, IsThrown, IsCaught, behind_clause, WellTypedClauses}
 use Rattle.cyc_meaning.specs.Values.{is_thin, words_of_kind}
-use Rattle.cyc_lower.specs.ValueCode.{all_passed}
-use Rattle.cyc_lower.specs.Lowerable.{is_converted, IsLowerable, IsLowerableObject, IsLowerableSide, IsLowerableCell, IsLowerableConverted, AreLowerableArguments, AreLowerableOperations, IsLowerableReturn, IsLowerableInitial, IsLowerableStatement, AreLowerableItems, AreLowerableFunctions, IsLowerableProgram, IsLowerableThrown, IsLowerableCaught, AreLowerableClauses}
+use Rattle.cyc_lower.specs.inside.ValueCode.{all_passed}
+use Rattle.cyc_lower.specs.inside.Lowerable.{is_converted, IsLowerable, IsLowerableObject, IsLowerableSide, IsLowerableCell, IsLowerableConverted, AreLowerableArguments, AreLowerableOperations, IsLowerableReturn, IsLowerableInitial, IsLowerableStatement, AreLowerableItems, AreLowerableFunctions, IsLowerableProgram, IsLowerableThrown, IsLowerableCaught, AreLowerableClauses}
 use Rattle.cyc_lower.proofs.slots.Widths.{kind_few}
 
 -- ---- objects

@@ -26,7 +26,7 @@ use Rattle.cyc_types.specs.typing.Programs.{Program, program_known, body_scope, 
 use Rattle.cyc_types.specs.typing.Heads as heads
 use Rattle.cyc_types.proofs.typing.CountLemmas.{thrown_shape, opened_shape, aliased_shape}
 use Rattle.cyc_words.specs.Word.{IsWord}
-use Rattle.cyc_lower.specs.Words.{IsOfWords, IsOfWordsCell, IsOfWordsObject, IsOfWordsConverted, AreOfWordsArguments, AreOfWordsOperations, IsOfWordsSide, IsOfWordsInitial, IsOfWordsStatement, AreOfWordsItems, IsOfWordsConstant, AreOfWordsGlobals, AreOfWordsFunctions, IsOfWordsProgram, IsOfWordsThrown, AreOfWordsClauses}
+use Rattle.cyc_lower.specs.inside.Words.{IsOfWords, IsOfWordsCell, IsOfWordsObject, IsOfWordsConverted, AreOfWordsArguments, AreOfWordsOperations, IsOfWordsSide, IsOfWordsInitial, IsOfWordsStatement, AreOfWordsItems, IsOfWordsConstant, AreOfWordsGlobals, AreOfWordsFunctions, IsOfWordsProgram, IsOfWordsThrown, AreOfWordsClauses}
 use Rattle.cyc_lower.proofs.acceptance.TreeConstants.{IsOfWordsWritten, IsOfWordsMadeOf, AreOfWordsWritten, AreOfWordsPostfixes, AreOfWordsChain, IsOfWordsValue, IsOfWordsWrittenStatement, IsOfWordsBody, AreOfWordsWrittenItems, IsOfWordsGlobalValue, IsOfWordsTree, AreOfWordsWrittenClauses}
 
 -- ---- the constants of a typed tree

@@ -15,12 +15,12 @@ use Rattle.cyc_types.specs.Numbered.{signatures_of}
 use Rattle.cyc_plain.specs.declared.instruction.Operand.{Operand}
 use Rattle.cyc_plain.specs.declared.instruction.Instruction.TheVariants as instructions
 use Rattle.cyc_store.specs.State.{StoreState}
-use Rattle.cyc_plain.specs.State as plain
-use Rattle.cyc_plain.specs.State.{Words, put, copied, Handler, Frame, Configuration}
-use Rattle.cyc_plain.specs.Step.{Choice, operand_word, with_slots, advanced, performed, executed}
-use Rattle.cyc_plain.specs.Step as plain_step
+use Rattle.cyc_plain.specs.inside.State as plain
+use Rattle.cyc_plain.specs.inside.State.{Words, put, copied, Handler, Frame, Configuration}
+use Rattle.cyc_plain.specs.inside.Step.{Choice, operand_word, with_slots, advanced, performed, executed}
+use Rattle.cyc_plain.specs.inside.Step as plain_step
 use Rattle.cyc_plain.proofs.RunLaws.{limited-full}
-use Rattle.cyc_plain.specs.Straight.{At}
+use Rattle.cyc_plain.specs.inside.Straight.{At}
 use Rattle.cyc_words.proofs.Matching.{way_after}
 use Rattle.cyc_meaning.specs.Values.{Value, Int, Operand as Kinded, kind_of, is_kind, words_of_kind}
 use Rattle.cyc_meaning.specs.FrameCount.{words_of_all}
@@ -28,16 +28,16 @@ use Rattle.cyc_meaning.specs.State.{World, Environment, no_locals, with_local, v
 use Rattle.cyc_meaning.specs.Step.{wrong, declared, inside, region_end, called, step}
 use Rattle.cyc_meaning.specs.SourceMachine.{status_in}
 use Rattle.cyc_meaning.specs.Run.{is_within, limited_step}
-use Rattle.cyc_lower.specs.ControlCode.{outside_loops}
-use Rattle.cyc_lower.specs.Lowering.{lower_program, raises_of, globals_of, scopes_of}
+use Rattle.cyc_lower.specs.inside.ControlCode.{outside_loops}
+use Rattle.cyc_lower.specs.inside.Lowering.{lower_program, raises_of, globals_of, scopes_of}
 use Rattle.cyc_lower.proofs.relation.Stands.{ItemsAt}
-use Rattle.cyc_lower.specs.Slots.{starts_of, slot_of, global_types}
+use Rattle.cyc_lower.specs.inside.Slots.{starts_of, slot_of, global_types}
 use Rattle.cyc_lower.proofs.slots.Slots.{slot-parameter, words-parameter, slot_types-many, words-append, kind-parameter}
 use Rattle.cyc_lower.proofs.slots.Widths.{kind_of_result, result_kind, same_kind, type_words, words_in, HasRoom, kind_in}
 use Rattle.cyc_lower.proofs.value_steps.ValueWords.{of_kind, int_is, low_byte_of}
-use Rattle.cyc_objects.specs.Tables.{with_row, with_handle}
-use Rattle.cyc_objects.specs.Words.{Is}
-use Rattle.cyc_objects.specs.Related.{scopes}
+use Rattle.cyc_objects.specs.inside.Tables.{with_row, with_handle}
+use Rattle.cyc_objects.specs.inside.Words.{Is}
+use Rattle.cyc_objects.specs.inside.Related.{scopes}
 use Rattle.cyc_objects.proofs.Values.{Grows-row, Grows-handle, Is-grows}
 use Rattle.cyc_lower.proofs.relation.HeldValues.{IsIn, words_held, Holds, HoldsFrom, held, callers, homes, behind_records, row_of}
 use Rattle.cyc_lower.proofs.relation.Relation.{shared_seen, Shared, DataAt, DataIn, SharedAt, prints_only, gives_byte, StatementStack, LandsStack, PrintsStack, nowhere, behind_statement, Related, Matches, code_of, types_in, types_at, starts_at, parameters_in, parameters_at, bounds_in, bounds_at, called_at, returned_at, base_of, top, in_place, floor, HandlersStand, CountsBy, call_slots}

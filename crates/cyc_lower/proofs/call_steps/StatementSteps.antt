@@ -12,32 +12,32 @@ use Rattle.cyc_plain.specs.declared.instruction.Operand.{Operand}
 use Rattle.cyc_plain.specs.declared.instruction.Operand.TheVariants as operands
 use Rattle.cyc_plain.specs.declared.instruction.Instruction.{Instruction}
 use Rattle.cyc_plain.specs.declared.instruction.Instruction.TheVariants as instructions
-use Rattle.cyc_plain.specs.Program.{no_routine, routine_at}
+use Rattle.cyc_plain.specs.inside.Program.{no_routine, routine_at}
 use Rattle.cyc_store.specs.State.{StoreState}
-use Rattle.cyc_plain.specs.State as plain
-use Rattle.cyc_plain.specs.State.{Words, copied, Activation, Frame, Configuration, put}
-use Rattle.cyc_plain.specs.Step.{Choice, at, performed, with_slots, advanced}
-use Rattle.cyc_plain.specs.Step as plain_step
+use Rattle.cyc_plain.specs.inside.State as plain
+use Rattle.cyc_plain.specs.inside.State.{Words, copied, Activation, Frame, Configuration, put}
+use Rattle.cyc_plain.specs.inside.Step.{Choice, at, performed, with_slots, advanced}
+use Rattle.cyc_plain.specs.inside.Step as plain_step
 use Rattle.cyc_plain.proofs.SlotLaws.{copied-below, put-same}
-use Rattle.cyc_plain.specs.Straight.{At}
+use Rattle.cyc_plain.specs.inside.Straight.{At}
 use Rattle.cyc_meaning.specs.Values.{Value, Int, kind_of, Operand as Kinded, words_of_kind}
 use Rattle.cyc_meaning.specs.State.{Access, Region, World, Environment, variable, made, opened, closed, with_local, region_at, ConvertTo, Initialise, Choose, Test, Return, Entry, Needs, NeedsPlace, Discard, Rest, Join, Loop, CloseRegion, CloseLexical, EndLoan, Handler, Caller, Main, Focus, Evaluating, Given, Executing, Proceeding, Breaking, Continuing, Returning, Running, Ended, State, Object}
-use Rattle.cyc_meaning.specs.Nesting.{IsNested}
+use Rattle.cyc_meaning.specs.inside.Nesting.{IsNested}
 use Rattle.cyc_meaning.specs.Regions.{closing_lexical}
 use Rattle.cyc_meaning.specs.Step.{target_by, inside, region_end, step}
 use Rattle.cyc_lower.specs.declared.statements.Exits.{Exits}
-use Rattle.cyc_lower.specs.Slots.{slot_of}
+use Rattle.cyc_lower.specs.inside.Slots.{slot_of}
 use Rattle.cyc_lower.proofs.slots.Slots.{slot-room, room-inside}
 use Rattle.cyc_lower.proofs.slots.Widths.{HasRoom, Outside, HasLocal, kind_in, kind_positive, keeps_whole}
 use Rattle.cyc_lower.proofs.relation.Moves.{copied_is, copied_elsewhere, put_elsewhere}
-use Rattle.cyc_lower.specs.ValueCode.{converts_there, keeps_words, span_of}
-use Rattle.cyc_lower.specs.ControlCode.{break_target, continue_target, body_target, inside_loop}
-use Rattle.cyc_lower.specs.ExpressionCode.{operand_of, value_slot, source_of}
-use Rattle.cyc_lower.specs.Lowering.{scopes_of, results_of, lower_function, lower_program, globals_of}
+use Rattle.cyc_lower.specs.inside.ValueCode.{converts_there, keeps_words, span_of}
+use Rattle.cyc_lower.specs.inside.ControlCode.{break_target, continue_target, body_target, inside_loop}
+use Rattle.cyc_lower.specs.inside.ExpressionCode.{operand_of, value_slot, source_of}
+use Rattle.cyc_lower.specs.inside.Lowering.{scopes_of, results_of, lower_function, lower_program, globals_of}
 use Rattle.cyc_lower.proofs.relation.Stands.{OverAt, BranchesAt, OperandBy, ExpressionAt, InitialAt, InitialBy, ReturnedAt, ItemsAt, BlankAt, BroughtAt, ConversionAt}
-use Rattle.cyc_objects.specs.Tables.{Tables, with_row, with_handle, Row}
-use Rattle.cyc_objects.specs.Related.{scopes}
-use Rattle.cyc_objects.specs.Words.{Is}
+use Rattle.cyc_objects.specs.inside.Tables.{Tables, with_row, with_handle, Row}
+use Rattle.cyc_objects.specs.inside.Related.{scopes}
+use Rattle.cyc_objects.specs.inside.Words.{Is}
 use Rattle.cyc_objects.proofs.Values.{Grows-row, Grows-handle}
 use Rattle.cyc_lower.proofs.relation.Sharing.{shared_declared, row_declared, shared_opened, shared_closed}
 use Rattle.cyc_lower.proofs.relation.HeldValues.{kept, Holds, held, callers, homes, behind_records, row_of, IsLocalRow}

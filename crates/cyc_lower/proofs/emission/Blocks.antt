@@ -4,10 +4,10 @@ use Rattle.std.specs.Prelude.{min}
 use Rattle.std.proofs.lemmas.Option.{same_Some, none-some}
 use Rattle.cyc_plain.specs.declared.instruction.Instruction.{Instruction}
 use Rattle.cyc_plain.specs.declared.instruction.Instruction.TheVariants as instructions
-use Rattle.cyc_plain.specs.Straight.{At, HasAt}
+use Rattle.cyc_plain.specs.inside.Straight.{At, HasAt}
 use Rattle.cyc_plain.proofs.Straight.{has_back, has_whole}
-use Rattle.cyc_lower.specs.ValueCode.{raising, blocks}
-use Rattle.cyc_lower.specs.Lowering.{target_of, farthest, with_blocks, finished_code}
+use Rattle.cyc_lower.specs.inside.ValueCode.{raising, blocks}
+use Rattle.cyc_lower.specs.inside.Lowering.{target_of, farthest, with_blocks, finished_code}
 
 -- ---- as they are made
 

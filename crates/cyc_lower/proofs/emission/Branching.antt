@@ -18,11 +18,11 @@ use Rattle.cyc_plain.specs.declared.instruction.Instruction.{Instruction}
 use Rattle.cyc_plain.specs.declared.instruction.Instruction.TheVariants as instructions
 use Rattle.cyc_lower.specs.declared.operands.Condition.{Condition}
 use Rattle.cyc_lower.specs.declared.statements.Exits.{Exits}
-use Rattle.cyc_lower.specs.Slots.{Starts}
-use Rattle.cyc_lower.specs.ControlCode.{failing_jump, inside_region, opened_code, closed_code, is_nothing, over_code, over_length}
-use Rattle.cyc_lower.specs.Lowering.{choice_code, choice_of, statement_code, items_code}
-use Rattle.cyc_frame_count.specs.Needs.{kept_by_item}
-use Rattle.cyc_lower.specs.Emission.{most_locals, item_code, exits_behind, free_behind, then_code}
+use Rattle.cyc_lower.specs.inside.Slots.{Starts}
+use Rattle.cyc_lower.specs.inside.ControlCode.{failing_jump, inside_region, opened_code, closed_code, is_nothing, over_code, over_length}
+use Rattle.cyc_lower.specs.inside.Lowering.{choice_code, choice_of, statement_code, items_code}
+use Rattle.cyc_frame_count.specs.inside.Needs.{kept_by_item}
+use Rattle.cyc_lower.specs.inside.Emission.{most_locals, item_code, exits_behind, free_behind, then_code}
 use Rattle.cyc_lower.proofs.emission.Emitting.{Remains, goes_on_by, no_shorter_than, written_back}
 
 -- ---- blocks

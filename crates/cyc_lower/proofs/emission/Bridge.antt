@@ -6,14 +6,14 @@ use Rattle.cyc_types.specs.TypedTrees.{Signature, StructType, Function, Program,
 use Rattle.cyc_types.specs.Numbered.{numbering_of, signatures_of}
 use Rattle.cyc_plain.specs.declared.instruction.Instruction.{Instruction}
 use Rattle.cyc_plain.specs.declared.instruction.Instruction.TheVariants as instructions
-use Rattle.cyc_plain.specs.Program.{Routine, no_routine, routine_at}
-use Rattle.cyc_plain.specs.Straight.{At}
+use Rattle.cyc_plain.specs.inside.Program.{Routine, no_routine, routine_at}
+use Rattle.cyc_plain.specs.inside.Straight.{At}
 use Rattle.cyc_plain.proofs.Straight.{has_front, has_back, has_whole}
 use Rattle.cyc_meaning.specs.FrameCount.{words_of_all}
-use Rattle.cyc_lower.specs.Slots.{starts_of, global_types}
-use Rattle.cyc_lower.specs.ValueCode.{first_temporary, blocks}
-use Rattle.cyc_lower.specs.ControlCode.{outside_loops}
-use Rattle.cyc_lower.specs.Lowering.{types_of, farthest, function_code, lower_function, lower_program, body_code, globals_of, scopes_of}
+use Rattle.cyc_lower.specs.inside.Slots.{starts_of, global_types}
+use Rattle.cyc_lower.specs.inside.ValueCode.{first_temporary, blocks}
+use Rattle.cyc_lower.specs.inside.ControlCode.{outside_loops}
+use Rattle.cyc_lower.specs.inside.Lowering.{types_of, farthest, function_code, lower_function, lower_program, body_code, globals_of, scopes_of}
 use Rattle.cyc_lower.proofs.relation.Stands.{ItemsAt}
 use Rattle.cyc_lower.proofs.emission.Lengths.{body_long}
 use Rattle.cyc_lower.proofs.relation.Fitting.{FitItems, AreFitting, IsFitting}

@@ -8,9 +8,9 @@ use Rattle.cyc_meaning.specs.Values.{words_of_kind, bytes_of_kind, begins, behin
 use Rattle.cyc_objects.proofs.Places.{bytes-least}
 use Rattle.cyc_plain.specs.declared.instruction.Operand.TheVariants as operands
 use Rattle.cyc_plain.specs.declared.instruction.Instruction.{Instruction}
-use Rattle.cyc_lower.specs.Slots.{begins_word}
-use Rattle.cyc_lower.specs.ValueCode.{store_of, kinds_passed}
-use Rattle.cyc_lower.specs.ObjectCode.{stores_code, cells_code, slots_of_kinds}
+use Rattle.cyc_lower.specs.inside.Slots.{begins_word}
+use Rattle.cyc_lower.specs.inside.ValueCode.{store_of, kinds_passed}
+use Rattle.cyc_lower.specs.inside.ObjectCode.{stores_code, cells_code, slots_of_kinds}
 use Rattle.cyc_lower.proofs.slots.CellBytes.{begins_is}
 use Rattle.cyc_lower.proofs.emission.Emitting.{Remains, goes_on_by}
 

@@ -16,12 +16,12 @@ use Rattle.cyc_plain.specs.declared.instruction.Comparison.{Comparison}
 use Rattle.cyc_plain.specs.declared.instruction.Operand.{Operand}
 use Rattle.cyc_plain.specs.declared.instruction.Instruction.{Instruction}
 use Rattle.cyc_lower.specs.declared.operands.Condition.{Condition}
-use Rattle.cyc_lower.specs.Slots.{Starts}
-use Rattle.cyc_lower.specs.ValueCode.{operand_or, failing_comparison}
-use Rattle.cyc_lower.specs.ControlCode.{Compared, with_zero, compared_or, compared_of, deciding_jump, all_test, are_tests}
-use Rattle.cyc_lower.specs.ExpressionCode.{left_of, left_slot, value_operand}
-use Rattle.cyc_lower.specs.Lowering.{first_operand, first_code, second_code, pair_code, condition_code, condition_of, others_code, last_condition, tests_code, behind_tests, choice_code, choice_of, compares_light, is_light_comparison}
-use Rattle.cyc_lower.specs.Emission.{most_locals, is_test, other_code, other_condition, value_code, left_code, zero_condition}
+use Rattle.cyc_lower.specs.inside.Slots.{Starts}
+use Rattle.cyc_lower.specs.inside.ValueCode.{operand_or, failing_comparison}
+use Rattle.cyc_lower.specs.inside.ControlCode.{Compared, with_zero, compared_or, compared_of, deciding_jump, all_test, are_tests}
+use Rattle.cyc_lower.specs.inside.ExpressionCode.{left_of, left_slot, value_operand}
+use Rattle.cyc_lower.specs.inside.Lowering.{first_operand, first_code, second_code, pair_code, condition_code, condition_of, others_code, last_condition, tests_code, behind_tests, choice_code, choice_of, compares_light, is_light_comparison}
+use Rattle.cyc_lower.specs.inside.Emission.{most_locals, is_test, other_code, other_condition, value_code, left_code, zero_condition}
 use Rattle.cyc_lower.proofs.emission.Emitting.{joined, Lowers, Remains, goes_on, all_made, no_shorter_than}
 
 -- ---- chains that are tested whole

@@ -40,14 +40,14 @@ use Rattle.cyc_plain.specs.declared.instruction.Operand.{Operand}
 use Rattle.cyc_plain.specs.declared.instruction.Operand.TheVariants as operands
 use Rattle.cyc_plain.specs.declared.instruction.Instruction.{Instruction}
 use Rattle.cyc_plain.specs.declared.instruction.Instruction.TheVariants as instructions
-use Rattle.cyc_lower.specs.Slots.{with_counter, slot_of, Starts, global_of}
+use Rattle.cyc_lower.specs.inside.Slots.{with_counter, slot_of, Starts, global_of}
 use Rattle.cyc_lower.specs.declared.operands.Condition.{Condition}
-use Rattle.cyc_lower.specs.ValueCode.{passed_words, kind_passed, all_passed, kinds_passed, load_of, converts_there, converted_by, moved_by, move_of, operand_or, code_unless, left_with, low_byte, next_slot, operator_code, compute_code, test_jump, truth_code, test_code, copy_code, binary_operator, address_code, addressed_by, jump_if_zero, reached_code, count_code, span_of, followed_code, span_in, code_unless_slot, global_code, word_by_word, masked_by, masks, check_code, inside_code, scaled_code, summed_code}
-use Rattle.cyc_lower.specs.ObjectCode.{measured_code, asked_code, begun_code, written_code, filled_code, restarted_code, ended_code, elements_code, last_element, object_code, saved_code}
-use Rattle.cyc_lower.specs.ControlCode.{failing_jump}
-use Rattle.cyc_lower.specs.ExpressionCode.{source_of, source_slot, operand_of, left_of, slot_with, left_slot, value_operand, converted_operand, printed_operand, load_code, expression_code, value_slot, arguments_code, converted_code, converted_operand_code, printed_code, initial_code, operations_code, made_code, place_operand, place_offset, place_code, pointer_of, brought_code, is_simple}
-use Rattle.cyc_lower.specs.Lowering.{assignment_code, assigned_operand, discarded_code, store_address_code, store_code}
-use Rattle.cyc_lower.specs.Emission.{most_locals, value_code, print_code, left_code, takes_operand, operation_code}
+use Rattle.cyc_lower.specs.inside.ValueCode.{passed_words, kind_passed, all_passed, kinds_passed, load_of, converts_there, converted_by, moved_by, move_of, operand_or, code_unless, left_with, low_byte, next_slot, operator_code, compute_code, test_jump, truth_code, test_code, copy_code, binary_operator, address_code, addressed_by, jump_if_zero, reached_code, count_code, span_of, followed_code, span_in, code_unless_slot, global_code, word_by_word, masked_by, masks, check_code, inside_code, scaled_code, summed_code}
+use Rattle.cyc_lower.specs.inside.ObjectCode.{measured_code, asked_code, begun_code, written_code, filled_code, restarted_code, ended_code, elements_code, last_element, object_code, saved_code}
+use Rattle.cyc_lower.specs.inside.ControlCode.{failing_jump}
+use Rattle.cyc_lower.specs.inside.ExpressionCode.{source_of, source_slot, operand_of, left_of, slot_with, left_slot, value_operand, converted_operand, printed_operand, load_code, expression_code, value_slot, arguments_code, converted_code, converted_operand_code, printed_code, initial_code, operations_code, made_code, place_operand, place_offset, place_code, pointer_of, brought_code, is_simple}
+use Rattle.cyc_lower.specs.inside.Lowering.{assignment_code, assigned_operand, discarded_code, store_address_code, store_code}
+use Rattle.cyc_lower.specs.inside.Emission.{most_locals, value_code, print_code, left_code, takes_operand, operation_code}
 use Rattle.cyc_lower.proofs.slots.Widths.{kind_positive}
 use Rattle.cyc_lower.proofs.slots.Slots.{words_positive}
 

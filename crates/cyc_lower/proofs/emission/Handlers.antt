@@ -15,10 +15,10 @@ use Rattle.cyc_plain.specs.declared.instruction.Instruction.{Instruction}
 use Rattle.cyc_plain.specs.declared.instruction.Instruction.TheVariants as instructions
 use Rattle.cyc_meaning.specs.FrameCount.{kept_by_items, kept_by_clauses}
 use Rattle.cyc_lower.specs.declared.statements.Exits.{Exits}
-use Rattle.cyc_lower.specs.Slots.{Starts}
-use Rattle.cyc_lower.specs.ControlCode.{other_jump, inside_try, behind_record, behind_record_in, kept_code, restored_code}
-use Rattle.cyc_lower.specs.Lowering.{statement_code, clauses_code, caught_code, items_code}
-use Rattle.cyc_lower.specs.Emission.{case_code, caught_items_code, BeginClauses}
+use Rattle.cyc_lower.specs.inside.Slots.{Starts}
+use Rattle.cyc_lower.specs.inside.ControlCode.{other_jump, inside_try, behind_record, behind_record_in, kept_code, restored_code}
+use Rattle.cyc_lower.specs.inside.Lowering.{statement_code, clauses_code, caught_code, items_code}
+use Rattle.cyc_lower.specs.inside.Emission.{case_code, caught_items_code, BeginClauses}
 use Rattle.cyc_lower.proofs.emission.Emitting.{Remains, goes_on_by, joined, written_back}
 use Rattle.cyc_lower.proofs.emission.Branching.{branched}
 

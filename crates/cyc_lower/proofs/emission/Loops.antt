@@ -10,10 +10,10 @@ use Rattle.cyc_plain.specs.declared.instruction.Instruction.{Instruction}
 use Rattle.cyc_plain.specs.declared.instruction.Instruction.TheVariants as instructions
 use Rattle.cyc_lower.specs.declared.operands.Condition.{Condition}
 use Rattle.cyc_lower.specs.declared.statements.Exits.{Exits}
-use Rattle.cyc_lower.specs.Slots.{Starts}
-use Rattle.cyc_lower.specs.ControlCode.{holding_jump, body_target, inside_loop, entry_code, entry_length, over_code, over_length}
-use Rattle.cyc_lower.specs.Lowering.{is_guard, choice_code, choice_of, statement_code}
-use Rattle.cyc_lower.specs.Emission.{begun_loop, entered_loop, loop_code}
+use Rattle.cyc_lower.specs.inside.Slots.{Starts}
+use Rattle.cyc_lower.specs.inside.ControlCode.{holding_jump, body_target, inside_loop, entry_code, entry_length, over_code, over_length}
+use Rattle.cyc_lower.specs.inside.Lowering.{is_guard, choice_code, choice_of, statement_code}
+use Rattle.cyc_lower.specs.inside.Emission.{begun_loop, entered_loop, loop_code}
 
 pub entry_long : (guarded : Bool) (condition : List Instruction) (jump : ℕ → Instruction) (test p : ℕ) → length (entry_code guarded condition jump test p) ≡ entry_length guarded condition
 entry_long true condition jump test p = length-append condition (jump (p + length condition + 1 + 1) ∷ [])

@@ -15,30 +15,30 @@ use Rattle.cyc_plain.specs.declared.instruction.Operand.{Operand}
 use Rattle.cyc_plain.specs.declared.instruction.Operand.TheVariants as operands
 use Rattle.cyc_plain.specs.declared.instruction.Instruction.TheVariants as instructions
 use Rattle.cyc_plain.specs.declared.limits.TheConstants.{RECORD_WORDS}
-use Rattle.cyc_plain.specs.Program.{CodePlace, places_of}
+use Rattle.cyc_plain.specs.inside.Program.{CodePlace, places_of}
 use Rattle.cyc_plain.specs.declared.instruction.Request.TheVariants as requests
-use Rattle.cyc_plain.specs.Straight.{At}
-use Rattle.cyc_plain.specs.State as plain
-use Rattle.cyc_plain.specs.State.{Words, put, copied, Activation, Frame, Configuration}
-use Rattle.cyc_plain.specs.Step.{Choice, at, with_slots, advanced, operand_word, lands, throws, tries, opens, performed}
-use Rattle.cyc_plain.specs.Step as plain_step
+use Rattle.cyc_plain.specs.inside.Straight.{At}
+use Rattle.cyc_plain.specs.inside.State as plain
+use Rattle.cyc_plain.specs.inside.State.{Words, put, copied, Activation, Frame, Configuration}
+use Rattle.cyc_plain.specs.inside.Step.{Choice, at, with_slots, advanced, operand_word, lands, throws, tries, opens, performed}
+use Rattle.cyc_plain.specs.inside.Step as plain_step
 use Rattle.cyc_plain.proofs.SlotLaws.{put-same, put-other, copied-inside, copied-below, copied-above}
-use Rattle.cyc_plain.specs.Operators.{compares}
+use Rattle.cyc_plain.specs.inside.Operators.{compares}
 use Rattle.cyc_meaning.specs.Values.{Operand as Kinded, words_of_kind}
 use Rattle.cyc_meaning.specs.State.{World, Environment, variable, made, closed, with_local, region_at, ThrowWith, Entry, Needs, NeedsPlace, Discard, Rest, Join, Loop, CloseRegion, CloseLexical, EndLoan, Handler, Caller, Main, Evaluating, Executing, Proceeding, Naming, Throwing, Catching, Running, Ended, State, Region, Access}
-use Rattle.cyc_meaning.specs.Nesting.{IsNested}
+use Rattle.cyc_meaning.specs.inside.Nesting.{IsNested}
 use Rattle.cyc_store.specs.State.{lexical_count}
 use Rattle.cyc_meaning.specs.Regions.{closing_lexical}
 use Rattle.cyc_meaning.specs.Step.{inside}
 use Rattle.cyc_meaning.specs.Exceptions.{catches}
 use Rattle.cyc_lower.specs.declared.statements.Exits.{Exits}
-use Rattle.cyc_lower.specs.Slots.{slot_of}
-use Rattle.cyc_lower.specs.ControlCode.{tag_operand, inside_try}
-use Rattle.cyc_lower.specs.Lowering.{lower_program, scopes_of}
-use Rattle.cyc_objects.specs.Tables.{Tables, with_row, with_handle}
-use Rattle.cyc_objects.specs.Related as objects
+use Rattle.cyc_lower.specs.inside.Slots.{slot_of}
+use Rattle.cyc_lower.specs.inside.ControlCode.{tag_operand, inside_try}
+use Rattle.cyc_lower.specs.inside.Lowering.{lower_program, scopes_of}
+use Rattle.cyc_objects.specs.inside.Tables.{Tables, with_row, with_handle}
+use Rattle.cyc_objects.specs.inside.Related as objects
 use Rattle.cyc_objects.proofs.Scopes.{scopes-counted, ends-newest}
-use Rattle.cyc_objects.specs.Words.{Is}
+use Rattle.cyc_objects.specs.inside.Words.{Is}
 use Rattle.cyc_objects.proofs.Values.{Is-grows, Grows-row, Grows-handle}
 use Rattle.cyc_lower.proofs.slots.Slots.{slot-room, room-inside}
 use Rattle.cyc_lower.proofs.slots.Widths.{kind_positive, HasRoom, Outside}

@@ -7,16 +7,16 @@ use Rattle.cyc_words.specs.Word.{IsWord as IsNumber}
 use Rattle.cyc_types.specs.TypedTrees.{Program}
 use Rattle.cyc_plain.specs.declared.instruction.Operand.{Operand}
 use Rattle.cyc_plain.specs.declared.instruction.Instruction.TheVariants as instructions
-use Rattle.cyc_plain.specs.State as plain
-use Rattle.cyc_plain.specs.State.{Words, Activation, Frame, Configuration}
-use Rattle.cyc_plain.specs.Step.{advanced, operand_word, is_intact, closes}
-use Rattle.cyc_plain.specs.Straight.{At}
+use Rattle.cyc_plain.specs.inside.State as plain
+use Rattle.cyc_plain.specs.inside.State.{Words, Activation, Frame, Configuration}
+use Rattle.cyc_plain.specs.inside.Step.{advanced, operand_word, is_intact, closes}
+use Rattle.cyc_plain.specs.inside.Straight.{At}
 use Rattle.cyc_meaning.specs.State.{World, Environment, Entry, Rest, Join, Loop, CloseRegion, Handler, Caller, Main, Focus, Running, CloseLexical, EndLoan, Throwing}
 use Rattle.cyc_meaning.specs.Step.{step}
 use Rattle.cyc_lower.specs.declared.statements.Exits.{Exits}
 use Rattle.cyc_lower.specs.declared.statements.Opened.{Opened}
-use Rattle.cyc_lower.specs.ControlCode.{outermost, with_handler, with_mark}
-use Rattle.cyc_lower.specs.Lowering.{scopes_of}
+use Rattle.cyc_lower.specs.inside.ControlCode.{outermost, with_handler, with_mark}
+use Rattle.cyc_lower.specs.inside.Lowering.{scopes_of}
 use Rattle.cyc_lower.proofs.relation.Weights.{weight}
 use Rattle.cyc_lower.proofs.relation.Stands.{HandlersAt, MarksAt}
 use Rattle.cyc_lower.proofs.relation.HeldValues.{IsIntact, left_by, scopes_in, MayBeOpen, Newest}

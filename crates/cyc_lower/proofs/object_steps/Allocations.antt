@@ -19,22 +19,22 @@ use Rattle.cyc_plain.specs.declared.instruction.Operand.{Operand}
 use Rattle.cyc_plain.specs.declared.instruction.Operand.TheVariants as operands
 use Rattle.cyc_plain.specs.declared.instruction.Instruction.TheVariants as instructions
 use Rattle.cyc_plain.specs.declared.instruction.Request.TheVariants as requests
-use Rattle.cyc_plain.specs.State as plain
-use Rattle.cyc_plain.specs.State.{Words, put, Configuration}
-use Rattle.cyc_plain.specs.Step.{Choice, advanced, operand_word, served_to, performed}
-use Rattle.cyc_plain.specs.Step as plain_step
-use Rattle.cyc_plain.specs.Straight.{At}
+use Rattle.cyc_plain.specs.inside.State as plain
+use Rattle.cyc_plain.specs.inside.State.{Words, put, Configuration}
+use Rattle.cyc_plain.specs.inside.Step.{Choice, advanced, operand_word, served_to, performed}
+use Rattle.cyc_plain.specs.inside.Step as plain_step
+use Rattle.cyc_plain.specs.inside.Straight.{At}
 use Rattle.cyc_plain.proofs.SlotLaws.{put-same, put-other}
 use Rattle.cyc_meaning.specs.Values.{Thin, Operand as Kinded, Cell, kinds_of, is_kind, words_of_kind, bytes_of_kind, begins, behind, words_for, block_size}
 use Rattle.cyc_meaning.specs.Allocation.{writes_from, blanks_of, filled, makes_of}
 use Rattle.cyc_meaning.specs.Objects.{made_in, made_unique, created, created_in}
-use Rattle.cyc_meaning.specs.Effects.{pages_of}
+use Rattle.cyc_meaning.specs.inside.Effects.{pages_of}
 use Rattle.cyc_meaning.specs.State.{Region, Owner, InRegion, Unique, World, Access, Found, Closed, Missing, region_at, counted, cell_at, written, Environment, MakePlain, MakeFields, ConvertTo, Write, Entry, Needs, Focus, Evaluating, Given, Writing, Running}
 use Rattle.cyc_meaning.specs.Step.{wrong, stored, target_by, step}
-use Rattle.cyc_objects.specs.Tables.{Placed, Tables, with_row, Grows}
-use Rattle.cyc_objects.specs.Words.{bytes_of_kinds, before, Points, Is, AreBlank}
-use Rattle.cyc_objects.specs.Related as objects
-use Rattle.cyc_objects.specs.Related.{has_home}
+use Rattle.cyc_objects.specs.inside.Tables.{Placed, Tables, with_row, Grows}
+use Rattle.cyc_objects.specs.inside.Words.{bytes_of_kinds, before, Points, Is, AreBlank}
+use Rattle.cyc_objects.specs.inside.Related as objects
+use Rattle.cyc_objects.specs.inside.Related.{has_home}
 use Rattle.cyc_objects.proofs.Places.{before-all, before-first, before-inside, before-joined, bytes-joined}
 use Rattle.cyc_objects.proofs.Values.{Grows-row}
 use Rattle.cyc_objects.proofs.RegionLemmas.{counted-same}
@@ -55,13 +55,13 @@ use Rattle.cyc_lower.proofs.value_steps.Evaluations.{IsStep, made_moved, brings}
 use Rattle.cyc_lower.proofs.relation.Known.{row-made_there}
 use Rattle.cyc_lower.proofs.relation.Leads.{AreNamed}
 use Rattle.cyc_lower.proofs.relation.Moving.{made_moves}
-use Rattle.cyc_lower.specs.Slots.{global_types}
-use Rattle.cyc_lower.specs.ValueCode.{kinds_passed}
-use Rattle.cyc_lower.specs.ObjectCode.{slots_of_kinds}
+use Rattle.cyc_lower.specs.inside.Slots.{global_types}
+use Rattle.cyc_lower.specs.inside.ValueCode.{kinds_passed}
+use Rattle.cyc_lower.specs.inside.ObjectCode.{slots_of_kinds}
 use Rattle.cyc_lower.proofs.place_steps.PlaceWords.{add_is}
 use Rattle.cyc_lower.proofs.slots.CellBytes.{bytes_within}
 use Rattle.cyc_lower.proofs.place_steps.KindWords.{saved_at, saves_by}
-use Rattle.cyc_lower.specs.Lowering.{lower_program}
+use Rattle.cyc_lower.specs.inside.Lowering.{lower_program}
 
 -- ---- words and cells of values
 

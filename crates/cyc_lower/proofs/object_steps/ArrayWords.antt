@@ -9,9 +9,9 @@ use Rattle.cyc_words.proofs.WordLemmas.{signed_low, IsWord-mul_of, IsWord-shl_of
 use Rattle.cyc_types.specs.declared.typed.Kind.{Kind}
 use Rattle.cyc_types.specs.declared.typed.Kind.TheVariants as kinds
 use Rattle.cyc_store.specs.declared.range.TheConstants.{MOST_BLOCK_WORDS}
-use Rattle.cyc_plain.specs.Operators.{truth}
+use Rattle.cyc_plain.specs.inside.Operators.{truth}
 use Rattle.cyc_meaning.specs.Values.{bytes_of_kind, words_for}
-use Rattle.cyc_lower.specs.ObjectCode.{most_elements}
+use Rattle.cyc_lower.specs.inside.ObjectCode.{most_elements}
 use Rattle.cyc_lower.proofs.place_steps.PlaceWords.{add_is, shifted_is, multiplied_is}
 use Rattle.cyc_lower.proofs.pointer_steps.Elements.{scaled}
 

@@ -20,32 +20,32 @@ use Rattle.cyc_plain.specs.declared.instruction.Operand.{Operand}
 use Rattle.cyc_plain.specs.declared.instruction.Operand.TheVariants as operands
 use Rattle.cyc_plain.specs.declared.instruction.Instruction.TheVariants as instructions
 use Rattle.cyc_plain.specs.declared.instruction.Request.TheVariants as requests
-use Rattle.cyc_plain.specs.Operators.{truth}
-use Rattle.cyc_plain.specs.State as plain
-use Rattle.cyc_plain.specs.State.{Words, put, Configuration}
-use Rattle.cyc_plain.specs.Step.{Choice, operand_word, with_slots, at, advanced, served_to, performed}
-use Rattle.cyc_plain.specs.Step as plain_step
-use Rattle.cyc_plain.specs.Straight.{At}
+use Rattle.cyc_plain.specs.inside.Operators.{truth}
+use Rattle.cyc_plain.specs.inside.State as plain
+use Rattle.cyc_plain.specs.inside.State.{Words, put, Configuration}
+use Rattle.cyc_plain.specs.inside.Step.{Choice, operand_word, with_slots, at, advanced, served_to, performed}
+use Rattle.cyc_plain.specs.inside.Step as plain_step
+use Rattle.cyc_plain.specs.inside.Straight.{At}
 use Rattle.cyc_plain.proofs.SlotLaws.{put-same, put-other}
 use Rattle.cyc_meaning.specs.Values.{Value, Int, Fat, Operand as Kinded, Cell, kinds_of, is_kind, words_of_kind, bytes_of_kind, words_for, block_size}
 use Rattle.cyc_meaning.specs.Operators.{array_size}
 use Rattle.cyc_meaning.specs.Allocation.{blanks, begun, makes_array, most_words}
 use Rattle.cyc_meaning.specs.Objects.{created}
-use Rattle.cyc_meaning.specs.Effects.{pages_of}
+use Rattle.cyc_meaning.specs.inside.Effects.{pages_of}
 use Rattle.cyc_meaning.specs.Parts.{gives}
 use Rattle.cyc_meaning.specs.State.{Owner, World, Access, Found, Closed, Missing, Located, cell_at, written, Environment, with_counter, MakeArray, FillElement, Entry, Needs, Focus, Evaluating, Given, Beginning, Repeating, Throwing, Running}
 use Rattle.cyc_meaning.specs.Step.{wrong, stored as stored_in, step}
-use Rattle.cyc_objects.specs.Tables.{Placed, Tables, with_row, Grows}
-use Rattle.cyc_objects.specs.Words.{Points, IsPartOf, Is}
-use Rattle.cyc_objects.specs.Related as objects
+use Rattle.cyc_objects.specs.inside.Tables.{Placed, Tables, with_row, Grows}
+use Rattle.cyc_objects.specs.inside.Words.{Points, IsPartOf, Is}
+use Rattle.cyc_objects.specs.inside.Related as objects
 use Rattle.cyc_objects.proofs.Values.{Grows-row}
 use Rattle.cyc_objects.proofs.Pointers.{pointer-word}
 use Rattle.cyc_objects.proofs.Cells.{element-found}
 use Rattle.cyc_objects.proofs.Places.{blanks-size}
 use Rattle.cyc_objects.proofs.Making.{blanks-blank, part-made}
-use Rattle.cyc_lower.specs.ValueCode.{is_in, scale_of, store_of}
-use Rattle.cyc_lower.specs.ObjectCode.{most_elements}
-use Rattle.cyc_lower.specs.Lowering.{lower_program}
+use Rattle.cyc_lower.specs.inside.ValueCode.{is_in, scale_of, store_of}
+use Rattle.cyc_lower.specs.inside.ObjectCode.{most_elements}
+use Rattle.cyc_lower.specs.inside.Lowering.{lower_program}
 use Rattle.cyc_lower.proofs.slots.Widths.{Outside, same_kind, wide_kind}
 use Rattle.cyc_lower.proofs.relation.Stands.{CopyBy, BegunAt, ElementsAt, StoresAt, SizedAt}
 use Rattle.cyc_lower.proofs.object_steps.Handles.{has_handle}
@@ -71,7 +71,7 @@ use Rattle.cyc_words.proofs.WordLemmas.{IsWord-add_of}
 use Rattle.cyc_lower.proofs.relation.Known.{row-made_there}
 use Rattle.cyc_lower.proofs.relation.Leads.{AreNamed}
 use Rattle.cyc_lower.proofs.relation.Moving.{Like, like_long, made_moves}
-use Rattle.cyc_lower.specs.Slots.{Types, global_types}
+use Rattle.cyc_lower.specs.inside.Slots.{Types, global_types}
 use Rattle.cyc_lower.proofs.pointer_steps.PointerSteps.{int_word}
 use Rattle.cyc_lower.proofs.place_steps.KindWords.{saved_at, saves_by}
 

@@ -9,19 +9,19 @@ use Rattle.cyc_store.specs.Services as services
 use Rattle.cyc_store.specs.Services.{refusal}
 use Rattle.cyc_plain.specs.declared.instruction.Instruction.TheVariants as instructions
 use Rattle.cyc_plain.specs.declared.instruction.Request.{Request}
-use Rattle.cyc_plain.specs.Program.{CodePlace, places_of}
-use Rattle.cyc_plain.specs.Requests as plain_requests
-use Rattle.cyc_plain.specs.State as plain
-use Rattle.cyc_plain.specs.State.{Configuration}
-use Rattle.cyc_plain.specs.Step.{served_to}
-use Rattle.cyc_plain.specs.Step as plain_step
-use Rattle.cyc_plain.specs.Straight.{At, places_behind}
+use Rattle.cyc_plain.specs.inside.Program.{CodePlace, places_of}
+use Rattle.cyc_plain.specs.inside.Requests as plain_requests
+use Rattle.cyc_plain.specs.inside.State as plain
+use Rattle.cyc_plain.specs.inside.State.{Configuration}
+use Rattle.cyc_plain.specs.inside.Step.{served_to}
+use Rattle.cyc_plain.specs.inside.Step as plain_step
+use Rattle.cyc_plain.specs.inside.Straight.{At, places_behind}
 use Rattle.cyc_plain.proofs.Steps.{step_serves, step_full}
 use Rattle.cyc_meaning.specs.State.{World, Environment, Entry, Focus, State, Running, Ended}
 use Rattle.cyc_meaning.specs.Step.{step}
 use Rattle.cyc_meaning.specs.Run.{is_within, limited_step}
 use Rattle.cyc_plain.proofs.Straight.{behind-distinct}
-use Rattle.cyc_lower.specs.Lowering.{lower_program}
+use Rattle.cyc_lower.specs.inside.Lowering.{lower_program}
 use Rattle.cyc_lower.proofs.relation.Relation.{seen_in, shared_seen, SharedAt, Matches, code_of}
 use Rattle.cyc_lower.proofs.relation.Matched.{IsMatched, Executes, by_places, shared_way, seen_way, place_in, known}
 

@@ -13,33 +13,33 @@ use Rattle.cyc_plain.specs.declared.instruction.Instruction.{Instruction}
 use Rattle.cyc_plain.specs.declared.instruction.Instruction.TheVariants as instructions
 use Rattle.cyc_plain.specs.declared.instruction.Request.{Request}
 use Rattle.cyc_plain.specs.declared.instruction.Request.TheVariants as requests
-use Rattle.cyc_plain.specs.State as plain
-use Rattle.cyc_plain.specs.State.{Words, Configuration}
-use Rattle.cyc_plain.specs.Step.{Choice, advanced, at, operand_word, served_to, performed}
-use Rattle.cyc_plain.specs.Step as plain_step
-use Rattle.cyc_plain.specs.Requests as plain_requests
-use Rattle.cyc_plain.specs.Straight.{At}
+use Rattle.cyc_plain.specs.inside.State as plain
+use Rattle.cyc_plain.specs.inside.State.{Words, Configuration}
+use Rattle.cyc_plain.specs.inside.Step.{Choice, advanced, at, operand_word, served_to, performed}
+use Rattle.cyc_plain.specs.inside.Step as plain_step
+use Rattle.cyc_plain.specs.inside.Requests as plain_requests
+use Rattle.cyc_plain.specs.inside.Straight.{At}
 use Rattle.cyc_plain.proofs.Steps.{step_serves}
 use Rattle.cyc_meaning.specs.Values.{Value, Int, Null, Thin, Fat, Handle, Key, Operand as Kinded}
 use Rattle.cyc_meaning.specs.Objects.{freed}
 use Rattle.cyc_meaning.specs.Regions.{frees_in_region, frees_owned, frees_object}
 use Rattle.cyc_meaning.specs.State.{Region, Owner, InRegion, Unique, Object, World, Access, Found, Closed, Missing, region_at, Environment, FreeObject, Entry, Needs, Focus, Given, Proceeding, State, Running}
 use Rattle.cyc_meaning.specs.Step.{wrong, step}
-use Rattle.cyc_objects.specs.Tables.{Placed, Tables}
-use Rattle.cyc_objects.specs.Words.{before, IsPartOf, Is}
+use Rattle.cyc_objects.specs.inside.Tables.{Placed, Tables}
+use Rattle.cyc_objects.specs.inside.Words.{before, IsPartOf, Is}
 use Rattle.cyc_objects.proofs.Places.{before-first}
 use Rattle.cyc_objects.proofs.Pointers.{not-null, part-not-null}
 use Rattle.cyc_objects.proofs.Services.{refusal-free, freed-unique}
-use Rattle.cyc_lower.specs.Lowering.{lower_program}
+use Rattle.cyc_lower.specs.inside.Lowering.{lower_program}
 use Rattle.cyc_lower.proofs.relation.HeldValues.{IsIn, content_of, callers}
 use Rattle.cyc_lower.proofs.relation.Relation.{in_temporary, in_local, behind_call, behind_wrong, ProceedingAt, DataIn, SharedAt, LandsStack, ValueStack, Matches, code_of}
 use Rattle.cyc_lower.proofs.relation.Data.{calls_counted, in_words, get_set_other, null_is, points_in}
 use Rattle.cyc_lower.proofs.relation.Accesses.{IsWell, is_fitting}
 use Rattle.cyc_lower.proofs.place_steps.CellWrites.{SameVariables, data_beside}
 use Rattle.cyc_lower.proofs.relation.Matched.{IsMatched, by_places, by_one, executes, shared_way, shared_within, place_in, known, apart, Executes}
-use Rattle.cyc_lower.specs.Slots.{global_types}
+use Rattle.cyc_lower.specs.inside.Slots.{global_types}
 use Rattle.cyc_lower.proofs.relation.Known.{row-away}
-use Rattle.cyc_objects.specs.Related.{lies_in}
+use Rattle.cyc_objects.specs.inside.Related.{lies_in}
 use Rattle.cyc_store.specs.declared.range.TheConstants.{UNIQUE}
 
 -- ---- what is freed

@@ -8,14 +8,14 @@ use Rattle.cyc_plain.specs.declared.instruction.Operand.{Operand}
 use Rattle.cyc_plain.specs.declared.instruction.Operand.TheVariants as operands
 use Rattle.cyc_plain.specs.declared.instruction.Instruction.{Instruction}
 use Rattle.cyc_plain.specs.declared.instruction.Instruction.TheVariants as instructions
-use Rattle.cyc_plain.specs.State as plain
-use Rattle.cyc_plain.specs.State.{put, Configuration}
-use Rattle.cyc_plain.specs.Step.{Choice, operand_word, with_slots, advanced, performed}
-use Rattle.cyc_plain.specs.Straight.{At}
-use Rattle.cyc_objects.specs.Tables.{Tables}
-use Rattle.cyc_objects.specs.Words.{Points}
-use Rattle.cyc_lower.specs.ValueCode.{is_in, move_of}
-use Rattle.cyc_lower.specs.Lowering.{lower_program}
+use Rattle.cyc_plain.specs.inside.State as plain
+use Rattle.cyc_plain.specs.inside.State.{put, Configuration}
+use Rattle.cyc_plain.specs.inside.Step.{Choice, operand_word, with_slots, advanced, performed}
+use Rattle.cyc_plain.specs.inside.Straight.{At}
+use Rattle.cyc_objects.specs.inside.Tables.{Tables}
+use Rattle.cyc_objects.specs.inside.Words.{Points}
+use Rattle.cyc_lower.specs.inside.ValueCode.{is_in, move_of}
+use Rattle.cyc_lower.specs.inside.Lowering.{lower_program}
 use Rattle.cyc_lower.proofs.relation.Relation.{code_of}
 use Rattle.cyc_lower.proofs.relation.Stands.{CopyBy, AddressAt}
 use Rattle.cyc_lower.proofs.place_steps.PlaceWords.{add_is}

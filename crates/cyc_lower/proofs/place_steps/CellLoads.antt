@@ -4,11 +4,11 @@ use Rattle.cyc_words.specs.Word.{add_of}
 use Rattle.cyc_types.specs.declared.typed.Kind.{Kind}
 use Rattle.cyc_types.specs.TypedTrees.{Program}
 use Rattle.cyc_plain.specs.declared.instruction.Operand.TheVariants as operands
-use Rattle.cyc_plain.specs.State.{put, Configuration, Words}
-use Rattle.cyc_plain.specs.Step.{with_slots, advanced, at, loads}
+use Rattle.cyc_plain.specs.inside.State.{put, Configuration, Words}
+use Rattle.cyc_plain.specs.inside.Step.{with_slots, advanced, at, loads}
 use Rattle.cyc_plain.proofs.SlotLaws.{put-other}
-use Rattle.cyc_lower.specs.ObjectCode.{load_at}
-use Rattle.cyc_lower.specs.Lowering.{lower_program}
+use Rattle.cyc_lower.specs.inside.ObjectCode.{load_at}
+use Rattle.cyc_lower.specs.inside.Lowering.{lower_program}
 use Rattle.cyc_lower.proofs.relation.Stands.{EachAt}
 use Rattle.cyc_lower.proofs.relation.Relation.{code_of}
 use Rattle.cyc_lower.proofs.relation.Paths.{Link, is_quiet, end_of, IsPath}

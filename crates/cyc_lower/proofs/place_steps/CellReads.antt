@@ -8,22 +8,22 @@ use Rattle.cyc_types.specs.Types.{Ty}
 use Rattle.cyc_types.specs.TypedTrees.{Program}
 use Rattle.cyc_store.specs.State.{StoreState}
 use Rattle.cyc_plain.specs.declared.limits.TheConstants.{GLOBALS_BASE}
-use Rattle.cyc_plain.specs.State.{Words, Configuration}
-use Rattle.cyc_plain.specs.Step.{at, with_slots}
-use Rattle.cyc_plain.specs.Memory.{memory_at}
+use Rattle.cyc_plain.specs.inside.State.{Words, Configuration}
+use Rattle.cyc_plain.specs.inside.Step.{at, with_slots}
+use Rattle.cyc_plain.specs.inside.Memory.{memory_at}
 use Rattle.cyc_plain.proofs.MemoryLaws.{memory-stored, memory-active, memory-waiting}
 use Rattle.cyc_meaning.specs.Values.{Value, words_of_kind, is_kind}
 use Rattle.cyc_meaning.specs.State.{World, Found, Located, cell_at}
 use Rattle.cyc_meaning.specs.FrameCount.{words_of_all}
 use Rattle.cyc_meaning.proofs.WorldLaws.{cell_found}
-use Rattle.cyc_objects.specs.Tables.{Tables, Placed}
-use Rattle.cyc_objects.specs.Words.{words_from, Points, Is, IsContent, byte_at, Holds}
-use Rattle.cyc_objects.specs.Related as objects
-use Rattle.cyc_objects.specs.Related.{Alive}
+use Rattle.cyc_objects.specs.inside.Tables.{Tables, Placed}
+use Rattle.cyc_objects.specs.inside.Words.{words_from, Points, Is, IsContent, byte_at, Holds}
+use Rattle.cyc_objects.specs.inside.Related as objects
+use Rattle.cyc_objects.specs.inside.Related.{Alive}
 use Rattle.cyc_objects.proofs.Cells.{cell-read}
 use Rattle.cyc_objects.proofs.Values.{Is-same, Holds-words}
-use Rattle.cyc_lower.specs.Slots.{slot_of, global_types}
-use Rattle.cyc_lower.specs.Lowering.{lower_program}
+use Rattle.cyc_lower.specs.inside.Slots.{slot_of, global_types}
+use Rattle.cyc_lower.specs.inside.Lowering.{lower_program}
 use Rattle.cyc_lower.proofs.slots.Widths.{HasRoom}
 use Rattle.cyc_lower.proofs.slots.Slots.{slot-room, global-room, globals_counted}
 use Rattle.cyc_lower.proofs.relation.Known.{global-first, global_kind, first_word}
@@ -35,10 +35,10 @@ use Rattle.cyc_lower.proofs.relation.Leads.{IsNamed, is_global, is_local, is_wai
 use Rattle.cyc_lower.proofs.place_steps.PlaceWords.{cell_kind, word_is}
 use Rattle.cyc_lower.proofs.place_steps.StoredWords.{cell-stored, global-found, byte-stored}
 use Rattle.std.proofs.lemmas.Bool.{cases_Bool}
-use Rattle.cyc_words.specs.WordBytes.{byte_in, word_of}
+use Rattle.cyc_words.specs.Bytes.{byte_in, word_of}
 use Rattle.cyc_objects.proofs.Chars.{char-loaded, char-kind}
 use Rattle.cyc_lower.proofs.place_steps.KindWords.{loaded_at, loaded_wide, loaded_variable, slot_even, waiting_even}
-use Rattle.cyc_lower.specs.ValueCode.{variable_bytes}
+use Rattle.cyc_lower.specs.inside.ValueCode.{variable_bytes}
 use Rattle.cyc_types.specs.declared.typed.Kind.TheVariants as kinds
 
 -- a variable that is found holds it

@@ -2,23 +2,23 @@
 use Rattle.std.proofs.Common.{◌≡◌, ℕ, ◌+◌, ◌*◌, ◌≤◌, ◌<◌, List, [], ◌∷◌, length, set, Option, Some, slice_get, refl, sym, ap, subst, ◌∙◌, arith, length-set, inl, inr, suc, false}
 use Rattle.std.specs.Prelude.{if◌then◌else◌, ◌⊎◌}
 use Rattle.cyc_words.specs.Word as words
-use Rattle.cyc_lower.specs.Slots.{Types, global_types, slot_of}
+use Rattle.cyc_lower.specs.inside.Slots.{Types, global_types, slot_of}
 use Rattle.cyc_types.specs.Types.{Ty}
 use Rattle.cyc_types.specs.TypedTrees.{Program}
 use Rattle.cyc_store.specs.State.{Memory, put, StoreState, demand, saved}
 use Rattle.cyc_store.proofs.LookupLemmas.{when_other}
 use Rattle.cyc_store.proofs.WordLemmas.{words-put}
-use Rattle.cyc_plain.specs.State as plain
-use Rattle.cyc_plain.specs.State.{Words, Frame, Configuration}
-use Rattle.cyc_plain.specs.Step.{advanced, saves}
+use Rattle.cyc_plain.specs.inside.State as plain
+use Rattle.cyc_plain.specs.inside.State.{Words, Frame, Configuration}
+use Rattle.cyc_plain.specs.inside.Step.{advanced, saves}
 use Rattle.cyc_plain.proofs.SlotLaws.{put-same, put-other}
 use Rattle.cyc_meaning.specs.Values.{Value, Operand as Kinded, is_kind, words_of_kind}
 use Rattle.cyc_meaning.specs.State.{Object, World, Access, Found, Closed, Missing, Located, cell_at, written, Environment, Entry, Focus, Running}
 use Rattle.cyc_meaning.specs.Step.{wrong, stored}
 use Rattle.cyc_meaning.proofs.WorldLaws.{cell_found}
-use Rattle.cyc_objects.specs.Tables.{Tables, Placed}
-use Rattle.cyc_objects.specs.Words.{words_from, Points, Holds, IsBeside}
-use Rattle.cyc_objects.specs.Related as objects
+use Rattle.cyc_objects.specs.inside.Tables.{Tables, Placed}
+use Rattle.cyc_objects.specs.inside.Words.{words_from, Points, Holds, IsBeside}
+use Rattle.cyc_objects.specs.inside.Related as objects
 use Rattle.cyc_objects.proofs.Bytes.{bytes-beside, put_byte, put_byte-words, byte-beside}
 use Rattle.cyc_objects.proofs.Values.{Holds-of_words}
 use Rattle.cyc_objects.proofs.Cells.{cell-aligned, related-written, saved-is}
@@ -34,7 +34,7 @@ use Rattle.cyc_lower.proofs.relation.Accesses.{IsWell, is_fitting, written_here,
 use Rattle.cyc_lower.proofs.place_steps.PlaceWords.{cell_kind}
 use Rattle.cyc_lower.proofs.place_steps.CellReads.{globals_long}
 use Rattle.cyc_plain.proofs.MemoryLaws.{store_word, stored-word, memory-active, memory-waiting, written-active, written-waiting_at}
-use Rattle.cyc_lower.specs.Lowering.{lower_program, scopes_of}
+use Rattle.cyc_lower.specs.inside.Lowering.{lower_program, scopes_of}
 use Rattle.cyc_lower.proofs.place_steps.StoredWords.{cell-stored, saves-stored, saves-global, byte-stored, saves-stored_byte, global-found}
 use Rattle.cyc_lower.proofs.relation.Rows.{local-row, local-pointer, local-kind, char_there, char_cell}
 use Rattle.cyc_lower.proofs.relation.Leads.{AreNamed, Leads, leads, to_store, to_variable, is_global, is_local, is_waiting}
@@ -44,7 +44,7 @@ use Rattle.std.proofs.lemmas.Bool.{cases_eq, cases_Bool}
 use Rattle.cyc_words.proofs.Numbers.{when_equal}
 use Rattle.cyc_objects.proofs.Chars.{char-stored, wide-aligned, wide-bytes, char-kind}
 use Rattle.cyc_lower.proofs.place_steps.KindWords.{saved_at, saved_wide, saved_variable, small_word, slot_even, waiting_even}
-use Rattle.cyc_lower.specs.ValueCode.{variable_bytes}
+use Rattle.cyc_lower.specs.inside.ValueCode.{variable_bytes}
 use Rattle.cyc_types.specs.declared.typed.Kind.{Kind}
 use Rattle.cyc_types.specs.declared.typed.Kind.TheVariants as kinds
 use Rattle.cyc_plain.specs.declared.limits.TheConstants.{GLOBALS_BASE}

@@ -4,20 +4,20 @@
 use Rattle.std.proofs.Common.{◌≡◌, ℕ, ◌+◌, ◌*◌, ◌%◌, ◌<◌, true, false, List, [], ◌∷◌, Option, Some, None, slice_get, refl, sym, ap, subst, ◌∙◌, arith}
 use Rattle.std.specs.Prelude.{option_map}
 use Rattle.cyc_words.specs.Word.{add_of}
-use Rattle.cyc_words.specs.WordBytes.{byte_in, with_byte, word_of}
+use Rattle.cyc_words.specs.Bytes.{byte_in, with_byte, word_of}
 use Rattle.cyc_types.specs.declared.typed.Kind.{Kind}
 use Rattle.cyc_types.specs.declared.typed.Kind.TheVariants as kinds
 use Rattle.cyc_plain.specs.declared.instruction.Operand.{Operand}
-use Rattle.cyc_plain.specs.Program.{Program}
-use Rattle.cyc_plain.specs.State as plain
-use Rattle.cyc_plain.specs.State.{Configuration, State, Frame}
-use Rattle.cyc_plain.specs.Step.{Choice, operand_word, advanced, loads, loads_byte, saves, saves_byte, performed}
-use Rattle.cyc_plain.specs.Memory.{memory_at, with_memory, AreBelow}
+use Rattle.cyc_plain.specs.inside.Program.{Program}
+use Rattle.cyc_plain.specs.inside.State as plain
+use Rattle.cyc_plain.specs.inside.State.{Configuration, State, Frame}
+use Rattle.cyc_plain.specs.inside.Step.{Choice, operand_word, advanced, loads, loads_byte, saves, saves_byte, performed}
+use Rattle.cyc_plain.specs.inside.Memory.{memory_at, with_memory, AreBelow}
 use Rattle.cyc_plain.proofs.MemoryLaws.{below-there}
 use Rattle.cyc_meaning.specs.Values.{Value, is_kind, words_of_kind}
-use Rattle.cyc_objects.specs.Tables.{Tables}
+use Rattle.cyc_objects.specs.inside.Tables.{Tables}
 use Rattle.cyc_objects.proofs.Chars.{char-small, last-word, last-place, last-loaded, last-stored, low-same}
-use Rattle.cyc_lower.specs.ValueCode.{load_of, store_of, variable_bytes}
+use Rattle.cyc_lower.specs.inside.ValueCode.{load_of, store_of, variable_bytes}
 use Rattle.cyc_lower.proofs.relation.HeldValues.{IsWord}
 
 -- what a load of a kind finds

@@ -9,18 +9,18 @@ use Rattle.cyc_types.specs.TypedTrees.{Expression, Convert, Program, NoOperation
 use Rattle.cyc_plain.specs.declared.instruction.Operand.{Operand}
 use Rattle.cyc_plain.specs.declared.instruction.Operand.TheVariants as operands
 use Rattle.cyc_plain.specs.declared.instruction.Instruction.TheVariants as instructions
-use Rattle.cyc_plain.specs.State as plain
-use Rattle.cyc_plain.specs.State.{put, Frame, Configuration, Words}
-use Rattle.cyc_plain.specs.Step.{operand_word, with_slots, at, advanced, loads}
-use Rattle.cyc_plain.specs.Straight.{At}
+use Rattle.cyc_plain.specs.inside.State as plain
+use Rattle.cyc_plain.specs.inside.State.{put, Frame, Configuration, Words}
+use Rattle.cyc_plain.specs.inside.Step.{operand_word, with_slots, at, advanced, loads}
+use Rattle.cyc_plain.specs.inside.Straight.{At}
 use Rattle.cyc_plain.proofs.SlotLaws.{put-same}
 use Rattle.cyc_meaning.specs.Values.{Value, Thin, Operand as Kinded, is_kind, words_of_kind}
 use Rattle.cyc_meaning.specs.State.{World, Access, Found, Closed, Missing, Located, cell_at, Environment, LoadFrom, Entry, NeedsPlace, GivenPlace, Given, Running, ConvertTo, StoreCell, TakeAddress, StoreTo, Needs, Evaluating, SwapLeft, SwapRight, Chain, BesideHandle, Store, Initialise, Operate}
 use Rattle.cyc_meaning.specs.Step.{wrong, read, loaded, target_by}
-use Rattle.cyc_objects.specs.Words.{Points, Is}
-use Rattle.cyc_lower.specs.ObjectCode.{right_slot}
-use Rattle.cyc_lower.specs.ExpressionCode.{source_of, source_slot}
-use Rattle.cyc_lower.specs.Lowering.{lower_program}
+use Rattle.cyc_objects.specs.inside.Words.{Points, Is}
+use Rattle.cyc_lower.specs.inside.ObjectCode.{right_slot}
+use Rattle.cyc_lower.specs.inside.ExpressionCode.{source_of, source_slot}
+use Rattle.cyc_lower.specs.inside.Lowering.{lower_program}
 use Rattle.cyc_lower.proofs.slots.Widths.{kind_positive, same_kind, wide_kind, Outside, HasRoom}
 use Rattle.cyc_lower.proofs.relation.Moves.{put_elsewhere}
 use Rattle.cyc_lower.proofs.relation.HeldValues.{held, Holds, callers}
@@ -37,11 +37,11 @@ use Rattle.cyc_lower.proofs.relation.Paths.{is_quiet, by_path}
 use Rattle.cyc_lower.proofs.value_steps.Evaluations.{IsStep, sources, landed}
 use Rattle.cyc_lower.proofs.value_steps.ValueWords.{of_kind}
 use Rattle.cyc_lower.proofs.value_steps.Assignments.{landed_there}
-use Rattle.cyc_plain.specs.Memory.{memory_at}
+use Rattle.cyc_plain.specs.inside.Memory.{memory_at}
 use Rattle.cyc_lower.proofs.relation.Leads.{AreNamed}
 use Rattle.cyc_lower.proofs.slots.Slots.{room-inside}
-use Rattle.cyc_lower.specs.Slots.{slot_of}
-use Rattle.cyc_objects.specs.Tables.{Tables}
+use Rattle.cyc_lower.specs.inside.Slots.{slot_of}
+use Rattle.cyc_objects.specs.inside.Tables.{Tables}
 use Rattle.cyc_lower.proofs.place_steps.KindWords.{loaded_at, loads_by}
 use Rattle.cyc_types.specs.declared.typed.UnaryOperator.TheVariants as unary
 

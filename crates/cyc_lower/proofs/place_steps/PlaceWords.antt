@@ -16,16 +16,16 @@ use Rattle.cyc_meaning.specs.Values.{Value, words_of_kind, bytes_of_kind, begins
 use Rattle.cyc_meaning.specs.State.{Object, World, Found, Located, cell_at}
 use Rattle.cyc_meaning.proofs.WorldLaws.{cell_found}
 use Rattle.cyc_objects.proofs.NumberLemmas.{slice_get-map}
-use Rattle.cyc_objects.specs.Tables.{Tables}
-use Rattle.cyc_objects.specs.Words.{bytes_of_kinds, before_from, before, words_from, Points, IsPartOf, Is}
+use Rattle.cyc_objects.specs.inside.Tables.{Tables}
+use Rattle.cyc_objects.specs.inside.Words.{bytes_of_kinds, before_from, before, words_from, Points, IsPartOf, Is}
 use Rattle.cyc_objects.proofs.Places.{before-least, before-inside}
 use Rattle.cyc_objects.proofs.Values.{Is-same}
-use Rattle.cyc_objects.specs.Related.{Related}
-use Rattle.cyc_lower.specs.Slots.{begins_word, field_from}
+use Rattle.cyc_objects.specs.inside.Related.{Related}
+use Rattle.cyc_lower.specs.inside.Slots.{begins_word, field_from}
 use Rattle.cyc_lower.proofs.slots.CellBytes.{kind_bytes, last_low, begins_is}
 use Rattle.cyc_objects.proofs.Pointers.{thinned, member-points, pointer-word}
 use Rattle.cyc_plain.proofs.MemoryLaws.{store_word_in, store_word}
-use Rattle.cyc_plain.specs.Memory.{Range, OfGlobals, OfStore, OfSlots, range_of}
+use Rattle.cyc_plain.specs.inside.Memory.{Range, OfGlobals, OfStore, OfSlots, range_of}
 
 -- ---- what does not wrap
 

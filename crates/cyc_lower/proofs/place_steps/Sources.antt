@@ -7,10 +7,10 @@ use Rattle.cyc_types.specs.Numbered.{Numbering}
 use Rattle.cyc_plain.specs.declared.instruction.Operand.{Operand}
 use Rattle.cyc_plain.specs.declared.instruction.Operand.TheVariants as operands
 use Rattle.cyc_meaning.specs.Values.{words_of_kind, kind_of}
-use Rattle.cyc_lower.specs.Slots.{Types, starts_of, slot_of}
-use Rattle.cyc_lower.specs.ValueCode.{operand_or, keeps_words, kind_passed}
-use Rattle.cyc_lower.specs.ControlCode.{counter_operand}
-use Rattle.cyc_lower.specs.ExpressionCode.{operand_of, value_slot, converted_operand}
+use Rattle.cyc_lower.specs.inside.Slots.{Types, starts_of, slot_of}
+use Rattle.cyc_lower.specs.inside.ValueCode.{operand_or, keeps_words, kind_passed}
+use Rattle.cyc_lower.specs.inside.ControlCode.{counter_operand}
+use Rattle.cyc_lower.specs.inside.ExpressionCode.{operand_of, value_slot, converted_operand}
 use Rattle.cyc_lower.proofs.slots.Widths.{given, words_in, keeps_wide}
 use Rattle.cyc_lower.proofs.slots.Slots.{room-inside}
 use Rattle.cyc_lower.proofs.relation.Fitting.{Fits, FitsConverted}

@@ -7,20 +7,20 @@ use Rattle.cyc_types.specs.TypedTrees.{Program}
 use Rattle.cyc_store.specs.State.{StoreState, word_at, saved}
 use Rattle.cyc_store.specs.declared.range.TheConstants.{STORE_BASE}
 use Rattle.cyc_plain.specs.declared.limits.TheConstants.{GLOBALS_BASE}
-use Rattle.cyc_plain.specs.State as plain
-use Rattle.cyc_plain.specs.State.{put, Configuration}
-use Rattle.cyc_plain.specs.Step.{advanced, saves, saves_byte}
-use Rattle.cyc_plain.specs.Memory.{global_at, word_or, word_in, with_global, with_word, memory_at, with_memory}
+use Rattle.cyc_plain.specs.inside.State as plain
+use Rattle.cyc_plain.specs.inside.State.{put, Configuration}
+use Rattle.cyc_plain.specs.inside.Step.{advanced, saves, saves_byte}
+use Rattle.cyc_plain.specs.inside.Memory.{global_at, word_or, word_in, with_global, with_word, memory_at, with_memory}
 use Rattle.cyc_plain.proofs.MemoryLaws.{store_word, stored-there, memory-stored, written-stored, numbered-there, range-globals, stored-word}
 use Rattle.cyc_meaning.specs.Values.{words_of_kind, bytes_of_kind, Cell, is_kind}
 use Rattle.cyc_meaning.specs.State.{Object, World}
-use Rattle.cyc_objects.specs.Tables.{Tables}
-use Rattle.cyc_objects.specs.Words.{Points}
-use Rattle.cyc_objects.specs.Related.{Alive, Related}
+use Rattle.cyc_objects.specs.inside.Tables.{Tables}
+use Rattle.cyc_objects.specs.inside.Words.{Points}
+use Rattle.cyc_objects.specs.inside.Related.{Alive, Related}
 use Rattle.cyc_objects.proofs.Cells.{cell-aligned, cell-inside, cell-live, saved-is}
-use Rattle.cyc_lower.specs.Lowering.{lower_program}
+use Rattle.cyc_lower.specs.inside.Lowering.{lower_program}
 use Rattle.cyc_lower.proofs.place_steps.KindWords.{saved_at}
-use Rattle.cyc_words.specs.WordBytes.{word_of, with_byte}
+use Rattle.cyc_words.specs.Bytes.{word_of, with_byte}
 use Rattle.cyc_objects.proofs.Chars.{low-same, wide-aligned, wide-bytes}
 use Rattle.cyc_objects.proofs.Bytes.{put_byte}
 use Rattle.cyc_objects.proofs.Places.{bytes-some}

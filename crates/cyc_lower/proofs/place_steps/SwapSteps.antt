@@ -8,21 +8,21 @@ use Rattle.cyc_types.specs.declared.typed.Kind.{Kind}
 use Rattle.cyc_types.specs.declared.typed.Kind.TheVariants as kinds
 use Rattle.cyc_types.specs.TypedTrees.{Local, Global, Dereference, Side, VariableSide, CellSide, type_of_place, peeked, Swap, Program}
 use Rattle.cyc_plain.specs.declared.instruction.Operand.TheVariants as operands
-use Rattle.cyc_plain.specs.State as plain
-use Rattle.cyc_plain.specs.State.{Words, put, Configuration}
-use Rattle.cyc_plain.specs.Step.{with_slots, advanced, at}
+use Rattle.cyc_plain.specs.inside.State as plain
+use Rattle.cyc_plain.specs.inside.State.{Words, put, Configuration}
+use Rattle.cyc_plain.specs.inside.Step.{with_slots, advanced, at}
 use Rattle.cyc_plain.proofs.SlotLaws.{put-same}
 use Rattle.cyc_meaning.specs.Values.{Value, Thin, Operand as Kinded, is_kind, kind_of, words_of_kind}
 use Rattle.cyc_meaning.specs.State.{World, Access, Found, Closed, Missing, Located, cell_at, written, Environment, SwapLeft, SwapRight, Entry, NeedsPlace, Write, Focus, Locating, GivenPlace, Executing, Proceeding, Writing, Swapping, State, Running}
 use Rattle.cyc_meaning.specs.Step.{wrong, stored_at, object_of, step}
 use Rattle.cyc_meaning.specs.Swaps.{finds_right_object, finds_left_object, swap_read, swap_content, swap_loaded}
-use Rattle.cyc_objects.specs.Tables.{Tables}
-use Rattle.cyc_objects.specs.Words.{Points, Is}
+use Rattle.cyc_objects.specs.inside.Tables.{Tables}
+use Rattle.cyc_objects.specs.inside.Words.{Points, Is}
 use Rattle.cyc_lower.specs.declared.statements.Exits.{Exits}
-use Rattle.cyc_lower.specs.ValueCode.{move_of, load_word}
-use Rattle.cyc_lower.specs.ObjectCode.{right_slot, load_at}
-use Rattle.cyc_lower.specs.Lowering.{lower_program}
-use Rattle.cyc_lower.specs.Slots.{slot_of, global_of, global_types}
+use Rattle.cyc_lower.specs.inside.ValueCode.{move_of, load_word}
+use Rattle.cyc_lower.specs.inside.ObjectCode.{right_slot, load_at}
+use Rattle.cyc_lower.specs.inside.Lowering.{lower_program}
+use Rattle.cyc_lower.specs.inside.Slots.{slot_of, global_of, global_types}
 use Rattle.cyc_lower.proofs.slots.Widths.{same_kind, kind_positive, wide_kind, Outside}
 use Rattle.cyc_lower.proofs.slots.Slots.{slot-room, global-inside}
 use Rattle.cyc_lower.proofs.relation.Moves.{put_elsewhere, moved_slots, moves, moved_elsewhere, moved_is}

@@ -9,24 +9,24 @@ use Rattle.cyc_store.specs.State.{Memory, put, StoreState, demand}
 use Rattle.cyc_plain.specs.declared.limits.TheConstants.{GLOBALS_BASE}
 use Rattle.cyc_plain.specs.declared.instruction.Operand.TheVariants as operands
 use Rattle.cyc_plain.specs.declared.instruction.Instruction.TheVariants as instructions
-use Rattle.cyc_plain.specs.Program.{Program as PlainProgram}
-use Rattle.cyc_plain.specs.State as plain
-use Rattle.cyc_plain.specs.State.{Words, Configuration, Frame}
-use Rattle.cyc_plain.specs.Step.{Choice, at, with_slots, saves, loads, performed, advanced}
+use Rattle.cyc_plain.specs.inside.Program.{Program as PlainProgram}
+use Rattle.cyc_plain.specs.inside.State as plain
+use Rattle.cyc_plain.specs.inside.State.{Words, Configuration, Frame}
+use Rattle.cyc_plain.specs.inside.Step.{Choice, at, with_slots, saves, loads, performed, advanced}
 use Rattle.cyc_plain.proofs.SlotLaws.{put-other, put-same}
-use Rattle.cyc_plain.specs.Straight.{At}
+use Rattle.cyc_plain.specs.inside.Straight.{At}
 use Rattle.cyc_meaning.specs.Values.{Value, Operand as Kinded, words_of_kind, bytes_of_kind, is_kind}
 use Rattle.cyc_meaning.specs.State.{Object, World, Found, Located, cell_at, written, Environment, Entry}
 use Rattle.cyc_meaning.proofs.WorldLaws.{cell_found}
-use Rattle.cyc_objects.specs.Tables.{Tables}
-use Rattle.cyc_objects.specs.Words.{Points, Is, Holds}
-use Rattle.cyc_objects.specs.Related as objects
+use Rattle.cyc_objects.specs.inside.Tables.{Tables}
+use Rattle.cyc_objects.specs.inside.Words.{Points, Is, Holds}
+use Rattle.cyc_objects.specs.inside.Related as objects
 use Rattle.cyc_objects.proofs.Bytes.{bytes-beside}
 use Rattle.cyc_objects.proofs.Cells.{cell-aligned, related-written, saved-is}
 use Rattle.cyc_objects.proofs.Pointers.{Is-put_three}
 use Rattle.cyc_objects.proofs.Variables.{assigned-away}
-use Rattle.cyc_lower.specs.Slots.{global_types, slot_of}
-use Rattle.cyc_lower.specs.Lowering.{lower_program, scopes_of}
+use Rattle.cyc_lower.specs.inside.Slots.{global_types, slot_of}
+use Rattle.cyc_lower.specs.inside.Lowering.{lower_program, scopes_of}
 use Rattle.cyc_lower.proofs.slots.Widths.{Outside, HasGlobal, words_in, HasRoom}
 use Rattle.cyc_lower.proofs.slots.Slots.{global-room, slot-room, slot-apart}
 use Rattle.cyc_lower.proofs.relation.Moves.{put_elsewhere}
@@ -41,7 +41,7 @@ use Rattle.cyc_lower.proofs.place_steps.CellWrites.{data_beside}
 use Rattle.cyc_lower.proofs.value_steps.GlobalSteps.{each_put, each-outside, each_is, each-inside}
 use Rattle.cyc_lower.proofs.relation.Paths.{Link, IsQuiet, is_quiet, IsPath}
 use Rattle.cyc_plain.proofs.MemoryLaws.{store_word, stored-word, memory-active, memory-waiting, written-active, written-waiting_at}
-use Rattle.cyc_plain.specs.Memory.{memory_at, is_pinned}
+use Rattle.cyc_plain.specs.inside.Memory.{memory_at, is_pinned}
 use Rattle.cyc_lower.proofs.place_steps.StoredWords.{cell-stored, saves-stored, saves-global}
 use Rattle.cyc_lower.proofs.relation.Leads.{AreNamed, Leads, leads, to_store, to_variable, is_global, is_local, is_waiting}
 use Rattle.cyc_lower.proofs.relation.WaitingData.{with_slots_of, callers_least, frame_at, data_assigned_waiting, below_set, set_at, set_again}
@@ -50,7 +50,7 @@ use Rattle.cyc_lower.proofs.relation.Rows.{local-row, local-pointer, local-kind,
 use Rattle.cyc_types.specs.Types.{Ty}
 use Rattle.std.proofs.lemmas.Bool.{cases_eq, cases_lt}
 use Rattle.cyc_types.specs.declared.typed.Kind.{Kind}
-use Rattle.cyc_lower.specs.ValueCode.{variable_bytes}
+use Rattle.cyc_lower.specs.inside.ValueCode.{variable_bytes}
 use Rattle.cyc_objects.proofs.Chars.{wide-aligned}
 
 -- on the way: what changes where words of a cell are written

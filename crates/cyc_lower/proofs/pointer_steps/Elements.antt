@@ -14,10 +14,10 @@ use Rattle.cyc_plain.specs.declared.instruction.Operand.{Operand}
 use Rattle.cyc_plain.specs.declared.instruction.Operand.TheVariants as operands
 use Rattle.cyc_plain.specs.declared.instruction.Instruction.{Instruction}
 use Rattle.cyc_plain.specs.declared.instruction.Instruction.TheVariants as instructions
-use Rattle.cyc_plain.specs.State as plain
-use Rattle.cyc_plain.specs.State.{Words, put, Configuration}
-use Rattle.cyc_plain.specs.Step.{Choice, operand_word, with_slots, at, advanced, performed}
-use Rattle.cyc_plain.specs.Straight.{At}
+use Rattle.cyc_plain.specs.inside.State as plain
+use Rattle.cyc_plain.specs.inside.State.{Words, put, Configuration}
+use Rattle.cyc_plain.specs.inside.Step.{Choice, operand_word, with_slots, at, advanced, performed}
+use Rattle.cyc_plain.specs.inside.Straight.{At}
 use Rattle.cyc_plain.proofs.SlotLaws.{put-same, put-other}
 use Rattle.cyc_meaning.specs.Values.{Value, Int, Null, Thin, Fat, Handle, Key, Operand as Kinded, Cell, kinds_of, is_kind, is_thin, words_of_kind, bytes_of_kind}
 use Rattle.cyc_meaning.specs.Operators.{Result, null_exception, array_bounds}
@@ -27,14 +27,14 @@ use Rattle.cyc_meaning.specs.State.{Object, World, Environment, Follow, Index, A
 use Rattle.cyc_meaning.specs.Places.{arrives}
 use Rattle.cyc_meaning.specs.Parts.{is_target, cell_of}
 use Rattle.cyc_meaning.specs.Step.{wrong, computed, step, leads_to}
-use Rattle.cyc_objects.specs.Tables.{Tables}
-use Rattle.cyc_objects.specs.Words.{IsPartOf, Points, Is}
-use Rattle.cyc_objects.specs.Related as objects
+use Rattle.cyc_objects.specs.inside.Tables.{Tables}
+use Rattle.cyc_objects.specs.inside.Words.{IsPartOf, Points, Is}
+use Rattle.cyc_objects.specs.inside.Related as objects
 use Rattle.cyc_objects.proofs.NumberLemmas.{slice_get-map}
 use Rattle.cyc_objects.proofs.Pointers.{part-not-null, pointer-word, thinned, fat-moved}
-use Rattle.cyc_lower.specs.Lowerable.{is_pointer}
-use Rattle.cyc_lower.specs.ValueCode.{raising, scale_of, reached_operand, followed_operand}
-use Rattle.cyc_lower.specs.Lowering.{lower_program}
+use Rattle.cyc_lower.specs.inside.Lowerable.{is_pointer}
+use Rattle.cyc_lower.specs.inside.ValueCode.{raising, scale_of, reached_operand, followed_operand}
+use Rattle.cyc_lower.specs.inside.Lowering.{lower_program}
 use Rattle.cyc_lower.proofs.slots.Widths.{same_kind, Outside}
 use Rattle.cyc_lower.proofs.slots.CellBytes.{wide_cell}
 use Rattle.cyc_lower.proofs.relation.Moves.{put_elsewhere}

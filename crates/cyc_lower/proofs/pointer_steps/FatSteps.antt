@@ -11,10 +11,10 @@ use Rattle.cyc_plain.specs.declared.instruction.Comparison.TheVariants as compar
 use Rattle.cyc_plain.specs.declared.instruction.Operand.{Operand}
 use Rattle.cyc_plain.specs.declared.instruction.Operand.TheVariants as operands
 use Rattle.cyc_plain.specs.declared.instruction.Instruction.TheVariants as instructions
-use Rattle.cyc_plain.specs.Operators.{truth}
-use Rattle.cyc_plain.specs.State as plain
-use Rattle.cyc_plain.specs.State.{Words, put, Configuration}
-use Rattle.cyc_plain.specs.Step.{Choice, with_slots, at, performed}
+use Rattle.cyc_plain.specs.inside.Operators.{truth}
+use Rattle.cyc_plain.specs.inside.State as plain
+use Rattle.cyc_plain.specs.inside.State.{Words, put, Configuration}
+use Rattle.cyc_plain.specs.inside.Step.{Choice, with_slots, at, performed}
 use Rattle.cyc_plain.proofs.SlotLaws.{put-same, put-other}
 use Rattle.cyc_meaning.specs.Values.{Value, Int, Null, Thin, Fat, Handle, Key, Operand as Kinded, words_of_kind}
 use Rattle.cyc_meaning.specs.Operators.{Result, Gives, Misfits}
@@ -22,11 +22,11 @@ use Rattle.cyc_meaning.specs.Pointers.{element_count}
 use Rattle.cyc_meaning.specs.Conversion.{conversion}
 use Rattle.cyc_meaning.specs.State.{World, Environment, ConvertTo, CountElements, Entry, Needs, Given, Running}
 use Rattle.cyc_meaning.specs.Step.{computed, step}
-use Rattle.cyc_objects.specs.Tables.{Tables}
-use Rattle.cyc_objects.specs.Words.{IsPartOf, Is}
+use Rattle.cyc_objects.specs.inside.Tables.{Tables}
+use Rattle.cyc_objects.specs.inside.Words.{IsPartOf, Is}
 use Rattle.cyc_objects.proofs.Pointers.{part-not-null, thin-to_fat}
-use Rattle.cyc_lower.specs.ValueCode.{jump_if_zero}
-use Rattle.cyc_lower.specs.Lowering.{lower_program}
+use Rattle.cyc_lower.specs.inside.ValueCode.{jump_if_zero}
+use Rattle.cyc_lower.specs.inside.Lowering.{lower_program}
 use Rattle.cyc_lower.proofs.slots.Widths.{Outside}
 use Rattle.cyc_lower.proofs.relation.Stands.{CountAt, WidenedAt}
 use Rattle.cyc_lower.proofs.object_steps.Handles.{kept_holds}

@@ -11,27 +11,27 @@ use Rattle.cyc_types.specs.TypedTrees.{Expression, Operations, Program}
 use Rattle.cyc_store.specs.State.{StoreState}
 use Rattle.cyc_plain.specs.declared.instruction.Operand.{Operand}
 use Rattle.cyc_plain.specs.declared.instruction.Operand.TheVariants as operands
-use Rattle.cyc_plain.specs.Operators.{truth}
-use Rattle.cyc_plain.specs.State as plain
+use Rattle.cyc_plain.specs.inside.Operators.{truth}
+use Rattle.cyc_plain.specs.inside.State as plain
 use Rattle.cyc_plain.specs.declared.instruction.Instruction.TheVariants as instructions
-use Rattle.cyc_plain.specs.State.{Words, put, copied, Frame, Configuration}
-use Rattle.cyc_plain.specs.Step.{Choice, operand_word, with_slots, at, advanced, performed}
+use Rattle.cyc_plain.specs.inside.State.{Words, put, copied, Frame, Configuration}
+use Rattle.cyc_plain.specs.inside.Step.{Choice, operand_word, with_slots, at, advanced, performed}
 use Rattle.cyc_plain.proofs.SlotLaws.{put-same, put-other, copied-inside, copied-above}
-use Rattle.cyc_plain.specs.Straight.{At}
+use Rattle.cyc_plain.specs.inside.Straight.{At}
 use Rattle.cyc_meaning.specs.Values.{Value, Int, Null, Thin, Fat, Handle, Key, Operand as Kinded, is_thin, words_of_kind}
 use Rattle.cyc_meaning.specs.Operators.{Result, Gives}
 use Rattle.cyc_meaning.specs.Pointers.{moved, null_test, takes_kind, result_kind as operator_kind}
 use Rattle.cyc_meaning.specs.Objects.{found_object, object_at, both_found, compared}
 use Rattle.cyc_meaning.specs.State.{Object, World, Access, Found, Closed, Missing, Owner, InRegion, Unique, is_live, Environment, Chain, ApplyPointer, Entry, Needs, Given, State, Running}
 use Rattle.cyc_meaning.specs.Step.{computed, tells, applies_pointer, step}
-use Rattle.cyc_objects.specs.Tables.{Tables}
-use Rattle.cyc_objects.specs.Words.{Is}
-use Rattle.cyc_objects.specs.Related as objects
+use Rattle.cyc_objects.specs.inside.Tables.{Tables}
+use Rattle.cyc_objects.specs.inside.Words.{Is}
+use Rattle.cyc_objects.specs.inside.Related as objects
 use Rattle.cyc_objects.proofs.Pointers.{not-null, part-not-null, ThinIs, thin_null, thin_cell, fat-moved}
 use Rattle.cyc_objects.proofs.Comparing.{thin-compared}
 use Rattle.cyc_types.specs.Texts.{is_comparison}
-use Rattle.cyc_lower.specs.ValueCode.{left_kind, behind_left, pointer_operator}
-use Rattle.cyc_lower.specs.Lowering.{lower_program}
+use Rattle.cyc_lower.specs.inside.ValueCode.{left_kind, behind_left, pointer_operator}
+use Rattle.cyc_lower.specs.inside.Lowering.{lower_program}
 use Rattle.cyc_lower.proofs.slots.Widths.{same_kind, Outside}
 use Rattle.cyc_lower.proofs.relation.Moves.{copied_elsewhere}
 use Rattle.cyc_lower.proofs.relation.Stands.{FirstTwoAt, IndexAt, PointerAt, ValueAt}
@@ -41,7 +41,7 @@ use Rattle.cyc_lower.proofs.relation.Data.{height-least, in_words, floor-least}
 use Rattle.cyc_lower.proofs.relation.Accesses.{IsWell}
 use Rattle.cyc_lower.proofs.relation.Matched.{IsMatched, by_one, by_two}
 use Rattle.cyc_lower.proofs.value_steps.Evaluations.{landed, landed_word}
-use Rattle.cyc_objects.specs.Related.{AreApart}
+use Rattle.cyc_objects.specs.inside.Related.{AreApart}
 use Rattle.cyc_lower.proofs.relation.Apart.{variables-apart}
 use Rattle.cyc_lower.proofs.relation.Leads.{AreNamed}
 

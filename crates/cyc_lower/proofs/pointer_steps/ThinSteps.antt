@@ -8,9 +8,9 @@ use Rattle.cyc_types.specs.declared.typed.Kind.TheVariants as kinds
 use Rattle.cyc_types.specs.TypedTrees.{Program}
 use Rattle.cyc_plain.specs.declared.instruction.Operand.{Operand}
 use Rattle.cyc_plain.specs.declared.instruction.Operand.TheVariants as operands
-use Rattle.cyc_plain.specs.State as plain
-use Rattle.cyc_plain.specs.State.{Words, put, Configuration}
-use Rattle.cyc_plain.specs.Step.{at}
+use Rattle.cyc_plain.specs.inside.State as plain
+use Rattle.cyc_plain.specs.inside.State.{Words, put, Configuration}
+use Rattle.cyc_plain.specs.inside.Step.{at}
 use Rattle.cyc_plain.proofs.SlotLaws.{put-same}
 use Rattle.cyc_meaning.specs.Values.{Value, Null, Thin, Fat, Operand as Kinded, bytes_of_kind}
 use Rattle.cyc_meaning.specs.Operators.{Result, Gives, Raises, array_bounds}
@@ -19,7 +19,7 @@ use Rattle.cyc_meaning.specs.Pointers as reaches
 use Rattle.cyc_meaning.specs.Conversion.{conversion}
 use Rattle.cyc_meaning.specs.State.{World, Environment, ConvertTo, Entry, Needs, Given, Running}
 use Rattle.cyc_meaning.specs.Step.{computed, step, leads_to}
-use Rattle.cyc_objects.specs.Words.{IsPartOf, Points, Is}
+use Rattle.cyc_objects.specs.inside.Words.{IsPartOf, Points, Is}
 use Rattle.cyc_objects.proofs.Pointers.{part-not-null}
 use Rattle.cyc_lower.proofs.relation.Stands.{ReachedBy, ThinnedAt}
 use Rattle.cyc_lower.proofs.object_steps.Handles.{kept_holds}

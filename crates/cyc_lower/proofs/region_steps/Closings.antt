@@ -12,20 +12,20 @@ use Rattle.cyc_plain.specs.declared.instruction.Operand.TheVariants as operands
 use Rattle.cyc_plain.specs.declared.instruction.Request.TheVariants as requests
 use Rattle.cyc_plain.specs.declared.instruction.Instruction.{Instruction}
 use Rattle.cyc_plain.specs.declared.instruction.Instruction.TheVariants as instructions
-use Rattle.cyc_plain.specs.Program.{CodePlace}
-use Rattle.cyc_plain.specs.Straight.{At}
-use Rattle.cyc_plain.specs.State as plain
-use Rattle.cyc_plain.specs.State.{Configuration}
-use Rattle.cyc_plain.specs.Step.{at, served_to}
-use Rattle.cyc_plain.specs.Step as plain_step
+use Rattle.cyc_plain.specs.inside.Program.{CodePlace}
+use Rattle.cyc_plain.specs.inside.Straight.{At}
+use Rattle.cyc_plain.specs.inside.State as plain
+use Rattle.cyc_plain.specs.inside.State.{Configuration}
+use Rattle.cyc_plain.specs.inside.Step.{at, served_to}
+use Rattle.cyc_plain.specs.inside.Step as plain_step
 use Rattle.cyc_plain.proofs.Steps.{step_serves}
 use Rattle.cyc_meaning.specs.State.{World, closed, Environment, Entry, CloseLexical, Focus, State, Running}
 use Rattle.cyc_meaning.specs.Step.{step}
 use Rattle.cyc_store.proofs.KeptUnwinding.{down_to-lower}
-use Rattle.cyc_objects.specs.Related.{Related, scopes, closed_to}
+use Rattle.cyc_objects.specs.inside.Related.{Related, scopes, closed_to}
 use Rattle.cyc_objects.proofs.Closing.{scopes-closed, closed-behind, closed-at_once, refusal-close_to}
 use Rattle.cyc_objects.proofs.Scopes.{Ends}
-use Rattle.cyc_lower.specs.Lowering.{lower_program, scopes_of}
+use Rattle.cyc_lower.specs.inside.Lowering.{lower_program, scopes_of}
 use Rattle.cyc_lower.proofs.relation.Stands.{ClosedAt}
 use Rattle.cyc_lower.proofs.relation.HeldValues.{MayBeOpen, scopes_in}
 use Rattle.cyc_lower.proofs.relation.Relation.{HasScopes, store_by, silent, ScopesBy, SharedBy, SharedAt, Matches, code_of, bounds_at, types_at}

@@ -11,16 +11,16 @@ use Rattle.cyc_store.proofs.ServiceLemmas.{served-sound}
 use Rattle.cyc_plain.specs.declared.instruction.Operand.{Operand}
 use Rattle.cyc_plain.specs.declared.instruction.Operand.TheVariants as operands
 use Rattle.cyc_plain.specs.declared.instruction.Request.TheVariants as requests
-use Rattle.cyc_plain.specs.State as plain
-use Rattle.cyc_plain.specs.State.{Words, Configuration}
-use Rattle.cyc_plain.specs.Step.{operand_word, served_to}
-use Rattle.cyc_plain.specs.Step as plain_step
+use Rattle.cyc_plain.specs.inside.State as plain
+use Rattle.cyc_plain.specs.inside.State.{Words, Configuration}
+use Rattle.cyc_plain.specs.inside.Step.{operand_word, served_to}
+use Rattle.cyc_plain.specs.inside.Step as plain_step
 use Rattle.cyc_meaning.specs.Values.{Value, Key}
 use Rattle.cyc_meaning.specs.Regions.{is_dynamic, closes_dynamic}
 use Rattle.cyc_meaning.specs.State.{Sort, Dynamic, Region, World, Access, Found, Closed, Missing, region_at, closed, Environment, CloseByKey, Entry, Needs, Given, Proceeding, Running}
 use Rattle.cyc_meaning.specs.Step.{wrong, step}
-use Rattle.cyc_objects.specs.Tables.{Tables}
-use Rattle.cyc_objects.specs.Related.{has_home}
+use Rattle.cyc_objects.specs.inside.Tables.{Tables}
+use Rattle.cyc_objects.specs.inside.Related.{has_home}
 use Rattle.cyc_objects.proofs.Making.{open-home}
 use Rattle.cyc_objects.proofs.Services.{refusal-close, closed-dynamic}
 use Rattle.cyc_lower.proofs.relation.HeldValues.{IsIn}

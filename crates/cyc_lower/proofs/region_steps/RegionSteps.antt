@@ -12,23 +12,23 @@ use Rattle.cyc_plain.specs.declared.instruction.Operand.{Operand}
 use Rattle.cyc_plain.specs.declared.instruction.Operand.TheVariants as operands
 use Rattle.cyc_plain.specs.declared.instruction.Request.TheVariants as requests
 use Rattle.cyc_plain.specs.declared.instruction.Instruction.TheVariants as instructions
-use Rattle.cyc_plain.specs.State as plain
-use Rattle.cyc_plain.specs.State.{Words, put, Configuration}
-use Rattle.cyc_plain.specs.Step.{Choice, at, with_slots, advanced, served_to}
-use Rattle.cyc_plain.specs.Step as plain_step
+use Rattle.cyc_plain.specs.inside.State as plain
+use Rattle.cyc_plain.specs.inside.State.{Words, put, Configuration}
+use Rattle.cyc_plain.specs.inside.Step.{Choice, at, with_slots, advanced, served_to}
+use Rattle.cyc_plain.specs.inside.Step as plain_step
 use Rattle.cyc_plain.proofs.SlotLaws.{put-same, put-other}
 use Rattle.cyc_meaning.specs.Values.{Handle, Operand as Kinded, Value, Key, kind_of}
-use Rattle.cyc_meaning.specs.Effects.{pages_of}
+use Rattle.cyc_meaning.specs.inside.Effects.{pages_of}
 use Rattle.cyc_meaning.specs.State.{Lexical, Dynamic, World, opened_as, globals_number, Environment, Entry, Rest, CloseLexical, Proceeding, Naming, Running, closed, EndLoan, Region, Access, Found, Closed, Missing, region_at, Needs, OpenBy, AliasOf, Given}
-use Rattle.cyc_meaning.specs.Nesting.{IsNested}
+use Rattle.cyc_meaning.specs.inside.Nesting.{IsNested}
 use Rattle.cyc_meaning.specs.Step.{step, wrong}
-use Rattle.cyc_objects.specs.Tables.{Tables, with_handle, Grows}
+use Rattle.cyc_objects.specs.inside.Tables.{Tables, with_handle, Grows}
 use Rattle.cyc_objects.proofs.Values.{Grows-handle}
 use Rattle.cyc_objects.proofs.Variables.{handle-made}
 use Rattle.cyc_objects.proofs.Services.{opened-lexical, refusal-lexical, opened-dynamic, refusal-dynamic}
 use Rattle.cyc_lower.specs.declared.statements.Exits.{Exits}
-use Rattle.cyc_lower.specs.ControlCode.{inside_region}
-use Rattle.cyc_lower.specs.Lowering.{scopes_of}
+use Rattle.cyc_lower.specs.inside.ControlCode.{inside_region}
+use Rattle.cyc_lower.specs.inside.Lowering.{scopes_of}
 use Rattle.cyc_lower.proofs.slots.Slots.{slot_types-many}
 use Rattle.cyc_lower.proofs.slots.Widths.{Outside}
 use Rattle.cyc_lower.proofs.relation.Stands.{NamedAt, ClosedAt, ItemsAt}
@@ -41,13 +41,13 @@ use Rattle.cyc_lower.proofs.object_steps.Asking.{past_pages, asks_then, by_full}
 use Rattle.cyc_lower.proofs.region_steps.Scoped.{scopes_there}
 use Rattle.cyc_objects.proofs.Closing.{scopes-same, scopes-closed}
 use Rattle.cyc_objects.proofs.Scopes.{ends-newest, scopes-counted}
-use Rattle.cyc_objects.specs.Related.{scopes}
+use Rattle.cyc_objects.specs.inside.Related.{scopes}
 use Rattle.cyc_meaning.specs.Regions.{closing_lexical, is_dynamic, opened_by}
 use Rattle.cyc_types.specs.Types.{Ty}
 use Rattle.cyc_syntax.specs.Symbols.{Place}
 use Rattle.cyc_types.specs.declared.typed.Kind.{Kind}
-use Rattle.cyc_objects.specs.Words.{Is}
-use Rattle.cyc_lower.specs.Slots.{slot_of}
+use Rattle.cyc_objects.specs.inside.Words.{Is}
+use Rattle.cyc_lower.specs.inside.Slots.{slot_of}
 use Rattle.cyc_lower.proofs.relation.Accesses.{IsWell, is_loaded, is_fitting}
 use Rattle.cyc_lower.proofs.relation.Moves.{put_elsewhere}
 use Rattle.cyc_lower.proofs.relation.Weights.{stack_weight}

@@ -3,9 +3,9 @@ use Rattle.std.proofs.Common.{◌≡◌, ◌≤◌, List, ◌∙◌, arith}
 use Rattle.std.specs.Prelude.{◌%◌, ◌^◌}
 use Rattle.cyc_store.specs.State.{StoreState, lexical_count}
 use Rattle.cyc_meaning.specs.State.{World, Environment, Entry}
-use Rattle.cyc_meaning.specs.Nesting.{IsNested}
-use Rattle.cyc_objects.specs.Tables.{Tables}
-use Rattle.cyc_objects.specs.Related as objects
+use Rattle.cyc_meaning.specs.inside.Nesting.{IsNested}
+use Rattle.cyc_objects.specs.inside.Tables.{Tables}
+use Rattle.cyc_objects.specs.inside.Related as objects
 use Rattle.cyc_objects.proofs.Closing.{scopes-same}
 use Rattle.cyc_objects.proofs.Scopes.{scopes-counted, lexicals-within}
 use Rattle.cyc_lower.proofs.relation.HeldValues.{scopes_in}

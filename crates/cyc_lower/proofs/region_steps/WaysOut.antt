@@ -1,15 +1,15 @@
 -- Lexical regions are left by `break`, `continue` and `return`: the plain program closes them where the source leaves the outermost of them.
 use Rattle.std.proofs.Common.{◌≡◌, ℕ, suc, ◌<◌, Bool, List, ◌∷◌, Option, None, Some, refl, sym, subst, arith}
 use Rattle.cyc_types.specs.TypedTrees.{Program}
-use Rattle.cyc_plain.specs.State as plain
-use Rattle.cyc_plain.specs.State.{Configuration}
+use Rattle.cyc_plain.specs.inside.State as plain
+use Rattle.cyc_plain.specs.inside.State.{Configuration}
 use Rattle.cyc_meaning.specs.State.{Region, World, Found, region_at, closed, Environment, Entry, CloseLexical, Focus, Running}
-use Rattle.cyc_meaning.specs.Nesting.{IsNested}
+use Rattle.cyc_meaning.specs.inside.Nesting.{IsNested}
 use Rattle.cyc_meaning.specs.Step.{step}
-use Rattle.cyc_objects.specs.Related.{scopes}
+use Rattle.cyc_objects.specs.inside.Related.{scopes}
 use Rattle.cyc_objects.proofs.Closing.{scopes-closed}
 use Rattle.cyc_objects.proofs.Scopes.{scopes-counted, ends-newest}
-use Rattle.cyc_lower.specs.ControlCode.{outermost}
+use Rattle.cyc_lower.specs.inside.ControlCode.{outermost}
 use Rattle.cyc_lower.proofs.relation.Stands.{MarksAt}
 use Rattle.cyc_lower.proofs.relation.HeldValues.{left_by, scopes_in, callers}
 use Rattle.cyc_lower.proofs.relation.Relation.{IsMark, SharedBy, DataAt, HandlersStand, FocusAt, Leaves, Related, opened_by, floor, code_of, bounds_at, types_at}

@@ -7,19 +7,19 @@ use Rattle.cyc_types.specs.TypedTrees.{Program}
 use Rattle.cyc_store.specs.State.{StoreState}
 use Rattle.cyc_store.specs.declared.range.TheConstants.{STORE_BASE}
 use Rattle.cyc_plain.specs.declared.limits.TheConstants.{GLOBALS_BASE}
-use Rattle.cyc_plain.specs.Program.{Program as PlainProgram, routine_at}
-use Rattle.cyc_plain.specs.State.{Words, Frame}
-use Rattle.cyc_plain.specs.Memory.{AreBelow, slots_base, is_pinned}
+use Rattle.cyc_plain.specs.inside.Program.{Program as PlainProgram, routine_at}
+use Rattle.cyc_plain.specs.inside.State.{Words, Frame}
+use Rattle.cyc_plain.specs.inside.Memory.{AreBelow, slots_base, is_pinned}
 use Rattle.cyc_plain.proofs.MemoryLaws.{below-waiting, below-low, pinned-inside}
 use Rattle.cyc_meaning.specs.Values.{words_of_kind}
 use Rattle.cyc_meaning.specs.State.{World}
-use Rattle.cyc_objects.specs.Tables.{Tables}
-use Rattle.cyc_objects.specs.Words.{Points}
-use Rattle.cyc_objects.specs.Related as objects
-use Rattle.cyc_objects.specs.Related.{LiveVariable, AreApart}
+use Rattle.cyc_objects.specs.inside.Tables.{Tables}
+use Rattle.cyc_objects.specs.inside.Words.{Points}
+use Rattle.cyc_objects.specs.inside.Related as objects
+use Rattle.cyc_objects.specs.inside.Related.{LiveVariable, AreApart}
 use Rattle.cyc_objects.proofs.Values.{kind-some}
-use Rattle.cyc_lower.specs.Slots.{Types, slot_of, global_types}
-use Rattle.cyc_lower.specs.Lowering.{lower_program}
+use Rattle.cyc_lower.specs.inside.Slots.{Types, slot_of, global_types}
+use Rattle.cyc_lower.specs.inside.Lowering.{lower_program}
 use Rattle.cyc_lower.proofs.slots.Widths.{words_in}
 use Rattle.cyc_lower.proofs.slots.Slots.{slot-apart, global-apart}
 use Rattle.cyc_lower.proofs.relation.Known.{global-first, first_word}
@@ -28,7 +28,7 @@ use Rattle.cyc_lower.proofs.relation.Relation.{DataAt, silent, code_of, types_at
 use Rattle.cyc_lower.proofs.relation.Rows.{local-pointer}
 use Rattle.cyc_lower.proofs.relation.WaitingData.{frame_at}
 use Rattle.cyc_lower.proofs.relation.Leads.{IsNamed, is_global, is_local, is_waiting, AreNamed}
-use Rattle.cyc_lower.specs.ValueCode.{variable_bytes}
+use Rattle.cyc_lower.specs.inside.ValueCode.{variable_bytes}
 use Rattle.cyc_lower.proofs.slots.CellBytes.{last_low}
 
 -- of two calls that wait, the older one's slots lie above those of the other

@@ -6,9 +6,9 @@ use Rattle.std.proofs.lemmas.List.{reverse-append}
 use Rattle.std.proofs.lemmas.Option.{same_Some, none-some}
 use Rattle.cyc_words.proofs.Lists.{slice_get_last, slice_get_before}
 use Rattle.cyc_types.specs.TypedTrees.{Program}
-use Rattle.cyc_plain.specs.State as plain
-use Rattle.cyc_plain.specs.State.{Words, copied, Frame}
-use Rattle.cyc_plain.specs.Step.{operand_word}
+use Rattle.cyc_plain.specs.inside.State as plain
+use Rattle.cyc_plain.specs.inside.State.{Words, copied, Frame}
+use Rattle.cyc_plain.specs.inside.Step.{operand_word}
 use Rattle.cyc_plain.specs.declared.limits.TheConstants.{RECORD_WORDS, GLOBALS_BASE}
 use Rattle.cyc_plain.proofs.SlotLaws.{copied-inside}
 use Rattle.cyc_types.specs.declared.typed.Kind.{Kind}
@@ -16,21 +16,21 @@ use Rattle.cyc_types.specs.declared.typed.Kind.TheVariants as kinds
 use Rattle.cyc_meaning.specs.Values.{Value, Int, Null, Thin, Handle, Key, Operand, words_of_kind}
 use Rattle.cyc_meaning.specs.State.{Object, Environment, with_local, Entry, Handler, Caller, Main, calls_in, CloseLexical, Loop}
 use Rattle.cyc_meaning.specs.FrameCount.{words_of_all}
-use Rattle.cyc_lower.specs.Slots.{starts_of, slot_of, global_of, global_types, Types}
-use Rattle.cyc_lower.specs.ControlCode.{behind_record_in}
-use Rattle.cyc_lower.specs.Lowering.{scopes_of}
+use Rattle.cyc_lower.specs.inside.Slots.{starts_of, slot_of, global_of, global_types, Types}
+use Rattle.cyc_lower.specs.inside.ControlCode.{behind_record_in}
+use Rattle.cyc_lower.specs.inside.Lowering.{scopes_of}
 use Rattle.cyc_lower.proofs.slots.Widths.{words_in, HasRoom, HasGlobal, Outside, kind_positive}
 use Rattle.cyc_lower.proofs.slots.Slots.{slot-room, slot-apart, global-room, global-apart, global-inside}
 use Rattle.cyc_plain.specs.declared.instruction.Operand.{Operand as Place}
 use Rattle.cyc_plain.specs.declared.instruction.Operand.TheVariants as operands
-use Rattle.cyc_objects.specs.Tables.{Tables, Grows, Row, Placed}
-use Rattle.cyc_objects.specs.Words.{Points, Is}
+use Rattle.cyc_objects.specs.inside.Tables.{Tables, Grows, Row, Placed}
+use Rattle.cyc_objects.specs.inside.Words.{Points, Is}
 use Rattle.cyc_objects.proofs.Values.{Is-grows, Is-same as words_same}
 use Rattle.cyc_lower.proofs.relation.Known.{global-row_grows, first_word}
 use Rattle.cyc_lower.proofs.relation.HeldValues.{CallSlots, row_of, IsLocalRow, behind_records, scopes_in, IsKept, callers, IsWord, IsIn, Waiting, words_held, height, Holds, HoldsFrom, content_of, contents, LocalsHold, GlobalsHold, left_by, IsCharAt}
 use Rattle.cyc_lower.proofs.relation.Relation.{call_slots, floor, HandlersStand, AreOfVariables, FramesHold, DataAt, types_at, starts_at, base_of}
 use Rattle.cyc_objects.proofs.Chars.{char-small}
-use Rattle.cyc_lower.specs.ValueCode.{variable_bytes}
+use Rattle.cyc_lower.specs.inside.ValueCode.{variable_bytes}
 
 -- ---- values in slots
 

@@ -27,13 +27,13 @@ use Rattle.cyc_types.specs.typing.WellTyped.{with_counter, Context, PointerOpera
 use Rattle.cyc_types.specs.Numbered.{Numbering, signatures_of, IsSignature, argument_count, numbering_of, IsWithin}
 use Rattle.cyc_types.specs.Texts.{is_comparison, are_sums, stands_alone}
 use Rattle.cyc_meaning.specs.Pointers.{result_kind as operator_kind}
-use Rattle.cyc_lower.specs.Lowerable.{IsLowerable, IsLowerableConverted, AreLowerableArguments, AreLowerableOperations, IsLowerableReturn, IsLowerableInitial, IsLowerableStatement, AreLowerableItems, AreLowerableFunctions, IsLowerableProgram, IsLowerableCell, IsLowerableObject, IsLowerableSide, IsLowerableThrown, IsLowerableCaught, AreLowerableClauses, is_converted, is_pointer}
+use Rattle.cyc_lower.specs.inside.Lowerable.{IsLowerable, IsLowerableConverted, AreLowerableArguments, AreLowerableOperations, IsLowerableReturn, IsLowerableInitial, IsLowerableStatement, AreLowerableItems, AreLowerableFunctions, IsLowerableProgram, IsLowerableCell, IsLowerableObject, IsLowerableSide, IsLowerableThrown, IsLowerableCaught, AreLowerableClauses, is_converted, is_pointer}
 use Rattle.cyc_store.specs.declared.range.TheConstants.{MOST_BLOCK_WORDS}
 use Rattle.cyc_meaning.specs.Values.{kind_of, is_thin, words_of_kind}
 use Rattle.cyc_meaning.specs.FrameCount.{result_words, words_of_all, operand_words}
-use Rattle.cyc_lower.specs.Slots.{Types, counted, global_types}
-use Rattle.cyc_lower.specs.ValueCode.{all_passed, left_kind, kind_behind, kind_passed}
-use Rattle.cyc_lower.specs.Lowering.{types_of, results_of, scopes_of, is_handle, may_open, scopes_if}
+use Rattle.cyc_lower.specs.inside.Slots.{Types, counted, global_types}
+use Rattle.cyc_lower.specs.inside.ValueCode.{all_passed, left_kind, kind_behind, kind_passed}
+use Rattle.cyc_lower.specs.inside.Lowering.{types_of, results_of, scopes_of, is_handle, may_open, scopes_if}
 use Rattle.cyc_lower.proofs.slots.Widths.{kind_of_result, result_kind, called_kind, given, type_words, HasRoom, HasGlobal, chain_kind, HasField, HasVariable, HasLocal, passed_is}
 use Rattle.cyc_lower.proofs.slots.Slots.{words-there, words_positive, kind-there}
 use Rattle.cyc_plain.specs.declared.limits.TheConstants.{RECORD_WORDS}

@@ -9,16 +9,16 @@ use Rattle.cyc_store.proofs.LookupLemmas.{same_some}
 use Rattle.cyc_plain.specs.declared.limits.TheConstants.{GLOBALS_BASE, MOST_GLOBALS}
 use Rattle.cyc_meaning.specs.Values.{kind_of, words_of_kind}
 use Rattle.cyc_meaning.specs.FrameCount.{words_of_all}
-use Rattle.cyc_objects.specs.Tables.{Row, Placed, first_tables}
-use Rattle.cyc_objects.specs.Related.{AreGlobals}
+use Rattle.cyc_objects.specs.inside.Tables.{Row, Placed, first_tables}
+use Rattle.cyc_objects.specs.inside.Related.{AreGlobals}
 use Rattle.cyc_objects.proofs.NumberLemmas.{slice_get-there, slice_get-below}
-use Rattle.cyc_lower.specs.Slots.{Types, starts_from, global_types}
+use Rattle.cyc_lower.specs.inside.Slots.{Types, starts_from, global_types}
 use Rattle.cyc_lower.proofs.slots.Widths.{type_words, words_in, kind_in}
 use Rattle.cyc_objects.proofs.Places.{begins-first}
 use Rattle.cyc_lower.proofs.slots.CellBytes.{kind_bytes}
 use Rattle.cyc_lower.proofs.slots.Slots.{global-room}
 use Rattle.cyc_lower.proofs.relation.Known.{IsGlobalRow, first_word}
-use Rattle.cyc_lower.specs.ValueCode.{variable_bytes}
+use Rattle.cyc_lower.specs.inside.ValueCode.{variable_bytes}
 
 -- the rows of globals whose words stand from a word on
 abbrev pub rows_from : (first : ℕ) → List GlobalVariable → List Row

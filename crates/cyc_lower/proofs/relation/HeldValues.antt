@@ -4,21 +4,21 @@ use Rattle.std.specs.Prelude.{◌==◌, ◌&&◌, nat_le, if◌then◌else◌}
 use Rattle.cyc_types.specs.declared.typed.Kind.{Kind}
 use Rattle.cyc_types.specs.declared.typed.Kind.TheVariants as kinds
 use Rattle.cyc_store.specs.declared.range.TheConstants.{HEAP, UNIQUE}
-use Rattle.cyc_objects.specs.Tables.{Row, Variable, Placed, Tables}
-use Rattle.cyc_objects.specs.Words.{InRange, Is, before}
-use Rattle.cyc_objects.specs.Related.{scopes}
+use Rattle.cyc_objects.specs.inside.Tables.{Row, Variable, Placed, Tables}
+use Rattle.cyc_objects.specs.inside.Words.{InRange, Is, before}
+use Rattle.cyc_objects.specs.inside.Related.{scopes}
 use Rattle.cyc_plain.specs.declared.instruction.Operand.{Operand}
 use Rattle.cyc_plain.specs.declared.instruction.Operand.TheVariants as operands
 use Rattle.cyc_plain.specs.declared.instruction.Instruction.{Instruction}
-use Rattle.cyc_plain.specs.State.{Words}
-use Rattle.cyc_plain.specs.State as plain
-use Rattle.cyc_plain.specs.Memory.{slots_base, is_pinned}
+use Rattle.cyc_plain.specs.inside.State.{Words}
+use Rattle.cyc_plain.specs.inside.State as plain
+use Rattle.cyc_plain.specs.inside.Memory.{slots_base, is_pinned}
 use Rattle.cyc_meaning.specs.Values.{Fat, Value, Handle, Operand as Kinded, Cell, words_of_kind}
 use Rattle.cyc_meaning.specs.State.{Owner, InRegion, Unique, Object, heap_number, ConvertTo, Operate, Chain, Apply, ApplyPointer, Follow, LoadFrom, Decide, Store, Pass, PlaceBy, BesideHandle, MakePlain, MakeFields, MakeArray, FillElement, Initialise, Choose, Test, Return, Entry, Needs, NeedsPlace, Loop, CloseRegion, CloseLexical, Handler, Caller, Main, Focus, Breaking, Continuing, Returning, FollowMember, TakeAddress, StoreTo, StoreCell, FreeObject, CloseByKey, SwapLeft, SwapRight, CountElements, Index, Advance}
-use Rattle.cyc_meaning.specs.Nesting.{lexicals_of}
-use Rattle.cyc_lower.specs.Slots.{Types, starts_of, slot_of, global_of}
-use Rattle.cyc_lower.specs.ValueCode.{variable_bytes}
-use Rattle.cyc_lower.specs.ControlCode.{behind_record_in}
+use Rattle.cyc_meaning.specs.inside.Nesting.{lexicals_of}
+use Rattle.cyc_lower.specs.inside.Slots.{Types, starts_of, slot_of, global_of}
+use Rattle.cyc_lower.specs.inside.ValueCode.{variable_bytes}
+use Rattle.cyc_lower.specs.inside.ControlCode.{behind_record_in}
 use Rattle.cyc_lower.proofs.slots.Widths.{HasRoom, HasGlobal, kind_in}
 use Rattle.cyc_lower.proofs.relation.Known.{IsGlobalRow}
 

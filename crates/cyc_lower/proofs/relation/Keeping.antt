@@ -1,7 +1,7 @@
 -- What a machine keeps of its own accord may be relied on while it is matched.
 use Rattle.std.proofs.Common.{List, [], ◌∷◌}
 use Rattle.cyc_words.specs.Simulation.{Machine}
-use Rattle.cyc_words.specs.Following.{Matching, Comes, IsOnTheWay, IsMatchedStep, IsStepped}
+use Rattle.cyc_words.specs.inside.Following.{Matching, Comes, IsOnTheWay, IsMatchedStep, IsStepped}
 
 module _ (above below : Machine) (m : Matching above below) (Keeps : below.State → Type 0)
     (stays : (old new : below.State) → Keeps old → below.Step old new → Keeps new) where

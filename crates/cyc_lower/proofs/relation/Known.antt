@@ -10,19 +10,19 @@ use Rattle.cyc_store.specs.declared.range.TheConstants.{STORE_BASE}
 use Rattle.cyc_plain.specs.declared.limits.TheConstants.{GLOBALS_BASE}
 use Rattle.cyc_meaning.specs.Values.{words_of_kind, bytes_of_kind, begins, block_size}
 use Rattle.cyc_meaning.specs.State.{Object, World}
-use Rattle.cyc_objects.specs.Tables.{Variable, Placed, Tables, Grows}
-use Rattle.cyc_objects.specs.Words.{bytes_of_kinds, before, Points}
-use Rattle.cyc_objects.specs.Related.{Alive, Stands, Related}
+use Rattle.cyc_objects.specs.inside.Tables.{Variable, Placed, Tables, Grows}
+use Rattle.cyc_objects.specs.inside.Words.{bytes_of_kinds, before, Points}
+use Rattle.cyc_objects.specs.inside.Related.{Alive, Stands, Related}
 use Rattle.cyc_objects.proofs.NumberLemmas.{slice_get-below}
 use Rattle.cyc_objects.proofs.Places.{bytes-some, begins-first, before-first}
 use Rattle.cyc_objects.proofs.Pointers.{same-row}
 use Rattle.cyc_objects.proofs.Cells.{variable-alone}
-use Rattle.cyc_plain.specs.Memory.{slots_base}
-use Rattle.cyc_lower.specs.Slots.{starts_from}
+use Rattle.cyc_plain.specs.inside.Memory.{slots_base}
+use Rattle.cyc_lower.specs.inside.Slots.{starts_from}
 use Rattle.cyc_lower.proofs.slots.Widths.{words_in, kind_in}
 use Rattle.cyc_lower.proofs.slots.CellBytes.{kind_bytes}
 use Rattle.cyc_words.specs.Word.{add_of, mul_of}
-use Rattle.cyc_lower.specs.ValueCode.{address_of_global, variable_bytes}
+use Rattle.cyc_lower.specs.inside.ValueCode.{address_of_global, variable_bytes}
 
 -- the first word of a global, of which all have these types
 abbrev pub first_word : List Ty → (number : ℕ) → ℕ

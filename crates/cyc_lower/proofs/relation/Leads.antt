@@ -2,16 +2,16 @@
 use Rattle.std.proofs.Common.{◌≡◌, ℕ, ◌+◌, ◌<◌, true, List, length, Option, Some, slice_get, inl, inr}
 use Rattle.cyc_types.specs.TypedTrees.{Program}
 use Rattle.cyc_store.specs.State.{StoreState}
-use Rattle.cyc_plain.specs.State.{Frame}
-use Rattle.cyc_plain.specs.WellFormed.{IsWellFormed}
-use Rattle.cyc_plain.specs.Memory.{AreBelow, is_pinned}
+use Rattle.cyc_plain.specs.inside.State.{Frame}
+use Rattle.cyc_plain.specs.inside.WellFormed.{IsWellFormed}
+use Rattle.cyc_plain.specs.inside.Memory.{AreBelow, is_pinned}
 use Rattle.cyc_meaning.specs.State.{Object, World, Found, Located, cell_at}
-use Rattle.cyc_objects.specs.Tables.{Tables}
-use Rattle.cyc_objects.specs.Related as objects
-use Rattle.cyc_objects.specs.Related.{Alive, LiveVariable}
+use Rattle.cyc_objects.specs.inside.Tables.{Tables}
+use Rattle.cyc_objects.specs.inside.Related as objects
+use Rattle.cyc_objects.specs.inside.Related.{Alive, LiveVariable}
 use Rattle.cyc_objects.proofs.Cells.{found-either}
-use Rattle.cyc_lower.specs.Slots.{starts_of, slot_of, global_types}
-use Rattle.cyc_lower.specs.Lowering.{lower_program}
+use Rattle.cyc_lower.specs.inside.Slots.{starts_of, slot_of, global_types}
+use Rattle.cyc_lower.specs.inside.Lowering.{lower_program}
 use Rattle.cyc_lower.proofs.slots.Widths.{words_in}
 use Rattle.cyc_lower.proofs.relation.HeldValues.{Waiting}
 use Rattle.cyc_lower.proofs.relation.Relation.{silent, code_of, types_at}

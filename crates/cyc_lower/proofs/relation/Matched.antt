@@ -13,23 +13,23 @@ use Rattle.cyc_plain.specs.declared.instruction.Instruction.{Instruction}
 use Rattle.cyc_words.specs.Simulation as simulation
 use Rattle.cyc_words.specs.Simulation.{Machine}
 use Rattle.cyc_words.specs.Distinct.{IsDistinct}
-use Rattle.cyc_words.specs.Following.{Matching, Comes, IsOnTheWay, IsMatchedStep, IsStepped}
-use Rattle.cyc_plain.specs.Program.{CodePlace, places_of}
+use Rattle.cyc_words.specs.inside.Following.{Matching, Comes, IsOnTheWay, IsMatchedStep, IsStepped}
+use Rattle.cyc_plain.specs.inside.Program.{CodePlace, places_of}
 use Rattle.cyc_store.specs.State.{demand}
-use Rattle.cyc_plain.specs.State as plain
-use Rattle.cyc_plain.specs.State.{Words, Configuration}
-use Rattle.cyc_plain.specs.Step.{Choice, performed, machine}
-use Rattle.cyc_plain.specs.Step as plain_step
+use Rattle.cyc_plain.specs.inside.State as plain
+use Rattle.cyc_plain.specs.inside.State.{Words, Configuration}
+use Rattle.cyc_plain.specs.inside.Step.{Choice, performed, machine}
+use Rattle.cyc_plain.specs.inside.Step as plain_step
 use Rattle.cyc_words.proofs.Matching.{by_none, way_before}
 use Rattle.cyc_plain.proofs.Steps.{step_performs, place_known}
-use Rattle.cyc_plain.specs.Straight.{At}
+use Rattle.cyc_plain.specs.inside.Straight.{At}
 use Rattle.cyc_words.specs.Demand.{demand_of}
 use Rattle.cyc_meaning.specs.State.{World, Environment, Entry, counted, calls_in, Focus, Given, Proceeding, Breaking, Continuing, Returning, Throwing, State, Running, Ended, Dead, Wrong, output_of, input_of, status_of}
 use Rattle.cyc_meaning.specs.Step.{step}
 use Rattle.cyc_meaning.specs.Run.{is_within, limited_step}
-use Rattle.cyc_objects.specs.Tables.{Tables}
+use Rattle.cyc_objects.specs.inside.Tables.{Tables}
 use Rattle.cyc_objects.proofs.RegionLemmas.{counted-same}
-use Rattle.cyc_lower.specs.Lowering.{lower_program, scopes_of}
+use Rattle.cyc_lower.specs.inside.Lowering.{lower_program, scopes_of}
 use Rattle.cyc_meaning.specs.SourceMachine.{status_in, seen_of, source_machine}
 use Rattle.cyc_lower.proofs.relation.Weights.{weight}
 use Rattle.cyc_lower.proofs.relation.Data.{calls_counted, calls_left}

@@ -5,15 +5,15 @@ use Rattle.std.specs.Prelude.{◌==◌, if◌then◌else◌}
 use Rattle.cyc_plain.specs.declared.instruction.Operand.{Operand}
 use Rattle.cyc_plain.specs.declared.instruction.Operand.TheVariants as operands
 use Rattle.cyc_plain.specs.declared.instruction.Instruction.TheVariants as instructions
-use Rattle.cyc_plain.specs.Program.{Program}
-use Rattle.cyc_plain.specs.State.{Words, put, copied, Configuration, Running}
-use Rattle.cyc_plain.specs.Step.{Choice, with_slots, advanced, performed}
+use Rattle.cyc_plain.specs.inside.Program.{Program}
+use Rattle.cyc_plain.specs.inside.State.{Words, put, copied, Configuration, Running}
+use Rattle.cyc_plain.specs.inside.Step.{Choice, with_slots, advanced, performed}
 use Rattle.cyc_plain.proofs.SlotLaws.{put-same, put-other, copied-inside, copied-below, copied-above}
 use Rattle.cyc_meaning.specs.Values.{Operand as Kinded, words_of_kind}
-use Rattle.cyc_lower.specs.ValueCode.{move_of}
+use Rattle.cyc_lower.specs.inside.ValueCode.{move_of}
 use Rattle.cyc_lower.proofs.slots.Widths.{Outside}
-use Rattle.cyc_objects.specs.Tables.{Tables}
-use Rattle.cyc_objects.specs.Words.{Is}
+use Rattle.cyc_objects.specs.inside.Tables.{Tables}
+use Rattle.cyc_objects.specs.inside.Words.{Is}
 use Rattle.cyc_lower.proofs.relation.HeldValues.{IsIn}
 use Rattle.cyc_lower.proofs.relation.Data.{IsWord-is, Is-same}
 

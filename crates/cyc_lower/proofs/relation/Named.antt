@@ -3,21 +3,21 @@ use Rattle.std.proofs.Common.{◌≡◌, ℕ, zero, suc, ◌+◌, ◌<◌, ◌�
 use Rattle.std.proofs.lemmas.List.{length-map}
 use Rattle.std.proofs.lemmas.Option.{same_Some, none-some}
 use Rattle.cyc_types.specs.TypedTrees.{GlobalVariable, Program}
-use Rattle.cyc_plain.specs.Memory.{AreBelow, is_pinned}
-use Rattle.cyc_plain.specs.State.{Frame}
+use Rattle.cyc_plain.specs.inside.Memory.{AreBelow, is_pinned}
+use Rattle.cyc_plain.specs.inside.State.{Frame}
 use Rattle.cyc_store.specs.State.{StoreState}
 use Rattle.cyc_plain.specs.declared.limits.TheConstants.{MOST_GLOBALS}
 use Rattle.cyc_meaning.specs.State.{Sort, Heap, Globals, Stack, Lexical, Dynamic, World, Object, is_live, Entry, Caller}
 use Rattle.cyc_meaning.specs.FrameCount.{words_of_all}
-use Rattle.cyc_meaning.specs.Variables.{Locals, waiting, HaveNames, region_in, region_of, is_of_variables}
+use Rattle.cyc_meaning.specs.inside.Variables.{Locals, waiting, HaveNames, region_in, region_of, is_of_variables}
 use Rattle.cyc_meaning.proofs.NestingLemmas.{open_region}
-use Rattle.cyc_objects.specs.Tables.{Tables}
-use Rattle.cyc_objects.specs.Related as objects
-use Rattle.cyc_objects.specs.Related.{LiveVariable, sort_of}
+use Rattle.cyc_objects.specs.inside.Tables.{Tables}
+use Rattle.cyc_objects.specs.inside.Related as objects
+use Rattle.cyc_objects.specs.inside.Related.{LiveVariable, sort_of}
 use Rattle.cyc_objects.proofs.RegionLemmas.{entry-found, variables-empty}
-use Rattle.cyc_lower.specs.Slots.{starts_of, slot_of, global_types}
-use Rattle.cyc_lower.specs.Lowering.{lower_program}
-use Rattle.cyc_lower.specs.Words.{IsOfWordsProgram}
+use Rattle.cyc_lower.specs.inside.Slots.{starts_of, slot_of, global_types}
+use Rattle.cyc_lower.specs.inside.Lowering.{lower_program}
+use Rattle.cyc_lower.specs.inside.Words.{IsOfWordsProgram}
 use Rattle.cyc_lower.proofs.slots.Widths.{words_in}
 use Rattle.cyc_lower.proofs.slots.Slots.{type-there, starts-are, words-there}
 use Rattle.cyc_lower.proofs.relation.Fitting.{IsFitting}

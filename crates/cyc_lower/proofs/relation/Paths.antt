@@ -7,16 +7,16 @@ use Rattle.cyc_words.specs.Distinct.{IsDistinct}
 use Rattle.cyc_types.specs.TypedTrees.{Program}
 use Rattle.cyc_store.specs.State.{demand}
 use Rattle.cyc_plain.specs.declared.instruction.Instruction.{Instruction}
-use Rattle.cyc_plain.specs.Program.{CodePlace, places_of}
-use Rattle.cyc_plain.specs.State as plain
-use Rattle.cyc_plain.specs.State.{Configuration}
-use Rattle.cyc_plain.specs.Step.{Choice, performed}
-use Rattle.cyc_plain.specs.Step as plain_step
-use Rattle.cyc_plain.specs.Straight.{At}
+use Rattle.cyc_plain.specs.inside.Program.{CodePlace, places_of}
+use Rattle.cyc_plain.specs.inside.State as plain
+use Rattle.cyc_plain.specs.inside.State.{Configuration}
+use Rattle.cyc_plain.specs.inside.Step.{Choice, performed}
+use Rattle.cyc_plain.specs.inside.Step as plain_step
+use Rattle.cyc_plain.specs.inside.Straight.{At}
 use Rattle.cyc_words.proofs.Matching.{way_before}
 use Rattle.cyc_meaning.specs.State.{World, Environment, Entry, Focus, State, Running}
 use Rattle.cyc_meaning.specs.Step.{step}
-use Rattle.cyc_lower.specs.Lowering.{lower_program}
+use Rattle.cyc_lower.specs.inside.Lowering.{lower_program}
 use Rattle.cyc_lower.proofs.relation.Relation.{seen_in, shared_seen, SharedAt, Matches, code_of}
 use Rattle.cyc_lower.proofs.relation.Matched.{above, below, matching, shared_within, matches_within_below, Executes, executes, by_places, place_in, known, IsMatched}
 

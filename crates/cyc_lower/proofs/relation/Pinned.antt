@@ -9,12 +9,12 @@ use Rattle.cyc_types.specs.TypedTrees.{Function, Program}
 use Rattle.cyc_types.specs.Numbered.{signatures_of}
 use Rattle.cyc_plain.specs.declared.instruction.Instruction.{Instruction}
 use Rattle.cyc_plain.specs.declared.instruction.Instruction.TheVariants as instructions
-use Rattle.cyc_plain.specs.Memory.{pins, is_pinned}
-use Rattle.cyc_plain.specs.Program.{no_routine}
+use Rattle.cyc_plain.specs.inside.Memory.{pins, is_pinned}
+use Rattle.cyc_plain.specs.inside.Program.{no_routine}
 use Rattle.cyc_meaning.specs.FrameCount.{words_of_all}
-use Rattle.cyc_lower.specs.Slots.{slot_in}
-use Rattle.cyc_lower.specs.Words.{AreOfWordsFunctions, IsOfWordsProgram}
-use Rattle.cyc_lower.specs.Lowering.{globals_of, lower_function, scopes_of}
+use Rattle.cyc_lower.specs.inside.Slots.{slot_in}
+use Rattle.cyc_lower.specs.inside.Words.{AreOfWordsFunctions, IsOfWordsProgram}
+use Rattle.cyc_lower.specs.inside.Lowering.{globals_of, lower_function, scopes_of}
 use Rattle.cyc_lower.proofs.relation.Fitting.{AreFitting, IsFitting}
 use Rattle.cyc_lower.proofs.relation.Relation.{code_of, local_types, types_at}
 use Rattle.cyc_lower.proofs.slots.Slots.{slot-below, slots-apart}

@@ -4,23 +4,23 @@ use Rattle.std.specs.Prelude.{◌&&◌, nat_le, slice_get}
 use Rattle.std.proofs.lemmas.Bool.{cond-true, cond-false, and_parts, and_from, leb-true, le-leb}
 use Rattle.cyc_types.specs.declared.typed.Kind.{Kind}
 use Rattle.cyc_types.specs.Types.{Ty}
-use Rattle.cyc_plain.specs.Memory.{slots_base, slots_end, is_pinned}
+use Rattle.cyc_plain.specs.inside.Memory.{slots_base, slots_end, is_pinned}
 use Rattle.cyc_meaning.specs.Values.{Value, words_of_kind, Operand, Cell, kinds_of}
 use Rattle.cyc_meaning.specs.State.{variable, Object, World}
-use Rattle.cyc_objects.specs.Tables.{Row, Variable, Placed, Tables}
-use Rattle.cyc_objects.specs.Words.{before, Points, Is}
-use Rattle.cyc_objects.specs.Related.{HasKinds, IsOfVariable, Related}
+use Rattle.cyc_objects.specs.inside.Tables.{Row, Variable, Placed, Tables}
+use Rattle.cyc_objects.specs.inside.Words.{before, Points, Is}
+use Rattle.cyc_objects.specs.inside.Related.{HasKinds, IsOfVariable, Related}
 use Rattle.cyc_objects.proofs.Places.{begins-first, before-first}
 use Rattle.cyc_objects.proofs.Pointers.{same-row}
 use Rattle.cyc_objects.proofs.Cells.{not-placed}
-use Rattle.cyc_lower.specs.Slots.{Types, starts_of, slot_of}
+use Rattle.cyc_lower.specs.inside.Slots.{Types, starts_of, slot_of}
 use Rattle.cyc_lower.proofs.slots.CellBytes.{kind_bytes}
 use Rattle.cyc_lower.proofs.relation.Known.{IsVariableRow}
 use Rattle.cyc_lower.proofs.relation.HeldValues.{CallSlots, row_of, IsLocalRow, IsCharAt}
-use Rattle.cyc_lower.specs.ValueCode.{variable_bytes}
+use Rattle.cyc_lower.specs.inside.ValueCode.{variable_bytes}
 use Rattle.cyc_types.specs.declared.typed.Kind.TheVariants as kinds
 use Rattle.cyc_objects.proofs.Chars.{char-small}
-use Rattle.cyc_plain.specs.State.{Words}
+use Rattle.cyc_plain.specs.inside.State.{Words}
 use Rattle.cyc_store.specs.State.{StoreState}
 use Rattle.cyc_store.proofs.LookupLemmas.{same_some}
 use Rattle.cyc_objects.proofs.NumberLemmas.{slice_get-map}

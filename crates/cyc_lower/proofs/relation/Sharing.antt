@@ -4,12 +4,12 @@ use Rattle.std.proofs.Common.{◌≡◌, ℕ, List, ◌∷◌, length, Option, N
 use Rattle.cyc_words.proofs.Lists.{slice_get_last}
 use Rattle.cyc_types.specs.declared.typed.Kind.{Kind}
 use Rattle.cyc_types.specs.TypedTrees.{Program}
-use Rattle.cyc_plain.specs.State.{Words, Configuration}
+use Rattle.cyc_plain.specs.inside.State.{Words, Configuration}
 use Rattle.cyc_meaning.specs.Values.{Value}
 use Rattle.cyc_meaning.specs.State.{Awaiting, Needs, Stack, Region, World, globals_number, Environment, Located, variable, made, written, opened, closed, with_local, Entry, CloseRegion, Caller}
 use Rattle.cyc_meaning.specs.Step.{inside, region_end}
-use Rattle.cyc_objects.specs.Tables.{Row, with_row, with_handle}
-use Rattle.cyc_objects.specs.Related.{Related, scopes, HasKinds, IsOfVariable}
+use Rattle.cyc_objects.specs.inside.Tables.{Row, with_row, with_handle}
+use Rattle.cyc_objects.specs.inside.Related.{Related, scopes, HasKinds, IsOfVariable}
 use Rattle.cyc_objects.proofs.Closing.{scopes-same, related-unclosed}
 use Rattle.cyc_store.specs.State.{demand}
 use Rattle.cyc_store.proofs.CountLemmas.{demand-part}
@@ -18,11 +18,11 @@ use Rattle.cyc_objects.proofs.Values.{Grows-row, Grows-handle}
 use Rattle.cyc_objects.proofs.Variables.{declared, assigned-away, opened-variables, closed-variables, handle-made}
 use Rattle.cyc_lower.proofs.relation.HeldValues.{homes, scopes_in}
 use Rattle.cyc_lower.proofs.relation.Relation.{HasScopes, SharedAt, SharedBy, ScopesBy, store_by, silent}
-use Rattle.cyc_lower.specs.Lowering.{scopes_of}
+use Rattle.cyc_lower.specs.inside.Lowering.{scopes_of}
 use Rattle.cyc_lower.proofs.relation.Counters.{counted_less}
 use Rattle.cyc_lower.proofs.relation.Data.{variables_grow}
 use Rattle.cyc_lower.proofs.relation.Known.{IsVariableRow, row-away}
-use Rattle.cyc_lower.specs.Slots.{global_types}
+use Rattle.cyc_lower.specs.inside.Slots.{global_types}
 
 module _ (source : Program) (pages calls : ℕ) (k : List Entry) (e : Environment) (w : World) (c : Configuration) (s : SharedAt source pages calls k e w c) where
   -- a variable is declared, which stands where this row says

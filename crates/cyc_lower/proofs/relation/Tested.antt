@@ -7,7 +7,7 @@ use Rattle.cyc_types.specs.Numbered.{Numbering}
 use Rattle.cyc_plain.specs.declared.instruction.Comparison.{Comparison}
 use Rattle.cyc_plain.specs.declared.instruction.Operand.{Operand}
 use Rattle.cyc_plain.specs.declared.instruction.Instruction.{Instruction}
-use Rattle.cyc_lower.specs.Slots.{Types}
+use Rattle.cyc_lower.specs.inside.Slots.{Types}
 use Rattle.cyc_lower.proofs.relation.Stands.{Forks, ComparedAt, BranchesAt, TestsAt}
 
 module _ (code : List Instruction) (bounds : Numbering) (types : Types) where

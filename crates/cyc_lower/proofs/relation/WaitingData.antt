@@ -2,20 +2,20 @@
 use Rattle.std.proofs.Common.{◌≡◌, ◌≢◌, ℕ, zero, suc, ◌≤◌, ◌<◌, List, [], ◌∷◌, length, set, Option, Some, slice_get, refl, sym, ap, subst, arith, inr}
 use Rattle.std.proofs.lemmas.Option.{same_Some, none-some}
 use Rattle.cyc_types.specs.TypedTrees.{Program}
-use Rattle.cyc_plain.specs.Program.{Program as PlainProgram}
-use Rattle.cyc_plain.specs.State.{Words, Frame}
+use Rattle.cyc_plain.specs.inside.Program.{Program as PlainProgram}
+use Rattle.cyc_plain.specs.inside.State.{Words, Frame}
 use Rattle.cyc_meaning.specs.Values.{Operand, words_of_kind}
 use Rattle.cyc_meaning.specs.State.{Object, Entry, Caller}
-use Rattle.cyc_objects.specs.Tables.{Tables}
-use Rattle.cyc_objects.specs.Words.{Is}
-use Rattle.cyc_lower.specs.Slots.{slot_of, global_types}
-use Rattle.cyc_lower.specs.Lowering.{scopes_of}
+use Rattle.cyc_objects.specs.inside.Tables.{Tables}
+use Rattle.cyc_objects.specs.inside.Words.{Is}
+use Rattle.cyc_lower.specs.inside.Slots.{slot_of, global_types}
+use Rattle.cyc_lower.specs.inside.Lowering.{scopes_of}
 use Rattle.cyc_lower.proofs.slots.Widths.{HasRoom, Outside}
 use Rattle.cyc_lower.proofs.slots.Slots.{slot-room}
 use Rattle.cyc_lower.proofs.relation.HeldValues.{Waiting, LocalsHold, Holds, contents, callers, IsCharAt}
 use Rattle.cyc_lower.proofs.relation.Relation.{FramesHold, DataAt, call_slots, types_at, starts_at, base_of}
 use Rattle.cyc_lower.proofs.relation.Data.{locals_assigned, locals_kept, frames_kept, globals_kept, globals_below, Holds-above, behind-least}
-use Rattle.cyc_plain.specs.Memory.{IsBelow, AreBelow}
+use Rattle.cyc_plain.specs.inside.Memory.{IsBelow, AreBelow}
 use Rattle.cyc_types.specs.declared.typed.Kind.TheVariants as kinds
 
 -- the call with other slots

@@ -13,18 +13,17 @@ use Rattle.cyc_types.specs.Types as types
 use Rattle.cyc_types.specs.typing.WellTyped.{IsWellTypedGlobal, AreWellTypedGlobals}
 use Rattle.cyc_words.specs.Simulation as simulation
 use Rattle.cyc_words.specs.Simulation.{Failed}
-use Rattle.cyc_words.specs.Following.{Matching, Steps}
-use Rattle.cyc_store.specs.State.{StoreState}
-use Rattle.cyc_store.specs.New.{IsNew}
+use Rattle.cyc_words.specs.inside.Following.{Matching, Steps}
+use Rattle.cyc_store.specs.State.{StoreState, IsNew}
 use Rattle.cyc_store.specs.declared.range.TheConstants.{MOST_PAGES}
 use Rattle.cyc_store.proofs.NewStores.{new_demand}
-use Rattle.cyc_plain.specs.State as plain
-use Rattle.cyc_plain.specs.State.{Words, Configuration}
-use Rattle.cyc_plain.specs.Step as plain_step
+use Rattle.cyc_plain.specs.inside.State as plain
+use Rattle.cyc_plain.specs.inside.State.{Words, Configuration}
+use Rattle.cyc_plain.specs.inside.Step as plain_step
 use Rattle.cyc_plain.proofs.RunLaws.{lawful}
 use Rattle.cyc_plain.proofs.WordLaws.{words_stay, words_at_start}
-use Rattle.cyc_plain.specs.WellFormed.{HasWords}
-use Rattle.cyc_plain.specs.Memory.{LieBelow, IsBelow, slots_end}
+use Rattle.cyc_plain.specs.inside.WellFormed.{HasWords}
+use Rattle.cyc_plain.specs.inside.Memory.{LieBelow, IsBelow, slots_end}
 use Rattle.cyc_plain.proofs.CallLaws.{below_step, below_start}
 use Rattle.cyc_store.specs.State as stores
 use Rattle.std.specs.List.{AllByRecursion, list_any}
@@ -33,17 +32,17 @@ use Rattle.cyc_meaning.specs.Values.{Int, Null, Operand as Kinded, kind_of, word
 use Rattle.cyc_meaning.specs.State.{World, Environment, no_locals, constant_value, global_object, first_world, Entry, Main, Focus, Evaluating, Locating, Given, GivenPlace, Executing, Proceeding, Calling, Entering, Binding, Writing, Beginning, Repeating, Breaking, Continuing, Returning, Throwing, State, Running, Ended, Dead, Wrong, output_of, input_of, status_of, Swapping, Naming, Catching}
 use Rattle.cyc_meaning.specs.Step.{wrong, called, step}
 use Rattle.cyc_meaning.specs.Run.{start, is_within, limited_step}
-use Rattle.cyc_lower.specs.Lowering.{initial_word, lower_global, lower_program, lower_globals, scopes_of, scopes_if, may_open}
-use Rattle.cyc_lower.specs.Lowered.{FollowsSource}
-use Rattle.cyc_lower.specs.Words.{IsOfWordsProgram}
+use Rattle.cyc_lower.specs.inside.Lowering.{initial_word, lower_global, lower_program, lower_globals, scopes_of, scopes_if, may_open}
+use Rattle.cyc_lower.specs.inside.Lowered.{FollowsSource}
+use Rattle.cyc_lower.specs.inside.Words.{IsOfWordsProgram}
 use Rattle.cyc_meaning.specs.SourceMachine.{status_in}
-use Rattle.cyc_meaning.specs.Nesting.{IsNested}
+use Rattle.cyc_meaning.specs.inside.Nesting.{IsNested}
 use Rattle.cyc_meaning.proofs.Nested.{nests_start}
-use Rattle.cyc_meaning.specs.Variables.{FunctionsRise}
+use Rattle.cyc_meaning.specs.inside.Variables.{FunctionsRise}
 use Rattle.cyc_meaning.proofs.VariableRuns.{NestsAndNames, both_kept, names_start}
-use Rattle.cyc_objects.specs.Tables.{Tables, first_tables, Placed}
-use Rattle.cyc_objects.specs.Words.{Is}
-use Rattle.cyc_objects.specs.Related as objects
+use Rattle.cyc_objects.specs.inside.Tables.{Tables, first_tables, Placed}
+use Rattle.cyc_objects.specs.inside.Words.{Is}
+use Rattle.cyc_objects.specs.inside.Related as objects
 use Rattle.cyc_objects.proofs.Start.{start-related}
 use Rattle.cyc_lower.proofs.relation.HeldValues.{callers, contents, MayBeOpen, IsCharAt}
 use Rattle.cyc_lower.proofs.relation.Relation.{silent, call_slots, Related, Matches, types_at, starts_at}
@@ -62,7 +61,7 @@ use Rattle.cyc_lower.proofs.call_steps.StatementSteps.{executing, proceeding, br
 use Rattle.cyc_lower.proofs.handler_steps.ExceptionSteps.{naming, throwing, catching}
 use Rattle.cyc_lower.proofs.call_steps.Calls.{FunctionsStand, calling, entering, binding, entered}
 use Rattle.cyc_lower.proofs.emission.Bridge.{functions_stand}
-use Rattle.cyc_lower.specs.Slots.{slot_in, global_of, global_types}
+use Rattle.cyc_lower.specs.inside.Slots.{slot_in, global_of, global_types}
 use Rattle.cyc_lower.proofs.slots.Widths.{words_in, type_words, kind_in}
 use Rattle.cyc_lower.proofs.slots.Slots.{words_positive, globals-are}
 use Rattle.std.proofs.lemmas.List.{length-replicate, get_or-append_right}
@@ -72,7 +71,7 @@ use Rattle.cyc_lower.proofs.relation.Leads.{AreNamed}
 use Rattle.cyc_lower.proofs.relation.Named.{names_there}
 use Rattle.cyc_plain.specs.declared.limits.TheConstants.{MOST_GLOBALS, GLOBALS_BASE}
 use Rattle.cyc_lower.proofs.relation.Known.{IsGlobalRow, first_word}
-use Rattle.cyc_lower.specs.ValueCode.{variable_bytes}
+use Rattle.cyc_lower.specs.inside.ValueCode.{variable_bytes}
 use Rattle.cyc_objects.proofs.Chars.{char-small}
 use Rattle.cyc_store.proofs.LookupLemmas.{same_some}
 

@@ -11,8 +11,8 @@ use Rattle.cyc_plain.specs.declared.instruction.BinaryOperator.TheVariants as pl
 use Rattle.cyc_plain.specs.declared.instruction.Operand.{Operand}
 use Rattle.cyc_plain.specs.declared.instruction.Operand.TheVariants as operands
 use Rattle.cyc_plain.specs.declared.instruction.Instruction.TheVariants as instructions
-use Rattle.cyc_plain.specs.Program.{Routine, Program as PlainProgram}
-use Rattle.cyc_plain.specs.WellFormed.{IsOperand}
+use Rattle.cyc_plain.specs.inside.Program.{Routine, Program as PlainProgram}
+use Rattle.cyc_plain.specs.inside.WellFormed.{IsOperand}
 use Rattle.std.specs.Prelude.{unwrap_or, ◌==◌}
 use Rattle.cyc_meaning.specs.Operators.{null_exception}
 use Rattle.cyc_store.specs.declared.range.TheConstants.{HEAP, UNIQUE}
@@ -20,12 +20,12 @@ use Rattle.cyc_meaning.specs.Values.{words_of_kind, is_thin, kind_of}
 use Rattle.cyc_meaning.specs.FrameCount.{result_words, operand_words, converted_words, argument_words, expression_need, dereference_need, converted_need, arguments_need, operations_need, initial_value_need, place_words}
 use Rattle.cyc_meaning.specs.Pointers.{result_kind as operator_kind}
 use Rattle.cyc_objects.proofs.NumberLemmas.{slice_get-there}
-use Rattle.cyc_lower.specs.Slots.{counted, starts_of, slot_of, Types, global_of}
-use Rattle.cyc_lower.specs.ValueCode.{converts_there, passed_words, all_passed, kinds_passed, operand_or, code_unless, code_unless_slot, next_slot, check_code, conversion_code, operator_code, truth_code, low_byte, test_code, is_in, copy_code, behind_left, pointer_code, count_code, span_of, loaded_code, reached_code, followed_code, span_in, global_code, unary_instruction, kind_behind, masks, kind_passed}
-use Rattle.cyc_lower.specs.ObjectCode.{begun_code, filled_code, ended_code, elements_code, object_code, free_code}
-use Rattle.cyc_lower.specs.ControlCode.{closing_code}
-use Rattle.cyc_lower.specs.ExpressionCode.{source_of, source_slot, operand_of, left_of, value_slot, left_slot, value_operand, converted_operand, printed_operand, expression_code, arguments_code, converted_code, converted_operand_code, printed_code, initial_code, operations_code, made_code, place_operand, place_offset, place_code, pointer_of, pointer_slot, brought_code}
-use Rattle.cyc_lower.specs.Lowering.{results_of, store_code}
+use Rattle.cyc_lower.specs.inside.Slots.{counted, starts_of, slot_of, Types, global_of}
+use Rattle.cyc_lower.specs.inside.ValueCode.{converts_there, passed_words, all_passed, kinds_passed, operand_or, code_unless, code_unless_slot, next_slot, check_code, conversion_code, operator_code, truth_code, low_byte, test_code, is_in, copy_code, behind_left, pointer_code, count_code, span_of, loaded_code, reached_code, followed_code, span_in, global_code, unary_instruction, kind_behind, masks, kind_passed}
+use Rattle.cyc_lower.specs.inside.ObjectCode.{begun_code, filled_code, ended_code, elements_code, object_code, free_code}
+use Rattle.cyc_lower.specs.inside.ControlCode.{closing_code}
+use Rattle.cyc_lower.specs.inside.ExpressionCode.{source_of, source_slot, operand_of, left_of, value_slot, left_slot, value_operand, converted_operand, printed_operand, expression_code, arguments_code, converted_code, converted_operand_code, printed_code, initial_code, operations_code, made_code, place_operand, place_offset, place_code, pointer_of, pointer_slot, brought_code}
+use Rattle.cyc_lower.specs.inside.Lowering.{results_of, store_code}
 use Rattle.cyc_lower.proofs.slots.Widths.{kind_positive, kind_few, result_kind, words_in, chain_kind, made_kind, type_words, passed_is}
 use Rattle.cyc_lower.proofs.slots.CellBytes.{passed_slots}
 use Rattle.cyc_lower.proofs.relation.Fitting.{FitsCell, Fits, FitsConverted, FitArguments, FitOperations, FitsObject}

@@ -7,16 +7,16 @@ use Rattle.cyc_words.specs.declared.fault.Fault.{Fault}
 use Rattle.cyc_words.specs.Decision.{Decides}
 use Rattle.cyc_words.specs.Fault.{memory_fault}
 use Rattle.cyc_words.proofs.Decisions.{IsDecided, decides}
-use Rattle.cyc_syntax.specs.Weight.{sum_of}
+use Rattle.cyc_syntax.specs.inside.Weight.{sum_of}
 use Rattle.cyc_types.specs.TypedTrees.{StructType, Function, Program}
 use Rattle.cyc_types.specs.typing.WellTyped.{IsWellTypedProgram}
 use Rattle.cyc_types.specs.Weight.{function_weight, program_weight}
-use Rattle.cyc_plain.specs.Program.{Program as PlainProgram, size}
-use Rattle.cyc_plain.specs.WellFormed.{IsPlain}
+use Rattle.cyc_plain.specs.inside.Program.{Program as PlainProgram, size}
+use Rattle.cyc_plain.specs.inside.WellFormed.{IsPlain}
 use Rattle.cyc_syntax.specs.TokenRule.{max_tokens}
-use Rattle.cyc_lower.specs.Lowering.{lower_function, lower_program, globals_of, scopes_of}
+use Rattle.cyc_lower.specs.inside.Lowering.{lower_function, lower_program, globals_of, scopes_of}
 use Rattle.cyc_meaning.specs.Sizes.{max_functions, size_per_weight, HasTooMany}
-use Rattle.cyc_lower.specs.Lowered.{AreLoweredFunctions, CanBeLowered, IsAccepted, IsLowered}
+use Rattle.cyc_lower.specs.inside.Lowered.{AreLoweredFunctions, CanBeLowered, IsAccepted, IsLowered}
 use Rattle.cyc_lower.proofs.sizes.Routines.{one_too_many}
 use Rattle.cyc_lower.proofs.relation.Fitting.{is_fitting_program}
 use Rattle.cyc_lower.proofs.sizes.Sizes.{function_size}

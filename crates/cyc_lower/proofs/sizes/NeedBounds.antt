@@ -10,7 +10,7 @@ use Rattle.cyc_types.specs.typing.WellTyped.{IsWellTypedProgram}
 use Rattle.cyc_types.proofs.WeightLemmas.{some_token, else_written, function_of_program}
 use Rattle.cyc_types.proofs.typing.WeightLemmas.{function_outweighs}
 use Rattle.cyc_meaning.specs.FrameCount.{result_words, operand_words, converted_words, argument_words, handle_words, expression_need, dereference_need, handle_need, initial_value_need, converted_need, arguments_need, operations_need, side_need, statement_need, items_need, clauses_need, kept_by, kept_by_items, kept_by_clauses, words_of_all}
-use Rattle.cyc_lower.specs.Emission.{HaveFewWords}
+use Rattle.cyc_lower.specs.inside.Emission.{HaveFewWords}
 use Rattle.cyc_lower.proofs.slots.Widths.{kind_few}
 
 -- ---- values

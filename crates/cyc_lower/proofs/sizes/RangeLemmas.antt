@@ -5,18 +5,18 @@ use Rattle.cyc_types.specs.Types.{Ty, words_of, ValueType, Void, Null, Value}
 use Rattle.cyc_types.specs.TypedTrees.{Initial, Plain, Fields, Array, Converted, Convert, Arguments, NoArguments, MoreArguments, Signature}
 use Rattle.cyc_plain.specs.declared.instruction.Instruction.{Instruction}
 use Rattle.cyc_plain.specs.declared.instruction.Instruction.TheVariants as instructions
-use Rattle.cyc_plain.specs.Program.{Routine, Program as PlainProgram, routine_at}
+use Rattle.cyc_plain.specs.inside.Program.{Routine, Program as PlainProgram, routine_at}
 use Rattle.cyc_plain.specs.declared.instruction.Operand.{Operand}
 use Rattle.cyc_plain.specs.declared.instruction.Operand.TheVariants as operands
-use Rattle.cyc_plain.specs.Requests.{first_operand, second_operand}
-use Rattle.cyc_plain.specs.WellFormed.{IsInRange, IsOperand, IsArgument, is_return, leaves}
+use Rattle.cyc_plain.specs.inside.Requests.{first_operand, second_operand}
+use Rattle.cyc_plain.specs.inside.WellFormed.{IsInRange, IsOperand, IsArgument, is_return, leaves}
 use Rattle.std.specs.Prelude.{max}
 use Rattle.cyc_meaning.specs.Values.{kind_of, words_of_kind}
 use Rattle.cyc_meaning.specs.FrameCount.{operand_words, converted_words, argument_words, words_of_all, initial_value_need}
 use Rattle.cyc_lower.proofs.relation.Counters.{found_last}
-use Rattle.cyc_lower.specs.Slots.{counted, Types, slot_in}
-use Rattle.cyc_lower.specs.ValueCode.{all_passed, kind_passed, blocks}
-use Rattle.cyc_lower.specs.Lowering.{spare_slots, results_of, target_of, farthest, with_blocks}
+use Rattle.cyc_lower.specs.inside.Slots.{counted, Types, slot_in}
+use Rattle.cyc_lower.specs.inside.ValueCode.{all_passed, kind_passed, blocks}
+use Rattle.cyc_lower.specs.inside.Lowering.{spare_slots, results_of, target_of, farthest, with_blocks}
 use Rattle.cyc_lower.proofs.slots.Widths.{kind_positive, kind_few, type_words, kind_of_result, passed_is}
 use Rattle.cyc_lower.proofs.slots.Slots.{words_positive}
 

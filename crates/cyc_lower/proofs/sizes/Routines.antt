@@ -10,13 +10,13 @@ use Rattle.cyc_types.specs.TypedTreeView.{view_function, view_program}
 use Rattle.cyc_meaning.specs.FrameCount.{kept_by_items, frame_count, words_of_all}
 use Rattle.cyc_plain.specs.declared.instruction.Instruction.{Instruction}
 use Rattle.cyc_plain.specs.declared.instruction.Instruction.TheVariants.{Finish}
-use Rattle.cyc_lower.specs.Slots.{starts_from}
-use Rattle.cyc_lower.specs.ValueCode.{first_temporary, slot_types, blocks}
-use Rattle.cyc_lower.specs.ControlCode.{outside_loops}
-use Rattle.cyc_lower.specs.Lowering.{items_code, farthest, with_blocks, finished_code, function_code, raises_of, body_code, starts_with}
+use Rattle.cyc_lower.specs.inside.Slots.{starts_from}
+use Rattle.cyc_lower.specs.inside.ValueCode.{first_temporary, slot_types, blocks}
+use Rattle.cyc_lower.specs.inside.ControlCode.{outside_loops}
+use Rattle.cyc_lower.specs.inside.Lowering.{items_code, farthest, with_blocks, finished_code, function_code, raises_of, body_code, starts_with}
 use Rattle.cyc_meaning.specs.Sizes.{max_functions, HasTooMany}
-use Rattle.cyc_frame_count.specs.Needs.{most_frame_count}
-use Rattle.cyc_lower.specs.Emission.{most_locals}
+use Rattle.cyc_frame_count.specs.inside.Needs.{most_frame_count}
+use Rattle.cyc_lower.specs.inside.Emission.{most_locals}
 use Rattle.cyc_lower.proofs.slots.Slots.{slots-few}
 use Rattle.cyc_lower.proofs.emission.Blocks.{some_blocks}
 

@@ -30,20 +30,20 @@ use Rattle.cyc_plain.specs.declared.instruction.Operand.TheVariants as operands
 use Rattle.cyc_plain.specs.declared.instruction.Request.TheVariants as requests
 use Rattle.cyc_plain.specs.declared.instruction.Instruction.{Instruction}
 use Rattle.cyc_plain.specs.declared.instruction.Instruction.TheVariants as instructions
-use Rattle.cyc_plain.specs.Program.{instruction_size, size}
+use Rattle.cyc_plain.specs.inside.Program.{instruction_size, size}
 use Rattle.cyc_plain.specs.declared.limits.TheConstants.{RECORD_WORDS}
 use Rattle.cyc_lower.specs.declared.statements.Exits.{Exits}
-use Rattle.cyc_lower.specs.Slots.{with_counter, slot_of, Starts, global_of}
+use Rattle.cyc_lower.specs.inside.Slots.{with_counter, slot_of, Starts, global_of}
 use Rattle.cyc_store.specs.declared.range.TheConstants.{HEAP, UNIQUE}
 use Rattle.cyc_meaning.specs.Values.{kind_of, words_of_kind, begins, behind, bytes_from, words_for, is_thin}
 use Rattle.cyc_lower.proofs.slots.Widths.{kind_few, type_words}
 use Rattle.cyc_lower.proofs.slots.CellBytes.{passed_slots}
-use Rattle.cyc_lower.specs.ValueCode.{converts_there, passed_words, all_passed, kinds_passed, converted_by, moved_by, move_of, binary_operator, operand_or, code_unless, slot_or, code_unless_slot, next_slot, conversion_code, divisor_code, checked_code, operator_code, truth_code, low_byte, test_code, is_in, copy_code, failing_comparison, left_with, first_temporary, jump_if_zero, jump_if_nonzero, behind_left, pointer_code, pointer_operator, index_of, first_two, pointer_instructions, address_code, blocks, element_by, count_code, span_of, tested_code, widened_code, conversion_by, tested_by, check_code, loaded_code, bounds_code, stepped_code, scaled_code, summed_code, bounded_code, past_bounded, thinned_code, reached_code, followed_code, followed_operand, followed_by, span_in, reached_operand, word_by_word, load_word, store_word, global_code, keeps_words, load_of, store_of, unary_instruction, last_byte_code, blank_code, kind_behind, kind_passed, scale_of, masks, masked_by, inside_code}
-use Rattle.cyc_lower.specs.ObjectCode.{begun_code, filled_code, ended_code, elements_code, stores_code, cells_code, slots_of_kinds, object_code, free_code, right_slot, saved_code, load_at, measured_code, sized_code}
+use Rattle.cyc_lower.specs.inside.ValueCode.{converts_there, passed_words, all_passed, kinds_passed, converted_by, moved_by, move_of, binary_operator, operand_or, code_unless, slot_or, code_unless_slot, next_slot, conversion_code, divisor_code, checked_code, operator_code, truth_code, low_byte, test_code, is_in, copy_code, failing_comparison, left_with, first_temporary, jump_if_zero, jump_if_nonzero, behind_left, pointer_code, pointer_operator, index_of, first_two, pointer_instructions, address_code, blocks, element_by, count_code, span_of, tested_code, widened_code, conversion_by, tested_by, check_code, loaded_code, bounds_code, stepped_code, scaled_code, summed_code, bounded_code, past_bounded, thinned_code, reached_code, followed_code, followed_operand, followed_by, span_in, reached_operand, word_by_word, load_word, store_word, global_code, keeps_words, load_of, store_of, unary_instruction, last_byte_code, blank_code, kind_behind, kind_passed, scale_of, masks, masked_by, inside_code}
+use Rattle.cyc_lower.specs.inside.ObjectCode.{begun_code, filled_code, ended_code, elements_code, stores_code, cells_code, slots_of_kinds, object_code, free_code, right_slot, saved_code, load_at, measured_code, sized_code}
 use Rattle.cyc_lower.specs.declared.operands.Condition.{Condition}
-use Rattle.cyc_lower.specs.ControlCode.{compared_or, failing_jump, holding_jump, deciding_jump, are_tests, break_target, continue_target, body_target, outside_loops, inside_loop, leave_code, tag_operand, other_jump, clause_code, opened_code, closed_code, named_code, dynamic_code, closing_code, handlers_code, marks_code, kept_code, kept_code_in, restored_code, restored_code_in, behind_record, inside_try, inside_region, entry_code, entry_length, is_nothing, over_code, over_length}
-use Rattle.cyc_lower.specs.ExpressionCode.{source_of, source_slot, operand_of, left_of, value_slot, left_slot, value_operand, converted_operand, printed_operand, load_code, expression_code, arguments_code, converted_code, converted_operand_code, printed_code, initial_code, operations_code, slot_with, made_code, place_operand, place_offset, place_code, pointer_of, pointer_slot, brought_code, is_simple, are_simple}
-use Rattle.cyc_lower.specs.Lowering.{assignment_code, discarded_code, first_code, second_code, pair_code, condition_code, condition_of, others_code, tests_code, behind_tests, choice_code, choice_of, return_code, declaration_code, statement_code, items_code, lower_function, store_address_code, side_code, read_side, write_side, exchange_code, swap_code, caught_code, clauses_code, starts_with, raises_of, farthest, is_guard, is_light, compares_light}
+use Rattle.cyc_lower.specs.inside.ControlCode.{compared_or, failing_jump, holding_jump, deciding_jump, are_tests, break_target, continue_target, body_target, outside_loops, inside_loop, leave_code, tag_operand, other_jump, clause_code, opened_code, closed_code, named_code, dynamic_code, closing_code, handlers_code, marks_code, kept_code, kept_code_in, restored_code, restored_code_in, behind_record, inside_try, inside_region, entry_code, entry_length, is_nothing, over_code, over_length}
+use Rattle.cyc_lower.specs.inside.ExpressionCode.{source_of, source_slot, operand_of, left_of, value_slot, left_slot, value_operand, converted_operand, printed_operand, load_code, expression_code, arguments_code, converted_code, converted_operand_code, printed_code, initial_code, operations_code, slot_with, made_code, place_operand, place_offset, place_code, pointer_of, pointer_slot, brought_code, is_simple, are_simple}
+use Rattle.cyc_lower.specs.inside.Lowering.{assignment_code, discarded_code, first_code, second_code, pair_code, condition_code, condition_of, others_code, tests_code, behind_tests, choice_code, choice_of, return_code, declaration_code, statement_code, items_code, lower_function, store_address_code, side_code, read_side, write_side, exchange_code, swap_code, caught_code, clauses_code, starts_with, raises_of, farthest, is_guard, is_light, compares_light}
 use Rattle.cyc_meaning.specs.Operators.{null_exception}
 use Rattle.cyc_meaning.specs.Sizes.{size_per_weight}
 use Rattle.cyc_lower.specs.declared.statements.Opened.{Opened}

@@ -6,18 +6,18 @@ use Rattle.cyc_types.specs.TypedTrees.{Signature, StructType, Function, Program}
 use Rattle.cyc_types.specs.typing.WellTyped.{signature_of}
 use Rattle.cyc_types.specs.Numbered.{signatures_of, numbering_of}
 use Rattle.cyc_plain.specs.declared.instruction.Instruction.TheVariants as instructions
-use Rattle.cyc_plain.specs.Program.{Routine, no_routine}
+use Rattle.cyc_plain.specs.inside.Program.{Routine, no_routine}
 use Rattle.cyc_plain.specs.declared.limits.TheConstants.{MOST_GLOBALS}
-use Rattle.cyc_plain.specs.WellFormed.{IsInRange, IsRoutine, IsWellFormed}
+use Rattle.cyc_plain.specs.inside.WellFormed.{IsInRange, IsRoutine, IsWellFormed}
 use Rattle.std.proofs.lemmas.List.Elements.{All-from_recursion}
 use Rattle.cyc_words.proofs.Lists.{all_append}
 use Rattle.cyc_meaning.specs.FrameCount.{words_of_all}
-use Rattle.cyc_lower.specs.Slots.{starts_of, global_types}
-use Rattle.cyc_lower.specs.ValueCode.{first_temporary, blocks, slot_types}
-use Rattle.cyc_lower.specs.ControlCode.{outside_loops}
-use Rattle.cyc_lower.specs.Lowering.{types_of, items_code, results_of, lower_function, lower_program, globals_of, scopes_of, function_code, farthest, with_blocks}
+use Rattle.cyc_lower.specs.inside.Slots.{starts_of, global_types}
+use Rattle.cyc_lower.specs.inside.ValueCode.{first_temporary, blocks, slot_types}
+use Rattle.cyc_lower.specs.inside.ControlCode.{outside_loops}
+use Rattle.cyc_lower.specs.inside.Lowering.{types_of, items_code, results_of, lower_function, lower_program, globals_of, scopes_of, function_code, farthest, with_blocks}
 use Rattle.cyc_lower.proofs.relation.Fitting.{FitItems, AreFitting, IsFitting}
-use Rattle.cyc_lower.specs.Words.{AreOfWordsItems, AreOfWordsFunctions, IsOfWordsProgram}
+use Rattle.cyc_lower.specs.inside.Words.{AreOfWordsItems, AreOfWordsFunctions, IsOfWordsProgram}
 use Rattle.cyc_lower.proofs.sizes.WordLemmas.{no_return}
 use Rattle.cyc_lower.proofs.emission.Lengths.{body_long}
 use Rattle.cyc_lower.proofs.slots.Slots.{slot-room, slot_types-many, slots-few, globals_counted}

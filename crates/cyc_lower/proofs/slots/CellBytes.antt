@@ -6,9 +6,9 @@ use Rattle.cyc_types.specs.declared.typed.Kind.TheVariants as kinds
 use Rattle.cyc_types.specs.TypedTrees.{Convert, Arguments, NoArguments, MoreArguments}
 use Rattle.cyc_types.specs.Numbered.{argument_count}
 use Rattle.cyc_meaning.specs.Values.{words_of_kind, bytes_of_kind, begins, behind, bytes_from}
-use Rattle.cyc_lower.specs.Slots.{begins_word}
-use Rattle.cyc_lower.specs.ValueCode.{variable_bytes, all_passed, kinds_passed}
-use Rattle.cyc_lower.specs.ObjectCode.{slots_of_kinds}
+use Rattle.cyc_lower.specs.inside.Slots.{begins_word}
+use Rattle.cyc_lower.specs.inside.ValueCode.{variable_bytes, all_passed, kinds_passed}
+use Rattle.cyc_lower.specs.inside.ObjectCode.{slots_of_kinds}
 
 -- so a variable of a kind ends with its words
 pub kind_bytes : (kind : Kind) → variable_bytes kind + bytes_of_kind kind ≡ 4 * words_of_kind kind

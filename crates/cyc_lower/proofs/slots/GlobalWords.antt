@@ -7,8 +7,8 @@ use Rattle.cyc_types.specs.Types.{Ty, words_of}
 use Rattle.cyc_types.specs.TypedTrees.{GlobalVariable}
 use Rattle.cyc_types.specs.TypedTreeView.{view_global}
 use Rattle.cyc_meaning.specs.FrameCount.{words_of_all}
-use Rattle.cyc_lower.specs.Slots.{global_types, starts_from}
-use Rattle.cyc_lower.specs.Lowering.{initial_word, lower_global, lower_globals}
+use Rattle.cyc_lower.specs.inside.Slots.{global_types, starts_from}
+use Rattle.cyc_lower.specs.inside.Lowering.{initial_word, lower_global, lower_globals}
 
 -- those from one on
 abbrev behind : List Global → ℕ → List GlobalVariable

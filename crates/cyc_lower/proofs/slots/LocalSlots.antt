@@ -6,7 +6,7 @@ use Rattle.cyc_types.specs.declared.ty.Ty.{Ty as TyCode}
 use Rattle.cyc_types.specs.Types.{Ty, words_of}
 use Rattle.cyc_meaning.specs.Values.{kind_of, bytes_of_kind}
 use Rattle.cyc_meaning.specs.FrameCount.{words_of_all}
-use Rattle.cyc_lower.specs.Slots.{starts_from, begins_word, field_from}
+use Rattle.cyc_lower.specs.inside.Slots.{starts_from, begins_word, field_from}
 
 -- by the types that these stand for
 module _ (view : List TyCode → List Ty) (one : TyCode → Ty) where

@@ -12,9 +12,9 @@ use Rattle.cyc_types.specs.Types.{Ty, words_of, words_of_mark}
 use Rattle.cyc_types.specs.Types as types
 use Rattle.cyc_types.specs.TypedTrees.{StructType, Function, GlobalVariable}
 use Rattle.cyc_meaning.specs.FrameCount.{words_of_all}
-use Rattle.cyc_lower.specs.Slots.{global_types, slot_in, starts_from, Types, starts_of, slot_of, global_of}
-use Rattle.cyc_lower.specs.ValueCode.{slot_types, first_temporary}
-use Rattle.cyc_lower.specs.Lowering.{lower_global, lower_globals}
+use Rattle.cyc_lower.specs.inside.Slots.{global_types, slot_in, starts_from, Types, starts_of, slot_of, global_of}
+use Rattle.cyc_lower.specs.inside.ValueCode.{slot_types, first_temporary}
+use Rattle.cyc_lower.specs.inside.Lowering.{lower_global, lower_globals}
 use Rattle.cyc_lower.proofs.slots.Widths.{kind_positive, words_in, HasRoom, HasGlobal, kind_in}
 use Rattle.cyc_meaning.specs.Values.{kind_of}
 

@@ -14,10 +14,10 @@ use Rattle.cyc_types.specs.Types as types
 use Rattle.cyc_types.specs.TypedTrees.{Load, type_of_place, Expression, NullPointer, HeapRegion, Copy, Move, Peek, Call, Unary, Binary, Assign, Convert, Operations, NoOperations, ThenCompute, ThenTest, ThenPointer, ThenPointerPeek, Signature, New, Initial, Array, AddressOfCell, Store, StructType, AddressOf, Converted}
 use Rattle.cyc_meaning.specs.Pointers.{result_kind as operator_kind}
 use Rattle.cyc_meaning.specs.Values.{kind_of, number_of_kind, is_kind, words_of_kind, are_kinds}
-use Rattle.cyc_lower.specs.Slots.{Types}
+use Rattle.cyc_lower.specs.inside.Slots.{Types}
 use Rattle.cyc_meaning.specs.Operators.{unary_kind}
-use Rattle.cyc_lower.specs.ValueCode.{kind_behind, are_as_wide, keeps_words, masks, passed_words, kind_passed}
-use Rattle.cyc_lower.specs.Lowerable.{is_converted, is_pointer}
+use Rattle.cyc_lower.specs.inside.ValueCode.{kind_behind, are_as_wide, keeps_words, masks, passed_words, kind_passed}
+use Rattle.cyc_lower.specs.inside.Lowerable.{is_converted, is_pointer}
 
 -- ---- kinds and their words
 

@@ -10,27 +10,27 @@ use Rattle.cyc_types.specs.TypedTrees.{Lvalue, Local, Global, Program}
 use Rattle.cyc_plain.specs.declared.instruction.Operand.{Operand}
 use Rattle.cyc_plain.specs.declared.instruction.Operand.TheVariants as operands
 use Rattle.cyc_plain.specs.declared.instruction.Instruction.{Instruction}
-use Rattle.cyc_plain.specs.State as plain
-use Rattle.cyc_plain.specs.State.{Words, Configuration}
-use Rattle.cyc_plain.specs.Step.{Choice, operand_word, with_slots, at, advanced, gives, performed}
-use Rattle.cyc_plain.specs.Step as plain_step
-use Rattle.cyc_plain.specs.Program.{CodePlace, no_routine}
-use Rattle.cyc_plain.specs.WellFormed.{HasWord, HasWords}
+use Rattle.cyc_plain.specs.inside.State as plain
+use Rattle.cyc_plain.specs.inside.State.{Words, Configuration}
+use Rattle.cyc_plain.specs.inside.Step.{Choice, operand_word, with_slots, at, advanced, gives, performed}
+use Rattle.cyc_plain.specs.inside.Step as plain_step
+use Rattle.cyc_plain.specs.inside.Program.{CodePlace, no_routine}
+use Rattle.cyc_plain.specs.inside.WellFormed.{HasWord, HasWords}
 use Rattle.cyc_plain.proofs.Placed.{holds_at}
 use Rattle.cyc_plain.proofs.Steps.{function_known}
-use Rattle.cyc_plain.specs.Straight.{At}
+use Rattle.cyc_plain.specs.inside.Straight.{At}
 use Rattle.cyc_meaning.specs.Values.{Value, Thin, Operand as Kinded, words_of_kind}
 use Rattle.cyc_meaning.specs.State.{World, Environment, written, Store, Entry, Needs, Focus, Given, Running, cell_at, StoreCell}
 use Rattle.cyc_meaning.specs.Step.{object_of, stored_at, step}
-use Rattle.cyc_lower.specs.Slots.{slot_of, global_of, global_types}
+use Rattle.cyc_lower.specs.inside.Slots.{slot_of, global_of, global_types}
 use Rattle.cyc_lower.proofs.slots.Slots.{slot-room, global-inside}
 use Rattle.cyc_lower.proofs.slots.Widths.{kind_positive, HasRoom, Outside, wide_kind}
 use Rattle.cyc_lower.proofs.relation.Moves.{moved_slots, moves, moved_elsewhere, moved_is}
-use Rattle.cyc_lower.specs.ValueCode.{is_in, move_of, store_of}
-use Rattle.cyc_lower.specs.Lowering.{lower_program}
+use Rattle.cyc_lower.specs.inside.ValueCode.{is_in, move_of, store_of}
+use Rattle.cyc_lower.specs.inside.Lowering.{lower_program}
 use Rattle.cyc_lower.proofs.relation.Stands.{CopyBy, CopyAt, StoresAt}
-use Rattle.cyc_objects.specs.Tables.{Tables}
-use Rattle.cyc_objects.specs.Words.{Points, Is}
+use Rattle.cyc_objects.specs.inside.Tables.{Tables}
+use Rattle.cyc_objects.specs.inside.Words.{Points, Is}
 use Rattle.cyc_lower.proofs.relation.Sharing.{shared_written, shared_beside}
 use Rattle.cyc_lower.proofs.relation.HeldValues.{IsWord, IsIn, Holds, held, contents, callers, IsCharAt}
 use Rattle.cyc_lower.proofs.relation.Relation.{seen_in, shared_seen, types_on, starts_on, types_at, starts_at, in_temporary, in_local, drops, leaves, copies, DataIn, SharedAt, StoreAt, ValueStack, DroppedStack, AheadStack, LandsStack, HandsOnStack, in_operand, nowhere, ahead, Related, Matches, code_of, bounds_at, top, floor, base_of}

@@ -12,16 +12,16 @@ use Rattle.cyc_plain.specs.declared.instruction.Comparison.TheVariants as compar
 use Rattle.cyc_plain.specs.declared.instruction.Operand.{Operand}
 use Rattle.cyc_plain.specs.declared.instruction.Operand.TheVariants as operands
 use Rattle.cyc_plain.specs.declared.instruction.Instruction.TheVariants as instructions
-use Rattle.cyc_plain.specs.Operators.{compares}
-use Rattle.cyc_plain.specs.State as plain
-use Rattle.cyc_plain.specs.State.{Configuration}
-use Rattle.cyc_plain.specs.Step.{operand_word, at}
+use Rattle.cyc_plain.specs.inside.Operators.{compares}
+use Rattle.cyc_plain.specs.inside.State as plain
+use Rattle.cyc_plain.specs.inside.State.{Configuration}
+use Rattle.cyc_plain.specs.inside.Step.{operand_word, at}
 use Rattle.cyc_meaning.specs.Values.{Operand as Kinded}
 use Rattle.cyc_meaning.specs.Operators.{is_zero, truth, truth_result, truth_of}
 use Rattle.cyc_meaning.specs.State.{World, Environment, Operate, Chain, Decide, Choose, Test, Entry, Needs, Join, Loop, Focus, Evaluating, Given, Executing, Proceeding, State, Running}
 use Rattle.cyc_meaning.specs.Step.{computed, tested, chosen, looped, step}
-use Rattle.cyc_lower.specs.ControlCode.{opposite}
-use Rattle.cyc_objects.specs.Tables.{Tables}
+use Rattle.cyc_lower.specs.inside.ControlCode.{opposite}
+use Rattle.cyc_objects.specs.inside.Tables.{Tables}
 use Rattle.cyc_lower.proofs.relation.Stands.{ForkAt, StatementAt}
 use Rattle.cyc_lower.proofs.relation.HeldValues.{IsIn, Holds, held}
 use Rattle.cyc_lower.proofs.relation.Relation.{types_on, types_at, DataIn, SharedAt, ConditionStack, DecidedStack, GivenAt, decided, LeadsTo, as_condition, behind_statement, StatementStack, in_place, Matches, code_of, bounds_at, floor}

@@ -20,11 +20,11 @@ use Rattle.cyc_plain.specs.declared.instruction.Operand.TheVariants as operands
 use Rattle.cyc_plain.specs.declared.instruction.BinaryOperator.TheVariants as plain_binary
 use Rattle.cyc_plain.specs.declared.instruction.Instruction.{Instruction}
 use Rattle.cyc_plain.specs.declared.instruction.Instruction.TheVariants as instructions
-use Rattle.cyc_plain.specs.State as plain
-use Rattle.cyc_plain.specs.State.{Words, put, Frame, Configuration}
-use Rattle.cyc_plain.specs.Straight.{At as CodeAt}
+use Rattle.cyc_plain.specs.inside.State as plain
+use Rattle.cyc_plain.specs.inside.State.{Words, put, Frame, Configuration}
+use Rattle.cyc_plain.specs.inside.Straight.{At as CodeAt}
 use Rattle.cyc_lower.proofs.value_steps.ValueWords.{opposite_twice}
-use Rattle.cyc_plain.specs.Step.{Choice, with_slots, advanced, performed, at}
+use Rattle.cyc_plain.specs.inside.Step.{Choice, with_slots, advanced, performed, at}
 use Rattle.cyc_plain.proofs.SlotLaws.{put-same}
 use Rattle.cyc_meaning.specs.Values.{Int, Null, Thin, Handle, Operand as Kinded, kind_of, words_of_kind, bytes_of_kind, is_thin}
 use Rattle.cyc_store.specs.declared.range.TheConstants.{HEAP, UNIQUE}
@@ -33,20 +33,20 @@ use Rattle.cyc_meaning.specs.State.{status_of, InRegion, World, heap_number, Env
 use Rattle.cyc_lower.proofs.relation.Counters.{CountersHold, counters_hold, counters_low}
 use Rattle.cyc_meaning.specs.Step.{counts, target_of, target_by, object_of, assigned, passes, step, loaded_from, addressed}
 use Rattle.cyc_meaning.specs.Allocation.{makes}
-use Rattle.cyc_lower.specs.Slots.{slot_of, field_in, global_of, Types, starts_of, global_types, Starts}
+use Rattle.cyc_lower.specs.inside.Slots.{slot_of, field_in, global_of, Types, starts_of, global_types, Starts}
 use Rattle.cyc_meaning.specs.Places.{locates_member}
 use Rattle.cyc_lower.proofs.place_steps.PlaceWords.{field_bytes, add_is}
 use Rattle.cyc_lower.proofs.slots.Slots.{slot-room, slot-low, words-there, words_positive, kind-there}
 use Rattle.cyc_lower.proofs.slots.Widths.{keeps_whole, kind_positive, type_words, made_kind, HasRoom, Outside}
 use Rattle.cyc_lower.proofs.relation.Moves.{moved_slots, moves, put_elsewhere, moved_elsewhere, moved_is}
-use Rattle.cyc_lower.specs.ValueCode.{failing_comparison, converts_there, masks, span_of, all_passed, kinds_passed, move_of, left_with, followed_operand, span_in, operand_or, reached_operand, load_word, address_of_global, keeps_words, variable_bytes}
-use Rattle.cyc_lower.specs.ControlCode.{counter_operand, compared_or, opposite, compared_of}
-use Rattle.cyc_lower.specs.ExpressionCode.{operand_of, value_slot, source_of, source_slot, slot_with, pointer_of, is_simple, are_simple}
-use Rattle.cyc_lower.specs.Lowering.{lower_program}
+use Rattle.cyc_lower.specs.inside.ValueCode.{failing_comparison, converts_there, masks, span_of, all_passed, kinds_passed, move_of, left_with, followed_operand, span_in, operand_or, reached_operand, load_word, address_of_global, keeps_words, variable_bytes}
+use Rattle.cyc_lower.specs.inside.ControlCode.{counter_operand, compared_or, opposite, compared_of}
+use Rattle.cyc_lower.specs.inside.ExpressionCode.{operand_of, value_slot, source_of, source_slot, slot_with, pointer_of, is_simple, are_simple}
+use Rattle.cyc_lower.specs.inside.Lowering.{lower_program}
 use Rattle.cyc_lower.proofs.relation.Weights.{weight, stack_weight, expression_weight, arguments_weight, object_weight}
 use Rattle.cyc_lower.proofs.relation.Stands.{CopyBy, CopyAt, OperandBy, InitialBy, BroughtAt, ConversionAt, ExpressionAt, ArgumentsAt, ObjectAt, MadeAt, ValueAt, PairAt, ConditionAt, AssignmentAt, PrintedAt, DiscardedAt, StoredAt, ReturnedAt, ReachedAt, EachAt, LastByteAt, BranchesAt, TestsAt, ForkAt, ComparedAt, Ends}
-use Rattle.cyc_objects.specs.Tables.{Tables}
-use Rattle.cyc_objects.specs.Words.{Is, Points}
+use Rattle.cyc_objects.specs.inside.Tables.{Tables}
+use Rattle.cyc_objects.specs.inside.Words.{Is, Points}
 use Rattle.cyc_lower.proofs.relation.HeldValues.{counters_of, IsIn, words_held, height, Holds, held, kept, contents, IsHandleOf, IsLow, callers, AreCounted}
 use Rattle.cyc_lower.proofs.relation.Relation.{types_on, starts_on, types_at, starts_at, given_at, called_at, in_temporary, in_local, drops, leaves, copies, prints_only, gives_byte, DataIn, SharedAt, CallAt, to_slot, to_jump, ValueStack, PlaceStack, ConditionStack, DecidedStack, DroppedStack, AheadStack, LandsStack, LandsMade, HandsOnStack, PrintsStack, RightAt, EvaluatingAt, as_operand, into_slot, for_effect, as_right, as_condition, in_operand, ahead, with_left, Related, Matches, code_of, bounds_at, top, floor, base_of, BesideAt}
 use Rattle.cyc_lower.proofs.object_steps.Handles.{kept_holds, kept_low}

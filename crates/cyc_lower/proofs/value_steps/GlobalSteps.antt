@@ -4,18 +4,18 @@ use Rattle.cyc_types.specs.TypedTrees.{Program}
 use Rattle.cyc_plain.specs.declared.instruction.Instruction.TheVariants as instructions
 use Rattle.cyc_plain.specs.declared.instruction.Operand.{Operand}
 use Rattle.cyc_plain.specs.declared.instruction.Operand.TheVariants as operands
-use Rattle.cyc_plain.specs.State.{Words, put, Configuration}
-use Rattle.cyc_plain.specs.State as plain
-use Rattle.cyc_plain.specs.Step.{Choice, with_slots, advanced, at, performed}
-use Rattle.cyc_plain.specs.Straight.{At}
+use Rattle.cyc_plain.specs.inside.State.{Words, put, Configuration}
+use Rattle.cyc_plain.specs.inside.State as plain
+use Rattle.cyc_plain.specs.inside.Step.{Choice, with_slots, advanced, at, performed}
+use Rattle.cyc_plain.specs.inside.Straight.{At}
 use Rattle.cyc_plain.proofs.SlotLaws.{put-same, put-other}
 use Rattle.cyc_meaning.specs.Values.{Operand as Kinded, words_of_kind}
 use Rattle.cyc_meaning.specs.State.{World, Environment, Entry, Focus, State, Running}
 use Rattle.cyc_meaning.specs.Step.{step}
-use Rattle.cyc_objects.specs.Tables.{Tables}
-use Rattle.cyc_objects.specs.Words.{Is}
-use Rattle.cyc_lower.specs.ValueCode.{load_word, store_word}
-use Rattle.cyc_lower.specs.Lowering.{lower_program}
+use Rattle.cyc_objects.specs.inside.Tables.{Tables}
+use Rattle.cyc_objects.specs.inside.Words.{Is}
+use Rattle.cyc_lower.specs.inside.ValueCode.{load_word, store_word}
+use Rattle.cyc_lower.specs.inside.Lowering.{lower_program}
 use Rattle.cyc_lower.proofs.slots.Widths.{Outside}
 use Rattle.cyc_lower.proofs.relation.Stands.{EachAt, GlobalAt}
 use Rattle.cyc_lower.proofs.relation.HeldValues.{IsIn}

@@ -21,14 +21,14 @@ use Rattle.cyc_plain.specs.declared.instruction.Operand.TheVariants as operands
 use Rattle.cyc_plain.specs.declared.instruction.Instruction.{Instruction}
 use Rattle.cyc_plain.specs.declared.instruction.Instruction.TheVariants as instructions
 use Rattle.cyc_plain.specs.declared.instruction.UnaryOperator.TheVariants as plain_unary
-use Rattle.cyc_plain.specs.Operators.{truth, compares}
-use Rattle.cyc_plain.specs.Operators as plain_operators
-use Rattle.cyc_plain.specs.State as plain
-use Rattle.cyc_plain.specs.State.{Words, put, Frame, Configuration}
-use Rattle.cyc_plain.specs.Step.{Choice, operand_word, with_slots, at, advanced, gives, performed}
-use Rattle.cyc_plain.specs.Step as plain_step
+use Rattle.cyc_plain.specs.inside.Operators.{truth, compares}
+use Rattle.cyc_plain.specs.inside.Operators as plain_operators
+use Rattle.cyc_plain.specs.inside.State as plain
+use Rattle.cyc_plain.specs.inside.State.{Words, put, Frame, Configuration}
+use Rattle.cyc_plain.specs.inside.Step.{Choice, operand_word, with_slots, at, advanced, gives, performed}
+use Rattle.cyc_plain.specs.inside.Step as plain_step
 use Rattle.cyc_plain.proofs.SlotLaws.{put-same}
-use Rattle.cyc_plain.specs.Straight.{At}
+use Rattle.cyc_plain.specs.inside.Straight.{At}
 use Rattle.cyc_meaning.specs.Values.{Value, Int, Null, Thin, Fat, Handle, Key, Operand as Kinded, is_kind, words_of_kind, bytes_of_kind}
 use Rattle.cyc_meaning.specs.Operators.{Gives, Raises, has_no_result, binary_word, unary_result, truth_result, truth_of, division_by_zero, null_exception, unary_kind}
 use Rattle.cyc_meaning.specs.Pointers.{takes_kind, followed, result_kind as operator_kind}
@@ -36,15 +36,15 @@ use Rattle.cyc_meaning.specs.Conversion.{conversion}
 use Rattle.cyc_meaning.specs.State.{World, Environment, Awaiting, ConvertTo, Operate, Chain, Apply, ApplyPointer, Decide, Entry, Needs, Focus, Evaluating, Given, Throwing, State, Running, Advance, status_of}
 use Rattle.cyc_meaning.specs.Step.{leads_to, wrong, computed, passes, tested, awaits_right, step}
 use Rattle.cyc_meaning.specs.SourceMachine.{status_in}
-use Rattle.cyc_lower.specs.Slots.{Types, Starts}
+use Rattle.cyc_lower.specs.inside.Slots.{Types, Starts}
 use Rattle.cyc_lower.proofs.slots.Widths.{same_kind, Outside, chain_kind, wide_kind, keeps_wide, changes_wide, unary_word}
 use Rattle.cyc_lower.proofs.relation.Moves.{put_elsewhere}
-use Rattle.cyc_lower.specs.ValueCode.{binary_operator, failing_comparison, next_slot, jump_if_zero, jump_if_nonzero, converts_there, unary_instruction, keeps_words, masks, low_byte}
-use Rattle.cyc_lower.specs.ExpressionCode.{operand_of, value_slot, is_simple}
-use Rattle.cyc_lower.specs.Lowering.{lower_program}
+use Rattle.cyc_lower.specs.inside.ValueCode.{binary_operator, failing_comparison, next_slot, jump_if_zero, jump_if_nonzero, converts_there, unary_instruction, keeps_words, masks, low_byte}
+use Rattle.cyc_lower.specs.inside.ExpressionCode.{operand_of, value_slot, is_simple}
+use Rattle.cyc_lower.specs.inside.Lowering.{lower_program}
 use Rattle.cyc_lower.proofs.relation.Stands.{OperandBy, CheckAt, CheckedAt, OperatorAt, TruthAt, ExpressionAt, OperationsAt, GuardAt, TestedAt, ConversionBy, LeftBy}
-use Rattle.cyc_objects.specs.Tables.{Tables}
-use Rattle.cyc_objects.specs.Words.{Is}
+use Rattle.cyc_objects.specs.inside.Tables.{Tables}
+use Rattle.cyc_objects.specs.inside.Words.{Is}
 use Rattle.cyc_lower.proofs.relation.HeldValues.{IsIn, Holds, held, IsLow}
 use Rattle.cyc_lower.proofs.relation.Relation.{types_on, starts_on, types_at, in_temporary, DataIn, SharedAt, to_slot, to_jump, ValueStack, ConditionStack, LandsStack, AppliedStack, ReadyAt, as_operand, into_slot, as_right, in_operand, with_left, Related, Matches, code_of, bounds_at, top, floor, BesideAt, EvaluatingAt}
 use Rattle.cyc_lower.proofs.object_steps.Handles.{kept_holds}

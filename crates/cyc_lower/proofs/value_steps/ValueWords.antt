@@ -16,20 +16,20 @@ use Rattle.cyc_plain.specs.declared.instruction.Comparison.TheVariants as compar
 use Rattle.cyc_plain.specs.declared.instruction.Operand.{Operand}
 use Rattle.cyc_plain.specs.declared.instruction.Operand.TheVariants as operands
 use Rattle.cyc_plain.specs.declared.instruction.Instruction.{Instruction}
-use Rattle.cyc_plain.specs.Operators.{truth, compares}
-use Rattle.cyc_plain.specs.State as plain
-use Rattle.cyc_plain.specs.State.{Words, Configuration}
-use Rattle.cyc_plain.specs.Step.{operand_word, gives, at, branches}
-use Rattle.cyc_plain.specs.Straight.{At}
+use Rattle.cyc_plain.specs.inside.Operators.{truth, compares}
+use Rattle.cyc_plain.specs.inside.State as plain
+use Rattle.cyc_plain.specs.inside.State.{Words, Configuration}
+use Rattle.cyc_plain.specs.inside.Step.{operand_word, gives, at, branches}
+use Rattle.cyc_plain.specs.inside.Straight.{At}
 use Rattle.cyc_meaning.specs.Values.{Value, Int, Null, Thin, Fat, Handle, Key, Operand as Kinded, is_thin, words_of_kind}
 use Rattle.cyc_meaning.specs.Operators.{Result, Gives, Raises, Misfits, binary_word, is_zero, array_bounds}
 use Rattle.cyc_meaning.specs.Conversion.{conversion}
 use Rattle.cyc_meaning.specs.State.{World}
 use Rattle.cyc_meaning.specs.Step.{wrong}
-use Rattle.cyc_lower.specs.ValueCode.{failing_comparison, converts_there}
-use Rattle.cyc_lower.specs.ControlCode.{opposite}
-use Rattle.cyc_objects.specs.Tables.{Tables}
-use Rattle.cyc_objects.specs.Words.{Is}
+use Rattle.cyc_lower.specs.inside.ValueCode.{failing_comparison, converts_there}
+use Rattle.cyc_lower.specs.inside.ControlCode.{opposite}
+use Rattle.cyc_objects.specs.inside.Tables.{Tables}
+use Rattle.cyc_objects.specs.inside.Words.{Is}
 use Rattle.cyc_objects.proofs.Pointers.{not-null, part-not-null, same_value}
 use Rattle.cyc_lower.proofs.relation.HeldValues.{IsWord, IsIn}
 use Rattle.cyc_lower.proofs.relation.Data.{in_words, IsWord-is, one_word, points_in, null_at, points_at}

@@ -13,10 +13,10 @@ use Rattle.cyc_types.specs.TypedTrees.{Expression, Initial, Arguments, NoArgumen
 use Rattle.cyc_plain.specs.declared.instruction.Comparison.TheVariants as comparisons
 use Rattle.cyc_plain.specs.declared.instruction.Operand.{Operand}
 use Rattle.cyc_plain.specs.declared.instruction.Operand.TheVariants as operands
-use Rattle.cyc_plain.specs.State as plain
-use Rattle.cyc_plain.specs.State.{Words, Configuration}
-use Rattle.cyc_plain.specs.Step.{operand_word, with_slots, at, advanced}
-use Rattle.cyc_plain.specs.WellFormed.{HasWords}
+use Rattle.cyc_plain.specs.inside.State as plain
+use Rattle.cyc_plain.specs.inside.State.{Words, Configuration}
+use Rattle.cyc_plain.specs.inside.Step.{operand_word, with_slots, at, advanced}
+use Rattle.cyc_plain.specs.inside.WellFormed.{HasWords}
 use Rattle.cyc_meaning.specs.Values.{Value, Int, Null, Thin, Fat, Handle, Key, Operand as Kinded, is_kind, is_thin, words_of_kind, bytes_of_kind}
 use Rattle.cyc_meaning.specs.Operators.{null_exception, unary_kind}
 use Rattle.cyc_meaning.specs.Pointers.{followed}
@@ -26,17 +26,17 @@ use Rattle.cyc_meaning.specs.State.{Region, World, Environment, with_local, made
 use Rattle.cyc_meaning.specs.Step.{leads_to, wrong, stored_at, declared, passes, chosen, looped, step}
 use Rattle.cyc_meaning.specs.SourceMachine.{status_in}
 use Rattle.cyc_lower.specs.declared.statements.Exits.{Exits}
-use Rattle.cyc_lower.specs.Slots.{slot_of, Types}
+use Rattle.cyc_lower.specs.inside.Slots.{slot_of, Types}
 use Rattle.cyc_lower.proofs.slots.Slots.{slot-room, room-inside}
 use Rattle.cyc_lower.proofs.slots.Widths.{kind_positive, same_kind, HasRoom, Outside, made_kind, kind_in}
 use Rattle.cyc_lower.proofs.relation.Moves.{moved_slots, moves, moved_elsewhere, moved_is}
-use Rattle.cyc_lower.specs.ValueCode.{next_slot, followed_operand}
-use Rattle.cyc_lower.specs.ControlCode.{tag_operand}
-use Rattle.cyc_lower.specs.ExpressionCode.{operand_of, value_slot, are_simple}
-use Rattle.cyc_lower.specs.Lowering.{lower_program}
+use Rattle.cyc_lower.specs.inside.ValueCode.{next_slot, followed_operand}
+use Rattle.cyc_lower.specs.inside.ControlCode.{tag_operand}
+use Rattle.cyc_lower.specs.inside.ExpressionCode.{operand_of, value_slot, are_simple}
+use Rattle.cyc_lower.specs.inside.Lowering.{lower_program}
 use Rattle.cyc_lower.proofs.relation.Stands.{OperandBy, CheckAt, OperatorAt, ExpressionAt, OperationsAt, FollowedAt, MadeAt, ValueAt}
-use Rattle.cyc_objects.specs.Tables.{Tables, with_row}
-use Rattle.cyc_objects.specs.Words.{Points, Is}
+use Rattle.cyc_objects.specs.inside.Tables.{Tables, with_row}
+use Rattle.cyc_objects.specs.inside.Words.{Points, Is}
 use Rattle.cyc_objects.proofs.Pointers.{pointer-word}
 use Rattle.cyc_objects.proofs.Values.{Grows-row, Is-grows}
 use Rattle.cyc_lower.proofs.relation.Sharing.{shared_declared, row_declared}

@@ -4,7 +4,7 @@ use Rattle.std.specs.Prelude.{◌==◌, if◌then◌else◌, slice_get, unwrap_o
 use Rattle.std.proofs.lemmas.Bool.{cases_eq, eq-eqb, ne_eqb, or_from, and_left, and_right, not_from_true}
 use Rattle.cyc_words.specs.Ending as ending
 use Rattle.cyc_words.specs.Word.{signed}
-use Rattle.cyc_words.specs.WordBytes.{byte_in, with_byte, word_of}
+use Rattle.cyc_words.specs.Bytes.{byte_in, with_byte, word_of}
 use Rattle.cyc_isa.specs.declared.instr.Instr.{Instr}
 use Rattle.cyc_isa.specs.declared.instr.Instr.TheVariants.{Immediate, LoadUpper, Memory, Branch, BranchZero, Jump, Shift, ShiftVariable, JumpRegister, JumpRegisterLink, Exception, MoveFrom, MultiplyDivide, Arithmetic}
 use Rattle.cyc_isa.specs.declared.instr.MemoryOp.TheVariants.{LoadWord, StoreWord, LoadByte, StoreByte}
@@ -27,12 +27,12 @@ use Rattle.cyc_machine.specs.State.{Core, Place, InText, InGlobals, InStack, Now
 use Rattle.cyc_machine.specs.Step.{Action, Does, Calls, Acts, Service, GetByte, PutByte, EndReturned, EndUncaught, EndFull, Asks, told_by, answered, with_store, Serves, service_of, asked, calls, executes, after, cause_of, first_of, is_nowhere, is_text, is_aligned}
 use Rattle.cyc_machine.specs.Run.{told}
 use Rattle.cyc_machine.proofs.StepLaws.{executes-performs}
-use Rattle.cyc_plain.specs.State.{Words, put}
+use Rattle.cyc_plain.specs.inside.State.{Words, put}
 use Rattle.cyc_plain.specs.declared.instruction.Request.{Request}
 use Rattle.cyc_plain.specs.declared.instruction.Request.TheVariants as requests
-use Rattle.cyc_select.specs.Selection.{service_number}
-use Rattle.cyc_select.specs.Machine.{Configuration, State, Running, core_of, memory_of, machine_of, world_of, from_world, settled, Performs, word_in}
-use Rattle.cyc_select.specs.Machine as labelled
+use Rattle.cyc_select.specs.inside.Selection.{service_number}
+use Rattle.cyc_select.specs.inside.Machine.{Configuration, State, Running, core_of, memory_of, machine_of, world_of, from_world, settled, Performs, word_in}
+use Rattle.cyc_select.specs.inside.Machine as labelled
 use Rattle.cyc_select.proofs.relation.Cells.{IsCell, IsLive, cell, place_of-data, place_of-stack}
 use Rattle.cyc_select.proofs.effects.Views.{Contents, saved_in, View, Width, OneWord, OneByte, load_op, store_op, word_place, loaded_part, stored_word, answered_registers, does_r, does_w, IsSafe, IsWritable, moved, live_place, view_put, view_product, view_store, view_saved}
 

@@ -10,17 +10,17 @@ use Rattle.cyc_isa.specs.declared.instr.Instr.TheVariants.{Immediate, LoadUpper,
 use Rattle.cyc_isa.specs.declared.instr.MemoryOp.TheVariants.{LoadWord, StoreWord, LoadByte, StoreByte}
 use Rattle.cyc_isa.specs.declared.operand.Register.{Register}
 use Rattle.cyc_isa.specs.declared.instr.MoveFromOp.TheVariants.{High, Low}
-use Rattle.cyc_words.specs.WordBytes.{word_of}
+use Rattle.cyc_words.specs.Bytes.{word_of}
 use Rattle.cyc_words.proofs.WordBytesLemmas.{byte-small, with_byte-word}
 use Rattle.cyc_words.specs.Simulation as simulation
 use Rattle.cyc_words.specs.Simulation.{Machine}
 use Rattle.cyc_words.specs.Distinct.{IsDistinct}
-use Rattle.cyc_words.specs.Following.{Comes}
+use Rattle.cyc_words.specs.inside.Following.{Comes}
 use Rattle.cyc_store.specs.State.{StoreState}
 use Rattle.cyc_store.specs.Services as services
 use Rattle.cyc_store.specs.Services.{Call, Answer, refusal}
-use Rattle.cyc_plain.specs.State.{Words, AreWords, put}
-use Rattle.cyc_plain.specs.Step.{HasAnswerWords}
+use Rattle.cyc_plain.specs.inside.State.{Words, AreWords, put}
+use Rattle.cyc_plain.specs.inside.Step.{HasAnswerWords}
 use Rattle.cyc_plain.specs.declared.instruction.Request.{Request}
 use Rattle.cyc_plain.proofs.Placed.{holds_at}
 use Rattle.cyc_isa.specs.Encoding.{IsEncodable}
@@ -30,12 +30,12 @@ use Rattle.cyc_select.specs.declared.code.Condition.{Condition}
 use Rattle.cyc_select.specs.declared.code.Condition.TheVariants as conditions
 use Rattle.cyc_select.specs.declared.code.Line.{Line}
 use Rattle.cyc_select.specs.declared.code.Line.TheVariants as lines
-use Rattle.cyc_select.specs.Labelled.{Labelled, IsFormed, IsFormedLine, is_ordinary, AreAddresses}
+use Rattle.cyc_select.specs.inside.Labelled.{Labelled, IsFormed, IsFormedLine, is_ordinary, AreAddresses}
 use Rattle.cyc_words.specs.Ending.{Ending, Returned, Uncaught, Full}
 use Rattle.cyc_words.specs.Word.{IsWord, signed}
 use Rattle.cyc_isa.specs.Decoding.{trap_code_of}
-use Rattle.cyc_select.specs.Machine.{Configuration, State, Running, Ended, Step, Executes, ExecutesAt, Performs, PerformsOrdinary, machine, status_of, output_of, input_of, linked, at, word_in, holds_of, IsReturnPoint}
-use Rattle.cyc_select.specs.Selection.{ordinary, syscall, service_number}
+use Rattle.cyc_select.specs.inside.Machine.{Configuration, State, Running, Ended, Step, Executes, ExecutesAt, Performs, PerformsOrdinary, machine, status_of, output_of, input_of, linked, at, word_in, holds_of, IsReturnPoint}
+use Rattle.cyc_select.specs.inside.Selection.{ordinary, syscall, service_number}
 use Rattle.cyc_select.proofs.relation.Cells.{IsLive}
 use Rattle.cyc_select.proofs.effects.Views.{Contents, saved_in, View, Width, OneWord, OneByte, load_op, store_op, word_place, loaded_part, stored_word, does_r, does_w, IsSafe, IsWritable, moved, answered_r, view_at, view_seen, view_put, view_answered}
 use Rattle.cyc_select.proofs.effects.Effects.{performed, moved_view, loads_live, stores_live, loaded_view, saved_view, call_by, asked_call, given_answer, store_serves, store_is_full, byte_of, given_byte, gets_byte, printed_byte, puts_byte, ends_returned, ends_uncaught, ends_full}

@@ -9,19 +9,19 @@ use Rattle.cyc_plain.specs.declared.instruction.BinaryOperator.{BinaryOperator}
 use Rattle.cyc_plain.specs.declared.instruction.BinaryOperator.TheVariants as binary
 use Rattle.cyc_plain.specs.declared.instruction.Instruction.{Instruction}
 use Rattle.cyc_plain.specs.declared.instruction.Instruction.TheVariants as plain
-use Rattle.cyc_plain.specs.Requests.{second_operand, answer_count, destination_of}
-use Rattle.cyc_plain.specs.Program.{Program, Routine, no_routine, routine_at, operator_size, instruction_size, size}
-use Rattle.cyc_plain.specs.WellFormed.{IsCallInRange, IsMoveInRange, IsRequestInRange, IsRoutine, IsWellFormed}
+use Rattle.cyc_plain.specs.inside.Requests.{second_operand, answer_count, destination_of}
+use Rattle.cyc_plain.specs.inside.Program.{Program, Routine, no_routine, routine_at, operator_size, instruction_size, size}
+use Rattle.cyc_plain.specs.inside.WellFormed.{IsCallInRange, IsMoveInRange, IsRequestInRange, IsRoutine, IsWellFormed}
 use Rattle.cyc_plain.specs.declared.instruction.Request.{Request}
 use Rattle.cyc_plain.specs.declared.limits.TheConstants.{GREATEST_VALUE, MOST_SIZE}
 use Rattle.cyc_frame.specs.declared.frame.TheConstants.{MOST_FRAME_WORDS}
-use Rattle.cyc_frame.specs.Homes.{AreHomes}
-use Rattle.cyc_frame.specs.Layout.{IsFrame, AreFrames, frame_at, loses, loses_any}
-use Rattle.cyc_frame.specs.Frame.{Frame}
+use Rattle.cyc_frame.specs.inside.Homes.{AreHomes}
+use Rattle.cyc_frame.specs.inside.Layout.{IsFrame, AreFrames, frame_at, loses, loses_any}
+use Rattle.cyc_frame.specs.inside.Frame.{Frame}
 use Rattle.cyc_select.specs.declared.constants.TheConstants.{START_LINES}
-use Rattle.cyc_select.specs.Selection.{reload_count, ending_count, body_count, behind_count, is_idle, count_of, code_count, function_count, functions_count, function_line, instruction_line, behind, place_lines, code_lines, function_lines, saving_count, routine_lines}
-use Rattle.cyc_select.specs.Plans.{test_of}
-use Rattle.cyc_select.specs.Emission.{AreReached, AreFew, most_lines, instruction_lines, function_starts, AreReady, AreTables}
+use Rattle.cyc_select.specs.inside.Selection.{reload_count, ending_count, body_count, behind_count, is_idle, count_of, code_count, function_count, functions_count, function_line, instruction_line, behind, place_lines, code_lines, function_lines, saving_count, routine_lines}
+use Rattle.cyc_select.specs.inside.Plans.{test_of}
+use Rattle.cyc_select.specs.inside.Emission.{AreReached, AreFew, most_lines, instruction_lines, function_starts, AreReady, AreTables}
 use Rattle.cyc_words.proofs.Lists.{slice_get_below}
 use Rattle.cyc_select.proofs.layout.Lines.{line_next}
 use Rattle.cyc_select.proofs.emission.Counts.{move_small, move_words_small, spills_few, copies_few, give_small, keep_few, argument_small, regions_small, gives_small, word_small, load_small, operand_small, address_small, unary_small, test_small, operator_small, reach_few}

@@ -10,14 +10,14 @@ use Rattle.cyc_plain.specs.declared.instruction.Instruction.TheVariants as plain
 use Rattle.cyc_plain.specs.declared.instruction.BinaryOperator.{BinaryOperator}
 use Rattle.cyc_plain.specs.declared.instruction.BinaryOperator.TheVariants as binary
 use Rattle.cyc_plain.specs.declared.instruction.Operand.{Operand}
-use Rattle.cyc_plain.specs.Requests.{first_operand, second_operand, answer_count, destination_of}
+use Rattle.cyc_plain.specs.inside.Requests.{first_operand, second_operand, answer_count, destination_of}
 use Rattle.cyc_isa.specs.declared.instr.MemoryOp.{MemoryOp}
 use Rattle.cyc_isa.specs.declared.instr.MemoryOp.TheVariants.{LoadWord, StoreWord, LoadByte, StoreByte}
 use Rattle.cyc_isa.specs.declared.instr.MoveFromOp.{MoveFromOp}
 use Rattle.cyc_machine.specs.declared.constants.TheConstants.{ARGUMENT, END_UNCAUGHT, PUT_BYTE, SECOND_ARGUMENT, SERVICE, RETURN_ADDRESS}
-use Rattle.cyc_plain.specs.Program.{Routine, Program, routine_at, operator_size, instruction_size, size}
-use Rattle.cyc_frame.specs.Layout.{frame_at, loses, loses_any}
-use Rattle.cyc_frame.specs.Frame.{Frame}
+use Rattle.cyc_plain.specs.inside.Program.{Routine, Program, routine_at, operator_size, instruction_size, size}
+use Rattle.cyc_frame.specs.inside.Layout.{frame_at, loses, loses_any}
+use Rattle.cyc_frame.specs.inside.Frame.{Frame}
 use Rattle.cyc_select.specs.declared.code.Line.{Line}
 use Rattle.cyc_select.specs.declared.code.Condition.TheVariants as conditions
 use Rattle.cyc_select.specs.declared.code.Line.TheVariants as lines
@@ -25,10 +25,10 @@ use Rattle.cyc_select.specs.declared.constants.TheConstants.{FIRST, SECOND, THIR
 use Rattle.cyc_select.specs.declared.plan.Plan.{Plan}
 use Rattle.cyc_select.specs.declared.plan.Test.{Test}
 use Rattle.cyc_select.specs.declared.plan.Test.TheVariants as tests
-use Rattle.cyc_select.specs.Plans.{unary_plan, binary_plan, test_of}
-use Rattle.cyc_select.specs.Labelled.{Labelled, words_of, all_words}
-use Rattle.cyc_select.specs.Selected.{words_at}
-use Rattle.cyc_select.specs.Selection.{product_code, quotient_code, operand_count, operand_register, slot_offset, recorded_code, caught_code, reload_count, value_register, move_to, keep_code, give_code, moved_code, reloads, opened_code, made_in, ordinary, argument_code, service_number, answer_code, unwound_code, address_code, at_address, copies, bring_all, word_code, load_code, load_count, operand_code, plan_code, test_code, branch_line, branch_code, divided_code, divide_code, is_tested, part_of, result_registers, ending_code, operator_code, body, behind, place_lines, is_idle, count_of, function_count, function_line, instruction_line, code_lines, function_lines, small, syscall, store, add_immediate, push_frame, load, regions_code, load_at, store_at, spills, spills_count, calling_code, global_code, saving_code, restoring_code, saving_count, returning_code, routine_lines}
+use Rattle.cyc_select.specs.inside.Plans.{unary_plan, binary_plan, test_of}
+use Rattle.cyc_select.specs.inside.Labelled.{Labelled, words_of, all_words}
+use Rattle.cyc_select.specs.inside.Selected.{words_at}
+use Rattle.cyc_select.specs.inside.Selection.{product_code, quotient_code, operand_count, operand_register, slot_offset, recorded_code, caught_code, reload_count, value_register, move_to, keep_code, give_code, moved_code, reloads, opened_code, made_in, ordinary, argument_code, service_number, answer_code, unwound_code, address_code, at_address, copies, bring_all, word_code, load_code, load_count, operand_code, plan_code, test_code, branch_line, branch_code, divided_code, divide_code, is_tested, part_of, result_registers, ending_code, operator_code, body, behind, place_lines, is_idle, count_of, function_count, function_line, instruction_line, code_lines, function_lines, small, syscall, store, add_immediate, push_frame, load, regions_code, load_at, store_at, spills, spills_count, calling_code, global_code, saving_code, restoring_code, saving_count, returning_code, routine_lines}
 use Rattle.cyc_isa.specs.Decoding.{register_of}
 use Rattle.cyc_isa.specs.declared.instr.BranchOp.TheVariants as branch
 use Rattle.cyc_select.proofs.emission.Counts.{length_keep, length_give, length_move, length_moved, length_spills, spills_few, length_copies, copies_few, move_words_small, keep_few, give_small, move_small, argument_small, regions_small, gives_small, length_argument, length_answer, length_regions, length_results, length_registers, word_small, load_small, operand_small, address_small, plan_small, unary_small, test_small, length_word, length_load, length_operand, length_address, length_plan, length_test, length_divided, reach_few, length_global}

@@ -22,17 +22,17 @@ use Rattle.cyc_isa.specs.declared.instr.MemoryOp.TheVariants.{LoadWord, StoreWor
 use Rattle.cyc_isa.specs.declared.instr.MoveFromOp.{MoveFromOp}
 use Rattle.cyc_isa.specs.declared.instr.MoveFromOp.TheVariants.{High, Low}
 use Rattle.cyc_machine.specs.declared.constants.TheConstants.{ARGUMENT, END_UNCAUGHT, PUT_BYTE, RETURN_ADDRESS, SECOND_ARGUMENT, SERVICE}
-use Rattle.cyc_plain.specs.Program.{Routine, Program, CodePlace, no_routine, routine_at}
-use Rattle.cyc_plain.specs.Step.{instruction_at}
+use Rattle.cyc_plain.specs.inside.Program.{Routine, Program, CodePlace, no_routine, routine_at}
+use Rattle.cyc_plain.specs.inside.Step.{instruction_at}
 use Rattle.cyc_plain.specs.declared.instruction.Request.{Request}
 use Rattle.cyc_plain.specs.declared.instruction.Request.TheVariants as requests
-use Rattle.cyc_plain.specs.Requests.{first_operand, second_operand, answer_count, destination_of}
-use Rattle.cyc_plain.specs.WellFormed.{IsOperand, IsArgument, IsInRange, IsWellFormed, HasWords, IsOfWord, IsArgumentOfWord, HasWord, leaves}
+use Rattle.cyc_plain.specs.inside.Requests.{first_operand, second_operand, answer_count, destination_of}
+use Rattle.cyc_plain.specs.inside.WellFormed.{IsOperand, IsArgument, IsInRange, IsWellFormed, HasWords, IsOfWord, IsArgumentOfWord, HasWord, leaves}
 use Rattle.cyc_plain.proofs.Placed.{holds_at, routine_in, below_of_get, goes_behind, has_code}
 use Rattle.cyc_plain.proofs.Steps.{function_known}
-use Rattle.cyc_frame.specs.Layout.{AreFrames, frame_at, slot_word}
-use Rattle.cyc_frame.specs.Uses.{is_crossing}
-use Rattle.cyc_frame.specs.Frame.{Frame}
+use Rattle.cyc_frame.specs.inside.Layout.{AreFrames, frame_at, slot_word}
+use Rattle.cyc_frame.specs.inside.Uses.{is_crossing}
+use Rattle.cyc_frame.specs.inside.Frame.{Frame}
 use Rattle.cyc_frame.specs.declared.frame.TheConstants.{MOST_FRAME_WORDS}
 use Rattle.cyc_frame.specs.declared.home.Home.{Home}
 use Rattle.cyc_frame.specs.declared.home.Home.TheVariants as homes
@@ -47,10 +47,10 @@ use Rattle.cyc_select.specs.declared.plan.Outcome.TheVariants as outcomes
 use Rattle.cyc_select.specs.declared.plan.Plan.{Plan}
 use Rattle.cyc_select.specs.declared.plan.Test.{Test}
 use Rattle.cyc_select.specs.declared.plan.Test.TheVariants as tests
-use Rattle.cyc_select.specs.Plans.{unary_plan, binary_plan, test_of}
-use Rattle.cyc_select.specs.Labelled.{Labelled, IsFormed, IsFormedLine}
-use Rattle.cyc_select.specs.Numbers.{fits_signed, is_zero_word}
-use Rattle.cyc_select.specs.Selection.{value_register, product_code, quotient_code, passed_from, spill_from, pass_from, pass, is_kept, load_from, fetch_from, move_to, keep_code, give_to, give_code, bring_code, bring_all, load_words, reloads_from, reloads, opened_code, made_in, slot_offset, ordinary, result_registers, argument_code, service_number, answer_code, unwound_code, far_plan, address_code, near_half, at_address, copies, load_all, store_all, moves, all_moved, store_slot, pop_frame, load_upper, constant, or_immediate, is_tested, part_of, plan_count, small, syscall, add_immediate, minus, upper_of_global, word_code, load_code, load_count, operand_code, operand_register, operands_code, operation_code, outcome_code, operation_of, computed_code, plan_code, test_code, branch_line, divided_code, divide_code, divide_count, ending_code, ending_count, operator_code, operator_count, body, behind, place_lines, is_idle, body_count, count_of, code_count, function_count, functions_count, function_line, instruction_line, code_lines, function_lines, start_lines, select_of, regions_code, load_at, store_at, spill, spills, spills_count, calling_code, operand_count, global_code, is_near, global_address, load, store, saving_code, restoring_code, saving_count, returning_code, routine_lines}
+use Rattle.cyc_select.specs.inside.Plans.{unary_plan, binary_plan, test_of}
+use Rattle.cyc_select.specs.inside.Labelled.{Labelled, IsFormed, IsFormedLine}
+use Rattle.cyc_select.specs.inside.Numbers.{fits_signed, is_zero_word}
+use Rattle.cyc_select.specs.inside.Selection.{value_register, product_code, quotient_code, passed_from, spill_from, pass_from, pass, is_kept, load_from, fetch_from, move_to, keep_code, give_to, give_code, bring_code, bring_all, load_words, reloads_from, reloads, opened_code, made_in, slot_offset, ordinary, result_registers, argument_code, service_number, answer_code, unwound_code, far_plan, address_code, near_half, at_address, copies, load_all, store_all, moves, all_moved, store_slot, pop_frame, load_upper, constant, or_immediate, is_tested, part_of, plan_count, small, syscall, add_immediate, minus, upper_of_global, word_code, load_code, load_count, operand_code, operand_register, operands_code, operation_code, outcome_code, operation_of, computed_code, plan_code, test_code, branch_line, divided_code, divide_code, divide_count, ending_code, ending_count, operator_code, operator_count, body, behind, place_lines, is_idle, body_count, count_of, code_count, function_count, functions_count, function_line, instruction_line, code_lines, function_lines, start_lines, select_of, regions_code, load_at, store_at, spill, spills, spills_count, calling_code, operand_count, global_code, is_near, global_address, load, store, saving_code, restoring_code, saving_count, returning_code, routine_lines}
 use Rattle.cyc_select.proofs.layout.Lines.{line_first, line_next}
 use Rattle.cyc_select.proofs.values.Plans.{AllOfTest, all_unary, all_binary, all_test}
 use Rattle.cyc_select.proofs.emission.Counts.{operation_some, move_some, move_words_some, give_some, length_registers, answer_few, service_small}

@@ -1,11 +1,11 @@
 -- Where the code of each instruction stands.
 use Rattle.std.proofs.Common.{◌≡◌, ℕ, zero, suc, ◌+◌, List, [], ◌∷◌, take, Some, None, slice_get, ap, arith}
 use Rattle.cyc_plain.specs.declared.instruction.Instruction.{Instruction}
-use Rattle.cyc_plain.specs.Program.{Program, routine_at}
-use Rattle.cyc_plain.specs.Step.{instruction_at}
-use Rattle.cyc_frame.specs.Frame.{Frame}
-use Rattle.cyc_frame.specs.Layout.{frame_at}
-use Rattle.cyc_select.specs.Selection.{saving_count, count_of, code_count, function_line, instruction_line}
+use Rattle.cyc_plain.specs.inside.Program.{Program, routine_at}
+use Rattle.cyc_plain.specs.inside.Step.{instruction_at}
+use Rattle.cyc_frame.specs.inside.Frame.{Frame}
+use Rattle.cyc_frame.specs.inside.Layout.{frame_at}
+use Rattle.cyc_select.specs.inside.Selection.{saving_count, count_of, code_count, function_line, instruction_line}
 
 -- the lines of code up to an instruction, and with it
 count_next : (program : Program) (frames : List Frame) (function first : ℕ) (code : List Instruction) (k : ℕ) (i : Instruction) → slice_get code k ≡ Some i

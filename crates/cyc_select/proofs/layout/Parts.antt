@@ -6,12 +6,12 @@ use Rattle.std.proofs.lemmas.Grind.{flat_map-append}
 use Rattle.cyc_words.proofs.Lists.{slice_get_below}
 use Rattle.cyc_plain.specs.declared.instruction.Instruction.{Instruction}
 use Rattle.cyc_plain.specs.declared.instruction.Instruction.TheVariants as plain
-use Rattle.cyc_plain.specs.Program.{Routine, Program, CodePlace, no_routine, routine_at, places_from, places_of}
-use Rattle.cyc_plain.specs.WellFormed.{IsWellFormed, leaves}
+use Rattle.cyc_plain.specs.inside.Program.{Routine, Program, CodePlace, no_routine, routine_at, places_from, places_of}
+use Rattle.cyc_plain.specs.inside.WellFormed.{IsWellFormed, leaves}
 use Rattle.cyc_plain.proofs.Placed.{routine_in, has_code}
-use Rattle.cyc_frame.specs.Frame.{Frame}
+use Rattle.cyc_frame.specs.inside.Frame.{Frame}
 use Rattle.cyc_select.specs.declared.constants.TheConstants.{START_LINES}
-use Rattle.cyc_select.specs.Selection.{behind_count, place_count, code_count, function_count, functions_count, function_line, instruction_line, start_lines, function_lines, select_of}
+use Rattle.cyc_select.specs.inside.Selection.{behind_count, place_count, code_count, function_count, functions_count, function_line, instruction_line, start_lines, function_lines, select_of}
 use Rattle.cyc_select.proofs.layout.Formed.{few_results}
 use Rattle.cyc_select.proofs.layout.Lines.{line_next, line_first}
 use Rattle.cyc_select.proofs.runs.Runs.{behind_of, previous_count, body_of, own_of, previous_fits}

@@ -3,15 +3,15 @@ use Rattle.std.proofs.Common.{◌≡◌, ℕ, ◌+◌, ◌<◌, ◌≤◌, List,
 use Rattle.std.specs.Prelude.{sum_by, flat_map}
 use Rattle.std.specs.List.{range_with_len}
 use Rattle.std.proofs.lemmas.List.Sums.{sum_by-cons, sum_by-append}
-use Rattle.cyc_plain.specs.Program.{Program, CodePlace, routine_at, size}
-use Rattle.cyc_plain.specs.WellFormed.{IsWellFormed, HasWords, IsPlain}
+use Rattle.cyc_plain.specs.inside.Program.{Program, CodePlace, routine_at, size}
+use Rattle.cyc_plain.specs.inside.WellFormed.{IsWellFormed, HasWords, IsPlain}
 use Rattle.cyc_words.proofs.Prices.{sum_by-flat_map}
-use Rattle.cyc_frame.specs.Frame.{Frame}
-use Rattle.cyc_frame.specs.Layout.{AreFrames}
+use Rattle.cyc_frame.specs.inside.Frame.{Frame}
+use Rattle.cyc_frame.specs.inside.Layout.{AreFrames}
 use Rattle.cyc_select.specs.declared.constants.TheConstants.{MAX_START_WORDS, START_LINES}
-use Rattle.cyc_select.specs.Labelled.{words_of, all_words, IsCode}
-use Rattle.cyc_select.specs.Selected.{IsCodeOf, words_at}
-use Rattle.cyc_select.specs.Selection.{function_count, function_line, routine_lines, function_lines, start_lines, select_of}
+use Rattle.cyc_select.specs.inside.Labelled.{words_of, all_words, IsCode}
+use Rattle.cyc_select.specs.inside.Selected.{IsCodeOf, words_at}
+use Rattle.cyc_select.specs.inside.Selection.{function_count, function_line, routine_lines, function_lines, start_lines, select_of}
 use Rattle.cyc_select.proofs.layout.Formed.{few_results, formed}
 use Rattle.cyc_select.proofs.emission.Numbering.{reads_few, are_saved}
 use Rattle.cyc_select.proofs.layout.Parts.{place_in, own_function, parts}

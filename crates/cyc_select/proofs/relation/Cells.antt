@@ -6,7 +6,7 @@ use Rattle.cyc_store.specs.State.{StoreState, word_at}
 use Rattle.cyc_store.specs.declared.range.TheConstants.{STORE_BASE, PAGE_WORDS, MOST_PAGES}
 use Rattle.cyc_machine.specs.State.{Memory, Place, InText, InGlobals, InStack, InStore, Nowhere, text_base, text_at, data_base, stack_end, stack_base, store_base, words_per_page, word_number, is_within, place_of, loaded, stored}
 use Rattle.cyc_machine.proofs.MemoryLaws.{place_of-stored, loaded-stored_globals, loaded-stored_stack, loaded-stored_other}
-use Rattle.cyc_plain.specs.State.{put}
+use Rattle.cyc_plain.specs.inside.State.{put}
 use Rattle.cyc_plain.proofs.SlotLaws.{put-same, put-other}
 
 -- the address of a word of the data range or the stack, where these have so many words

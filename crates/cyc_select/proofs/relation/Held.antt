@@ -6,19 +6,19 @@ use Rattle.cyc_words.specs.Word.{IsWord}
 use Rattle.cyc_plain.specs.declared.instruction.Instruction.{Instruction}
 use Rattle.cyc_plain.specs.declared.instruction.Operand.{Operand}
 use Rattle.cyc_plain.specs.declared.instruction.Operand.TheVariants as operands
-use Rattle.cyc_plain.specs.Program.{Program, routine_at}
-use Rattle.cyc_plain.specs.State as states
-use Rattle.cyc_plain.specs.State.{Words, Configuration}
-use Rattle.cyc_plain.specs.Step.{instruction_at, operand_word}
-use Rattle.cyc_plain.specs.WellFormed.{IsOperand, IsOfWord, IsWellFormed}
-use Rattle.cyc_frame.specs.Frame.{Frame}
-use Rattle.cyc_frame.specs.Homes.{AreHomes, Wanted}
-use Rattle.cyc_frame.specs.Layout.{AreFrames, frame_at}
-use Rattle.cyc_frame.specs.Uses.{is_slot, reads}
+use Rattle.cyc_plain.specs.inside.Program.{Program, routine_at}
+use Rattle.cyc_plain.specs.inside.State as states
+use Rattle.cyc_plain.specs.inside.State.{Words, Configuration}
+use Rattle.cyc_plain.specs.inside.Step.{instruction_at, operand_word}
+use Rattle.cyc_plain.specs.inside.WellFormed.{IsOperand, IsOfWord, IsWellFormed}
+use Rattle.cyc_frame.specs.inside.Frame.{Frame}
+use Rattle.cyc_frame.specs.inside.Homes.{AreHomes, Wanted}
+use Rattle.cyc_frame.specs.inside.Layout.{AreFrames, frame_at}
+use Rattle.cyc_frame.specs.inside.Uses.{is_slot, reads}
 use Rattle.cyc_select.specs.declared.constants.TheConstants.{FRAME}
-use Rattle.cyc_select.specs.Labelled.{Labelled, IsFormed}
-use Rattle.cyc_select.specs.Machine as labelled
-use Rattle.cyc_select.specs.Selection.{slot_offset, value_register, instruction_line}
+use Rattle.cyc_select.specs.inside.Labelled.{Labelled, IsFormed}
+use Rattle.cyc_select.specs.inside.Machine as labelled
+use Rattle.cyc_select.specs.inside.Selection.{slot_offset, value_register, instruction_line}
 use Rattle.cyc_select.proofs.values.Computing.{HeldIn, IsHeld}
 use Rattle.cyc_select.proofs.relation.Matches.{At}
 use Rattle.cyc_select.proofs.relation.Standing.{Standing, slot_cell, slot_word_is, keeps_back}

@@ -12,19 +12,19 @@ use Rattle.cyc_machine.specs.State.{globals_length, words_per_call}
 use Rattle.cyc_store.specs.State.{demand}
 use Rattle.cyc_plain.specs.declared.instruction.Instruction.{Instruction}
 use Rattle.cyc_plain.specs.declared.instruction.Instruction.TheVariants as plain
-use Rattle.cyc_plain.specs.Program.{Program, routine_at}
-use Rattle.cyc_plain.specs.State as states
-use Rattle.cyc_plain.specs.State.{Words, AreWords, put, copied, Configuration}
-use Rattle.cyc_plain.specs.Step.{Choice, IsAllowed, instruction_at, performed, executed, gives, step, is_within, Step}
-use Rattle.cyc_plain.specs.WellFormed.{IsWellFormed}
+use Rattle.cyc_plain.specs.inside.Program.{Program, routine_at}
+use Rattle.cyc_plain.specs.inside.State as states
+use Rattle.cyc_plain.specs.inside.State.{Words, AreWords, put, copied, Configuration}
+use Rattle.cyc_plain.specs.inside.Step.{Choice, IsAllowed, instruction_at, performed, executed, gives, step, is_within, Step}
+use Rattle.cyc_plain.specs.inside.WellFormed.{IsWellFormed}
 use Rattle.cyc_plain.proofs.RunLaws.{limited-within, zeros, calls_nothing, zeros_at}
-use Rattle.cyc_frame.specs.Layout.{AreFrames, frame_at}
-use Rattle.cyc_frame.specs.Frame.{Frame}
-use Rattle.cyc_select.specs.Labelled.{Labelled, IsFormed}
-use Rattle.cyc_select.specs.Machine as labelled
-use Rattle.cyc_select.specs.Machine.{State, Running, Ended}
-use Rattle.cyc_frame.specs.Uses.{writes, leads}
-use Rattle.cyc_select.specs.Selection.{slot_offset, value_register, is_kept, function_line, instruction_line, count_of}
+use Rattle.cyc_frame.specs.inside.Layout.{AreFrames, frame_at}
+use Rattle.cyc_frame.specs.inside.Frame.{Frame}
+use Rattle.cyc_select.specs.inside.Labelled.{Labelled, IsFormed}
+use Rattle.cyc_select.specs.inside.Machine as labelled
+use Rattle.cyc_select.specs.inside.Machine.{State, Running, Ended}
+use Rattle.cyc_frame.specs.inside.Uses.{writes, leads}
+use Rattle.cyc_select.specs.inside.Selection.{slot_offset, value_register, is_kept, function_line, instruction_line, count_of}
 use Rattle.cyc_select.proofs.values.Blocks.{ValuesSame, lasting}
 use Rattle.cyc_select.proofs.layout.Lines.{line_next}
 use Rattle.cyc_select.proofs.effects.Views.{Contents, written}

@@ -13,24 +13,24 @@ use Rattle.cyc_store.specs.State.{StoreState}
 use Rattle.cyc_plain.specs.declared.limits.TheConstants.{GLOBALS_BASE}
 use Rattle.cyc_plain.specs.declared.instruction.Instruction.{Instruction}
 use Rattle.cyc_plain.specs.declared.instruction.Instruction.TheVariants as instructions
-use Rattle.cyc_plain.specs.Memory.{pins, is_pinned, global_at, slot_at, word_or, word_waiting, put_or, with_waiting, Range, OfGlobals, OfStore, OfSlots, range_of, word_in, memory_at, with_global, with_slot, with_word, with_memory}
-use Rattle.cyc_plain.specs.Program.{Program, routine_at}
-use Rattle.cyc_plain.specs.State as states
-use Rattle.cyc_plain.specs.State.{Words, put, Configuration}
-use Rattle.cyc_plain.specs.WellFormed.{IsWellFormed}
+use Rattle.cyc_plain.specs.inside.Memory.{pins, is_pinned, global_at, slot_at, word_or, word_waiting, put_or, with_waiting, Range, OfGlobals, OfStore, OfSlots, range_of, word_in, memory_at, with_global, with_slot, with_word, with_memory}
+use Rattle.cyc_plain.specs.inside.Program.{Program, routine_at}
+use Rattle.cyc_plain.specs.inside.State as states
+use Rattle.cyc_plain.specs.inside.State.{Words, put, Configuration}
+use Rattle.cyc_plain.specs.inside.WellFormed.{IsWellFormed}
 use Rattle.cyc_plain.proofs.MemoryLaws.{numbered-from, pinned-inside, length-waiting}
 use Rattle.cyc_plain.proofs.SlotLaws.{put-same, put-other}
-use Rattle.cyc_frame.specs.Homes.{AreHomes}
-use Rattle.cyc_frame.specs.Uses.{bars}
-use Rattle.cyc_frame.specs.Layout.{AreFrames, IsFrame, slot_word, frame_at}
-use Rattle.cyc_frame.specs.Frame.{Frame}
+use Rattle.cyc_frame.specs.inside.Homes.{AreHomes}
+use Rattle.cyc_frame.specs.inside.Uses.{bars}
+use Rattle.cyc_frame.specs.inside.Layout.{AreFrames, IsFrame, slot_word, frame_at}
+use Rattle.cyc_frame.specs.inside.Frame.{Frame}
 use Rattle.cyc_frame.specs.declared.frame.TheConstants.{MOST_FRAME_WORDS}
 use Rattle.cyc_select.specs.declared.constants.TheConstants.{HANDLERS}
 use Rattle.cyc_select.specs.declared.code.Line.TheVariants as lines
-use Rattle.cyc_select.specs.Labelled.{Labelled, IsFormed}
-use Rattle.cyc_select.specs.Machine as labelled
-use Rattle.cyc_select.specs.Machine.{State, Running}
-use Rattle.cyc_select.specs.Selection.{slot_offset, value_register, is_kept}
+use Rattle.cyc_select.specs.inside.Labelled.{Labelled, IsFormed}
+use Rattle.cyc_select.specs.inside.Machine as labelled
+use Rattle.cyc_select.specs.inside.Machine.{State, Running}
+use Rattle.cyc_select.specs.inside.Selection.{slot_offset, value_register, is_kept}
 use Rattle.cyc_select.proofs.relation.Cells.{IsCell, IsLive}
 use Rattle.cyc_select.proofs.relation.Standing.{frame_size, Chain, Lies, chain_kept, chain_lies, AreRecords, IsBeyond, IsNewest, AreBased, based_here, back_in, Standing, lies, word_cell, global_cell, standing_at, standing_slot, standing_global, standing_saved}
 use Rattle.cyc_select.proofs.relation.Stores.{laid_live}

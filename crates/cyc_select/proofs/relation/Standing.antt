@@ -10,17 +10,17 @@ use Rattle.cyc_machine.specs.State.{data_base, stack_end, globals_length, words_
 use Rattle.cyc_store.specs.State.{Home, StoreState, lexical_count, saved}
 use Rattle.cyc_plain.specs.declared.instruction.Instruction.{Instruction}
 use Rattle.cyc_plain.specs.declared.instruction.Instruction.TheVariants as plain
-use Rattle.cyc_plain.specs.Program.{Routine, Program, routine_at}
-use Rattle.cyc_plain.specs.State as states
-use Rattle.cyc_plain.specs.State.{Words, put, Configuration}
-use Rattle.cyc_plain.specs.Step.{instruction_at}
-use Rattle.cyc_plain.specs.WellFormed.{IsWellFormed}
+use Rattle.cyc_plain.specs.inside.Program.{Routine, Program, routine_at}
+use Rattle.cyc_plain.specs.inside.State as states
+use Rattle.cyc_plain.specs.inside.State.{Words, put, Configuration}
+use Rattle.cyc_plain.specs.inside.Step.{instruction_at}
+use Rattle.cyc_plain.specs.inside.WellFormed.{IsWellFormed}
 use Rattle.cyc_plain.proofs.SlotLaws.{put-same, put-other}
 use Rattle.std.proofs.lemmas.Bool.{cases_eq, or_left, or_right}
-use Rattle.cyc_frame.specs.Layout.{IsFrame, AreFrames, slot_word, frame_at, loses, loses_any}
-use Rattle.cyc_frame.specs.Frame.{Frame}
+use Rattle.cyc_frame.specs.inside.Layout.{IsFrame, AreFrames, slot_word, frame_at, loses, loses_any}
+use Rattle.cyc_frame.specs.inside.Frame.{Frame}
 use Rattle.cyc_frame.specs.declared.frame.TheConstants.{MOST_FRAME_WORDS}
-use Rattle.cyc_select.specs.Selection.{slot_offset, is_kept, instruction_line, body_count}
+use Rattle.cyc_select.specs.inside.Selection.{slot_offset, is_kept, instruction_line, body_count}
 use Rattle.cyc_select.proofs.values.Blocks.{lasting, newest_lasts, count_lasts, middle_lasts}
 use Rattle.cyc_select.proofs.relation.Cells.{IsCell}
 use Rattle.cyc_select.proofs.values.Operations.{address_at}

@@ -7,10 +7,8 @@ use Rattle.cyc_words.specs.Word.{IsWord}
 use Rattle.cyc_words.specs.Demand.{region_pages, demand_of}
 use Rattle.cyc_words.proofs.Booleans.{and_right, and_left}
 use Rattle.cyc_words.proofs.Numbers.{when_equal}
-use Rattle.cyc_store.specs.Lookup.{lookup, changed, without}
+use Rattle.cyc_store.specs.State.{lookup, changed, without, Block, address_of, Sort, Lexical, Dynamic, Home, handle_of, empty_home, down_to, StoreState, homes, covers, Holder, holder_in, or_else, holder, word_in, word_at, saved, sizes_of, sizes_in, demand, is_lexical, lexical_count, with_block, made_in, made_unique, IsNew}
 use Rattle.cyc_store.specs.State as stores
-use Rattle.cyc_store.specs.State.{Block, address_of, Sort, Lexical, Dynamic, Home, handle_of, empty_home, down_to, StoreState, homes, covers, Holder, holder_in, or_else, holder, word_in, word_at, saved, sizes_of, sizes_in, demand, is_lexical, lexical_count, with_block, made_in, made_unique}
-use Rattle.cyc_store.specs.New.{IsNew}
 use Rattle.cyc_store.specs.Services as services
 use Rattle.cyc_store.specs.Services.{Call, OpenLexical, CloseTo, OpenDynamic, CloseDynamic, Allocate, Free, Refusal, BadMark, BadHandle, is_dynamic, names_dynamic, refusal, served, answer, made, block_of, IsPlaced, MayChoose, ServesBy}
 use Rattle.cyc_store.specs.Soundness.{IsSound}
@@ -20,7 +18,7 @@ use Rattle.cyc_store.proofs.HolderLemmas.{IsPart-down_to}
 use Rattle.cyc_store.proofs.KeptClosing.{lexical-without}
 use Rattle.cyc_store.proofs.KeptServices.{lexical-length, pages-some}
 use Rattle.cyc_store.proofs.ServiceLemmas.{then-none, start-sound, saved-sound, served-sound, serves-pages}
-use Rattle.cyc_plain.specs.Step.{HasAnswerWords}
+use Rattle.cyc_plain.specs.inside.Step.{HasAnswerWords}
 use Rattle.cyc_select.proofs.relation.Cells.{IsLive}
 
 -- ---- blocks in the pages

@@ -7,19 +7,19 @@ use Rattle.std.proofs.lemmas.List.Sums.{sum_by-cons}
 use Rattle.cyc_isa.specs.Effect.{memory_address}
 use Rattle.cyc_plain.specs.declared.instruction.Instruction.{Instruction}
 use Rattle.cyc_plain.specs.declared.instruction.Instruction.TheVariants as plain
-use Rattle.cyc_plain.specs.Program.{Program, routine_at}
-use Rattle.cyc_plain.specs.State.{Words, put, copied}
-use Rattle.cyc_plain.specs.Step.{instruction_at}
+use Rattle.cyc_plain.specs.inside.Program.{Program, routine_at}
+use Rattle.cyc_plain.specs.inside.State.{Words, put, copied}
+use Rattle.cyc_plain.specs.inside.Step.{instruction_at}
 use Rattle.cyc_plain.proofs.SlotLaws.{put-same, put-other, copied-inside, copied-below, copied-above}
-use Rattle.cyc_frame.specs.Frame.{Frame}
-use Rattle.cyc_frame.specs.Homes as homing
-use Rattle.cyc_frame.specs.Homes.{AreHomes, Wanted}
-use Rattle.cyc_frame.specs.Layout.{frame_at}
-use Rattle.cyc_frame.specs.Uses.{is_among, writes, leads, bars}
+use Rattle.cyc_frame.specs.inside.Frame.{Frame}
+use Rattle.cyc_frame.specs.inside.Homes as homing
+use Rattle.cyc_frame.specs.inside.Homes.{AreHomes, Wanted}
+use Rattle.cyc_frame.specs.inside.Layout.{frame_at}
+use Rattle.cyc_frame.specs.inside.Uses.{is_among, writes, leads, bars}
 use Rattle.cyc_frame.specs.declared.home.Home.{Home}
 use Rattle.cyc_frame.specs.declared.home.Home.TheVariants as homes
 use Rattle.cyc_select.specs.declared.constants.TheConstants.{FIRST, FRAME}
-use Rattle.cyc_select.specs.Selection.{slot_offset, value_register, or_else, is_kept, made_in, reloads_from, reloads, reload_count}
+use Rattle.cyc_select.specs.inside.Selection.{slot_offset, value_register, or_else, is_kept, made_in, reloads_from, reloads, reload_count}
 use Rattle.cyc_select.proofs.values.Blocks.{ValuesSame}
 use Rattle.cyc_select.proofs.relation.Cells.{IsCell}
 use Rattle.cyc_select.proofs.effects.Views.{Contents}

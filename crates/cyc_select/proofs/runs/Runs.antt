@@ -16,33 +16,33 @@ use Rattle.cyc_plain.specs.declared.instruction.Instruction.TheVariants as plain
 use Rattle.cyc_plain.specs.declared.instruction.BinaryOperator.{BinaryOperator}
 use Rattle.cyc_plain.specs.declared.instruction.BinaryOperator.TheVariants as binary
 use Rattle.cyc_plain.specs.declared.instruction.Operand.{Operand}
-use Rattle.cyc_plain.specs.Operators.{binary_result, has_no_result}
-use Rattle.cyc_plain.specs.Program.{Routine, Program, CodePlace, no_routine, routine_at}
+use Rattle.cyc_plain.specs.inside.Operators.{binary_result, has_no_result}
+use Rattle.cyc_plain.specs.inside.Program.{Routine, Program, CodePlace, no_routine, routine_at}
 use Rattle.cyc_words.specs.Simulation as simulation
-use Rattle.cyc_words.specs.Following.{IsOnTheWay, Matching, IsMatchedStep, IsStepped, Steps}
-use Rattle.cyc_plain.specs.State as states
-use Rattle.cyc_plain.specs.State.{Words, Configuration}
-use Rattle.cyc_plain.specs.Step as steps
-use Rattle.cyc_plain.specs.Step.{IsAllowed, call_of, instruction_at, operand_word, performed, executed, gives, finishes, step, is_within, Step, callee_of}
-use Rattle.cyc_plain.specs.WellFormed.{IsOperand, IsWellFormed, IsInRange, IsTryInRange, is_return, HasWords, IsOfWord, HasWord}
+use Rattle.cyc_words.specs.inside.Following.{IsOnTheWay, Matching, IsMatchedStep, IsStepped, Steps}
+use Rattle.cyc_plain.specs.inside.State as states
+use Rattle.cyc_plain.specs.inside.State.{Words, Configuration}
+use Rattle.cyc_plain.specs.inside.Step as steps
+use Rattle.cyc_plain.specs.inside.Step.{IsAllowed, call_of, instruction_at, operand_word, performed, executed, gives, finishes, step, is_within, Step, callee_of}
+use Rattle.cyc_plain.specs.inside.WellFormed.{IsOperand, IsWellFormed, IsInRange, IsTryInRange, is_return, HasWords, IsOfWord, HasWord}
 use Rattle.cyc_words.proofs.SeenLemmas.{seen_same}
 use Rattle.cyc_words.proofs.Matching.{way_before, way_after}
 use Rattle.cyc_plain.proofs.Placed.{holds_at, routine_in, below_of_get, goes_behind}
 use Rattle.cyc_plain.proofs.RunLaws.{lawful, limited-within, zeros, zeros_allowed, zeros_at, stuck_within}
 use Rattle.cyc_plain.proofs.Steps.{function_known}
-use Rattle.cyc_frame.specs.Layout.{AreFrames, frame_at}
-use Rattle.cyc_frame.specs.Frame.{Frame}
-use Rattle.cyc_select.specs.Labelled.{Labelled, IsFormed, AreAddresses}
-use Rattle.cyc_select.specs.Machine as labelled
-use Rattle.cyc_select.specs.Machine.{State, Running, Ended, IsReturnPoint, machine}
+use Rattle.cyc_frame.specs.inside.Layout.{AreFrames, frame_at}
+use Rattle.cyc_frame.specs.inside.Frame.{Frame}
+use Rattle.cyc_select.specs.inside.Labelled.{Labelled, IsFormed, AreAddresses}
+use Rattle.cyc_select.specs.inside.Machine as labelled
+use Rattle.cyc_select.specs.inside.Machine.{State, Running, Ended, IsReturnPoint, machine}
 use Rattle.cyc_select.specs.declared.constants.TheConstants.{HANDLERS}
 use Rattle.cyc_select.specs.declared.code.Line.{Line}
 use Rattle.cyc_select.specs.declared.code.Line.TheVariants as lines
-use Rattle.cyc_select.specs.Selection.{reload_count, recorded_code, caught_code, opened_code, body, behind, place_lines, is_idle, body_count, behind_count, place_count, ordinary, spills, spills_count, copies_count, calling_code, function_line, divide_code, divide_count, plan_code, plan_count, is_tested, part_of, count_of, operator_count, instruction_line, saving_code, saving_count}
+use Rattle.cyc_select.specs.inside.Selection.{reload_count, recorded_code, caught_code, opened_code, body, behind, place_lines, is_idle, body_count, behind_count, place_count, ordinary, spills, spills_count, copies_count, calling_code, function_line, divide_code, divide_count, plan_code, plan_count, is_tested, part_of, count_of, operator_count, instruction_line, saving_code, saving_count}
 use Rattle.cyc_select.proofs.emission.Counts.{length_spills}
 use Rattle.cyc_select.proofs.layout.Lines.{line_next, line_first}
-use Rattle.cyc_select.specs.Numbers.{is_plain_divisor}
-use Rattle.cyc_select.specs.Plans.{binary_plan}
+use Rattle.cyc_select.specs.inside.Numbers.{is_plain_divisor}
+use Rattle.cyc_select.specs.inside.Plans.{binary_plan}
 use Rattle.cyc_select.proofs.values.Halves.{divisor_is}
 use Rattle.cyc_select.proofs.values.Operations.{product_quotient, product_remainder}
 use Rattle.cyc_select.proofs.values.Plans.{multiply_divide_result, if_low}

@@ -11,31 +11,30 @@ use Rattle.cyc_isa.specs.declared.instr.ArithmeticOp.TheVariants as arithmetic
 use Rattle.cyc_isa.specs.declared.instr.Instr.{Instr}
 use Rattle.cyc_isa.specs.declared.instr.ShiftOp.TheVariants as shift
 use Rattle.cyc_store.specs.State as stores
-use Rattle.cyc_store.specs.State.{StoreState, Holder, homes, holder, word_at}
-use Rattle.cyc_store.specs.New.{IsNew}
+use Rattle.cyc_store.specs.State.{StoreState, Holder, homes, holder, word_at, IsNew}
 use Rattle.cyc_store.proofs.NewStores.{new_words}
 use Rattle.cyc_machine.specs.Bounds.{AreAllowed}
 use Rattle.cyc_machine.specs.State.{Place, InText, InGlobals, InStack, InStore, Nowhere, loaded, place_of, data_base, stack_base, stack_end, word_number, globals_length, words_per_call}
 use Rattle.cyc_plain.specs.declared.instruction.Instruction.{Instruction}
-use Rattle.cyc_plain.specs.Memory.{IsBelow, slots_end}
-use Rattle.cyc_plain.specs.Program.{Program, routine_at}
+use Rattle.cyc_plain.specs.inside.Memory.{IsBelow, slots_end}
+use Rattle.cyc_plain.specs.inside.Program.{Program, routine_at}
 use Rattle.cyc_words.specs.Simulation.{NeverFails}
-use Rattle.cyc_words.specs.Following.{Comes, Follows, IsOnTheWay}
-use Rattle.cyc_plain.specs.State.{Words, AreWords, Configuration}
-use Rattle.cyc_plain.specs.Step as steps
-use Rattle.cyc_plain.specs.Step.{instruction_at}
-use Rattle.cyc_plain.specs.WellFormed.{IsWellFormed, HasWords}
+use Rattle.cyc_words.specs.inside.Following.{Comes, Follows, IsOnTheWay}
+use Rattle.cyc_plain.specs.inside.State.{Words, AreWords, Configuration}
+use Rattle.cyc_plain.specs.inside.Step as steps
+use Rattle.cyc_plain.specs.inside.Step.{instruction_at}
+use Rattle.cyc_plain.specs.inside.WellFormed.{IsWellFormed, HasWords}
 use Rattle.cyc_plain.proofs.WordLaws.{bytes_are_words}
 use Rattle.cyc_words.proofs.SeenLemmas.{seen_same}
 use Rattle.cyc_words.proofs.Matching.{way_before}
 use Rattle.cyc_words.proofs.Simulation.{simulates}
-use Rattle.cyc_frame.specs.Layout.{AreFrames, frame_at}
-use Rattle.cyc_frame.specs.Frame.{Frame}
+use Rattle.cyc_frame.specs.inside.Layout.{AreFrames, frame_at}
+use Rattle.cyc_frame.specs.inside.Frame.{Frame}
 use Rattle.cyc_select.specs.declared.code.Line.TheVariants as lines
-use Rattle.cyc_select.specs.Labelled.{Labelled, IsFormed, AreAddresses}
-use Rattle.cyc_select.specs.Machine as labelled
-use Rattle.cyc_select.specs.Machine.{State, Running, machine, memory_of, word_in, globals_of, start}
-use Rattle.cyc_select.specs.Selection.{slot_offset, body, behind, place_lines, body_count, arithmetic_of, shift_by_of, push_frame, ordinary, start_lines, function_line, instruction_line, load_upper, or_lower, saving_code}
+use Rattle.cyc_select.specs.inside.Labelled.{Labelled, IsFormed, AreAddresses}
+use Rattle.cyc_select.specs.inside.Machine as labelled
+use Rattle.cyc_select.specs.inside.Machine.{State, Running, machine, memory_of, word_in, globals_of, start}
+use Rattle.cyc_select.specs.inside.Selection.{slot_offset, body, behind, place_lines, body_count, arithmetic_of, shift_by_of, push_frame, ordinary, start_lines, function_line, instruction_line, load_upper, or_lower, saving_code}
 use Rattle.cyc_select.proofs.relation.Cells.{cell, place_of-data, place_of-stack}
 use Rattle.cyc_select.proofs.Laws.{lawful}
 use Rattle.cyc_select.proofs.values.Operations.{take_small}

@@ -13,25 +13,25 @@ use Rattle.cyc_plain.specs.declared.instruction.Instruction.{Instruction}
 use Rattle.cyc_plain.specs.declared.instruction.Instruction.TheVariants as plain
 use Rattle.cyc_plain.specs.declared.instruction.Operand.{Operand}
 use Rattle.cyc_plain.specs.declared.instruction.Operand.TheVariants as operands
-use Rattle.cyc_plain.specs.Program.{Program, routine_at}
-use Rattle.cyc_plain.specs.State as states
-use Rattle.cyc_plain.specs.Memory.{memory_at, with_memory}
-use Rattle.cyc_plain.specs.State.{Words, put, copied, Configuration}
-use Rattle.cyc_plain.specs.Step.{advanced, gives, instruction_at, operand_word, performed, loads, saves, loads_byte, saves_byte}
-use Rattle.cyc_plain.specs.WellFormed.{IsOperand, IsOfWord, IsWellFormed, IsMoveInRange}
+use Rattle.cyc_plain.specs.inside.Program.{Program, routine_at}
+use Rattle.cyc_plain.specs.inside.State as states
+use Rattle.cyc_plain.specs.inside.Memory.{memory_at, with_memory}
+use Rattle.cyc_plain.specs.inside.State.{Words, put, copied, Configuration}
+use Rattle.cyc_plain.specs.inside.Step.{advanced, gives, instruction_at, operand_word, performed, loads, saves, loads_byte, saves_byte}
+use Rattle.cyc_plain.specs.inside.WellFormed.{IsOperand, IsOfWord, IsWellFormed, IsMoveInRange}
 use Rattle.cyc_plain.proofs.MemoryLaws.{memory-left}
 use Rattle.cyc_plain.proofs.SlotLaws.{put-same, put-other, copied-below, copied-above}
 use Rattle.cyc_plain.proofs.RunLaws.{zeros, zeros_at, calls_nothing}
-use Rattle.cyc_frame.specs.Homes.{AreHomes}
-use Rattle.cyc_frame.specs.Layout.{AreFrames, frame_at}
-use Rattle.cyc_frame.specs.Uses.{is_among, is_crossing, is_slot, leads, reads, writes}
-use Rattle.cyc_frame.specs.Frame.{Frame}
+use Rattle.cyc_frame.specs.inside.Homes.{AreHomes}
+use Rattle.cyc_frame.specs.inside.Layout.{AreFrames, frame_at}
+use Rattle.cyc_frame.specs.inside.Uses.{is_among, is_crossing, is_slot, leads, reads, writes}
+use Rattle.cyc_frame.specs.inside.Frame.{Frame}
 use Rattle.cyc_select.specs.declared.constants.TheConstants.{FIRST, SECOND, ZERO, LOWEST, FRAME, HANDLERS, REGIONS, GLOBALS}
-use Rattle.cyc_select.specs.Labelled.{Labelled, IsFormed}
-use Rattle.cyc_select.specs.Machine as labelled
-use Rattle.cyc_select.specs.Machine.{State, Running}
-use Rattle.cyc_select.specs.Numbers.{fits_signed}
-use Rattle.cyc_select.specs.Selection.{value_register, is_kept, made_in, keep_code, keep_count, slot_offset, load_words, store_all, result_registers, ordinary, all_moved, moves, moves_count, move_words_count, operand_code, operand_register, operation_of, far_plan, address_code, address_register, near_half, at_address, address_count, operand_count, body, body_count, instruction_line, load_at, store_at, count_of}
+use Rattle.cyc_select.specs.inside.Labelled.{Labelled, IsFormed}
+use Rattle.cyc_select.specs.inside.Machine as labelled
+use Rattle.cyc_select.specs.inside.Machine.{State, Running}
+use Rattle.cyc_select.specs.inside.Numbers.{fits_signed}
+use Rattle.cyc_select.specs.inside.Selection.{value_register, is_kept, made_in, keep_code, keep_count, slot_offset, load_words, store_all, result_registers, ordinary, all_moved, moves, moves_count, move_words_count, operand_code, operand_register, operation_of, far_plan, address_code, address_register, near_half, at_address, address_count, operand_count, body, body_count, instruction_line, load_at, store_at, count_of}
 use Rattle.cyc_select.proofs.values.Blocks.{ValuesSame, all_same, lasting_same, Keeps, puts_keeps}
 use Rattle.cyc_select.proofs.relation.Cells.{IsCell}
 use Rattle.cyc_select.proofs.values.Computing.{IsHeld, operand_puts, operation_leaves, not_second, first_scratch, second_scratch, first_aside, second_aside, scratch_writable, made_scratch}

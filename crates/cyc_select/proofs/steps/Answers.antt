@@ -6,15 +6,15 @@ use Rattle.cyc_words.specs.Word.{IsWord, add_of}
 use Rattle.cyc_isa.specs.declared.instr.Instr.{Instr}
 use Rattle.cyc_isa.specs.Effect.{memory_address}
 use Rattle.cyc_machine.specs.State.{globals_length, words_per_call}
-use Rattle.cyc_plain.specs.Program.{Program, routine_at}
-use Rattle.cyc_plain.specs.State.{Words, put, Configuration}
-use Rattle.cyc_plain.specs.WellFormed.{IsWellFormed}
+use Rattle.cyc_plain.specs.inside.Program.{Program, routine_at}
+use Rattle.cyc_plain.specs.inside.State.{Words, put, Configuration}
+use Rattle.cyc_plain.specs.inside.WellFormed.{IsWellFormed}
 use Rattle.cyc_plain.proofs.SlotLaws.{put-same, put-other}
-use Rattle.cyc_frame.specs.Homes.{AreHomes, Wanted}
-use Rattle.cyc_frame.specs.Layout.{AreFrames, frame_at}
-use Rattle.cyc_frame.specs.Frame.{Frame}
+use Rattle.cyc_frame.specs.inside.Homes.{AreHomes, Wanted}
+use Rattle.cyc_frame.specs.inside.Layout.{AreFrames, frame_at}
+use Rattle.cyc_frame.specs.inside.Frame.{Frame}
 use Rattle.cyc_select.specs.declared.constants.TheConstants.{ZERO, FRAME, LOWEST, HANDLERS, REGIONS, GLOBALS}
-use Rattle.cyc_select.specs.Selection.{value_register, is_kept, made_in, slot_offset, store_slot, copy, give_to, give_code, bring_code, bring_all, result_registers}
+use Rattle.cyc_select.specs.inside.Selection.{value_register, is_kept, made_in, slot_offset, store_slot, copy, give_to, give_code, bring_code, bring_all, result_registers}
 use Rattle.cyc_select.proofs.values.Blocks.{lasting_same, safe_append}
 use Rattle.cyc_select.proofs.effects.Views.{Contents, written}
 use Rattle.cyc_select.proofs.effects.Walks.{after_r, after_w, after_r-append, after_w-append, AreSafe}

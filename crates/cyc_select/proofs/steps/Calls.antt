@@ -12,25 +12,25 @@ use Rattle.cyc_isa.specs.Decoding.{register_of}
 use Rattle.cyc_machine.specs.State.{data_base, stack_end, globals_length, words_per_call}
 use Rattle.cyc_store.specs.State.{demand}
 use Rattle.cyc_plain.specs.declared.instruction.Instruction.TheVariants as plain
-use Rattle.cyc_plain.specs.Memory.{IsBelow}
-use Rattle.cyc_plain.specs.Program.{Program, no_routine, routine_at}
-use Rattle.cyc_plain.specs.State as states
-use Rattle.cyc_plain.specs.State.{Words, AreWords, put, copied, Configuration}
-use Rattle.cyc_plain.specs.Step.{Choice, instruction_at, performed, executed, advanced, step, is_within, callee_of}
-use Rattle.cyc_plain.specs.WellFormed.{IsWellFormed, IsCallInRange}
+use Rattle.cyc_plain.specs.inside.Memory.{IsBelow}
+use Rattle.cyc_plain.specs.inside.Program.{Program, no_routine, routine_at}
+use Rattle.cyc_plain.specs.inside.State as states
+use Rattle.cyc_plain.specs.inside.State.{Words, AreWords, put, copied, Configuration}
+use Rattle.cyc_plain.specs.inside.Step.{Choice, instruction_at, performed, executed, advanced, step, is_within, callee_of}
+use Rattle.cyc_plain.specs.inside.WellFormed.{IsWellFormed, IsCallInRange}
 use Rattle.cyc_plain.proofs.RunLaws.{zeros, limited-full, called_at}
 use Rattle.cyc_plain.proofs.SlotLaws.{put-other, copied-inside, copied-above}
-use Rattle.cyc_frame.specs.Homes.{AreHomes}
-use Rattle.cyc_frame.specs.Layout.{AreFrames, frame_at, slot_word}
-use Rattle.cyc_frame.specs.Frame.{Frame}
+use Rattle.cyc_frame.specs.inside.Homes.{AreHomes}
+use Rattle.cyc_frame.specs.inside.Layout.{AreFrames, frame_at, slot_word}
+use Rattle.cyc_frame.specs.inside.Frame.{Frame}
 use Rattle.cyc_frame.specs.declared.frame.TheConstants.{MOST_FRAME_WORDS}
 use Rattle.cyc_select.specs.declared.code.Line.{Line}
 use Rattle.cyc_select.specs.declared.code.Condition.TheVariants as conditions
 use Rattle.cyc_select.specs.declared.code.Line.TheVariants as lines
-use Rattle.cyc_select.specs.Labelled.{Labelled, IsFormed, AreAddresses}
-use Rattle.cyc_select.specs.Machine as labelled
-use Rattle.cyc_select.specs.Machine.{State, Running, Ended}
-use Rattle.cyc_select.specs.Selection.{value_register, is_kept, passed_from, copies_count, slot_offset, minus, small, push_frame, copies, ordinary, syscall, calling_code, function_line}
+use Rattle.cyc_select.specs.inside.Labelled.{Labelled, IsFormed, AreAddresses}
+use Rattle.cyc_select.specs.inside.Machine as labelled
+use Rattle.cyc_select.specs.inside.Machine.{State, Running, Ended}
+use Rattle.cyc_select.specs.inside.Selection.{value_register, is_kept, passed_from, copies_count, slot_offset, minus, small, push_frame, copies, ordinary, syscall, calling_code, function_line}
 use Rattle.cyc_select.proofs.relation.Cells.{IsCell}
 use Rattle.cyc_select.proofs.emission.Counts.{length_copies}
 use Rattle.cyc_select.proofs.values.Operations.{add_small, take_small}

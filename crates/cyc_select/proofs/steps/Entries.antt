@@ -4,14 +4,14 @@ use Rattle.std.specs.Prelude.{if◌then◌else◌}
 use Rattle.cyc_isa.specs.Effect.{memory_address}
 use Rattle.cyc_machine.specs.State.{globals_length, words_per_call}
 use Rattle.cyc_machine.specs.declared.constants.TheConstants.{RETURN_ADDRESS}
-use Rattle.cyc_plain.specs.Program.{Program}
-use Rattle.cyc_plain.specs.State.{Configuration}
-use Rattle.cyc_plain.specs.WellFormed.{IsWellFormed}
-use Rattle.cyc_frame.specs.Layout.{AreFrames, frame_at}
-use Rattle.cyc_frame.specs.Frame.{Frame}
-use Rattle.cyc_select.specs.Labelled.{Labelled, IsFormed}
-use Rattle.cyc_select.specs.Machine.{State, Running}
-use Rattle.cyc_select.specs.Selection.{ordinary, store, saving_code, function_line, instruction_line}
+use Rattle.cyc_plain.specs.inside.Program.{Program}
+use Rattle.cyc_plain.specs.inside.State.{Configuration}
+use Rattle.cyc_plain.specs.inside.WellFormed.{IsWellFormed}
+use Rattle.cyc_frame.specs.inside.Layout.{AreFrames, frame_at}
+use Rattle.cyc_frame.specs.inside.Frame.{Frame}
+use Rattle.cyc_select.specs.inside.Labelled.{Labelled, IsFormed}
+use Rattle.cyc_select.specs.inside.Machine.{State, Running}
+use Rattle.cyc_select.specs.inside.Selection.{ordinary, store, saving_code, function_line, instruction_line}
 use Rattle.cyc_select.proofs.layout.Lines.{line_first}
 use Rattle.cyc_select.proofs.effects.Views.{written}
 use Rattle.cyc_select.proofs.effects.Walks.{Stands, Walk, now_at, walk_few, walk_from, walk_block}

@@ -9,25 +9,25 @@ use Rattle.cyc_machine.specs.State.{globals_length, words_per_call}
 use Rattle.cyc_machine.specs.declared.constants.TheConstants.{ARGUMENT, RETURN_ADDRESS, SECOND_ARGUMENT}
 use Rattle.cyc_plain.specs.declared.instruction.Instruction.{Instruction}
 use Rattle.cyc_plain.specs.declared.instruction.Instruction.TheVariants as plain
-use Rattle.cyc_plain.specs.Program.{Program, routine_at}
-use Rattle.cyc_plain.specs.State as states
-use Rattle.cyc_plain.specs.State.{Words, AreWords, put, copied, Handler, Open, Caught, Activation, Configuration}
-use Rattle.cyc_plain.specs.Step.{Choice, is_intact, opens, tries, closes, instruction_at, performed, advanced}
-use Rattle.cyc_plain.specs.WellFormed.{IsTryInRange, IsWellFormed}
+use Rattle.cyc_plain.specs.inside.Program.{Program, routine_at}
+use Rattle.cyc_plain.specs.inside.State as states
+use Rattle.cyc_plain.specs.inside.State.{Words, AreWords, put, copied, Handler, Open, Caught, Activation, Configuration}
+use Rattle.cyc_plain.specs.inside.Step.{Choice, is_intact, opens, tries, closes, instruction_at, performed, advanced}
+use Rattle.cyc_plain.specs.inside.WellFormed.{IsTryInRange, IsWellFormed}
 use Rattle.cyc_plain.proofs.SlotLaws.{put-other, copied-below, copied-above}
 use Rattle.cyc_plain.proofs.RunLaws.{zeros, zeros_at, lies_at}
 use Rattle.cyc_plain.proofs.WordLaws.{either_word}
-use Rattle.cyc_frame.specs.Homes.{AreHomes}
-use Rattle.cyc_frame.specs.Uses.{is_among}
-use Rattle.cyc_frame.specs.Layout.{AreFrames, frame_at}
-use Rattle.cyc_frame.specs.Frame.{Frame}
+use Rattle.cyc_frame.specs.inside.Homes.{AreHomes}
+use Rattle.cyc_frame.specs.inside.Uses.{is_among}
+use Rattle.cyc_frame.specs.inside.Layout.{AreFrames, frame_at}
+use Rattle.cyc_frame.specs.inside.Frame.{Frame}
 use Rattle.cyc_select.specs.declared.constants.TheConstants.{FRAME, LOWEST, HANDLERS, REGIONS, GLOBALS}
 use Rattle.cyc_select.specs.declared.code.Line.{Line}
 use Rattle.cyc_select.specs.declared.code.Line.TheVariants as lines
-use Rattle.cyc_select.specs.Labelled.{Labelled, IsFormed, AreAddresses}
-use Rattle.cyc_select.specs.Machine as labelled
-use Rattle.cyc_select.specs.Machine.{State, Running, Ended, IsReturnPoint}
-use Rattle.cyc_select.specs.Selection.{reloads, reload_count, ordinary, load, slot_offset, store_all, recorded_code, caught_code, opened_code, body, instruction_line}
+use Rattle.cyc_select.specs.inside.Labelled.{Labelled, IsFormed, AreAddresses}
+use Rattle.cyc_select.specs.inside.Machine as labelled
+use Rattle.cyc_select.specs.inside.Machine.{State, Running, Ended, IsReturnPoint}
+use Rattle.cyc_select.specs.inside.Selection.{reloads, reload_count, ordinary, load, slot_offset, store_all, recorded_code, caught_code, opened_code, body, instruction_line}
 use Rattle.cyc_select.proofs.values.Blocks.{lasting_same, safe_append}
 use Rattle.cyc_select.proofs.steps.Calls.{length_ordinary}
 use Rattle.cyc_select.proofs.relation.Cells.{IsCell}

@@ -8,22 +8,22 @@ use Rattle.cyc_isa.specs.Effect.{memory_address}
 use Rattle.cyc_machine.specs.State.{globals_length, words_per_call}
 use Rattle.cyc_plain.specs.declared.instruction.Instruction.{Instruction}
 use Rattle.cyc_plain.specs.declared.instruction.Instruction.TheVariants as plain
-use Rattle.cyc_plain.specs.Program.{Program, routine_at}
-use Rattle.cyc_plain.specs.State as states
-use Rattle.cyc_plain.specs.State.{Words, AreWords, put, copied, Configuration}
-use Rattle.cyc_plain.specs.Step.{instruction_at, performed, returns}
-use Rattle.cyc_plain.specs.WellFormed.{IsWellFormed, HasSlots}
+use Rattle.cyc_plain.specs.inside.Program.{Program, routine_at}
+use Rattle.cyc_plain.specs.inside.State as states
+use Rattle.cyc_plain.specs.inside.State.{Words, AreWords, put, copied, Configuration}
+use Rattle.cyc_plain.specs.inside.Step.{instruction_at, performed, returns}
+use Rattle.cyc_plain.specs.inside.WellFormed.{IsWellFormed, HasSlots}
 use Rattle.cyc_plain.proofs.RunLaws.{zeros, calls_nothing}
 use Rattle.cyc_plain.proofs.SlotLaws.{put-other}
-use Rattle.cyc_frame.specs.Uses.{is_among, reads}
-use Rattle.cyc_frame.specs.Layout.{AreFrames, frame_at}
-use Rattle.cyc_frame.specs.Frame.{Frame}
+use Rattle.cyc_frame.specs.inside.Uses.{is_among, reads}
+use Rattle.cyc_frame.specs.inside.Layout.{AreFrames, frame_at}
+use Rattle.cyc_frame.specs.inside.Frame.{Frame}
 use Rattle.cyc_select.specs.declared.code.Line.{Line}
 use Rattle.cyc_select.specs.declared.code.Line.TheVariants as lines
-use Rattle.cyc_select.specs.Labelled.{Labelled, IsFormed, AreAddresses}
-use Rattle.cyc_select.specs.Machine as labelled
-use Rattle.cyc_select.specs.Machine.{State, Running, Ended, IsReturnPoint}
-use Rattle.cyc_select.specs.Selection.{value_register, load, ordinary, ending_code, ending_count, returning_code, instruction_line, saving_count}
+use Rattle.cyc_select.specs.inside.Labelled.{Labelled, IsFormed, AreAddresses}
+use Rattle.cyc_select.specs.inside.Machine as labelled
+use Rattle.cyc_select.specs.inside.Machine.{State, Running, Ended, IsReturnPoint}
+use Rattle.cyc_select.specs.inside.Selection.{value_register, load, ordinary, ending_code, ending_count, returning_code, instruction_line, saving_count}
 use Rattle.cyc_select.proofs.values.Computing.{HeldIn}
 use Rattle.cyc_select.proofs.relation.Held.{slot_held}
 use Rattle.cyc_select.proofs.relation.Values.{Caches, among}

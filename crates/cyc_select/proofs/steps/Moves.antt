@@ -9,15 +9,15 @@ use Rattle.cyc_words.specs.Word.{IsWord}
 use Rattle.cyc_isa.specs.declared.instr.Instr.{Instr}
 use Rattle.cyc_isa.specs.Effect.{memory_address}
 use Rattle.cyc_plain.specs.declared.instruction.Operand.TheVariants as operands
-use Rattle.cyc_plain.specs.Program.{Program, routine_at}
-use Rattle.cyc_plain.specs.State.{Words, put, copied, Configuration}
-use Rattle.cyc_plain.specs.WellFormed.{IsWellFormed}
+use Rattle.cyc_plain.specs.inside.Program.{Program, routine_at}
+use Rattle.cyc_plain.specs.inside.State.{Words, put, copied, Configuration}
+use Rattle.cyc_plain.specs.inside.WellFormed.{IsWellFormed}
 use Rattle.cyc_plain.proofs.SlotLaws.{put-same, put-other, copied-inside, copied-below, copied-above}
-use Rattle.cyc_frame.specs.Frame.{Frame}
-use Rattle.cyc_frame.specs.Homes.{AreHomes}
-use Rattle.cyc_frame.specs.Layout.{AreFrames, frame_at}
-use Rattle.cyc_frame.specs.Uses.{is_crossing}
-use Rattle.cyc_select.specs.Selection.{value_register, is_kept, made_in, slot_offset, store_slot, load_code, operand_code, operand_register, move_to, moves}
+use Rattle.cyc_frame.specs.inside.Frame.{Frame}
+use Rattle.cyc_frame.specs.inside.Homes.{AreHomes}
+use Rattle.cyc_frame.specs.inside.Layout.{AreFrames, frame_at}
+use Rattle.cyc_frame.specs.inside.Uses.{is_crossing}
+use Rattle.cyc_select.specs.inside.Selection.{value_register, is_kept, made_in, slot_offset, store_slot, load_code, operand_code, operand_register, move_to, moves}
 use Rattle.cyc_select.proofs.values.Blocks.{lasting, Puts, Keeps, puts_keeps, safe_append}
 use Rattle.cyc_select.proofs.values.Computing.{HeldIn, load_puts, operand_puts, first_scratch, first_aside, made_scratch}
 use Rattle.cyc_select.proofs.relation.Standing.{Standing, slot_address, slot_cell, slot_word_is, standing_registers, standing_slot, standing_unkept}

@@ -8,19 +8,19 @@ use Rattle.cyc_isa.specs.declared.instr.Instr.{Instr}
 use Rattle.cyc_isa.specs.Effect.{memory_address}
 use Rattle.cyc_machine.specs.State.{globals_length, words_per_call}
 use Rattle.cyc_plain.specs.declared.instruction.Instruction.TheVariants as plain
-use Rattle.cyc_plain.specs.Program.{Program, routine_at}
-use Rattle.cyc_plain.specs.State as states
-use Rattle.cyc_plain.specs.State.{Words, put, Configuration}
-use Rattle.cyc_plain.specs.Step.{instruction_at}
-use Rattle.cyc_plain.specs.WellFormed.{IsWellFormed, IsCallInRange}
+use Rattle.cyc_plain.specs.inside.Program.{Program, routine_at}
+use Rattle.cyc_plain.specs.inside.State as states
+use Rattle.cyc_plain.specs.inside.State.{Words, put, Configuration}
+use Rattle.cyc_plain.specs.inside.Step.{instruction_at}
+use Rattle.cyc_plain.specs.inside.WellFormed.{IsWellFormed, IsCallInRange}
 use Rattle.cyc_plain.proofs.SlotLaws.{put-same, put-other}
-use Rattle.cyc_frame.specs.Homes.{AreHomes}
-use Rattle.cyc_frame.specs.Layout.{AreFrames, frame_at}
-use Rattle.cyc_frame.specs.Frame.{Frame}
-use Rattle.cyc_select.specs.Labelled.{Labelled, IsFormed, AreAddresses}
-use Rattle.cyc_select.specs.Machine as labelled
-use Rattle.cyc_select.specs.Machine.{Running}
-use Rattle.cyc_select.specs.Selection.{value_register, is_kept, made_in, slot_offset, store_slot, passed_from, spill_from, spill, spills, spills_count, copies_count, ordinary, calling_code, function_line, instruction_line, body, body_count}
+use Rattle.cyc_frame.specs.inside.Homes.{AreHomes}
+use Rattle.cyc_frame.specs.inside.Layout.{AreFrames, frame_at}
+use Rattle.cyc_frame.specs.inside.Frame.{Frame}
+use Rattle.cyc_select.specs.inside.Labelled.{Labelled, IsFormed, AreAddresses}
+use Rattle.cyc_select.specs.inside.Machine as labelled
+use Rattle.cyc_select.specs.inside.Machine.{Running}
+use Rattle.cyc_select.specs.inside.Selection.{value_register, is_kept, made_in, slot_offset, store_slot, passed_from, spill_from, spill, spills, spills_count, copies_count, ordinary, calling_code, function_line, instruction_line, body, body_count}
 use Rattle.cyc_select.proofs.values.Blocks.{safe_append}
 use Rattle.cyc_select.proofs.steps.Calls.{length_ordinary, calling_goes}
 use Rattle.cyc_select.proofs.steps.Copies.{is_free}

@@ -3,8 +3,8 @@ use Rattle.std.proofs.Common.{◌≡◌, ◌≢◌, ℕ, ◌+◌, ◌≤◌, Boo
 use Rattle.std.specs.Prelude.{◌==◌, if◌then◌else◌}
 use Rattle.std.proofs.lemmas.Bool.{cases_eq, cases_lt, eqb-true}
 use Rattle.cyc_words.proofs.Booleans.{and_right, and_left}
-use Rattle.cyc_plain.specs.State.{Words, put, copied}
-use Rattle.cyc_plain.specs.Step.{is_intact}
+use Rattle.cyc_plain.specs.inside.State.{Words, put, copied}
+use Rattle.cyc_plain.specs.inside.Step.{is_intact}
 use Rattle.cyc_plain.proofs.SlotLaws.{put-same, put-other, copied-inside, copied-below, copied-above}
 
 -- the words of a record, of which the last is as it was

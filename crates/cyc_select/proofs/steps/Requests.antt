@@ -18,23 +18,23 @@ use Rattle.cyc_plain.specs.declared.instruction.Instruction.TheVariants as plain
 use Rattle.cyc_plain.specs.declared.instruction.Operand.{Operand}
 use Rattle.cyc_plain.specs.declared.instruction.Request.{Request}
 use Rattle.cyc_plain.specs.declared.instruction.Request.TheVariants as requests
-use Rattle.cyc_plain.specs.Requests.{first_operand, second_operand, answer_count, destination_of}
-use Rattle.cyc_plain.specs.Program.{Program, routine_at}
-use Rattle.cyc_plain.specs.State as states
-use Rattle.cyc_plain.specs.State.{Words, put, Configuration}
-use Rattle.cyc_plain.specs.Step.{Choice, IsAllowed, MayServe, call_in, call_of, asked, told, asks, instruction_at, operand_word, performed, with_slots, advanced}
-use Rattle.cyc_plain.specs.WellFormed.{IsOperand, IsOfWord, IsArgument, IsArgumentOfWord, IsRequestInRange, IsWellFormed}
+use Rattle.cyc_plain.specs.inside.Requests.{first_operand, second_operand, answer_count, destination_of}
+use Rattle.cyc_plain.specs.inside.Program.{Program, routine_at}
+use Rattle.cyc_plain.specs.inside.State as states
+use Rattle.cyc_plain.specs.inside.State.{Words, put, Configuration}
+use Rattle.cyc_plain.specs.inside.Step.{Choice, IsAllowed, MayServe, call_in, call_of, asked, told, asks, instruction_at, operand_word, performed, with_slots, advanced}
+use Rattle.cyc_plain.specs.inside.WellFormed.{IsOperand, IsOfWord, IsArgument, IsArgumentOfWord, IsRequestInRange, IsWellFormed}
 use Rattle.cyc_plain.proofs.SlotLaws.{put-other}
 use Rattle.cyc_plain.proofs.RunLaws.{zeros, zeros_refused, over_within, lies_at}
-use Rattle.cyc_frame.specs.Homes.{AreHomes, Wanted}
-use Rattle.cyc_frame.specs.Layout.{AreFrames, frame_at}
-use Rattle.cyc_frame.specs.Uses.{is_slot, request_reads, request_writes}
-use Rattle.cyc_frame.specs.Frame.{Frame}
+use Rattle.cyc_frame.specs.inside.Homes.{AreHomes, Wanted}
+use Rattle.cyc_frame.specs.inside.Layout.{AreFrames, frame_at}
+use Rattle.cyc_frame.specs.inside.Uses.{is_slot, request_reads, request_writes}
+use Rattle.cyc_frame.specs.inside.Frame.{Frame}
 use Rattle.cyc_select.specs.declared.constants.TheConstants.{LOWEST, FRAME, HANDLERS, REGIONS, GLOBALS}
-use Rattle.cyc_select.specs.Labelled.{Labelled, IsFormed}
-use Rattle.cyc_select.specs.Machine as labelled
-use Rattle.cyc_select.specs.Machine.{State, Running, Ended}
-use Rattle.cyc_select.specs.Selection.{ordinary, value_register, small, syscall, slot_offset, store_all, result_registers, argument_code, argument_count, service_number, answer_code, regions_code, regions_count, gives_count, ask_count, body, instruction_line}
+use Rattle.cyc_select.specs.inside.Labelled.{Labelled, IsFormed}
+use Rattle.cyc_select.specs.inside.Machine as labelled
+use Rattle.cyc_select.specs.inside.Machine.{State, Running, Ended}
+use Rattle.cyc_select.specs.inside.Selection.{ordinary, value_register, small, syscall, slot_offset, store_all, result_registers, argument_code, argument_count, service_number, answer_code, regions_code, regions_count, gives_count, ask_count, body, instruction_line}
 use Rattle.cyc_select.proofs.steps.Answers.{put_all, results_low, AreBrought, are_brought}
 use Rattle.cyc_select.proofs.values.Blocks.{ValuesSame, safe_append}
 use Rattle.cyc_select.proofs.values.Computing.{IsHeld, load_puts}

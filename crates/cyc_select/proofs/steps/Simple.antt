@@ -24,18 +24,18 @@ use Rattle.cyc_plain.specs.declared.instruction.BinaryOperator.{BinaryOperator}
 use Rattle.cyc_plain.specs.declared.instruction.Comparison.{Comparison}
 use Rattle.cyc_plain.specs.declared.instruction.Operand.{Operand}
 use Rattle.cyc_plain.specs.declared.instruction.Operand.TheVariants as operands
-use Rattle.cyc_plain.specs.Operators.{unary_result, binary_result, compares}
-use Rattle.cyc_plain.specs.Program.{Program, routine_at}
-use Rattle.cyc_plain.specs.State as states
-use Rattle.cyc_plain.specs.State.{Words, AreWords, put, Configuration}
-use Rattle.cyc_plain.specs.Step.{instruction_at, operand_word, performed, gives, at}
-use Rattle.cyc_plain.specs.WellFormed.{IsOperand, IsOfWord, IsWellFormed}
+use Rattle.cyc_plain.specs.inside.Operators.{unary_result, binary_result, compares}
+use Rattle.cyc_plain.specs.inside.Program.{Program, routine_at}
+use Rattle.cyc_plain.specs.inside.State as states
+use Rattle.cyc_plain.specs.inside.State.{Words, AreWords, put, Configuration}
+use Rattle.cyc_plain.specs.inside.Step.{instruction_at, operand_word, performed, gives, at}
+use Rattle.cyc_plain.specs.inside.WellFormed.{IsOperand, IsOfWord, IsWellFormed}
 use Rattle.cyc_plain.proofs.SlotLaws.{put-same, put-other}
 use Rattle.cyc_plain.proofs.RunLaws.{zeros, over_within, zeros_at, calls_nothing}
-use Rattle.cyc_frame.specs.Homes.{AreHomes}
-use Rattle.cyc_frame.specs.Layout.{AreFrames, frame_at}
-use Rattle.cyc_frame.specs.Uses.{is_slot, reads, writes, leads}
-use Rattle.cyc_frame.specs.Frame.{Frame}
+use Rattle.cyc_frame.specs.inside.Homes.{AreHomes}
+use Rattle.cyc_frame.specs.inside.Layout.{AreFrames, frame_at}
+use Rattle.cyc_frame.specs.inside.Uses.{is_slot, reads, writes, leads}
+use Rattle.cyc_frame.specs.inside.Frame.{Frame}
 use Rattle.cyc_machine.specs.declared.constants.TheConstants.{ARGUMENT, END_UNCAUGHT, PUT_BYTE, SECOND_ARGUMENT, SERVICE, RETURN_ADDRESS}
 use Rattle.cyc_select.specs.declared.code.Line.{Line}
 use Rattle.cyc_select.specs.declared.code.Condition.{Condition}
@@ -45,11 +45,11 @@ use Rattle.cyc_select.specs.declared.constants.TheConstants.{FIRST, SECOND, THIR
 use Rattle.cyc_select.specs.declared.plan.Plan.{Plan}
 use Rattle.cyc_select.specs.declared.plan.Test.{Test}
 use Rattle.cyc_select.specs.declared.plan.Test.TheVariants as tests
-use Rattle.cyc_select.specs.Plans.{unary_plan, binary_plan, test_of}
-use Rattle.cyc_select.specs.Labelled.{Labelled, IsFormed}
-use Rattle.cyc_select.specs.Machine as labelled
-use Rattle.cyc_select.specs.Machine.{State, Running, Ended, holds_of}
-use Rattle.cyc_select.specs.Selection.{multiply_divide_of, move_from_of, product_code, quotient_code, copy, value_register, or_else, is_kept, keep_code, keep_count, give_to, give_code, give_count_to, give_count, move_to, move_count_to, move_count, divide_count, add_immediate, store_slot, slot_offset, small, ordinary, syscall, at_global, word_code, load_code, operand_code, operand_register, made_in, operands_code, operation_of, computed_code, plan_code, branch_on, branch_code, divided_code, divide_code, word_count, load_count, operand_count, plan_count, test_count, is_tested, body, body_count, count_of, instruction_line, reach_code, reach_register, reach_half, reach_count, global_code}
+use Rattle.cyc_select.specs.inside.Plans.{unary_plan, binary_plan, test_of}
+use Rattle.cyc_select.specs.inside.Labelled.{Labelled, IsFormed}
+use Rattle.cyc_select.specs.inside.Machine as labelled
+use Rattle.cyc_select.specs.inside.Machine.{State, Running, Ended, holds_of}
+use Rattle.cyc_select.specs.inside.Selection.{multiply_divide_of, move_from_of, product_code, quotient_code, copy, value_register, or_else, is_kept, keep_code, keep_count, give_to, give_code, give_count_to, give_count, move_to, move_count_to, move_count, divide_count, add_immediate, store_slot, slot_offset, small, ordinary, syscall, at_global, word_code, load_code, operand_code, operand_register, made_in, operands_code, operation_of, computed_code, plan_code, branch_on, branch_code, divided_code, divide_code, word_count, load_count, operand_count, plan_count, test_count, is_tested, body, body_count, count_of, instruction_line, reach_code, reach_register, reach_half, reach_count, global_code}
 use Rattle.cyc_select.proofs.values.Blocks.{AreSame, all_same, lasting, Puts, Keeps, IsScratch, puts_keeps, keeps_append, safe_append, middle_lasts, after_both}
 use Rattle.cyc_store.specs.State.{lexical_count}
 use Rattle.cyc_select.proofs.steps.Calls.{length_ordinary}

@@ -13,24 +13,24 @@ use Rattle.cyc_machine.specs.declared.constants.TheConstants.{ARGUMENT, END_UNCA
 use Rattle.cyc_plain.specs.declared.instruction.Instruction.{Instruction}
 use Rattle.cyc_plain.specs.declared.instruction.Instruction.TheVariants as plain
 use Rattle.cyc_plain.specs.declared.instruction.Operand.{Operand}
-use Rattle.cyc_plain.specs.Program.{Program, routine_at}
-use Rattle.cyc_plain.specs.State as states
-use Rattle.cyc_plain.specs.State.{Words, AreWords, put, copied, Handler, Open, Caught, Activation, Configuration}
-use Rattle.cyc_plain.specs.Step.{is_intact, lands, throws, instruction_at, operand_word, performed}
-use Rattle.cyc_plain.specs.WellFormed.{IsOperand, IsOfWord, IsTryInRange, IsWellFormed}
+use Rattle.cyc_plain.specs.inside.Program.{Program, routine_at}
+use Rattle.cyc_plain.specs.inside.State as states
+use Rattle.cyc_plain.specs.inside.State.{Words, AreWords, put, copied, Handler, Open, Caught, Activation, Configuration}
+use Rattle.cyc_plain.specs.inside.Step.{is_intact, lands, throws, instruction_at, operand_word, performed}
+use Rattle.cyc_plain.specs.inside.WellFormed.{IsOperand, IsOfWord, IsTryInRange, IsWellFormed}
 use Rattle.cyc_plain.proofs.RunLaws.{zeros, zeros_at, over_within}
-use Rattle.cyc_frame.specs.Uses.{is_slot}
-use Rattle.cyc_frame.specs.Layout.{AreFrames, slot_word, frame_at}
-use Rattle.cyc_frame.specs.Frame.{Frame}
+use Rattle.cyc_frame.specs.inside.Uses.{is_slot}
+use Rattle.cyc_frame.specs.inside.Layout.{AreFrames, slot_word, frame_at}
+use Rattle.cyc_frame.specs.inside.Frame.{Frame}
 use Rattle.cyc_frame.specs.declared.frame.TheConstants.{MOST_FRAME_WORDS}
 use Rattle.cyc_select.specs.declared.constants.TheConstants.{FRAME, LOWEST, HANDLERS, REGIONS, ZERO, GLOBALS}
 use Rattle.cyc_select.specs.declared.code.Condition.TheVariants as conditions
 use Rattle.cyc_select.specs.declared.code.Line.{Line}
 use Rattle.cyc_select.specs.declared.code.Line.TheVariants as lines
-use Rattle.cyc_select.specs.Labelled.{Labelled, IsFormed, AreAddresses}
-use Rattle.cyc_select.specs.Machine as labelled
-use Rattle.cyc_select.specs.Machine.{State, Running, Ended, IsReturnPoint}
-use Rattle.cyc_select.specs.Selection.{is_kept, ordinary, small, syscall, load_code, load_count, slot_offset, unwound_code, body, instruction_line}
+use Rattle.cyc_select.specs.inside.Labelled.{Labelled, IsFormed, AreAddresses}
+use Rattle.cyc_select.specs.inside.Machine as labelled
+use Rattle.cyc_select.specs.inside.Machine.{State, Running, Ended, IsReturnPoint}
+use Rattle.cyc_select.specs.inside.Selection.{is_kept, ordinary, small, syscall, load_code, load_count, slot_offset, unwound_code, body, instruction_line}
 use Rattle.cyc_select.proofs.values.Blocks.{lasting, newest_lasts, count_lasts, middle_lasts, Puts}
 use Rattle.cyc_select.proofs.steps.Calls.{length_ordinary}
 use Rattle.cyc_select.proofs.relation.Cells.{IsCell}

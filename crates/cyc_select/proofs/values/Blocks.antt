@@ -2,7 +2,7 @@
 use Rattle.std.proofs.Common.{◌≡◌, ◌≢◌, ℕ, ◌<◌, ◌≤◌, List, [], ◌∷◌, ◌++◌, ap, ◌∙◌, arith}
 use Rattle.cyc_isa.specs.declared.instr.Instr.{Instr}
 use Rattle.cyc_machine.specs.declared.constants.TheConstants.{RETURN_ADDRESS}
-use Rattle.cyc_plain.specs.State.{Words}
+use Rattle.cyc_plain.specs.inside.State.{Words}
 use Rattle.cyc_select.specs.declared.constants.TheConstants.{ZERO, FRAME, LOWEST, HANDLERS, REGIONS, GLOBALS}
 use Rattle.cyc_select.proofs.effects.Views.{Contents, does_r, does_w}
 use Rattle.cyc_select.proofs.effects.Walks.{after_r, after_w, AreSafe, after_r-append, after_w-append}

@@ -11,20 +11,20 @@ use Rattle.cyc_isa.specs.Effect.{memory_address, load_upper_result}
 use Rattle.cyc_machine.specs.declared.constants.TheConstants.{ARGUMENT}
 use Rattle.cyc_plain.specs.declared.instruction.Operand.{Operand}
 use Rattle.cyc_plain.specs.declared.instruction.Operand.TheVariants as operands
-use Rattle.cyc_plain.specs.State.{Words, put}
-use Rattle.cyc_plain.specs.Step.{operand_word}
+use Rattle.cyc_plain.specs.inside.State.{Words, put}
+use Rattle.cyc_plain.specs.inside.Step.{operand_word}
 use Rattle.cyc_plain.proofs.SlotLaws.{put-same, put-other}
-use Rattle.cyc_plain.specs.Program.{Routine, Program}
-use Rattle.cyc_frame.specs.Frame.{Frame}
-use Rattle.cyc_frame.specs.Homes.{AreHomes}
+use Rattle.cyc_plain.specs.inside.Program.{Routine, Program}
+use Rattle.cyc_frame.specs.inside.Frame.{Frame}
+use Rattle.cyc_frame.specs.inside.Homes.{AreHomes}
 use Rattle.cyc_select.specs.declared.constants.TheConstants.{FIRST, SECOND, THIRD, FRAME, ZERO}
 use Rattle.cyc_select.specs.declared.plan.Operation.{Operation}
 use Rattle.cyc_select.specs.declared.plan.Operation.TheVariants as operations
 use Rattle.cyc_select.specs.declared.plan.Outcome.{Outcome}
 use Rattle.cyc_select.specs.declared.plan.Outcome.TheVariants as outcomes
 use Rattle.cyc_select.specs.declared.plan.Plan.{Plan}
-use Rattle.cyc_select.specs.Numbers.{fits_signed, is_zero_word}
-use Rattle.cyc_select.specs.Selection.{slot_offset, load, load_from, fetch_from, value_register, or_else, made_in, small, or_immediate, load_upper, constant, word_code, load_code, operand_code, operand_register, operands_code, operation_code, outcome_code, operation_of, computed_code, multiply_divide_of, divided_code, add_immediate, minus}
+use Rattle.cyc_select.specs.inside.Numbers.{fits_signed, is_zero_word}
+use Rattle.cyc_select.specs.inside.Selection.{slot_offset, load, load_from, fetch_from, value_register, or_else, made_in, small, or_immediate, load_upper, constant, word_code, load_code, operand_code, operand_register, operands_code, operation_code, outcome_code, operation_of, computed_code, multiply_divide_of, divided_code, add_immediate, minus}
 use Rattle.cyc_select.proofs.values.Blocks.{ValuesSame, IsAside, all_same, Puts, Keeps, IsScratch, puts_keeps, keeps_append, after_both}
 use Rattle.cyc_select.proofs.relation.Cells.{IsCell}
 use Rattle.cyc_select.proofs.values.Halves.{fits_is, zero_is}

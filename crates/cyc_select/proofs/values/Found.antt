@@ -5,15 +5,15 @@ use Rattle.cyc_plain.specs.declared.instruction.Comparison.{Comparison}
 use Rattle.cyc_plain.specs.declared.instruction.Operand.{Operand}
 use Rattle.cyc_plain.specs.declared.instruction.Operand.TheVariants as operands
 use Rattle.cyc_plain.specs.declared.instruction.Request.{Request}
-use Rattle.cyc_plain.specs.Requests.{first_operand, second_operand, answer_count, destination_of}
-use Rattle.cyc_plain.specs.Program.{Routine}
-use Rattle.cyc_plain.specs.WellFormed.{IsOperand, IsArgument, IsRequestInRange}
-use Rattle.cyc_frame.specs.Frame.{Frame}
+use Rattle.cyc_plain.specs.inside.Requests.{first_operand, second_operand, answer_count, destination_of}
+use Rattle.cyc_plain.specs.inside.Program.{Routine}
+use Rattle.cyc_plain.specs.inside.WellFormed.{IsOperand, IsArgument, IsRequestInRange}
+use Rattle.cyc_frame.specs.inside.Frame.{Frame}
 use Rattle.cyc_select.specs.declared.plan.Test.{Test}
 use Rattle.cyc_select.specs.declared.plan.Test.TheVariants as tests
-use Rattle.cyc_select.specs.Plans.{binary_plan, test_of}
-use Rattle.cyc_select.specs.Selection.{is_tested}
-use Rattle.cyc_select.specs.Emission.{IsReached, AreReached, IsFound, IsArgumentFound, IsRequestFound, IsPlanFound, IsTestFound}
+use Rattle.cyc_select.specs.inside.Plans.{binary_plan, test_of}
+use Rattle.cyc_select.specs.inside.Selection.{is_tested}
+use Rattle.cyc_select.specs.inside.Emission.{IsReached, AreReached, IsFound, IsArgumentFound, IsRequestFound, IsPlanFound, IsTestFound}
 use Rattle.cyc_select.proofs.values.Plans.{AllOfTest, all_binary, all_test}
 
 slot_found : (frame : Frame) (slots number : ℕ) → AreReached frame 0 slots → number < slots → IsReached frame number

@@ -10,10 +10,10 @@ use Rattle.cyc_words.proofs.Booleans.{and_left, and_right}
 use Rattle.cyc_words.proofs.WordLemmas.{sign_extended_low, sign_extended_high, signed_low, signed_high, IsWord-add_of, IsWord-sub_of}
 use Rattle.cyc_plain.specs.declared.instruction.Operand.{Operand}
 use Rattle.cyc_plain.specs.declared.instruction.Operand.TheVariants as operands
-use Rattle.cyc_plain.specs.State.{Words}
-use Rattle.cyc_plain.specs.Step.{operand_word}
+use Rattle.cyc_plain.specs.inside.State.{Words}
+use Rattle.cyc_plain.specs.inside.Step.{operand_word}
 use Rattle.cyc_plain.proofs.MemoryLaws.{or_either}
-use Rattle.cyc_select.specs.Numbers.{fits_signed, half_of, signed_half, negated_half, next_half, low_half, is_zero_word, is_plain_divisor, shift_amount, power_of}
+use Rattle.cyc_select.specs.inside.Numbers.{fits_signed, half_of, signed_half, negated_half, next_half, low_half, is_zero_word, is_plain_divisor, shift_amount, power_of}
 
 pub fits_is : (word : ℕ) → IsWord word → fits_signed word ≡ true → sign_extended (word % 2 ^ 16) ≡ word
 fits_is word is_word fits = elim (or_either (nat_lt word (2 ^ 15)) (nat_le (2 ^ 32 - 2 ^ 15) word) fits) [

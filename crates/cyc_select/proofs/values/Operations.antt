@@ -10,7 +10,7 @@ use Rattle.cyc_words.specs.Word.{IsWord, signed, unsigned, sign_extended, add_of
 use Rattle.cyc_words.proofs.WordLemmas.{FitsSigned-signed, sign_extended_low, sign_extended_high, bit_or-halves, mul_of-signed, sub_of-signed, sltu_of-one, sltu_of-zero}
 use Rattle.cyc_isa.specs.Effect.{load_upper_result, memory_address, low_result, high_result}
 use Rattle.cyc_isa.specs.declared.instr.MultiplyDivideOp.TheVariants.{Multiply}
-use Rattle.cyc_plain.specs.Operators.{truth}
+use Rattle.cyc_plain.specs.inside.Operators.{truth}
 use Rattle.cyc_select.specs.declared.constants.TheConstants.{GLOBALS_MIDDLE, NEAR_GLOBALS}
 use Rattle.cyc_machine.specs.State.{data_base}
 

@@ -29,9 +29,9 @@ use Rattle.cyc_plain.specs.declared.instruction.Comparison.{Comparison}
 use Rattle.cyc_plain.specs.declared.instruction.Comparison.TheVariants as comparisons
 use Rattle.cyc_plain.specs.declared.instruction.Operand.{Operand}
 use Rattle.cyc_plain.specs.declared.instruction.Operand.TheVariants as operands
-use Rattle.cyc_plain.specs.Operators.{truth, unary_result, binary_result, compares}
-use Rattle.cyc_plain.specs.State.{Words}
-use Rattle.cyc_plain.specs.Step.{operand_word}
+use Rattle.cyc_plain.specs.inside.Operators.{truth, unary_result, binary_result, compares}
+use Rattle.cyc_plain.specs.inside.State.{Words}
+use Rattle.cyc_plain.specs.inside.Step.{operand_word}
 use Rattle.cyc_select.specs.declared.plan.Operation.{Operation}
 use Rattle.cyc_select.specs.declared.plan.Operation.TheVariants as operations
 use Rattle.cyc_select.specs.declared.plan.Outcome.{Outcome}
@@ -39,9 +39,9 @@ use Rattle.cyc_select.specs.declared.plan.Outcome.TheVariants as outcomes
 use Rattle.cyc_select.specs.declared.plan.Plan.{Plan}
 use Rattle.cyc_select.specs.declared.plan.Test.{Test}
 use Rattle.cyc_select.specs.declared.plan.Test.TheVariants as tests
-use Rattle.cyc_select.specs.Numbers.{signed_half, negated_half, next_half, low_half, is_zero_word, is_plain_divisor, shift_amount, power_of}
-use Rattle.cyc_select.specs.Plans.{arithmetic_plan, immediate_plan, immediate_or, shift_by, multiply_divide_plan, product_or, mirrored, zero_plan, differs_plan, equal_plan, less_plan, less_unsigned_plan, at_most_plan, compared_plan, is_mirrored, comparison_plan, unary_plan, sum_plan, difference_plan, bits_plan, operator_plan, is_swapped, binary_plan, sign_of, sign_or, order_test, test_of}
-use Rattle.cyc_select.specs.Selection.{branch_on, is_tested}
+use Rattle.cyc_select.specs.inside.Numbers.{signed_half, negated_half, next_half, low_half, is_zero_word, is_plain_divisor, shift_amount, power_of}
+use Rattle.cyc_select.specs.inside.Plans.{arithmetic_plan, immediate_plan, immediate_or, shift_by, multiply_divide_plan, product_or, mirrored, zero_plan, differs_plan, equal_plan, less_plan, less_unsigned_plan, at_most_plan, compared_plan, is_mirrored, comparison_plan, unary_plan, sum_plan, difference_plan, bits_plan, operator_plan, is_swapped, binary_plan, sign_of, sign_or, order_test, test_of}
+use Rattle.cyc_select.specs.inside.Selection.{branch_on, is_tested}
 use Rattle.cyc_select.proofs.values.Halves.{signed_is, negated_is, next_is, next_not_greatest, low_is, zero_is, amount_is, power_is, signed_fits, negated_fits, next_fits, low_fits, next_signed}
 use Rattle.cyc_select.proofs.values.Operations.{zero_test, not_zero_test, difference_zero, low_product}
 

@@ -4,10 +4,10 @@ use Rattle.std.specs.Prelude.{◌/◌, if◌then◌else◌}
 use Rattle.std.proofs.lemmas.Bool.{ltb-true}
 use Rattle.cyc_isa.specs.Effect.{load_upper_result, memory_address}
 use Rattle.cyc_machine.specs.State.{data_base, globals_length}
-use Rattle.cyc_plain.specs.State.{Words}
+use Rattle.cyc_plain.specs.inside.State.{Words}
 use Rattle.cyc_plain.proofs.SlotLaws.{put-other}
 use Rattle.cyc_select.specs.declared.constants.TheConstants.{GLOBALS, GLOBALS_MIDDLE, NEAR_GLOBALS, SECOND}
-use Rattle.cyc_select.specs.Selection.{global_address, is_near, upper_of_global}
+use Rattle.cyc_select.specs.inside.Selection.{global_address, is_near, upper_of_global}
 use Rattle.cyc_select.proofs.effects.Views.{Contents}
 use Rattle.cyc_select.proofs.effects.Walks.{after_r}
 use Rattle.cyc_select.proofs.values.Blocks.{Puts, Keeps, puts_keeps}

@@ -23,7 +23,7 @@ use Rattle.cyc_types.specs.typing.Formation as formation
 use Rattle.cyc_types.specs.typing.Statements.{exception_among, left_out_of, rule_initial, opened, alias_type, aliased, with_caught, behind_clause, behind_item, rule_statement, rule_body, rule_items, rule_clauses}
 use Rattle.cyc_types.specs.typing.Heads.{Known, structs_of, parameter_names, fields_written, fields_of, members_of, parameter_naming, signature_of, declared_from, rule_fields, rule_parameters, rule_function_head, Before, after_head, rule_heads}
 use Rattle.cyc_types.specs.typing.Programs.{declared_before, known_of, before_all, Program, program_known, parameter_locals, body_scope, rule_functions, globals_of, struct_types, IsTypedProgram}
-use Rattle.cyc_types.specs.typing.Formed.{AllOf, AllIn, IsKnown, IsFormedStatement, AreFormedItems, AreFormedClauses, AreFormedFunctions, AreFormedGlobals, AreFormedFields, AreFormedStructs, IsFormedProgram}
+use Rattle.cyc_types.specs.inside.typing.Formed.{AllOf, AllIn, IsKnown, IsFormedStatement, AreFormedItems, AreFormedClauses, AreFormedFunctions, AreFormedGlobals, AreFormedFields, AreFormedStructs, IsFormedProgram}
 use Rattle.cyc_types.proofs.typing.TestLemmas.{kept_append}
 use Rattle.cyc_types.proofs.typing.ProgramLemmas.{base_before}
 use Rattle.cyc_types.proofs.typing.NamingLemmas.{IsBase, none_is_not_some, IsNumbered, after_members_numbered, types_named}

@@ -6,8 +6,7 @@ use Rattle.cyc_syntax.specs.Trees.{Named, Pointer, BaseType, Struct, WrittenType
 use Rattle.cyc_syntax.specs.Trees as written
 use Rattle.cyc_types.specs.declared.region.Region.{Region}
 use Rattle.cyc_types.specs.declared.region.Region.TheVariants.{Heap, Unique, Variable}
-use Rattle.cyc_types.specs.Regions.{region_eq}
-use Rattle.cyc_types.specs.Types.{Ty, Int, Handle, Key}
+use Rattle.cyc_types.specs.Types.{region_eq, Ty, Int, Handle, Key}
 use Rattle.cyc_types.specs.Types as types
 use Rattle.cyc_types.specs.Outlives.{names_no_unique}
 use Rattle.cyc_types.specs.Rules.{AllKept, Derives}

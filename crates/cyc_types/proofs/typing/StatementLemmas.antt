@@ -9,8 +9,7 @@ use Rattle.cyc_types.specs.declared.region.Region.{Region as RegionCode}
 use Rattle.cyc_types.specs.declared.region.Region.TheVariants as regions
 use Rattle.cyc_types.specs.declared.scope.Kind.{Kind}
 use Rattle.cyc_types.specs.declared.scope.Kind.TheVariants as kinds
-use Rattle.cyc_types.specs.Regions.{region_eq}
-use Rattle.cyc_types.specs.Types.{Ty, Int, Handle, Key, ValueType, Void, Null, Value}
+use Rattle.cyc_types.specs.Types.{region_eq, Ty, Int, Handle, Key, ValueType, Void, Null, Value}
 use Rattle.cyc_types.specs.Types as types
 use Rattle.cyc_types.specs.Outlives.{live_regions}
 use Rattle.cyc_types.specs.Declarations.{declared_types, item_types, clause_types}

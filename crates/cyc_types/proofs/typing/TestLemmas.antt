@@ -5,8 +5,7 @@ use Rattle.cyc_syntax.specs.declared.tree.PointerKind.{PointerKind}
 use Rattle.cyc_syntax.specs.declared.tree.PointerKind.TheVariants.{Nullable, NonNull, Fat}
 use Rattle.cyc_types.specs.declared.region.Region.{Region}
 use Rattle.cyc_types.specs.declared.region.Region.TheVariants as regions
-use Rattle.cyc_types.specs.Types.{Ty, Int, Char, Pointer, Handle, Key, Struct, ValueType, Value}
-use Rattle.cyc_types.specs.Regions.{region_eq}
+use Rattle.cyc_types.specs.Types.{Ty, Int, Char, Pointer, Handle, Key, Struct, ValueType, Value, region_eq}
 use Rattle.cyc_types.specs.Rules.{Demand, AllKept}
 use Rattle.cyc_types.specs.typing.Tests.{mark_eq, regions_eq, ty_eq, is_thin_mark, is_unique, is_key, is_moved, is_int, is_char, is_value, is_handle}
 use Rattle.cyc_types.specs.typing.Expressions.{is_any}

@@ -14,7 +14,7 @@ use Rattle.cyc_syntax.specs.Symbols.{Place, Symbol}
 use Rattle.cyc_syntax.specs.Trees.{Named, WrittenType, Expression, Number, Character, Null, HeapRegion, UniqueRegion, Variable, Call, Bracketed, NumberOfElements, LowByteOf, FreeUnique, FreeKey, Chained, Prefixed, New, RegionNew, Binary, Assign, Initial, Plain, Fields, Array, Expressions, NoExpressions, MoreExpressions, Postfixes, NoPostfixes, ThenIndex, ThenField, Operations, NoOperations, ThenOperation, Statement, Block, Labelled, Empty, Evaluate, Swap, If, IfElse, While, Return, Break, Continue, Throw, Try, Body, Braces, Items, NoItems, MoreItems, Execute, Local, Region, Alias, DynamicRegion, Clauses, NoClauses, Default, Case, Member, Constructor, Declaration, StructType, Exceptions, Global, Function, place_of}
 use Rattle.cyc_syntax.specs.Yields.{Leaf, Yield}
 use Rattle.cyc_syntax.specs.Yields as yields
-use Rattle.cyc_syntax.specs.Weight.{sum_of, constructor_weight, tree_weight}
+use Rattle.cyc_syntax.specs.inside.Weight.{sum_of, constructor_weight, tree_weight}
 use Rattle.cyc_syntax.specs.Grammar.{level, binary_level, unary_level, assignment_level, IsExpression, IsInitial, AreExpressions, ArePostfixes, AreOperations, IsExpressionOrNone, IsStatement, IsBody, AreItems, AreClauses, AreDeclarations, HasTree, max_items, IsWithin, IsWithinLimits}
 use Rattle.cyc_syntax.specs.TokenRule.{max_tokens}
 use Rattle.cyc_syntax.proofs.WeightLemmas.{tree_weight-length}

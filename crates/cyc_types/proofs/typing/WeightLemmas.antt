@@ -7,8 +7,8 @@ use Rattle.cyc_syntax.specs.declared.tree.BinaryOperator.{BinaryOperator}
 use Rattle.cyc_syntax.specs.declared.tree.BinaryOperator.TheVariants as operators
 use Rattle.cyc_syntax.specs.Symbols.{Place}
 use Rattle.cyc_syntax.specs.Trees.{Named, Expression, Number, Character, Null, HeapRegion, UniqueRegion, Variable, Call, Bracketed, NumberOfElements, LowByteOf, FreeUnique, FreeKey, Chained, Prefixed, New, RegionNew, Binary, Assign, Initial, Plain, Fields, Array, Expressions, NoExpressions, MoreExpressions, Postfixes, NoPostfixes, ThenIndex, ThenField, Operations, NoOperations, ThenOperation, Statement, Block, Labelled, Empty, Evaluate, Swap, If, IfElse, While, Return, Break, Continue, Throw, Try, Body, Braces, WrittenType, Items, NoItems, MoreItems, Execute, Local, Region, Alias, DynamicRegion, Clauses, NoClauses, Default, Case, Member, GlobalValue, Positive, Negative, Byte, NullPointer, ParameterList, Void, Listed, Declaration, StructType, Exceptions, Global, Function, place_of}
-use Rattle.cyc_syntax.specs.Weight.{sum_of, separated_weight, optional_weight, region_list_weight, type_weight, member_weight, value_weight, parameter_list_weight, result_weight, tree_weight}
-use Rattle.cyc_syntax.specs.Weight as written
+use Rattle.cyc_syntax.specs.inside.Weight.{sum_of, separated_weight, optional_weight, region_list_weight, type_weight, member_weight, value_weight, parameter_list_weight, result_weight, tree_weight}
+use Rattle.cyc_syntax.specs.inside.Weight as written
 use Rattle.cyc_types.specs.declared.region.Region.TheVariants as regions
 use Rattle.cyc_types.specs.declared.typed.UnaryOperator.TheVariants as unary
 use Rattle.cyc_types.specs.declared.typed.Operator.{Operator}

@@ -9,8 +9,7 @@ use Rattle.cyc_syntax.specs.Symbols.{Place}
 use Rattle.cyc_syntax.specs.Trees.{Named, Pointer, BaseType, Int, Char, Struct, Handle, Key, WrittenType, Member}
 use Rattle.cyc_types.specs.declared.region.Region.{Region}
 use Rattle.cyc_types.specs.declared.region.Region.TheVariants.{Heap, Unique, Variable}
-use Rattle.cyc_types.specs.Regions.{region_eq}
-use Rattle.cyc_types.specs.Types.{Ty}
+use Rattle.cyc_types.specs.Types.{region_eq, Ty}
 use Rattle.cyc_types.specs.Types as types
 use Rattle.cyc_types.specs.typing.Tests.{is_empty}
 use Rattle.cyc_types.specs.Rules.{Demand, demand}

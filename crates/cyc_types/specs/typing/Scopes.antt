@@ -11,9 +11,8 @@ use Rattle.cyc_types.specs.declared.region.Region.TheVariants as regions
 use Rattle.cyc_types.specs.declared.scope.Kind.{Kind}
 use Rattle.cyc_types.specs.declared.scope.Kind.TheVariants as kinds
 use Rattle.cyc_types.specs.declared.typed.Callee.{Callee}
-use Rattle.cyc_types.specs.Types.{Ty, Int}
+use Rattle.cyc_types.specs.Types.{Ty, Int, is_region_among}
 use Rattle.cyc_types.specs.Outlives.{RegionContext, live_regions}
-use Rattle.cyc_types.specs.Regions.{is_region_among}
 use Rattle.cyc_types.specs.TypedTrees.{Lvalue, Local, Signature}
 
 -- ---- what is declared

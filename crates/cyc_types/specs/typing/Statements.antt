@@ -9,8 +9,7 @@ use Rattle.cyc_syntax.specs.Trees.{Named, WrittenType, Expression, Statement, Bl
 use Rattle.cyc_types.specs.declared.region.Region.{Region as RegionCode}
 use Rattle.cyc_types.specs.declared.region.Region.TheVariants as regions
 use Rattle.cyc_types.specs.declared.scope.Kind.TheVariants as kinds
-use Rattle.cyc_types.specs.Regions.{region_eq}
-use Rattle.cyc_types.specs.Types.{Ty, Int, Pointer, Handle, Key, ValueType, Value}
+use Rattle.cyc_types.specs.Types.{region_eq, Ty, Int, Pointer, Handle, Key, ValueType, Value}
 use Rattle.cyc_types.specs.TypedTrees.{Lvalue, Global, Converted, type_of}
 use Rattle.cyc_types.specs.TypedTrees as typed
 use Rattle.cyc_types.specs.Rules.{fault_at, Demand, demand, Rule, Refused, Own, Part, gives, demands}

@@ -1,11 +1,11 @@
 use Rattle.std.proofs.Common.{◌≡◌, List, length, ◌∙◌, sym, ap, subst}
 use Rattle.std.specs.Prelude.{All}
-use Rattle.cyc_select.specs.Labelled.{Fits, IsFormedLine}
+use Rattle.cyc_select.specs.inside.Labelled.{Fits, IsFormedLine}
 use Rattle.cyc_select.specs.declared.code.Line.{Line}
-use Rattle.cyc_asm.specs.Layout.{addresses_of}
-use Rattle.cyc_asm.specs.Order.{arranged}
-use Rattle.cyc_asm.specs.Text.{IsTextOf}
-use Rattle.cyc_asm.specs.Words.{assembled, words_in_order}
+use Rattle.cyc_asm.specs.inside.Layout.{addresses_of}
+use Rattle.cyc_asm.specs.inside.Order.{arranged}
+use Rattle.cyc_asm.specs.inside.Text.{IsTextOf}
+use Rattle.cyc_asm.specs.inside.Words.{assembled, words_in_order}
 use Rattle.cyc_asm.proofs.Arranging.{runs, assembled_means}
 use Rattle.cyc_asm.proofs.assembler.assemble.Goals as goal
 

@@ -1,9 +1,9 @@
 use Rattle.std.proofs.Common.{List, length, sym, subst, ◌∙◌}
 use Rattle.std.specs.Prelude.{All, Bool}
-use Rattle.cyc_select.specs.Labelled.{Fits, IsFormedLine}
+use Rattle.cyc_select.specs.inside.Labelled.{Fits, IsFormedLine}
 use Rattle.cyc_select.specs.declared.code.Line.{Line}
-use Rattle.cyc_asm.specs.Slots.{AreNamed}
-use Rattle.cyc_asm.specs.Order.{arranged}
+use Rattle.cyc_asm.specs.inside.Slots.{AreNamed}
+use Rattle.cyc_asm.specs.inside.Order.{arranged}
 use Rattle.cyc_asm.proofs.Arranging.{permutes, still_named, still_formed, still_fits}
 use Rattle.cyc_asm.proofs.assembler.words_of.Goals as goal
 

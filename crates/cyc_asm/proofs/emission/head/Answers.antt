@@ -3,7 +3,7 @@ use Rattle.cyc_isa.specs.declared.instr.JumpOp.TheVariants.{Plain, AndLink}
 use Rattle.cyc_isa.specs.Encoding.{word_of}
 use Rattle.cyc_select.specs.declared.code.Condition.{Condition}
 use Rattle.cyc_asm.specs.declared.constants.TheConstants.{ROUND_OFFSET}
-use Rattle.cyc_asm.specs.Text.{branch_of}
+use Rattle.cyc_asm.specs.inside.Text.{branch_of}
 use Rattle.cyc_asm.proofs.Tables.{length-most_of_each, length-position_of_each, most_low, position_low, formed_here, near_here, head_here, head_of_branch_here, reach_here, near_branch_here, jump_here}
 use Rattle.cyc_asm.proofs.emission.head.Goals as goal
 

@@ -1,7 +1,7 @@
 use Rattle.std.proofs.Common.{◌≡◌, ℕ, List, [], ◌∷◌, ◌++◌, ◌∙◌, get_or, sym, ap, subst, refl, arith, append_assoc}
 use Rattle.std.specs.Prelude.{OnOk, slice_get}
 use Rattle.cyc_select.specs.declared.code.Line.TheVariants as lines
-use Rattle.cyc_asm.specs.Words.{tail_in}
+use Rattle.cyc_asm.specs.inside.Words.{tail_in}
 use Rattle.cyc_asm.proofs.Tables.{length-position_of_each, position_at, head_at_line, words_behind, words_empty}
 use Rattle.cyc_asm.proofs.emission.push_jump.Goals as goal
 

@@ -1,5 +1,5 @@
 use Rattle.std.proofs.Common.{◌≡◌}
-use Rattle.cyc_asm.specs.Words.{words_before}
+use Rattle.cyc_asm.specs.inside.Words.{words_before}
 use Rattle.cyc_asm.proofs.emission.words_of_all.Given as goal
 
 -- the lines so far have their words

@@ -1,5 +1,5 @@
 use Rattle.std.proofs.Common.{◌+◌, ◌∙◌, ap, arith}
-use Rattle.cyc_select.specs.Labelled.{words_of}
+use Rattle.cyc_select.specs.inside.Labelled.{words_of}
 use Rattle.cyc_asm.proofs.Tables.{most_of_more, most_before-low}
 use Rattle.cyc_asm.proofs.layout.most_of_each.Goals as goal
 

@@ -1,6 +1,6 @@
 use Rattle.std.proofs.Common.{◌≡◌, map}
 use Rattle.std.specs.List.{range_with_len}
-use Rattle.cyc_asm.specs.Layout.{most_before}
+use Rattle.cyc_asm.specs.inside.Layout.{most_before}
 use Rattle.cyc_asm.proofs.layout.most_of_each.Given as goal
 
 -- the lines so far have theirs, and so has the next

@@ -1,8 +1,8 @@
 use Rattle.std.proofs.Common.{◌≡◌, ℕ, suc, ◌+◌, List, ◌++◌, length, take, drop, sym, ap, subst, ◌∙◌, arith}
 use Rattle.std.proofs.Math.Seq.{take-append_seam}
 use Rattle.cyc_select.specs.declared.code.Line.{Line}
-use Rattle.cyc_asm.specs.Slots.{AreNamed}
-use Rattle.cyc_asm.specs.Order.{settled, arranged_before}
+use Rattle.cyc_asm.specs.inside.Slots.{AreNamed}
+use Rattle.cyc_asm.specs.inside.Order.{settled, arranged_before}
 use Rattle.cyc_asm.proofs.Lengths.{length-settled}
 use Rattle.cyc_asm.proofs.Arranging.{permutes_before, still_named}
 use Rattle.cyc_asm.proofs.order.arranged.Goals as goal

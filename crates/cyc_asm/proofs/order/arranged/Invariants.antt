@@ -1,5 +1,5 @@
 use Rattle.std.proofs.Common.{◌≡◌}
-use Rattle.cyc_asm.specs.Order.{arranged_before}
+use Rattle.cyc_asm.specs.inside.Order.{arranged_before}
 use Rattle.cyc_asm.proofs.order.arranged.Given as goal
 
 -- the lines so far have their order

@@ -1,6 +1,6 @@
 use Rattle.std.proofs.Common.{◌≡◌, ℕ, suc, ◌+◌, Bool, sym, ap, ◌∙◌, arith}
 use Rattle.std.specs.Prelude.{◌&&◌}
-use Rattle.cyc_asm.specs.Order.{passes_at, passes_all}
+use Rattle.cyc_asm.specs.inside.Order.{passes_at, passes_all}
 use Rattle.cyc_asm.proofs.order.passes_all.Goals as goal
 use Rattle.cyc_asm.proofs.order.passes_all.Goals.{then-all, else-all}
 

@@ -1,5 +1,5 @@
 use Rattle.std.proofs.Common.{◌≡◌}
-use Rattle.cyc_asm.specs.Order.{passes_all}
+use Rattle.cyc_asm.specs.inside.Order.{passes_all}
 use Rattle.cyc_asm.proofs.order.passes_all.Given as goal
 
 -- it passes those so far, or not

@@ -1,8 +1,8 @@
 use Rattle.std.proofs.Common.{List, length, sym, subst, ◌∙◌}
 use Rattle.std.proofs.lemmas.Option.{slice_get-get_or}
 use Rattle.cyc_select.specs.declared.code.Line.{Line}
-use Rattle.cyc_asm.specs.Slots.{AreNamed}
-use Rattle.cyc_asm.specs.Order.{tried}
+use Rattle.cyc_asm.specs.inside.Slots.{AreNamed}
+use Rattle.cyc_asm.specs.inside.Order.{tried}
 use Rattle.cyc_asm.proofs.Arranging.{permutes_tried, still_named}
 use Rattle.cyc_asm.proofs.Passed.{settled_passed}
 use Rattle.cyc_asm.proofs.order.settle.Goals as goal

@@ -1,5 +1,5 @@
 use Rattle.std.proofs.Common.{◌≡◌}
-use Rattle.cyc_asm.specs.Order.{sunk}
+use Rattle.cyc_asm.specs.inside.Order.{sunk}
 use Rattle.cyc_asm.proofs.order.sink.Given as goal
 
 -- it stands behind those so far

@@ -1,5 +1,5 @@
 use Rattle.std.proofs.Common.{length, take}
-use Rattle.cyc_asm.specs.Slots.{AreNamed}
+use Rattle.cyc_asm.specs.inside.Slots.{AreNamed}
 use Rattle.cyc_asm.proofs.slots.named_of_each.Given as goal
 
 -- the lines so far are in the table

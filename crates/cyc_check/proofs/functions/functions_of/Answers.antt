@@ -1,7 +1,7 @@
 use Rattle.std.proofs.Common.{map, option_map, sym, ap, subst}
 use Rattle.std.proofs.lemmas.List.{drop_all}
 use Rattle.cyc_words.proofs.Lists.{drop_read}
-use Rattle.cyc_syntax.specs.TreeView.{view_name, view_type, view_parameters, view_block, view_declaration}
+use Rattle.cyc_syntax.specs.inside.TreeView.{view_name, view_type, view_parameters, view_block, view_declaration}
 use Rattle.cyc_check.proofs.FunctionLoops.{HasNoBody, passes, adds, ends}
 use Rattle.cyc_check.proofs.functions.functions_of.Goals as goal
 use Rattle.cyc_check.proofs.functions.functions_of.Goals.{in-Struct, in-Exceptions, in-Global, in-Function+in_ok-checked-in-Function+in_ok-push-in-Function}

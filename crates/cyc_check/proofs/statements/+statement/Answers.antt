@@ -6,7 +6,7 @@ use Rattle.std.proofs.lemmas.Result.{err_from_is_err_and}
 use Rattle.std.proofs.lemmas.List.{drop_all}
 use Rattle.cyc_words.proofs.Lists.{drop_read}
 use Rattle.cyc_syntax.specs.declared.tree.Stmt.TheVariants as stmt
-use Rattle.cyc_syntax.specs.TreeView.{place_of_span, view_name, view_expression, view_statement, view_item, items_of, clauses_of, default_of}
+use Rattle.cyc_syntax.specs.inside.TreeView.{place_of_span, view_name, view_expression, view_statement, view_item, items_of, clauses_of, default_of}
 use Rattle.cyc_syntax.specs.Trees.{NoClauses, Default, Case, Try}
 use Rattle.cyc_syntax.specs.Trees as trees
 use Rattle.cyc_syntax.proofs.TreeViewLemmas.{view_statement_block, view_labelled, view_try}
@@ -15,9 +15,9 @@ use Rattle.cyc_types.specs.TypedTreeView as typed_view
 use Rattle.cyc_types.specs.Rules.{and_then, demands, run}
 use Rattle.cyc_types.specs.typing.Scopes.{in_block, in_labelled, behind}
 use Rattle.cyc_types.specs.typing.Statements.{new_name_demanded, rule_statement, rule_items, rule_item, rule_clauses}
-use Rattle.cyc_scope.specs.Code.{Gives, Stops}
-use Rattle.cyc_check.specs.Walks.{behind_block, behind_labelled, behind_clauses}
-use Rattle.cyc_statements.specs.Nodes.{view_boxed_statement}
+use Rattle.cyc_scope.specs.inside.Code.{Gives, Stops}
+use Rattle.cyc_check.specs.inside.Walks.{behind_block, behind_labelled, behind_clauses}
+use Rattle.cyc_statements.specs.inside.Nodes.{view_boxed_statement}
 use Rattle.cyc_check.proofs.Blocks.{Walked, walk_starts, walk_goes_on, walk_stops, walk_gives, block_is_left, labelled_is_left, if_behind, on_ok}
 use Rattle.cyc_check.proofs.Clauses.{CaughtSoFar, catch_goes_on, catch_stops, default_gives, default_stops, try_behind, default_behind, clause_is_left, clause_in_order}
 use Rattle.cyc_check.proofs.Catches.{try_gives, try_stops, clauses_stop_before}

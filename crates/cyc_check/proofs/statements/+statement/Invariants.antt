@@ -1,6 +1,6 @@
 use Rattle.std.proofs.Common.{drop}
 use Rattle.cyc_syntax.specs.Trees.{NoClauses}
-use Rattle.cyc_syntax.specs.TreeView.{items_of, clauses_of}
+use Rattle.cyc_syntax.specs.inside.TreeView.{items_of, clauses_of}
 use Rattle.cyc_check.proofs.Blocks.{Walked}
 use Rattle.cyc_check.proofs.Clauses.{CaughtSoFar}
 use Rattle.cyc_check.proofs.statements.+statement.Given as goal

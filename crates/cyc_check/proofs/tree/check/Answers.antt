@@ -3,13 +3,13 @@ use Rattle.std.proofs.lemmas.Result.{err_from_is_err_and}
 use Rattle.cyc_words.specs.Fault.{memory_fault}
 use Rattle.cyc_words.proofs.Decisions.{decides_by_view}
 use Rattle.cyc_syntax.specs.Trees.{Declaration}
-use Rattle.cyc_syntax.specs.TreeView.{view_declaration}
+use Rattle.cyc_syntax.specs.inside.TreeView.{view_declaration}
 use Rattle.cyc_types.specs.TypedTreeView.{view_program}
 use Rattle.cyc_types.specs.typing.Programs.{rule_program, IsRefusedProgram, check_of}
 use Rattle.cyc_types.proofs.RuleLaws.{answers_tree, answers_fault, is_decided}
 use Rattle.cyc_scope.specs.declared.stop.Stop.{Stop}
 use Rattle.cyc_scope.specs.declared.stop.Stop.TheVariants as stops
-use Rattle.cyc_scope.specs.Code.{fault_of, Stops}
+use Rattle.cyc_scope.specs.inside.Code.{fault_of, Stops}
 use Rattle.cyc_check.proofs.tree.check.Goals as goal
 
 fails : (texts : List (List ℕ)) (tree : List Declaration) (e : Stop) → Stops e (check_of texts tree) → (fault_of e ≡ memory_fault) ⊎ IsRefusedProgram texts tree (fault_of e)

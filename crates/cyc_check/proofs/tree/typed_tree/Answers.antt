@@ -1,11 +1,11 @@
 use Rattle.std.proofs.Common.{◌≡◌, map, Ok, sym, ap, subst, ◌∙◌}
 use Rattle.std.proofs.lemmas.Result.{err_from_is_err_and}
-use Rattle.cyc_syntax.specs.TreeView.{view_declaration}
+use Rattle.cyc_syntax.specs.inside.TreeView.{view_declaration}
 use Rattle.cyc_types.specs.TypedTreeView.{view_function}
 use Rattle.cyc_types.specs.Rules.{run}
 use Rattle.cyc_types.specs.typing.Programs.{known_of, program_of, rule_functions}
-use Rattle.cyc_scope.specs.Code.{Stops}
-use Rattle.cyc_heads.specs.Parts.{program_made}
+use Rattle.cyc_scope.specs.inside.Code.{Stops}
+use Rattle.cyc_heads.specs.inside.Parts.{program_made}
 use Rattle.cyc_heads.proofs.HeadLemmas.{declared_is, made_is}
 use Rattle.cyc_check.proofs.ProgramLemmas.{heads_stop, bodies_stop, made}
 use Rattle.cyc_check.proofs.tree.typed_tree.Goals as goal

@@ -1,5 +1,5 @@
 use Rattle.std.proofs.Common.{◌≡◌, map, drop}
-use Rattle.cyc_elf.specs.Parts.{fields_of, in_order}
+use Rattle.cyc_elf.specs.inside.Parts.{fields_of, in_order}
 use Rattle.cyc_elf.proofs.table.in_order.Given as goal
 
 abbrev pub invariant-loop-h : goal.invariant-loop-h

@@ -4,7 +4,7 @@ use Rattle.std.proofs.lemmas.List.Elements.{All-append}
 use Rattle.cyc_elf.specs.Image.{contents_of, segment_contents}
 use Rattle.cyc_elf.specs.Layout.{file_header, program_header, headers_of, stored, bytes_end, note_headers, bytes_start, note_start}
 use Rattle.cyc_elf.specs.Reading.{reading}
-use Rattle.cyc_elf.specs.Parts.{IsInWords}
+use Rattle.cyc_elf.specs.inside.Parts.{IsInWords}
 use Rattle.cyc_elf.proofs.Writes.{All-left, All-right}
 use Rattle.cyc_elf.proofs.Again.{each_stored, counted, written, reading-layout}
 use Rattle.cyc_elf.proofs.writing.write_image.Goals as goal

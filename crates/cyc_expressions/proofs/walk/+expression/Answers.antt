@@ -2,16 +2,16 @@ use Rattle.std.proofs.Common.{rules, ◌≡◌, ◌+◌, ◌<◌, length, [], �
 use Rattle.std.proofs.lemmas.Result.{err_from_is_err_and}
 use Rattle.std.proofs.lemmas.List.{drop_all}
 use Rattle.cyc_syntax.specs.Trees.{Call, Fields, place_of}
-use Rattle.cyc_syntax.specs.TreeView.{place_of_span, view_name, view_initial, view_expression, expressions_of, postfixes_of, operations_of}
+use Rattle.cyc_syntax.specs.inside.TreeView.{place_of_span, view_name, view_initial, view_expression, expressions_of, postfixes_of, operations_of}
 use Rattle.cyc_syntax.proofs.TreeViewLemmas.{view_call, view_chained, view_binary, view_fields}
 use Rattle.cyc_words.specs.declared.fault.Code.TheVariants as codes
 use Rattle.cyc_words.proofs.Lists.{drop_read}
 use Rattle.cyc_types.specs.Rules.{fault_at, and_then, settled, gives, run}
 use Rattle.cyc_types.specs.typing.Tests.{value_of}
 use Rattle.cyc_types.specs.typing.Expressions.{value_wanted, is_looking_first, loaded, reached, on_heap, created, rule, rule_place, rule_postfixed, rule_made, rule_placement}
-use Rattle.cyc_scope.specs.Code.{Gives, Stops}
-use Rattle.cyc_forms.specs.Forms.{GivesOne, IsReached, IsPlaced, IsMade, view_given, view_boxed, view_found, value_in}
-use Rattle.cyc_expressions.specs.Walks.{one_postfix, left_of, peeked_behind}
+use Rattle.cyc_scope.specs.inside.Code.{Gives, Stops}
+use Rattle.cyc_forms.specs.inside.Forms.{GivesOne, IsReached, IsPlaced, IsMade, view_given, view_boxed, view_found, value_in}
+use Rattle.cyc_expressions.specs.inside.Walks.{one_postfix, left_of, peeked_behind}
 use Rattle.cyc_expressions.proofs.Loops.{first_of}
 use Rattle.cyc_expressions.proofs.Chains.{looked_named, looked_unnamed, values_go_on, chain_goes_on, chain_ends, chain_whole, one_of}
 use Rattle.cyc_expressions.proofs.Arms.{behind_gives, behind_stops, behind_nothing, chain_gives, chain_fails, operation_at, region_new_gives, further_starts, further_goes_on, load_stops}

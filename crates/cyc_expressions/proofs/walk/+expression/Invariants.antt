@@ -1,9 +1,9 @@
 use Rattle.std.proofs.Common.{◌≡◌, map, drop}
-use Rattle.cyc_syntax.specs.TreeView.{place_of_span, expressions_of, postfixes_of, operations_of}
+use Rattle.cyc_syntax.specs.inside.TreeView.{place_of_span, expressions_of, postfixes_of, operations_of}
 use Rattle.cyc_types.specs.Rules.{gives, run}
 use Rattle.cyc_types.specs.typing.Expressions.{Reached, rule_all, rule_chain, rule_postfixed, rule_further}
-use Rattle.cyc_forms.specs.Forms.{IsReached, view_given, view_boxed, value_in}
-use Rattle.cyc_expressions.specs.Walks.{left_of, peeked_behind}
+use Rattle.cyc_forms.specs.inside.Forms.{IsReached, view_given, view_boxed, value_in}
+use Rattle.cyc_expressions.specs.inside.Walks.{left_of, peeked_behind}
 use Rattle.cyc_expressions.proofs.Chains.{behind_values, behind_operations}
 use Rattle.cyc_expressions.proofs.walk.+expression.Given as goal
 

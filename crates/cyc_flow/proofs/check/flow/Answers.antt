@@ -12,7 +12,7 @@ use Rattle.cyc_soundness.proofs.FormedLemmas.{typed_sound}
 use Rattle.cyc_flow.specs.declared.check.Flowed.{Flowed}
 use Rattle.cyc_flow.specs.declared.stop.Stop.{Stop}
 use Rattle.cyc_flow.specs.declared.stop.Stop.TheVariants as stops
-use Rattle.cyc_flow.specs.Code.{fault_of, Stops}
+use Rattle.cyc_flow.specs.inside.Code.{fault_of, Stops}
 use Rattle.cyc_flow.proofs.check.flow.Goals as goal
 
 -- what is said of the functions is said of the program

@@ -1,6 +1,6 @@
 use Rattle.std.proofs.Common.{◌≡◌, drop}
 use Rattle.cyc_types.specs.flow.States.{State}
-use Rattle.cyc_flow.specs.Code.{view_state, lowered, lowered_to}
+use Rattle.cyc_flow.specs.inside.Code.{view_state, lowered, lowered_to}
 use Rattle.cyc_flow.proofs.evaluation.changed.Given as goal
 
 abbrev pub invariant-loop-change : goal.invariant-loop-change

@@ -1,6 +1,6 @@
 use Rattle.cyc_types.specs.flow.States.{are_as_full}
 use Rattle.std.proofs.Common.{map}
-use Rattle.cyc_flow.specs.Code.{view_fullness}
+use Rattle.cyc_flow.specs.inside.Code.{view_fullness}
 use Rattle.cyc_flow.proofs.States.{Compared}
 use Rattle.cyc_flow.proofs.state.are_as_full.Given as goal
 

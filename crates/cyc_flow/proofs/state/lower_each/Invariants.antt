@@ -1,6 +1,6 @@
 use Rattle.std.proofs.Common.{◌≡◌, length, map}
 use Rattle.cyc_types.specs.flow.States.{lower_each}
-use Rattle.cyc_flow.specs.Code.{view_fullness}
+use Rattle.cyc_flow.specs.inside.Code.{view_fullness}
 use Rattle.cyc_flow.proofs.States.{Lowered}
 use Rattle.cyc_flow.proofs.state.lower_each.Given as goal
 

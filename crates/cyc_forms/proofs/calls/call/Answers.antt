@@ -2,8 +2,8 @@ use Rattle.std.proofs.Common.{Ok, ap, subst, ◌∙◌}
 use Rattle.cyc_types.specs.TypedTrees.{Call}
 use Rattle.cyc_types.specs.TypedTreeView.{arguments_of}
 use Rattle.cyc_types.proofs.TypedTreeViewLemmas.{view_call}
-use Rattle.cyc_scope.specs.Code.{Gives}
-use Rattle.cyc_forms.specs.Forms.{view_boxed}
+use Rattle.cyc_scope.specs.inside.Code.{Gives}
+use Rattle.cyc_forms.specs.inside.Forms.{view_boxed}
 use Rattle.cyc_forms.proofs.calls.call.Goals as goal
 
 pub returns : goal.returns

@@ -1,11 +1,11 @@
 use Rattle.std.proofs.Common.{rules, ◌≡◌, nat_eq, length, map, None, subst}
 use Rattle.cyc_words.specs.declared.fault.Code.TheVariants as codes
-use Rattle.cyc_syntax.specs.TreeView.{place_of_span, expressions_of}
+use Rattle.cyc_syntax.specs.inside.TreeView.{place_of_span, expressions_of}
 use Rattle.cyc_types.specs.TypeView.{view_ty}
 use Rattle.cyc_types.specs.Rules.{demand, noted, settled}
 use Rattle.cyc_types.specs.typing.Expressions.{passed_demanded, variables_demanded, constraints_demanded, effect_demanded}
-use Rattle.cyc_scope.specs.Code.{Ends}
-use Rattle.cyc_forms.specs.Forms.{value_in}
+use Rattle.cyc_scope.specs.inside.Code.{Ends}
+use Rattle.cyc_forms.specs.inside.Forms.{value_in}
 use Rattle.cyc_forms.proofs.Settling.{settled_four}
 use Rattle.cyc_forms.proofs.calls.call_wanted.Goals as goal
 

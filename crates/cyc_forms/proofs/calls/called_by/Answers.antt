@@ -1,13 +1,13 @@
 use Rattle.std.proofs.Common.{rules, ◌≡◌, List, map, None, ap, subst, ◌∙◌}
-use Rattle.cyc_syntax.specs.TreeView.{place_of_span, expressions_of}
+use Rattle.cyc_syntax.specs.inside.TreeView.{place_of_span, expressions_of}
 use Rattle.cyc_types.specs.declared.region.Region.{Region}
 use Rattle.cyc_types.specs.declared.typed.Converted.{Converted}
-use Rattle.cyc_types.specs.SignatureView.{view_signature}
+use Rattle.cyc_types.specs.inside.SignatureView.{view_signature}
 use Rattle.cyc_types.specs.TypedTrees.{Signature}
 use Rattle.cyc_types.specs.Rules.{settled, run}
 use Rattle.cyc_types.specs.typing.Expressions.{instance_of, instantiated, call_demanded, called_by}
-use Rattle.cyc_scope.specs.Code.{Gives}
-use Rattle.cyc_forms.specs.Forms.{view_boxed, value_in}
+use Rattle.cyc_scope.specs.inside.Code.{Gives}
+use Rattle.cyc_forms.specs.inside.Forms.{view_boxed, value_in}
 use Rattle.cyc_forms.proofs.PassedValues.{called_well}
 use Rattle.cyc_forms.proofs.calls.called_by.Goals as goal
 

@@ -1,5 +1,5 @@
 use Rattle.std.proofs.Common.{◌≡◌, drop}
-use Rattle.cyc_syntax.specs.TreeView.{place_of_span}
+use Rattle.cyc_syntax.specs.inside.TreeView.{place_of_span}
 use Rattle.cyc_types.specs.Rules.{settled}
 use Rattle.cyc_types.specs.typing.Expressions.{effect_demanded}
 use Rattle.cyc_forms.proofs.calls.demand_effect.Given as goal

@@ -2,7 +2,7 @@ use Rattle.std.proofs.Common.{Ok, ap, subst, ◌∙◌}
 use Rattle.cyc_types.specs.TypedTrees.{Fields}
 use Rattle.cyc_types.specs.TypedTreeView.{view_initial, arguments_of}
 use Rattle.cyc_types.proofs.TypedTreeViewLemmas.{view_fields}
-use Rattle.cyc_scope.specs.Code.{Gives}
+use Rattle.cyc_scope.specs.inside.Code.{Gives}
 use Rattle.cyc_forms.proofs.fields.fields.Goals as goal
 
 pub returns : goal.returns

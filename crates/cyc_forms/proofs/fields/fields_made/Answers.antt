@@ -1,12 +1,12 @@
 use Rattle.std.proofs.Common.{rules, ◌≡◌, map, None, sym, ◌∙◌}
-use Rattle.cyc_syntax.specs.TreeView.{view_name, expressions_of}
+use Rattle.cyc_syntax.specs.inside.TreeView.{view_name, expressions_of}
 use Rattle.cyc_types.specs.TypeView.{view_ty}
 use Rattle.cyc_types.specs.TypedTrees.{Fields}
 use Rattle.cyc_types.specs.TypedTreeView.{view_initial, arguments_of}
 use Rattle.cyc_types.specs.Rules.{settled}
 use Rattle.cyc_types.specs.typing.Expressions.{field_types, arguments_written, fields_known}
-use Rattle.cyc_forms.specs.Forms.{value_in}
-use Rattle.cyc_forms.specs.Passing.{all_with_kinds, fields_asked}
+use Rattle.cyc_forms.specs.inside.Forms.{value_in}
+use Rattle.cyc_forms.specs.inside.Passing.{all_with_kinds, fields_asked}
 use Rattle.cyc_forms.proofs.NewStructs.{asked_is, initial_is}
 use Rattle.cyc_forms.proofs.fields.fields_made.Goals as goal
 

@@ -6,8 +6,8 @@ use Rattle.cyc_types.specs.declared.region.Region.TheVariants.{Heap}
 use Rattle.cyc_types.specs.declared.ty.Ty.{Ty}
 use Rattle.cyc_types.specs.TypeView.{view_ty}
 use Rattle.cyc_types.specs.typing.Expressions.{paired_arguments, first_places}
-use Rattle.cyc_forms.specs.Forms.{value_in}
-use Rattle.cyc_forms.specs.Instances.{noted_places}
+use Rattle.cyc_forms.specs.inside.Forms.{value_in}
+use Rattle.cyc_forms.specs.inside.Instances.{noted_places}
 use Rattle.cyc_forms.proofs.Instances.{instance_found, noted_whole}
 use Rattle.cyc_forms.proofs.instance.instance_of.Goals as goal
 

@@ -1,6 +1,6 @@
 use Rattle.std.proofs.Common.{◌≡◌, drop}
 use Rattle.cyc_types.specs.typing.Expressions.{all_paired}
-use Rattle.cyc_forms.specs.Instances.{noted_places}
+use Rattle.cyc_forms.specs.inside.Instances.{noted_places}
 use Rattle.cyc_forms.proofs.instance.note_all.Given as goal
 
 abbrev pub invariant-loop-i : goal.invariant-loop-i

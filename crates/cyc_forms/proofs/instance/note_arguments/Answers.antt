@@ -2,8 +2,8 @@ use Rattle.std.proofs.Common.{◌+◌, ◌<◌, length, map, drop, sym, ap, ◌�
 use Rattle.cyc_types.specs.TypeView.{view_ty}
 use Rattle.cyc_types.specs.TypedTrees.{type_of}
 use Rattle.cyc_types.specs.typing.Expressions.{paired_argument, paired_arguments}
-use Rattle.cyc_forms.specs.Forms.{value_in}
-use Rattle.cyc_forms.specs.Instances.{noted_places}
+use Rattle.cyc_forms.specs.inside.Forms.{value_in}
+use Rattle.cyc_forms.specs.inside.Instances.{noted_places}
 use Rattle.cyc_forms.proofs.Instances.{given_next}
 use Rattle.cyc_forms.proofs.instance.note_arguments.Goals as goal
 

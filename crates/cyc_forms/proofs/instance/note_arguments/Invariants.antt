@@ -1,8 +1,8 @@
 use Rattle.std.proofs.Common.{◌≡◌, map, drop}
 use Rattle.cyc_types.specs.TypeView.{view_ty}
 use Rattle.cyc_types.specs.typing.Expressions.{paired_arguments}
-use Rattle.cyc_forms.specs.Forms.{value_in}
-use Rattle.cyc_forms.specs.Instances.{noted_places}
+use Rattle.cyc_forms.specs.inside.Forms.{value_in}
+use Rattle.cyc_forms.specs.inside.Instances.{noted_places}
 use Rattle.cyc_forms.proofs.instance.note_arguments.Given as goal
 
 abbrev pub invariant-loop-i : goal.invariant-loop-i

@@ -1,7 +1,7 @@
 use Rattle.std.proofs.Common.{Ok, ap, subst}
 use Rattle.cyc_types.proofs.TypedTreeViewLemmas.{view_binary}
-use Rattle.cyc_scope.specs.Code.{Gives}
-use Rattle.cyc_forms.specs.Forms.{view_boxed}
+use Rattle.cyc_scope.specs.inside.Code.{Gives}
+use Rattle.cyc_forms.specs.inside.Forms.{view_boxed}
 use Rattle.cyc_forms.proofs.operators.binary.Goals as goal
 
 pub returns : goal.returns

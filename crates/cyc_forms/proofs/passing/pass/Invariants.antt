@@ -1,9 +1,9 @@
 use Rattle.std.proofs.Common.{◌≡◌, map, drop}
-use Rattle.cyc_syntax.specs.TreeView.{expressions_of}
+use Rattle.cyc_syntax.specs.inside.TreeView.{expressions_of}
 use Rattle.cyc_types.specs.TypeView.{view_ty}
 use Rattle.cyc_types.specs.Rules.{settled}
 use Rattle.cyc_types.specs.typing.Expressions.{passed_demanded}
-use Rattle.cyc_forms.specs.Forms.{value_in}
+use Rattle.cyc_forms.specs.inside.Forms.{value_in}
 use Rattle.cyc_forms.proofs.passing.pass.Given as goal
 
 abbrev pub invariant-loop-i : goal.invariant-loop-i

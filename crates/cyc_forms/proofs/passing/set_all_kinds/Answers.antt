@@ -1,6 +1,6 @@
 use Rattle.std.proofs.Common.{slice_get, take, refl, sym, ap, ◌∙◌, add-one}
 use Rattle.std.proofs.lemmas.Option.{slice_get_read}
-use Rattle.cyc_forms.specs.Passing.{with_kinds_at, all_with_kinds}
+use Rattle.cyc_forms.specs.inside.Passing.{with_kinds_at, all_with_kinds}
 use Rattle.cyc_forms.proofs.PassedValues.{none_set, set_more}
 use Rattle.cyc_forms.proofs.passing.set_all_kinds.Goals as goal
 

@@ -1,5 +1,5 @@
 use Rattle.std.proofs.Common.{◌≡◌, take}
-use Rattle.cyc_forms.specs.Passing.{all_with_kinds}
+use Rattle.cyc_forms.specs.inside.Passing.{all_with_kinds}
 use Rattle.cyc_forms.proofs.passing.set_all_kinds.Given as goal
 
 abbrev pub invariant-loop-i : goal.invariant-loop-i

@@ -1,6 +1,6 @@
 use Rattle.std.proofs.Common.{subst}
-use Rattle.cyc_scope.specs.Code.{Gives}
-use Rattle.cyc_forms.specs.Forms.{view_found}
+use Rattle.cyc_scope.specs.inside.Code.{Gives}
+use Rattle.cyc_forms.specs.inside.Forms.{view_found}
 use Rattle.cyc_forms.proofs.Handed.{reached_is}
 use Rattle.cyc_forms.proofs.places.as_place.Goals as goal
 

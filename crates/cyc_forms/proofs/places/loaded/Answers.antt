@@ -1,7 +1,7 @@
 use Rattle.std.proofs.Common.{subst}
-use Rattle.cyc_syntax.specs.TreeView.{place_of_span}
-use Rattle.cyc_scope.specs.Code.{Gives}
-use Rattle.cyc_forms.specs.Forms.{view_boxed}
+use Rattle.cyc_syntax.specs.inside.TreeView.{place_of_span}
+use Rattle.cyc_scope.specs.inside.Code.{Gives}
+use Rattle.cyc_forms.specs.inside.Forms.{view_boxed}
 use Rattle.cyc_forms.proofs.Handed.{loaded_is}
 use Rattle.cyc_forms.proofs.places.loaded.Goals as goal
 

@@ -1,6 +1,6 @@
 use Rattle.std.proofs.Common.{◌≡◌, ℕ, sym, subst, ◌∙◌}
 use Rattle.std.specs.Prelude.{bit_and}
-use Rattle.cyc_plain.specs.Program.{routine_of}
+use Rattle.cyc_plain.specs.inside.Program.{routine_of}
 use Rattle.cyc_frame.proofs.Homes.{next_both, next_register}
 use Rattle.cyc_frame.proofs.allocation.home_of.Goals as goal
 

@@ -1,8 +1,8 @@
 use Rattle.std.proofs.Common.{ℕ, ◌+◌, ◌∷◌, [], ◌++◌, sym, subst}
 use Rattle.std.specs.Prelude.{List}
-use Rattle.cyc_plain.specs.Program.{routine_of}
+use Rattle.cyc_plain.specs.inside.Program.{routine_of}
 use Rattle.cyc_frame.specs.declared.home.Home.{Home}
-use Rattle.cyc_frame.specs.Allocation.{AreFirstHomes, register_count}
+use Rattle.cyc_frame.specs.inside.Allocation.{AreFirstHomes, register_count}
 use Rattle.cyc_frame.proofs.Homes.{more_homes}
 use Rattle.cyc_frame.proofs.allocation.homes_in.Goals as goal
 

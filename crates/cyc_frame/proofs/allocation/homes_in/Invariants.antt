@@ -1,5 +1,5 @@
-use Rattle.cyc_plain.specs.Program.{routine_of}
-use Rattle.cyc_frame.specs.Allocation.{AreFirstHomes}
+use Rattle.cyc_plain.specs.inside.Program.{routine_of}
+use Rattle.cyc_frame.specs.inside.Allocation.{AreFirstHomes}
 use Rattle.cyc_frame.proofs.allocation.homes_in.Given as goal
 
 -- the homes of the slots so far, how many registers they have, and how many of them have both

@@ -1,6 +1,6 @@
 use Rattle.std.proofs.Common.{◌≤◌}
 use Rattle.cyc_frame.specs.declared.live.TheConstants.{MOST_CHOSEN}
-use Rattle.cyc_frame.specs.Masks.{AreMasks}
+use Rattle.cyc_frame.specs.inside.Masks.{AreMasks}
 use Rattle.cyc_frame.proofs.allocation.masks_of.Given as goal
 
 -- the masks so far, and the next number

@@ -1,7 +1,7 @@
 use Rattle.std.proofs.Common.{ap, sym, subst, arith, List, ℕ, Some, ◌+◌, ◌∙◌}
 use Rattle.std.proofs.lemmas.Option.{slice_get-get_or}
-use Rattle.cyc_plain.specs.Program.{routine_of}
-use Rattle.cyc_frame.specs.IdlePlaces.{is_idle}
+use Rattle.cyc_plain.specs.inside.Program.{routine_of}
+use Rattle.cyc_frame.specs.inside.IdlePlaces.{is_idle}
 use Rattle.cyc_frame.proofs.IdleCode.{AreFirstIdle, idle, more_idle}
 use Rattle.cyc_frame.proofs.idle.idle_places.Goals as goal
 

@@ -1,4 +1,4 @@
-use Rattle.cyc_plain.specs.Program.{routine_of}
+use Rattle.cyc_plain.specs.inside.Program.{routine_of}
 use Rattle.cyc_frame.proofs.IdleCode.{AreFirstIdle}
 use Rattle.cyc_frame.proofs.idle.idle_places.Given as goal
 

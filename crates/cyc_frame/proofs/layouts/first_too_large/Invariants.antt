@@ -1,6 +1,6 @@
 use Rattle.std.proofs.Common.{◌≡◌, map, drop}
-use Rattle.cyc_plain.specs.Program.{routine_of}
-use Rattle.cyc_frame.specs.Layout.{first_too_large}
+use Rattle.cyc_plain.specs.inside.Program.{routine_of}
+use Rattle.cyc_frame.specs.inside.Layout.{first_too_large}
 use Rattle.cyc_frame.proofs.layouts.first_too_large.Given as goal
 
 -- no function so far has a frame that is too large

@@ -1,5 +1,5 @@
 use Rattle.std.proofs.Common.{sym, subst, ◌+◌}
-use Rattle.cyc_frame.specs.Layout.{AreFirstFrames}
+use Rattle.cyc_frame.specs.inside.Layout.{AreFirstFrames}
 use Rattle.cyc_frame.proofs.Sound.{more_frames}
 use Rattle.cyc_frame.proofs.layouts.frames_of.Goals as goal
 

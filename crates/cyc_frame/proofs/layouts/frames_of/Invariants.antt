@@ -1,4 +1,4 @@
-use Rattle.cyc_frame.specs.Layout.{AreFirstFrames}
+use Rattle.cyc_frame.specs.inside.Layout.{AreFirstFrames}
 use Rattle.cyc_frame.proofs.layouts.frames_of.Given as goal
 
 -- the functions so far have their frames

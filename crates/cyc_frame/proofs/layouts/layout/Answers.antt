@@ -1,5 +1,5 @@
 use Rattle.std.proofs.Common.{◌∙◌, sym, subst, length}
-use Rattle.cyc_frame.specs.Layout.{AreFirstFrames}
+use Rattle.cyc_frame.specs.inside.Layout.{AreFirstFrames}
 use Rattle.cyc_frame.proofs.Sound.{framed, small_frames, too_large}
 use Rattle.cyc_frame.proofs.layouts.layout.Goals as goal
 

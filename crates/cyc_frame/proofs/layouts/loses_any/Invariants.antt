@@ -1,5 +1,5 @@
 use Rattle.std.proofs.Common.{◌≡◌, drop}
-use Rattle.cyc_frame.specs.Layout.{loses_any}
+use Rattle.cyc_frame.specs.inside.Layout.{loses_any}
 use Rattle.cyc_frame.proofs.layouts.loses_any.Given as goal
 
 -- no instruction so far is one

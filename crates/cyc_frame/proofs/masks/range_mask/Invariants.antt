@@ -1,5 +1,5 @@
 use Rattle.std.proofs.Common.{◌≡◌}
-use Rattle.cyc_frame.specs.Masks.{range_mask}
+use Rattle.cyc_frame.specs.inside.Masks.{range_mask}
 use Rattle.cyc_frame.proofs.masks.range_mask.Given as goal
 
 -- the slots so far

@@ -6,7 +6,7 @@ use Rattle.cyc_types.specs.declared.typed.Expr.{Expr}
 use Rattle.cyc_types.specs.TypeView.{view_ty}
 use Rattle.cyc_types.specs.TypedTreeView.{view_expression, arguments_of, operations_of}
 use Rattle.cyc_meaning.specs.FrameCount.{expression_need, operations_need}
-use Rattle.cyc_frame_count.specs.Needs.{operands_need}
+use Rattle.cyc_frame_count.specs.inside.Needs.{operands_need}
 use Rattle.cyc_frame_count.proofs.NeedsFound.{call_needs, fields_need, binary_needs}
 use Rattle.cyc_frame_count.proofs.count.+need.Goals as goal
 

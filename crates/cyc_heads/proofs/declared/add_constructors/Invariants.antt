@@ -1,6 +1,6 @@
 use Rattle.std.proofs.Common.{◌≡◌, map, drop}
-use Rattle.cyc_syntax.specs.TreeView.{view_constructor}
-use Rattle.cyc_heads.specs.Declaring.{with_exceptions}
+use Rattle.cyc_syntax.specs.inside.TreeView.{view_constructor}
+use Rattle.cyc_heads.specs.inside.Declaring.{with_exceptions}
 use Rattle.cyc_heads.proofs.declared.add_constructors.Given as goal
 
 abbrev pub invariant-loop-constructor : goal.invariant-loop-constructor

@@ -1,7 +1,7 @@
 use Rattle.std.proofs.Common.{rules, ◌≡◌, ◌+◌, ◌∷◌, map, drop, get_or, sym, ap, ◌∙◌}
 use Rattle.std.proofs.lemmas.List.{drop_more}
-use Rattle.cyc_syntax.specs.TreeView.{view_declaration}
-use Rattle.cyc_heads.specs.Declaring.{state_of, behind_heads}
+use Rattle.cyc_syntax.specs.inside.TreeView.{view_declaration}
+use Rattle.cyc_heads.specs.inside.Declaring.{state_of, behind_heads}
 use Rattle.cyc_heads.proofs.DeclaringLemmas.{one_behind}
 use Rattle.cyc_heads.proofs.declared.program_declared.Goals as goal
 

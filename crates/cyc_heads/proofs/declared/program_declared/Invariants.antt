@@ -1,6 +1,6 @@
 use Rattle.std.proofs.Common.{◌≡◌, map, drop}
-use Rattle.cyc_syntax.specs.TreeView.{view_declaration}
-use Rattle.cyc_heads.specs.Declaring.{state_of, first_state, behind_heads}
+use Rattle.cyc_syntax.specs.inside.TreeView.{view_declaration}
+use Rattle.cyc_heads.specs.inside.Declaring.{state_of, first_state, behind_heads}
 use Rattle.cyc_heads.proofs.declared.program_declared.Given as goal
 
 abbrev pub invariant-loop-declaration : goal.invariant-loop-declaration

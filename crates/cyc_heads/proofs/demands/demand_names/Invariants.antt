@@ -1,5 +1,5 @@
 use Rattle.std.proofs.Common.{◌≡◌, map, drop}
-use Rattle.cyc_syntax.specs.TreeView.{view_name}
+use Rattle.cyc_syntax.specs.inside.TreeView.{view_name}
 use Rattle.cyc_types.specs.Rules.{settled}
 use Rattle.cyc_types.specs.typing.Formation.{names_demanded}
 use Rattle.cyc_heads.proofs.demands.demand_names.Given as goal

@@ -1,5 +1,5 @@
 use Rattle.std.proofs.Common.{◌≡◌, None, map, drop}
-use Rattle.cyc_syntax.specs.TreeView.{view_constructor}
+use Rattle.cyc_syntax.specs.inside.TreeView.{view_constructor}
 use Rattle.cyc_types.specs.Rules.{settled}
 use Rattle.cyc_types.specs.typing.Heads.{constructor_names, distinct_demanded, with_all}
 use Rattle.cyc_heads.proofs.distinct.check_constructors.Given as goal

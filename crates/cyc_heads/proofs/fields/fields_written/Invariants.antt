@@ -1,7 +1,7 @@
 use Rattle.std.proofs.Common.{◌≡◌, map, take}
-use Rattle.cyc_syntax.specs.TreeView.{view_member}
+use Rattle.cyc_syntax.specs.inside.TreeView.{view_member}
 use Rattle.cyc_types.specs.typing.Heads.{fields_written}
-use Rattle.cyc_scope.specs.Entries.{view_field}
+use Rattle.cyc_scope.specs.inside.Entries.{view_field}
 use Rattle.cyc_heads.proofs.fields.fields_written.Given as goal
 
 abbrev pub invariant-loop-field : goal.invariant-loop-field

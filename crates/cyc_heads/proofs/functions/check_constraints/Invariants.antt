@@ -1,5 +1,5 @@
 use Rattle.std.proofs.Common.{◌≡◌, None, map, drop}
-use Rattle.cyc_syntax.specs.TreeView.{view_constraint}
+use Rattle.cyc_syntax.specs.inside.TreeView.{view_constraint}
 use Rattle.cyc_types.specs.Rules.{settled}
 use Rattle.cyc_types.specs.typing.Heads.{constraints_demanded}
 use Rattle.cyc_heads.proofs.functions.check_constraints.Given as goal

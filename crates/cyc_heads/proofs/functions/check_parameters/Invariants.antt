@@ -1,5 +1,5 @@
 use Rattle.std.proofs.Common.{◌≡◌, map, drop}
-use Rattle.cyc_syntax.specs.TreeView.{view_member}
+use Rattle.cyc_syntax.specs.inside.TreeView.{view_member}
 use Rattle.cyc_types.specs.Rules.{run}
 use Rattle.cyc_types.specs.typing.Heads.{rule_parameters}
 use Rattle.cyc_heads.proofs.functions.check_parameters.Given as goal

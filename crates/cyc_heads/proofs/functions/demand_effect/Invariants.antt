@@ -1,7 +1,7 @@
 use Rattle.std.proofs.Common.{◌≡◌, map, drop}
-use Rattle.cyc_syntax.specs.TreeView.{view_name}
+use Rattle.cyc_syntax.specs.inside.TreeView.{view_name}
 use Rattle.cyc_types.specs.Rules.{settled}
-use Rattle.cyc_heads.specs.KeyTables.{effect_asked}
+use Rattle.cyc_heads.specs.inside.KeyTables.{effect_asked}
 use Rattle.cyc_heads.proofs.functions.demand_effect.Given as goal
 
 abbrev pub invariant-loop-name : goal.invariant-loop-name

@@ -1,5 +1,5 @@
 use Rattle.std.proofs.Common.{◌≡◌, ◌++◌, map, drop}
-use Rattle.cyc_syntax.specs.TreeView.{view_declaration}
+use Rattle.cyc_syntax.specs.inside.TreeView.{view_declaration}
 use Rattle.cyc_types.specs.TypedTreeView.{view_global}
 use Rattle.cyc_types.specs.typing.Programs.{globals_of}
 use Rattle.cyc_heads.proofs.globals.globals_of.Given as goal

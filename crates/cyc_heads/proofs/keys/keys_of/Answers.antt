@@ -4,7 +4,7 @@ use Rattle.std.proofs.lemmas.List.{drop_more}
 use Rattle.cyc_types.specs.TypeView.{view_ty}
 use Rattle.cyc_types.specs.typing.Formation.{is_key_of}
 use Rattle.cyc_types.specs.typing.Heads.{has_key}
-use Rattle.cyc_heads.specs.KeyTables.{has}
+use Rattle.cyc_heads.specs.inside.KeyTables.{has}
 use Rattle.cyc_heads.proofs.keys.keys_of.Goals as goal
 
 pub loop-of_type-preserved : goal.loop-of_type-preserved

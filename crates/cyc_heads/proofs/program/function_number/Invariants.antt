@@ -1,5 +1,5 @@
 use Rattle.std.proofs.Common.{◌≡◌, ◌+◌, ◌≤◌, map, drop}
-use Rattle.cyc_syntax.specs.TreeView.{view_declaration}
+use Rattle.cyc_syntax.specs.inside.TreeView.{view_declaration}
 use Rattle.cyc_types.specs.typing.Programs.{function_number}
 use Rattle.cyc_heads.proofs.program.function_number.Given as goal
 

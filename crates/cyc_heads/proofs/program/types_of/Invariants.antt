@@ -1,7 +1,7 @@
 use Rattle.std.proofs.Common.{◌≡◌, map, take}
 use Rattle.cyc_types.specs.TypeView.{view_ty}
 use Rattle.cyc_types.specs.typing.Scopes.{Field}
-use Rattle.cyc_scope.specs.Entries.{view_field}
+use Rattle.cyc_scope.specs.inside.Entries.{view_field}
 use Rattle.cyc_heads.proofs.program.types_of.Given as goal
 
 abbrev pub invariant-loop-field : goal.invariant-loop-field

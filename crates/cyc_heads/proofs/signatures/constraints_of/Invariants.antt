@@ -1,5 +1,5 @@
 use Rattle.std.proofs.Common.{◌≡◌, map, take}
-use Rattle.cyc_syntax.specs.TreeView.{view_constraint}
+use Rattle.cyc_syntax.specs.inside.TreeView.{view_constraint}
 use Rattle.cyc_types.specs.typing.Heads.{constraints_of}
 use Rattle.cyc_heads.proofs.signatures.constraints_of.Given as goal
 

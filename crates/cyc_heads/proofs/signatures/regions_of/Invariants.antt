@@ -1,5 +1,5 @@
 use Rattle.std.proofs.Common.{◌≡◌, map, take}
-use Rattle.cyc_syntax.specs.TreeView.{view_name}
+use Rattle.cyc_syntax.specs.inside.TreeView.{view_name}
 use Rattle.cyc_types.specs.typing.Formation.{region_of}
 use Rattle.cyc_heads.proofs.signatures.regions_of.Given as goal
 

@@ -1,5 +1,5 @@
 use Rattle.std.proofs.Common.{◌≡◌, ◌++◌, ◌+◌, ◌-◌}
-use Rattle.cyc_heads.specs.KeyTables.{without}
+use Rattle.cyc_heads.specs.inside.KeyTables.{without}
 use Rattle.cyc_heads.proofs.signatures.without_keys.Given as goal
 
 abbrev pub invariant-loop-i : goal.invariant-loop-i

@@ -1,5 +1,5 @@
 use Rattle.std.proofs.Common.{◌≡◌, map, drop}
-use Rattle.cyc_syntax.specs.TreeView.{view_name}
+use Rattle.cyc_syntax.specs.inside.TreeView.{view_name}
 use Rattle.cyc_types.specs.typing.Heads.{parameter_names}
 use Rattle.cyc_heads.proofs.structs.declare_parameters.Given as goal
 

@@ -1,5 +1,5 @@
 use Rattle.std.proofs.Common.{◌≡◌, map, drop}
-use Rattle.cyc_syntax.specs.TreeView.{view_declaration}
+use Rattle.cyc_syntax.specs.inside.TreeView.{view_declaration}
 use Rattle.cyc_types.specs.typing.Heads.{declares}
 use Rattle.cyc_heads.proofs.tree.declares.Given as goal
 

@@ -1,5 +1,5 @@
 use Rattle.std.proofs.Common.{codes, refl}
-use Rattle.cyc_isa.specs.Operand.{operand_text}
+use Rattle.cyc_isa.specs.inside.Operand.{operand_text}
 use Rattle.cyc_isa.proofs.TextLemmas.{TakesText-parts, TakesText-stopped}
 use Rattle.cyc_isa.proofs.text.put_further.Goals as goal
 

@@ -1,6 +1,6 @@
 use Rattle.std.proofs.Common.{◌++◌, [], ◌∷◌, codes, append_assoc}
 use Rattle.cyc_isa.specs.Text.{line}
-use Rattle.cyc_isa.specs.Operand.{operand_text}
+use Rattle.cyc_isa.specs.inside.Operand.{operand_text}
 use Rattle.cyc_isa.proofs.TextLemmas.{TakesText-parts, TakesText-stopped}
 use Rattle.cyc_isa.proofs.text.put_triple.Goals as goal
 

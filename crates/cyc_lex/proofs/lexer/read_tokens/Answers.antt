@@ -5,8 +5,8 @@ use Rattle.cyc_words.specs.declared.span.Span.{Span}
 use Rattle.cyc_syntax.specs.Spelling.{is_space}
 use Rattle.cyc_syntax.specs.TokenRule.{max_tokens}
 use Rattle.cyc_syntax.specs.Tokens.{kind_of}
-use Rattle.cyc_syntax.specs.Place.{IsBehind}
-use Rattle.cyc_lex.specs.Found.{IsFound, IsReadAs}
+use Rattle.cyc_syntax.specs.inside.Place.{IsBehind}
+use Rattle.cyc_lex.specs.inside.Found.{IsFound, IsReadAs}
 use Rattle.cyc_lex.specs.Refusals.{FailsHere, IsFirstFault}
 use Rattle.cyc_lex.proofs.FaultLemmas.{fails_first, too_many_first}
 use Rattle.cyc_lex.proofs.LexLemmas.{IsReadUpTo, token_at, tokens_within, found_some, found_space, blank_read, token_read}

@@ -1,7 +1,7 @@
 use Rattle.std.proofs.Common.{◌≡◌, drop, map}
 use Rattle.std.specs.List.{list_any}
 use Rattle.cyc_types.specs.TypeView.{view_ty}
-use Rattle.cyc_lower.specs.Lowering.{is_handle}
+use Rattle.cyc_lower.specs.inside.Lowering.{is_handle}
 use Rattle.cyc_lower.proofs.functions.has_handles.Given as goal
 
 -- none of the types so far is a handle's

@@ -4,9 +4,9 @@ use Rattle.cyc_types.specs.TypeView.{view_ty}
 use Rattle.cyc_types.specs.TypedTreeView.{view_struct, view_function, items_of}
 use Rattle.cyc_types.specs.declared.ty.Ty.{Ty}
 use Rattle.cyc_meaning.specs.FrameCount.{items_need, kept_by_items, words_of_all}
-use Rattle.cyc_lower.specs.ValueCode.{first_temporary}
-use Rattle.cyc_lower.specs.ControlCode.{outside_loops}
-use Rattle.cyc_lower.specs.Lowering.{function_code, items_code, span_of_place}
+use Rattle.cyc_lower.specs.inside.ValueCode.{first_temporary}
+use Rattle.cyc_lower.specs.inside.ControlCode.{outside_loops}
+use Rattle.cyc_lower.specs.inside.Lowering.{function_code, items_code, span_of_place}
 use Rattle.cyc_lower.proofs.sizes.Routines.{few_locals, function_made}
 use Rattle.cyc_lower.proofs.functions.lower_function.Goals as goal
 

@@ -1,7 +1,7 @@
 use Rattle.std.specs.Prelude.{map}
 use Rattle.cyc_types.specs.TypedTreeView.{view_struct, view_function}
-use Rattle.cyc_plain.specs.Program.{routine_of}
-use Rattle.cyc_lower.specs.Lowering.{lower_function}
+use Rattle.cyc_plain.specs.inside.Program.{routine_of}
+use Rattle.cyc_lower.specs.inside.Lowering.{lower_function}
 use Rattle.cyc_lower.proofs.sizes.Routines.{numbered_at, one_more}
 use Rattle.cyc_lower.proofs.functions.lower_functions.Goals as goal
 

@@ -4,11 +4,11 @@ use Rattle.cyc_types.specs.declared.typed.Function.{Function}
 use Rattle.cyc_types.specs.declared.typed.Global.{Global}
 use Rattle.cyc_types.specs.declared.typed.StructType.{StructType}
 use Rattle.cyc_types.specs.TypedTreeView.{view_struct, view_function, view_global, view_program}
-use Rattle.cyc_plain.specs.Program.{program_of, routine_of}
-use Rattle.cyc_plain.specs.WellFormed.{IsPlain}
+use Rattle.cyc_plain.specs.inside.Program.{program_of, routine_of}
+use Rattle.cyc_plain.specs.inside.WellFormed.{IsPlain}
 use Rattle.cyc_meaning.specs.FrameCount.{words_of_all}
-use Rattle.cyc_lower.specs.Slots.{starts_from, global_types}
-use Rattle.cyc_lower.specs.Lowering.{lower_function, lower_globals, globals_of, lower_program, may_open, scopes_if, scopes_of}
+use Rattle.cyc_lower.specs.inside.Slots.{starts_from, global_types}
+use Rattle.cyc_lower.specs.inside.Lowering.{lower_function, lower_globals, globals_of, lower_program, may_open, scopes_if, scopes_of}
 use Rattle.cyc_lower.proofs.sizes.Lowerings.{is_plain}
 use Rattle.cyc_lower.proofs.functions.lower_tree.Goals as goal
 

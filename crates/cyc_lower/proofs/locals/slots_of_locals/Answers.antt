@@ -3,7 +3,7 @@ use Rattle.cyc_types.specs.declared.ty.Ty.{Ty}
 use Rattle.cyc_types.specs.TypeView.{view_ty}
 use Rattle.cyc_types.specs.TypedTreeView.{view_function}
 use Rattle.cyc_meaning.specs.FrameCount.{words_of_all}
-use Rattle.cyc_lower.specs.Slots.{starts_from}
+use Rattle.cyc_lower.specs.inside.Slots.{starts_from}
 use Rattle.cyc_lower.proofs.slots.Slots.{slots-made}
 use Rattle.cyc_lower.proofs.locals.slots_of_locals.Goals as goal
 

@@ -1,7 +1,7 @@
 use Rattle.std.proofs.Common.{◌≡◌, drop}
 use Rattle.cyc_types.specs.TypedTreeView.{operations_of}
-use Rattle.cyc_lower.specs.ExpressionCode.{are_simple}
-use Rattle.cyc_lower.specs.Emission.{view_starts}
+use Rattle.cyc_lower.specs.inside.ExpressionCode.{are_simple}
+use Rattle.cyc_lower.specs.inside.Emission.{view_starts}
 use Rattle.cyc_lower.proofs.operands.are_simple.Given as goal
 
 -- the operators so far are on operands without code

@@ -1,6 +1,6 @@
 use Rattle.std.proofs.Common.{sym, arith}
 use Rattle.cyc_types.specs.TypedTreeView.{view_expression}
-use Rattle.cyc_lower.specs.Emission.{view_starts}
+use Rattle.cyc_lower.specs.inside.Emission.{view_starts}
 use Rattle.cyc_lower.proofs.emission.Conditions.{compares_alone}
 use Rattle.cyc_lower.proofs.operands.compares_light.Goals as goal
 

@@ -1,6 +1,6 @@
 -- Chars of cells and of variables.
 use Rattle.std.proofs.Common.{◌+◌, ◌%◌, ap, ◌∙◌}
-use Rattle.cyc_words.specs.WordBytes.{byte_in}
+use Rattle.cyc_words.specs.Bytes.{byte_in}
 use Rattle.cyc_objects.proofs.Chars.{char-loaded, char-stored, last-word, last-place, last-loaded, last-stored}
 use Rattle.cyc_objects.proofs.laws.chars_are_bytes.Goals as goal
 

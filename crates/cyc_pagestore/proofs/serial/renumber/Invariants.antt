@@ -1,6 +1,6 @@
 use Rattle.std.proofs.Common.{◌≡◌, ◌≤◌, ◌<◌, ℕ, ◌+◌, length}
 use Rattle.std.specs.Prelude.{slice_index}
-use Rattle.cyc_pagestore.specs.Live.{filled_by, reach}
+use Rattle.cyc_pagestore.specs.inside.Live.{filled_by, reach}
 use Rattle.cyc_pagestore.proofs.serial.renumber.Given as goal
 
 -- what the first pages have filled is what is live by it

@@ -1,7 +1,7 @@
 use Rattle.std.proofs.Common.{◌≡◌, [], ◌∷◌, ◌<◌, false, set, sym, ap, subst, ◌∙◌, arith}
-use Rattle.cyc_rawpages.specs.Lists.{chain_at, freed}
-use Rattle.cyc_rawpages.specs.Pool.{PoolState, IsFree}
-use Rattle.cyc_pagestore.specs.Table.{AreAlone}
+use Rattle.cyc_rawpages.specs.inside.Lists.{chain_at, freed}
+use Rattle.cyc_rawpages.specs.inside.Pool.{PoolState, IsFree}
+use Rattle.cyc_pagestore.specs.inside.Table.{AreAlone}
 use Rattle.cyc_pagestore.proofs.Calls.{none-in}
 use Rattle.cyc_pagestore.proofs.First.{true_count, count-less, both, still-free, still-alone, back-is}
 use Rattle.cyc_pagestore.proofs.table.+take_first.Goals as goal

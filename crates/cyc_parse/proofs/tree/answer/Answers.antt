@@ -1,7 +1,7 @@
 use Rattle.std.proofs.Common.{map, ap, ◌∙◌}
 use Rattle.std.proofs.lemmas.Result.{err_from_is_err_and}
 use Rattle.cyc_syntax.specs.Tokens.{token_of}
-use Rattle.cyc_parse.specs.Code.{view_symbol}
+use Rattle.cyc_parse.specs.inside.Code.{view_symbol}
 use Rattle.cyc_parse.proofs.Ends.{refused_of}
 use Rattle.cyc_parse.proofs.tree.answer.Goals as goal
 

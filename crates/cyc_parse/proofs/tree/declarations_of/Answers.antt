@@ -1,9 +1,9 @@
 use Rattle.std.proofs.Common.{[], inr, refl, sym, ap, subst, ◌∙◌}
 use Rattle.cyc_parse.specs.declared.stop.Stop.{Stop}
-use Rattle.cyc_parse.specs.Code.{Stops, view_reason}
+use Rattle.cyc_parse.specs.inside.Code.{Stops, view_reason}
 use Rattle.cyc_syntax.specs.Symbols.{Place}
 use Rattle.cyc_parse.specs.Faults.{fault_of}
-use Rattle.cyc_parse.specs.Answers.{whole_program}
+use Rattle.cyc_parse.specs.inside.Answers.{whole_program}
 use Rattle.cyc_parse.proofs.Ends.{end_behind}
 use Rattle.cyc_parse.proofs.tree.declarations_of.Goals as goal
 

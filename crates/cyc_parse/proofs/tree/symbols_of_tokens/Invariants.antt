@@ -2,7 +2,7 @@ use Rattle.std.proofs.Common.{◌≡◌, map, take, fold}
 use Rattle.cyc_syntax.specs.Names.{with_text}
 use Rattle.cyc_syntax.specs.Tokens.{token_of}
 use Rattle.cyc_syntax.specs.Symbols.{texts_in, symbol_of}
-use Rattle.cyc_parse.specs.Code.{view_symbol}
+use Rattle.cyc_parse.specs.inside.Code.{view_symbol}
 use Rattle.cyc_parse.proofs.tree.symbols_of_tokens.Given as goal
 
 abbrev pub invariant-loop-token : goal.invariant-loop-token

@@ -1,5 +1,5 @@
 -- Where calls lie.
-use Rattle.cyc_plain.specs.Step.{start}
+use Rattle.cyc_plain.specs.inside.Step.{start}
 use Rattle.cyc_plain.proofs.CallLaws.{below_run, below_start}
 use Rattle.cyc_plain.proofs.laws.calls_lie_apart.Goals as goal
 

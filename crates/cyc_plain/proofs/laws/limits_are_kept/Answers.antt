@@ -1,5 +1,5 @@
 -- Limits.
-use Rattle.cyc_plain.specs.Step.{step}
+use Rattle.cyc_plain.specs.inside.Step.{step}
 use Rattle.cyc_plain.proofs.RunLaws.{starts_within, stays_within, limited-within, limited-full}
 use Rattle.cyc_plain.proofs.laws.limits_are_kept.Goals as goal
 

@@ -37,7 +37,7 @@ use Rattle.std.proofs.raw_atomic.Walks.{proved_at, leaves}
 use Rattle.std.specs.Prelude.{Some, None}
 use Rattle.cyc_rawpages.proofs.Values.{start_val, start_own, start_made, cells_val, cells_own, cells_made, lease_val, lease_own, lease_made, three_val, three_of, slot_at, then_runs}
 use Rattle.cyc_rawpages.proofs.Places.{of_room}
-use Rattle.cyc_rawpages.specs.Ownership.{places, words_type}
+use Rattle.cyc_rawpages.specs.inside.Ownership.{places, words_type}
 use Rattle.cyc_rawpages.specs.contracts.cells.Start as start
 use Rattle.cyc_rawpages.specs.contracts.cells.Cells as cells
 use Rattle.cyc_rawpages.specs.contracts.cells.Lease as lease

@@ -33,7 +33,7 @@ use Rattle.std.proofs.alloc.Shapes.{after}
 use Rattle.std.proofs.raw_atomic.Walks.{proved_at, leaves}
 use Rattle.cyc_rawpages.proofs.Values.{start_val, start_told, cells_val, cells_told, lease_val, lease_told, slot_at, then_runs, out_of_block}
 use Rattle.cyc_rawpages.proofs.Places.{to_room}
-use Rattle.cyc_rawpages.specs.Ownership.{places_at, words_type}
+use Rattle.cyc_rawpages.specs.inside.Ownership.{places_at, words_type}
 use Rattle.cyc_rawpages.specs.contracts.cells.release.{ended, clauses}
 use Rattle.cyc_rawpages.specs.contracts.cells.release.Key.{name as #self}
 use Rattle.cyc_rawpages.proofs.cells.release.Statement.{statement}

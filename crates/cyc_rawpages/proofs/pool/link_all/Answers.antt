@@ -1,5 +1,5 @@
 use Rattle.std.proofs.Common.{◌-◌, sym, ap, subst, ◌∙◌}
-use Rattle.cyc_rawpages.specs.Words.{headed}
+use Rattle.cyc_rawpages.specs.inside.Words.{headed}
 use Rattle.cyc_rawpages.proofs.Fresh.{IsLinking, steps}
 use Rattle.cyc_rawpages.proofs.pool.link_all.Goals as goal
 

@@ -1,8 +1,8 @@
 use Rattle.std.proofs.Common.{◌≡◌, map, drop}
-use Rattle.cyc_syntax.specs.TreeView.{view_member}
+use Rattle.cyc_syntax.specs.inside.TreeView.{view_member}
 use Rattle.cyc_types.specs.TypeView.{view_ty}
 use Rattle.cyc_types.specs.typing.Programs.{parameter_locals}
-use Rattle.cyc_scope.specs.Marks.{Descends}
+use Rattle.cyc_scope.specs.inside.Marks.{Descends}
 use Rattle.cyc_scope.proofs.body.declare_parameters.Given as goal
 
 abbrev pub invariant-loop-number : goal.invariant-loop-number

@@ -1,5 +1,5 @@
 use Rattle.std.proofs.Common.{◌≡◌, ◌+◌, ◌-◌, ◌*◌, ◌≤◌}
-use Rattle.cyc_select.specs.Selection.{copies_count}
+use Rattle.cyc_select.specs.inside.Selection.{copies_count}
 use Rattle.cyc_select.proofs.counting.copies_count.Given as goal
 
 -- the lines so far, with those of the other arguments, are all of them

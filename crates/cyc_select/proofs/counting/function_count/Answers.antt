@@ -1,6 +1,6 @@
 use Rattle.std.proofs.Common.{ap, ◌∙◌, arith}
-use Rattle.cyc_plain.specs.Program.{routine_at}
-use Rattle.cyc_select.specs.Selection.{saving_count, code_count}
+use Rattle.cyc_plain.specs.inside.Program.{routine_at}
+use Rattle.cyc_select.specs.inside.Selection.{saving_count, code_count}
 use Rattle.cyc_select.proofs.emission.Numbering.{reads_few, routine_small}
 use Rattle.cyc_select.proofs.counting.function_count.Goals as goal
 

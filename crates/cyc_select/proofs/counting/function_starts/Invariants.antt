@@ -1,8 +1,8 @@
 use Rattle.std.proofs.Common.{◌≡◌, ◌+◌, ◌≤◌, ◌++◌, drop, length, map}
 use Rattle.std.specs.Prelude.{sum_by}
-use Rattle.cyc_plain.specs.Program.{routine_of, size}
+use Rattle.cyc_plain.specs.inside.Program.{routine_of, size}
 use Rattle.cyc_select.specs.declared.constants.TheConstants.{START_LINES}
-use Rattle.cyc_select.specs.Emission.{function_starts, most_lines}
+use Rattle.cyc_select.specs.inside.Emission.{function_starts, most_lines}
 use Rattle.cyc_select.proofs.counting.function_starts.Given as goal
 
 -- the numbers so far, with those of the other functions, are all of them

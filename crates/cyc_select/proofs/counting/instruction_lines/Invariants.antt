@@ -1,7 +1,7 @@
 use Rattle.std.proofs.Common.{◌≡◌, ◌+◌, ◌≤◌, ◌++◌, drop}
 use Rattle.std.specs.Prelude.{sum_by}
-use Rattle.cyc_plain.specs.Program.{instruction_size}
-use Rattle.cyc_select.specs.Emission.{instruction_lines, most_lines}
+use Rattle.cyc_plain.specs.inside.Program.{instruction_size}
+use Rattle.cyc_select.specs.inside.Emission.{instruction_lines, most_lines}
 use Rattle.cyc_select.proofs.counting.instruction_lines.Given as goal
 
 -- the numbers so far, with those of the other instructions, are all of them

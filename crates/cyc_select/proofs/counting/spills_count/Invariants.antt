@@ -1,5 +1,5 @@
 use Rattle.std.proofs.Common.{◌≡◌, ◌+◌, ◌-◌, ◌≤◌}
-use Rattle.cyc_select.specs.Selection.{spills_count}
+use Rattle.cyc_select.specs.inside.Selection.{spills_count}
 use Rattle.cyc_select.proofs.counting.spills_count.Given as goal
 
 -- the lines so far, with those of the other slots, are all of them

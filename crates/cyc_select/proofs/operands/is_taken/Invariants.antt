@@ -1,5 +1,5 @@
 use Rattle.std.proofs.Common.{◌≡◌}
-use Rattle.cyc_select.specs.Selection.{is_taken}
+use Rattle.cyc_select.specs.inside.Selection.{is_taken}
 use Rattle.cyc_select.proofs.operands.is_taken.Given as goal
 
 -- the parameters so far

@@ -1,6 +1,6 @@
 use Rattle.std.proofs.Common.{sym, subst}
-use Rattle.cyc_select.specs.Labelled.{Labelled}
-use Rattle.cyc_select.specs.Selected.{IsCodeOf}
+use Rattle.cyc_select.specs.inside.Labelled.{Labelled}
+use Rattle.cyc_select.specs.inside.Selected.{IsCodeOf}
 use Rattle.cyc_select.proofs.layout.Whole.{is_code_of}
 use Rattle.cyc_select.proofs.selection.select.Goals as goal
 

@@ -1,12 +1,12 @@
 use Rattle.std.proofs.Common.{◌≡◌, ℕ, ◌<◌, List, [], ◌++◌, length, sym, ap, subst, ◌∙◌, arith}
 use Rattle.std.specs.Prelude.{slice_index_or}
-use Rattle.cyc_plain.specs.Program.{Program}
-use Rattle.cyc_frame.specs.Frame.{Frame}
+use Rattle.cyc_plain.specs.inside.Program.{Program}
+use Rattle.cyc_frame.specs.inside.Frame.{Frame}
 use Rattle.cyc_select.specs.declared.constants.TheConstants.{START_LINES}
 use Rattle.cyc_select.specs.declared.code.Line.{Line}
-use Rattle.cyc_select.specs.Labelled.{Labelled, IsCode}
-use Rattle.cyc_select.specs.Selection.{start_code, function_line, function_lines, select_of}
-use Rattle.cyc_select.specs.Emission.{function_starts}
+use Rattle.cyc_select.specs.inside.Labelled.{Labelled, IsCode}
+use Rattle.cyc_select.specs.inside.Selection.{start_code, function_line, function_lines, select_of}
+use Rattle.cyc_select.specs.inside.Emission.{function_starts}
 use Rattle.cyc_select.proofs.emission.Numbering.{starts_length, starts_at}
 use Rattle.cyc_select.proofs.layout.Whole.{is_code}
 use Rattle.cyc_select.proofs.selection.selected.Goals as goal

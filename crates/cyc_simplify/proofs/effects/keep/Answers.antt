@@ -3,7 +3,7 @@ use Rattle.std.proofs.Common.{◌≡◌, ◌∙◌, rules, sym, subst, true}
 use Rattle.std.proofs.lemmas.Fn.{filter_same}
 use Rattle.std.specs.Prelude.{List}
 use Rattle.cyc_simplify.specs.declared.fact.Fact.{Fact}
-use Rattle.cyc_simplify.specs.Entries.{keeps_all}
+use Rattle.cyc_simplify.specs.inside.Entries.{keeps_all}
 use Rattle.cyc_simplify.proofs.Keeping.{none_written, all_kept}
 use Rattle.cyc_simplify.proofs.effects.keep.Goals as goal
 

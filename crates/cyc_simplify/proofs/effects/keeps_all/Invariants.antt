@@ -1,6 +1,6 @@
 -- cyc_simplify/proofs/effects/keeps_all/Invariants.antt
 use Rattle.std.proofs.Common.{◌≡◌, drop}
-use Rattle.cyc_simplify.specs.Entries.{keeps_all}
+use Rattle.cyc_simplify.specs.inside.Entries.{keeps_all}
 use Rattle.cyc_simplify.proofs.effects.keeps_all.Given as goal
 
 -- no fact so far is about one

@@ -1,6 +1,6 @@
 -- cyc_simplify/proofs/known/are_known/Invariants.antt
 use Rattle.std.proofs.Common.{◌≡◌, drop}
-use Rattle.cyc_simplify.specs.Table.{are_known}
+use Rattle.cyc_simplify.specs.inside.Table.{are_known}
 use Rattle.cyc_simplify.proofs.known.are_known.Given as goal
 
 -- all so far are known

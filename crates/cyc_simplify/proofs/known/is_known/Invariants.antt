@@ -1,6 +1,6 @@
 -- cyc_simplify/proofs/known/is_known/Invariants.antt
 use Rattle.std.proofs.Common.{◌≡◌, drop}
-use Rattle.cyc_simplify.specs.Facts.{is_known}
+use Rattle.cyc_simplify.specs.inside.Facts.{is_known}
 use Rattle.cyc_simplify.proofs.known.is_known.Given as goal
 
 -- no fact so far is the one

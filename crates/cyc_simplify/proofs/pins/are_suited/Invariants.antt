@@ -1,6 +1,6 @@
 -- cyc_simplify/proofs/pins/are_suited/Invariants.antt
 use Rattle.std.proofs.Common.{◌≡◌, drop}
-use Rattle.cyc_simplify.specs.Facts.{are_suited}
+use Rattle.cyc_simplify.specs.inside.Facts.{are_suited}
 use Rattle.cyc_simplify.proofs.pins.are_suited.Given as goal
 
 -- all so far are suited

@@ -1,6 +1,6 @@
 -- cyc_simplify/proofs/pins/is_within/Invariants.antt
 use Rattle.std.proofs.Common.{◌≡◌, drop}
-use Rattle.cyc_simplify.specs.Pins.{is_within}
+use Rattle.cyc_simplify.specs.inside.Pins.{is_within}
 use Rattle.cyc_simplify.proofs.pins.is_within.Given as goal
 
 -- no range so far has the slot

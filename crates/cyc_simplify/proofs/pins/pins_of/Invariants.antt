@@ -1,5 +1,5 @@
 -- cyc_simplify/proofs/pins/pins_of/Invariants.antt
-use Rattle.cyc_simplify.specs.Pins.{AreFirstPins}
+use Rattle.cyc_simplify.specs.inside.Pins.{AreFirstPins}
 use Rattle.cyc_simplify.proofs.pins.pins_of.Given as goal
 
 -- the slots so far

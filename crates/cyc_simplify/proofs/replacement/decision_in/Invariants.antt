@@ -1,6 +1,6 @@
 -- cyc_simplify/proofs/replacement/decision_in/Invariants.antt
 use Rattle.std.proofs.Common.{◌≡◌, drop}
-use Rattle.cyc_simplify.specs.Replacement.{decision_in}
+use Rattle.cyc_simplify.specs.inside.Replacement.{decision_in}
 use Rattle.cyc_simplify.proofs.replacement.decision_in.Given as goal
 
 -- no fact so far decides it

@@ -1,6 +1,6 @@
 -- cyc_simplify/proofs/replacement/holder_in/Invariants.antt
 use Rattle.std.proofs.Common.{◌≡◌, drop}
-use Rattle.cyc_simplify.specs.Replacement.{holder_in}
+use Rattle.cyc_simplify.specs.inside.Replacement.{holder_in}
 use Rattle.cyc_simplify.proofs.replacement.holder_in.Given as goal
 
 -- no slot so far has the result

@@ -1,6 +1,6 @@
 -- cyc_simplify/proofs/replacement/simplified_operand/Invariants.antt
 use Rattle.std.proofs.Common.{◌≡◌, drop}
-use Rattle.cyc_simplify.specs.Replacement.{simplified_operand}
+use Rattle.cyc_simplify.specs.inside.Replacement.{simplified_operand}
 use Rattle.cyc_simplify.proofs.replacement.simplified_operand.Given as goal
 
 -- no fact so far puts another in its place

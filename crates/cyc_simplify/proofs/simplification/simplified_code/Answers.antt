@@ -1,8 +1,8 @@
 -- cyc_simplify/proofs/simplification/simplified_code/Answers.antt
 use Rattle.std.proofs.Common.{◌∙◌, Bool, true, refl, sym, subst, replicate}
 use lib.ListN.{length-replicate}
-use Rattle.cyc_plain.specs.Program.{routine_of}
-use Rattle.cyc_simplify.specs.Table.{ArePins}
+use Rattle.cyc_plain.specs.inside.Program.{routine_of}
+use Rattle.cyc_simplify.specs.inside.Table.{ArePins}
 use Rattle.cyc_simplify.proofs.Ranges.{all_pinned}
 use Rattle.cyc_simplify.proofs.Walks.{walked_replaced, same_replaced}
 use Rattle.cyc_simplify.proofs.simplification.simplified_code.Goals as goal

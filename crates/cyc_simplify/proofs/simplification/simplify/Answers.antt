@@ -2,9 +2,9 @@
 use Rattle.std.proofs.Common.{◌+◌, ◌∙◌, map, sym, subst}
 use Rattle.std.specs.Prelude.{List}
 use Rattle.cyc_plain.specs.declared.program.Function.{Function}
-use Rattle.cyc_plain.specs.Program.{routine_of, program_of}
-use Rattle.cyc_simplify.specs.Entries.{AreFirstReplaced}
-use Rattle.cyc_simplify.specs.Simplified.{IsSimplified}
+use Rattle.cyc_plain.specs.inside.Program.{routine_of, program_of}
+use Rattle.cyc_simplify.specs.inside.Entries.{AreFirstReplaced}
+use Rattle.cyc_simplify.specs.inside.Simplified.{IsSimplified}
 use Rattle.cyc_simplify.proofs.Sizes.{is_plain, is_simplified}
 use Rattle.cyc_simplify.proofs.Walks.{each_replaced, more_replaced}
 use Rattle.cyc_simplify.proofs.simplification.simplify.Goals as goal

@@ -1,7 +1,7 @@
 -- cyc_simplify/proofs/simplification/simplify/Invariants.antt
 use Rattle.std.proofs.Common.{map}
-use Rattle.cyc_plain.specs.Program.{routine_of}
-use Rattle.cyc_simplify.specs.Entries.{AreFirstReplaced}
+use Rattle.cyc_plain.specs.inside.Program.{routine_of}
+use Rattle.cyc_simplify.specs.inside.Entries.{AreFirstReplaced}
 use Rattle.cyc_simplify.proofs.simplification.simplify.Given as goal
 
 -- the functions so far

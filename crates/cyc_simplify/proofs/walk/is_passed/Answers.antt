@@ -2,7 +2,7 @@
 use Rattle.std.proofs.Common.{◌≡◌, ◌∙◌, sym, subst, true}
 use Rattle.std.specs.Prelude.{List}
 use Rattle.cyc_simplify.specs.declared.fact.Fact.{Fact}
-use Rattle.cyc_simplify.specs.Entries as entries_of
+use Rattle.cyc_simplify.specs.inside.Entries as entries_of
 use Rattle.cyc_simplify.proofs.Walks.{is_checked}
 use Rattle.cyc_simplify.proofs.walk.is_passed.Goals as goal
 

@@ -1,9 +1,9 @@
 -- cyc_simplify/proofs/walk/walked/Answers.antt
 use Rattle.std.proofs.Common.{◌∙◌, ap}
 use Rattle.std.specs.Prelude.{List}
-use Rattle.cyc_plain.specs.Program.{routine_of}
+use Rattle.cyc_plain.specs.inside.Program.{routine_of}
 use Rattle.cyc_simplify.specs.declared.fact.Fact.{Fact}
-use Rattle.cyc_simplify.specs.Replacement.{simplified_instruction}
+use Rattle.cyc_simplify.specs.inside.Replacement.{simplified_instruction}
 use Rattle.cyc_simplify.proofs.Walks.{stepped}
 use Rattle.cyc_simplify.proofs.walk.walked.Goals as goal
 

@@ -1,6 +1,6 @@
 -- cyc_simplify/proofs/walk/walked/Invariants.antt
-use Rattle.cyc_plain.specs.Program.{routine_of}
-use Rattle.cyc_simplify.specs.Entries.{AreWalked}
+use Rattle.cyc_plain.specs.inside.Program.{routine_of}
+use Rattle.cyc_simplify.specs.inside.Entries.{AreWalked}
 use Rattle.cyc_simplify.proofs.walk.walked.Given as goal
 
 -- the instructions so far

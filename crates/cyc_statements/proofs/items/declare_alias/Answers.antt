@@ -1,5 +1,5 @@
 use Rattle.std.proofs.lemmas.Result.{err_from_is_err_and}
-use Rattle.cyc_syntax.specs.TreeView.{view_name, view_type}
+use Rattle.cyc_syntax.specs.inside.TreeView.{view_name, view_type}
 use Rattle.cyc_statements.proofs.Aliases.{alias_stops}
 use Rattle.cyc_statements.proofs.items.declare_alias.Goals as goal
 

@@ -2,7 +2,7 @@ use Rattle.std.proofs.Common.{subst, ◌++◌, get_or, take, arith}
 use Rattle.std.proofs.lemmas.Bool.{ne_eqb}
 use Rattle.std.proofs.lemmas.List.{take_all}
 use Rattle.cyc_words.specs.declared.span.Span.{Span}
-use Rattle.cyc_syntax.specs.Place.{IsBehind}
+use Rattle.cyc_syntax.specs.inside.Place.{IsBehind}
 use Rattle.cyc_syntax.proofs.PlaceLemmas.{behind_line_feed, behind_other, front_more}
 use Rattle.cyc_syntax.proofs.place.place_behind.Goals as goal
 use Rattle.cyc_syntax.proofs.place.place_behind.Goals.{then-b-eq10, else-b-eq10}

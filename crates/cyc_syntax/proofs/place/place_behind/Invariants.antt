@@ -1,5 +1,5 @@
 use Rattle.std.proofs.Common.{◌+◌, ◌≤◌, List, ℕ, ◌++◌, take}
-use Rattle.cyc_syntax.specs.Place.{IsBehind}
+use Rattle.cyc_syntax.specs.inside.Place.{IsBehind}
 use Rattle.cyc_syntax.proofs.place.place_behind.Given as goal
 
 abbrev pub invariant-loop-b : goal.invariant-loop-b

@@ -3,11 +3,11 @@ use Rattle.std.specs.Prelude.{IfOk}
 use Rattle.std.proofs.lemmas.Result.{err_from_is_err_and}
 use Rattle.cyc_types.specs.TypedTrees.{Program}
 use Rattle.cyc_types.specs.TypedTreeView.{view_program}
-use Rattle.cyc_plain.specs.Program.{Program as PlainProgram}
+use Rattle.cyc_plain.specs.inside.Program.{Program as PlainProgram}
 use Rattle.cyc_meaning.specs.Sizes.{max_functions}
 use Rattle.cyc_soundness.specs.Sound.{IsSound}
-use Rattle.cyc_lower.specs.Lowered.{IsLowered}
-use Rattle.cyc_frame.specs.Layout.{AreFrames, HasSmallFrames}
+use Rattle.cyc_lower.specs.inside.Lowered.{IsLowered}
+use Rattle.cyc_frame.specs.inside.Layout.{AreFrames, HasSmallFrames}
 use Rattle.cyc_system.specs.FullPreservation.{IsImageOf}
 use Rattle.cyc_system.proofs.Refusals.{lowering_refuses, layout_refuses, image_answers}
 use Rattle.cyc_system.proofs.compiler.build.Goals as goal

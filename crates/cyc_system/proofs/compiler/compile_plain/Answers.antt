@@ -1,5 +1,5 @@
 use Rattle.std.proofs.Common.{ℕ, ◌<◌, List, length, refl, sym, ap, subst, arith}
-use Rattle.cyc_asm.specs.Layout.{addresses_of}
+use Rattle.cyc_asm.specs.inside.Layout.{addresses_of}
 use Rattle.cyc_system.specs.ProgramImage.{program_image}
 use Rattle.cyc_asm.proofs.Stretches.{text_has_words}
 use Rattle.cyc_system.proofs.Chains.{image_made}

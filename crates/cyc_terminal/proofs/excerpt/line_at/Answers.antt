@@ -1,7 +1,7 @@
 use Rattle.std.proofs.Common.{◌∙◌, ap, [], List, ℕ, ◌-◌}
 use Rattle.std.specs.Prelude.{Option, unwrap_or}
 use Rattle.std.proofs.lemmas.Option.{unwrap_or-slice_get}
-use Rattle.cyc_terminal.specs.Excerpt.{lines_of}
+use Rattle.cyc_terminal.specs.inside.Excerpt.{lines_of}
 use Rattle.cyc_terminal.proofs.excerpt.line_at.Goals as goal
 
 -- Past the last line there is no piece, and the line is empty.

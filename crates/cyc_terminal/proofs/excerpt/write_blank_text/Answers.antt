@@ -2,7 +2,7 @@ use Rattle.std.proofs.Common.{[], ◌++◌, ◌∙◌, sym, append_assoc, append
 use Rattle.std.proofs.lemmas.Str.{IsUtf8-past_char, chars_past_char}
 use Rattle.std.proofs.StrCases.{chars_of_empty}
 use Rattle.std.proofs.Output.{has_written_append, has_written_of_eq, writes_in_calls_nil}
-use Rattle.cyc_terminal.specs.Excerpt.{blank_char}
+use Rattle.cyc_terminal.specs.inside.Excerpt.{blank_char}
 use Rattle.cyc_terminal.proofs.excerpt.write_blank_text.Goals as goal
 
 pub loop-c-init : goal.loop-c-init

@@ -2,7 +2,7 @@
 use Rattle.std.proofs.Common.{◌≡◌, ℕ, List, ◌++◌, IsUtf8, chars, flat_map}
 use Rattle.std.specs.Str.Iter.{chars_rest}
 use Rattle.std.specs.Fmt.{HasWritten, IsPlainFormatter}
-use Rattle.cyc_terminal.specs.Excerpt.{blank_char}
+use Rattle.cyc_terminal.specs.inside.Excerpt.{blank_char}
 use Rattle.cyc_terminal.proofs.excerpt.write_blank_text.Given as goal
 
 abbrev pub invariant-loop-c : goal.invariant-loop-c

@@ -1,7 +1,7 @@
 -- The bytes so far are written.
 use Rattle.std.proofs.Common.{take, flat_map}
 use Rattle.std.specs.Fmt.{HasWritten, IsPlainFormatter}
-use Rattle.cyc_terminal.specs.Excerpt.{shown_byte}
+use Rattle.cyc_terminal.specs.inside.Excerpt.{shown_byte}
 use Rattle.cyc_terminal.proofs.excerpt.write_bytes.Given as goal
 
 abbrev pub invariant-loop-byte : goal.invariant-loop-byte

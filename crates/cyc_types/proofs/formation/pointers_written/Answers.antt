@@ -2,7 +2,7 @@ use Rattle.std.proofs.Common.{◌-◌, ◌∙◌, get_or, None, refl, ap, arith}
 use Rattle.std.proofs.lemmas.List.{drop_more}
 use Rattle.cyc_syntax.specs.declared.tree.Pointer.{Pointer as PointerCode}
 use Rattle.cyc_syntax.specs.declared.tree.PointerKind.TheVariants.{Nullable}
-use Rattle.cyc_syntax.specs.TreeView.{view_pointer}
+use Rattle.cyc_syntax.specs.inside.TreeView.{view_pointer}
 use Rattle.cyc_types.specs.declared.region.Region.{Region}
 use Rattle.cyc_types.specs.Types.{Pointer}
 use Rattle.cyc_types.specs.TypeView.{view_ty}

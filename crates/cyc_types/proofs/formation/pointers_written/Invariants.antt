@@ -1,5 +1,5 @@
 use Rattle.std.proofs.Common.{◌≡◌, ◌+◌, length, map}
-use Rattle.cyc_syntax.specs.TreeView.{view_pointer}
+use Rattle.cyc_syntax.specs.inside.TreeView.{view_pointer}
 use Rattle.cyc_types.specs.TypeView.{view_ty}
 use Rattle.cyc_types.specs.typing.Formation.{pointers_written}
 use Rattle.cyc_types.proofs.FormationLemmas.{MarksLeft}

@@ -2,9 +2,9 @@ use Rattle.std.proofs.Common.{◌≡◌, Bool, true, false, ◌∷◌, [], not, 
 use Rattle.std.specs.List.{list_any}
 use Rattle.cyc_types.specs.declared.region.Region.{Region}
 use Rattle.cyc_types.specs.declared.region.Region.TheVariants.{Unique}
-use Rattle.cyc_types.specs.Regions.{region_eq, is_region_among}
+use Rattle.cyc_types.specs.Types.{region_eq, is_region_among}
 use Rattle.cyc_types.specs.Closure.{above_one_of, written_in}
-use Rattle.cyc_types.specs.Openings.{live_before}
+use Rattle.cyc_types.specs.inside.Openings.{live_before}
 use Rattle.std.proofs.lemmas.Bool.{and_left, and_right}
 use Rattle.cyc_types.proofs.RegionLemmas.{derived-region_eq}
 use Rattle.cyc_types.proofs.TableLemmas.{or_false}

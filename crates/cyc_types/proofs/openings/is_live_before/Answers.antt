@@ -1,6 +1,6 @@
 use Rattle.std.proofs.Common.{◌≡◌, ℕ, ◌<◌, ◌≤◌, false, sym, ◌∙◌, arith}
-use Rattle.cyc_types.specs.Regions.{region_eq, is_region_among}
-use Rattle.cyc_types.specs.Openings.{scope_at}
+use Rattle.cyc_types.specs.Types.{region_eq, is_region_among}
+use Rattle.cyc_types.specs.inside.Openings.{scope_at}
 use Rattle.cyc_types.proofs.RegionLemmas.{derived-region_eq}
 use Rattle.cyc_types.proofs.OpeningLemmas.{live-missed, live-tested}
 use Rattle.cyc_types.proofs.openings.is_live_before.Goals as goal

@@ -1,8 +1,8 @@
 use Rattle.std.proofs.Common.{sym, ◌∙◌, arith, reverse}
 use Rattle.cyc_types.specs.Outlives.{is_outlived_by_live}
-use Rattle.cyc_types.specs.Regions.{region_eq}
+use Rattle.cyc_types.specs.Types.{region_eq}
 use Rattle.cyc_types.specs.Closure.{written_in}
-use Rattle.cyc_types.specs.Openings.{scope_at}
+use Rattle.cyc_types.specs.inside.Openings.{scope_at}
 use Rattle.cyc_types.proofs.RegionLemmas.{derived-region_eq, region_eq-true}
 use Rattle.cyc_types.proofs.ClosureLemmas.{leads-above}
 use Rattle.cyc_types.proofs.OpeningLemmas.{never, leads-by_place, leads-by_no_place}

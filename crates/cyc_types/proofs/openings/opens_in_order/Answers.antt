@@ -1,8 +1,8 @@
 use Rattle.std.proofs.Common.{◌≡◌, ℕ, List, true, false, ◌∷◌, ◌++◌, ◌+◌, [], sym, ◌∙◌, subst, arith, length}
 use Rattle.cyc_types.specs.Outlives.{is_outlived_by_live}
-use Rattle.cyc_types.specs.Regions.{is_region_among}
+use Rattle.cyc_types.specs.Types.{is_region_among}
 use Rattle.cyc_types.specs.Closure.{written_in}
-use Rattle.cyc_types.specs.Openings.{IsInOrder, live_before, opening_of}
+use Rattle.cyc_types.specs.inside.Openings.{IsInOrder, live_before, opening_of}
 use Rattle.std.proofs.lemmas.Bool.{not-true}
 use Rattle.std.proofs.lemmas.Result.{IfOk-weaker}
 use Rattle.cyc_types.proofs.OpeningLemmas.{never, in_order-noted, in_order-known, in_order-new}

@@ -1,7 +1,7 @@
 use Rattle.std.proofs.Common.{◌≡◌, ◌++◌, map, drop}
-use Rattle.cyc_syntax.specs.TreeView.{view_name}
+use Rattle.cyc_syntax.specs.inside.TreeView.{view_name}
 use Rattle.cyc_types.specs.typing.Formation.{regions_for, after_regions}
-use Rattle.cyc_types.specs.Namings.{naming}
+use Rattle.cyc_types.specs.inside.Namings.{naming}
 use Rattle.cyc_types.proofs.parameters.arguments_for.Given as goal
 
 abbrev pub invariant-loop-name : goal.invariant-loop-name

@@ -1,8 +1,8 @@
 use Rattle.std.proofs.Common.{◌≡◌, map, drop}
-use Rattle.cyc_syntax.specs.TreeView.{view_pointer}
+use Rattle.cyc_syntax.specs.inside.TreeView.{view_pointer}
 use Rattle.cyc_types.specs.TypeView.{view_ty}
 use Rattle.cyc_types.specs.typing.Formation.{pointers_for, after_marks}
-use Rattle.cyc_types.specs.Namings.{naming}
+use Rattle.cyc_types.specs.inside.Namings.{naming}
 use Rattle.cyc_types.proofs.parameters.pointers_for.Given as goal
 
 abbrev pub invariant-loop-mark : goal.invariant-loop-mark

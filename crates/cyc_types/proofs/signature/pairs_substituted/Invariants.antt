@@ -1,5 +1,5 @@
 use Rattle.std.proofs.Common.{◌≡◌, map, take}
-use Rattle.cyc_types.specs.SignatureView.{substituted_pair}
+use Rattle.cyc_types.specs.inside.SignatureView.{substituted_pair}
 use Rattle.cyc_types.proofs.signature.pairs_substituted.Given as goal
 
 abbrev pub invariant-loop-pair : goal.invariant-loop-pair

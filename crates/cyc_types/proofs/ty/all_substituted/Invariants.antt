@@ -1,5 +1,5 @@
 use Rattle.std.proofs.Common.{◌≡◌, map, take}
-use Rattle.cyc_types.specs.Regions.{substituted_region}
+use Rattle.cyc_types.specs.Types.{substituted_region}
 use Rattle.cyc_types.proofs.ty.all_substituted.Given as goal
 
 abbrev pub invariant-loop-region : goal.invariant-loop-region

@@ -7,9 +7,9 @@ use Rattle.cyc_syntax.specs.Tokens.{Token, token_of}
 use Rattle.cyc_syntax.specs.Trees.{Declaration}
 use Rattle.cyc_lex.specs.Refusals as lexer
 use Rattle.cyc_parse.specs.Acceptance as parser
-use Rattle.cyc_syntax.specs.TreeView.{declarations_of}
+use Rattle.cyc_syntax.specs.inside.TreeView.{declarations_of}
 use Rattle.cyc_system.specs.Front.{names_in}
-use Rattle.cyclone.specs.Refusal.{HasTree}
+use Rattle.cyclone.specs.inside.Refusal.{HasTree}
 use Rattle.cyclone.proofs.refusal.tree_of.Goals as goal
 
 -- the code's tokens, held elsewhere, are those of the text

@@ -9,10 +9,10 @@ use Rattle.cyc_words.specs.declared.fault.Code.{Code}
 use Rattle.cyc_words.specs.declared.fault.Fault.{Fault}
 use Rattle.cyc_words.specs.Fault.{memory_fault}
 use Rattle.cyc_syntax.specs.declared.tree.Tree.{Tree}
-use Rattle.cyc_syntax.specs.TreeView.{declarations_of}
+use Rattle.cyc_syntax.specs.inside.TreeView.{declarations_of}
 use Rattle.cyc_types.specs.typing.Programs.{IsRefusedProgram}
 use Rattle.cyc_system.specs.Front.{names_in, IsRefusedText}
-use Rattle.cyclone.specs.Refusal.{HasTree, is_explained}
+use Rattle.cyclone.specs.inside.Refusal.{HasTree, is_explained}
 use Rattle.cyclone.proofs.refusal.words_for.Goals as goal
 
 -- the test of two faults

@@ -7,8 +7,8 @@ use Rattle.cyc_system.specs.Front.{HasTokens}
 use Rattle.cyc_system.specs.FullPreservation.{IsImageOf}
 use Rattle.cyc_system.specs.Notes.{Carries}
 use Rattle.cyc_system.specs.declared.compiler.Compilation.{Compilation}
-use Rattle.cyc_terminal.specs.Limits.{Given, carried_by}
-use Rattle.cyclone.specs.Work.{AnswersCompile}
+use Rattle.cyc_terminal.specs.inside.Limits.{Given, carried_by}
+use Rattle.cyclone.specs.inside.Work.{AnswersCompile}
 use Rattle.cyclone.proofs.work.compile.Goals as goal
 
 -- what is decided of a text is what is answered, with the limits that it was compiled with

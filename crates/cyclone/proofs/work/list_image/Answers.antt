@@ -1,4 +1,4 @@
-use Rattle.cyclone.specs.Console.{screen_written}
+use Rattle.cyclone.specs.inside.Console.{screen_written}
 use Rattle.cyclone.proofs.work.list_image.Goals as goal
 
 pub returns : goal.returns

@@ -1,4 +1,4 @@
-use Rattle.cyc_flow.specs.Code.{view_state, begun}
+use Rattle.cyc_flow.specs.inside.Code.{view_state, begun}
 use Rattle.cyc_flow.proofs.KeptNodes.{kept_call, kept_binary, kept_fields}
 use Rattle.cyc_flow.proofs.evaluation.Evaluation.+expression.Goals as goal
 

@@ -3,7 +3,7 @@ use Rattle.cyc_types.specs.Rules.{run}
 use Rattle.cyc_types.specs.TypedTreeView.{arguments_of, operations_of}
 use Rattle.cyc_types.specs.flow.Touched.{touched_arguments, touched_operations}
 use Rattle.cyc_types.specs.flow.Expressions.{rule_arguments, rule_operations}
-use Rattle.cyc_flow.specs.Code.{view_state, begun}
+use Rattle.cyc_flow.specs.inside.Code.{view_state, begun}
 use Rattle.cyc_flow.proofs.evaluation.Evaluation.+expression.Given as goal
 
 abbrev pub invariant-apply_operations-loop-operation : goal.invariant-apply_operations-loop-operation

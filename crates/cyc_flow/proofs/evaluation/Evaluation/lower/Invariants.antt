@@ -1,5 +1,5 @@
 use Rattle.std.proofs.Common.{◌≡◌, drop}
-use Rattle.cyc_flow.specs.Code.{view_state, begun, lowered}
+use Rattle.cyc_flow.specs.inside.Code.{view_state, begun, lowered}
 use Rattle.cyc_flow.proofs.evaluation.Evaluation.lower.Given as goal
 
 abbrev pub invariant-loop-change : goal.invariant-loop-change

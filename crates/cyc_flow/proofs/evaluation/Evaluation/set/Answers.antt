@@ -1,6 +1,6 @@
 use Rattle.std.proofs.Common.{List, [], ◌∷◌, ◌++◌, ap, ◌∙◌}
 use Rattle.cyc_flow.specs.declared.state.Change.{Change}
-use Rattle.cyc_flow.specs.Code.{view_fullness, view_state, undone}
+use Rattle.cyc_flow.specs.inside.Code.{view_fullness, view_state, undone}
 use Rattle.cyc_flow.proofs.Trails.{noted_begun}
 use Rattle.cyc_flow.proofs.evaluation.Evaluation.set.Goals as goal
 

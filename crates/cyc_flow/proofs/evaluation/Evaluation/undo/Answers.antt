@@ -1,6 +1,6 @@
 use Rattle.std.proofs.Common.{List, [], ◌∷◌, sym, ap, ◌∙◌}
 use Rattle.cyc_flow.specs.declared.state.Change.{Change}
-use Rattle.cyc_flow.specs.Code.{view_state, undone}
+use Rattle.cyc_flow.specs.inside.Code.{view_state, undone}
 use Rattle.cyc_flow.proofs.Trails.{undone_append}
 use Rattle.cyc_flow.proofs.evaluation.Evaluation.undo.Goals as goal
 

@@ -1,5 +1,5 @@
 use Rattle.std.proofs.Common.{◌≡◌, length}
-use Rattle.cyc_flow.specs.Code.{begun}
+use Rattle.cyc_flow.specs.inside.Code.{begun}
 use Rattle.cyc_flow.proofs.evaluation.Evaluation.undo.Given as goal
 
 abbrev pub invariant-loop-change : goal.invariant-loop-change

@@ -1,7 +1,7 @@
 use Rattle.std.proofs.Common.{ap}
 use Rattle.std.proofs.lemmas.List.{map-set}
 use Rattle.cyc_types.specs.flow.States.{Reached}
-use Rattle.cyc_flow.specs.Code.{view_fullness}
+use Rattle.cyc_flow.specs.inside.Code.{view_fullness}
 use Rattle.cyc_flow.proofs.state.State.set.Goals as goal
 
 pub returns-then-number-len : goal.returns-then-number-len

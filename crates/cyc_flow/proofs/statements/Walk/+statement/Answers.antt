@@ -2,8 +2,8 @@ use Rattle.std.proofs.Common.{ℕ, List, option_map, sym, ap, subst, ◌∙◌}
 use Rattle.std.proofs.lemmas.Result.{err_from_is_err_and}
 use Rattle.cyc_types.specs.TypedTreeView.{default_of}
 use Rattle.cyc_types.specs.flow.States.{emptied}
-use Rattle.cyc_flow.specs.Code.{view_state, Stops, known}
-use Rattle.cyc_flow.specs.Steps.{stands, view_loop}
+use Rattle.cyc_flow.specs.inside.Code.{view_state, Stops, known}
+use Rattle.cyc_flow.specs.inside.Steps.{stands, view_loop}
 use Rattle.cyc_flow.proofs.KeptNodes.{kept_block, kept_swap, kept_loop, tried, tried_touched, no_default, with_default}
 use Rattle.cyc_flow.proofs.statements.Walk.+statement.Goals as goal
 

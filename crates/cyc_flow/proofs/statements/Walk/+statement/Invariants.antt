@@ -4,8 +4,8 @@ use Rattle.cyc_types.specs.TypedTrees.{Clauses}
 use Rattle.cyc_types.specs.TypedTreeView.{items_of, clauses_of}
 use Rattle.cyc_types.specs.flow.Touched.{touched_items, touched_clauses}
 use Rattle.cyc_types.specs.flow.Statements.{locks_of, rule_items, rule_clauses}
-use Rattle.cyc_flow.specs.Code.{view_state, known}
-use Rattle.cyc_flow.specs.Steps.{stands, view_loop}
+use Rattle.cyc_flow.specs.inside.Code.{view_state, known}
+use Rattle.cyc_flow.specs.inside.Steps.{stands, view_loop}
 use Rattle.cyc_flow.proofs.statements.Walk.+statement.Given as goal
 
 abbrev pub invariant-check_clauses-loop-clause : goal.invariant-check_clauses-loop-clause

@@ -1,6 +1,6 @@
 use Rattle.std.proofs.Common.{OnOk, ◌≡◌, sym, ap, subst}
-use Rattle.cyc_syntax.specs.TreeView.{view_declaration}
-use Rattle.cyc_heads.specs.Declaring.{state_of, behind_head}
+use Rattle.cyc_syntax.specs.inside.TreeView.{view_declaration}
+use Rattle.cyc_heads.specs.inside.Declaring.{state_of, behind_head}
 use Rattle.cyc_heads.proofs.declared.Declared.declare.Goals as goal
 
 pub returns-in-Function-clause-declared : goal.returns-in-Function-clause-declared

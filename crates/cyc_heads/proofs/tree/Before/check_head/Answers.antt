@@ -1,9 +1,9 @@
 use Rattle.std.proofs.Common.{◌≡◌, option_map, sym, ap, subst}
 use Rattle.cyc_syntax.specs.Trees.{Declaration, Function}
-use Rattle.cyc_syntax.specs.TreeView.{view_name, view_type, view_parameters, view_block, view_declaration}
+use Rattle.cyc_syntax.specs.inside.TreeView.{view_name, view_type, view_parameters, view_block, view_declaration}
 use Rattle.cyc_types.specs.Rules.{run}
 use Rattle.cyc_types.specs.typing.Heads.{Before, rule_head}
-use Rattle.cyc_scope.specs.Code.{Gives}
+use Rattle.cyc_scope.specs.inside.Code.{Gives}
 use Rattle.cyc_heads.proofs.tree.Before.check_head.Goals as goal
 
 pub returns-in-Function-clause-gives : goal.returns-in-Function-clause-gives

@@ -10,14 +10,14 @@ use Rattle.cyc_plain.specs.declared.instruction.Operand.{Operand}
 use Rattle.cyc_plain.specs.declared.instruction.Operand.TheVariants as operands
 use Rattle.cyc_plain.specs.declared.instruction.Instruction.TheVariants as instructions
 use Rattle.cyc_plain.specs.declared.instruction.Instruction.{Instruction}
-use Rattle.cyc_lower.specs.ValueCode.{copy_code, conversion_code, test_jump, next_slot, span_of, all_passed, kinds_passed}
-use Rattle.cyc_lower.specs.ExpressionCode.{value_operand, brought_code}
-use Rattle.cyc_lower.specs.Emission.{Gives, left_code, operation_code, view_starts}
+use Rattle.cyc_lower.specs.inside.ValueCode.{copy_code, conversion_code, test_jump, next_slot, span_of, all_passed, kinds_passed}
+use Rattle.cyc_lower.specs.inside.ExpressionCode.{value_operand, brought_code}
+use Rattle.cyc_lower.specs.inside.Emission.{Gives, left_code, operation_code, view_starts}
 use Rattle.cyc_lower.proofs.emission.Emitting.{Remains, all_arguments, one_argument, next_argument, arguments_lower, all_operations, one_operation, next_operation, operations_lower, goes_on, joined, passed_on, made_putchar, made_call, made_called, made_fields, made_binary, room_behind, made_left_alone, made_left_first, made_compute, made_test, room_after, slot_by_count, made_print, made_assigned, room_for_right, made_stored, made_elements, made_left_operand}
 use Rattle.cyc_lower.proofs.emitter.Emitter.+expression.Goals.{lower_left-then-is_empty, lower_left-else-is_empty, lower_operations-then-behind-eq0, lower_operations-else-behind-eq0}
 use Rattle.cyc_lower.proofs.slots.CellBytes.{passed_slots}
 use Rattle.cyc_lower.proofs.emitter.Emitter.+expression.Goals as goal
-use Rattle.cyc_lower.specs.ObjectCode.{slots_of_kinds}
+use Rattle.cyc_lower.specs.inside.ObjectCode.{slots_of_kinds}
 
 pub lower_arguments-loop-argument-preserved : goal.lower_arguments-loop-argument-preserved
 lower_arguments-loop-argument-preserved t c =

@@ -11,11 +11,11 @@ use Rattle.cyc_types.specs.TypedTreeView.{view_expression, view_statement, items
 use Rattle.cyc_meaning.specs.FrameCount.{kept_by, kept_by_items, kept_by_clauses}
 use Rattle.cyc_plain.specs.declared.instruction.Instruction.{Instruction}
 use Rattle.cyc_plain.specs.declared.instruction.Instruction.TheVariants.{Jump, Leave}
-use Rattle.cyc_lower.specs.ControlCode.{other_jump, inside_try, is_nothing}
-use Rattle.cyc_lower.specs.Lowering.{items_code, statement_code}
+use Rattle.cyc_lower.specs.inside.ControlCode.{other_jump, inside_try, is_nothing}
+use Rattle.cyc_lower.specs.inside.Lowering.{items_code, statement_code}
 use Rattle.cyc_lower.specs.declared.statements.Exits.{Exits}
 use Rattle.cyc_lower.specs.declared.statements.Opened.{Opened}
-use Rattle.cyc_lower.specs.Emission.{view_starts}
+use Rattle.cyc_lower.specs.inside.Emission.{view_starts}
 use Rattle.cyc_lower.proofs.emission.Branching.{made_block, made_if, made_then, made_alone, if_viewed, item_room, more_items, closes_begin, closes_next, closes_end}
 use Rattle.cyc_lower.proofs.emission.Loops.{made_loop, entering_keeps}
 use Rattle.cyc_lower.proofs.emission.Handlers.{kept_of_clause, made_clause, made_clauses, more_clauses, made_handler, record_room, clauses_longer, body_longer}

@@ -2,8 +2,8 @@ use Rattle.std.specs.Prelude.{◌+◌, ◌++◌, ◌≤◌, length}
 use Rattle.cyc_types.specs.TypedTreeView.{items_of, clauses_of}
 use Rattle.cyc_types.specs.TypedTrees.{Clauses, NoClauses}
 use Rattle.cyc_meaning.specs.FrameCount.{kept_by_clauses}
-use Rattle.cyc_lower.specs.Lowering.{items_code}
-use Rattle.cyc_lower.specs.Emission.{most_locals, view_starts}
+use Rattle.cyc_lower.specs.inside.Lowering.{items_code}
+use Rattle.cyc_lower.specs.inside.Emission.{most_locals, view_starts}
 use Rattle.cyc_lower.proofs.emission.Emitting.{Remains}
 use Rattle.cyc_lower.proofs.emission.Branching.{ItemsRemain, ClosesLeft}
 use Rattle.cyc_lower.proofs.emission.Handlers.{all_clauses}

@@ -2,7 +2,7 @@ use Rattle.std.proofs.Common.{ℕ, ◌+◌, [], ◌∷◌, ◌++◌, ◌∙◌, 
 use Rattle.std.proofs.lemmas.Result.{on_ok_weaker}
 use Rattle.cyc_types.specs.TypedTreeView.{view_expression}
 use Rattle.cyc_plain.specs.declared.instruction.Instruction.{Instruction}
-use Rattle.cyc_lower.specs.Emission.{view_starts}
+use Rattle.cyc_lower.specs.inside.Emission.{view_starts}
 use Rattle.cyc_lower.proofs.emission.Loops.{entered_first}
 use Rattle.cyc_lower.proofs.emitter.Emitter.begin_loop.Goals as goal
 

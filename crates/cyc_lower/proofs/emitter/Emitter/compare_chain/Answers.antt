@@ -2,8 +2,8 @@ use Rattle.std.proofs.Common.{◌≡◌, ap, sym, ◌∙◌, arith}
 use Rattle.std.proofs.lemmas.Result.{IfOk-weaker}
 use Rattle.cyc_types.specs.TypedTrees.{Expression}
 use Rattle.cyc_types.specs.TypedTreeView.{view_expression}
-use Rattle.cyc_lower.specs.ControlCode.{with_zero, compared_of}
-use Rattle.cyc_lower.specs.Emission.{view_starts}
+use Rattle.cyc_lower.specs.inside.ControlCode.{with_zero, compared_of}
+use Rattle.cyc_lower.specs.inside.Emission.{view_starts}
 use Rattle.cyc_lower.proofs.emission.Conditions.{not_single, made_alone, made_compared}
 use Rattle.cyc_lower.proofs.emitter.Emitter.compare_chain.Goals as goal
 

@@ -1,5 +1,5 @@
 use Rattle.std.proofs.Common.{◌≡◌, drop, max}
-use Rattle.cyc_lower.specs.Lowering.{farthest}
+use Rattle.cyc_lower.specs.inside.Lowering.{farthest}
 use Rattle.cyc_lower.proofs.emitter.Emitter.farthest.Given as goal
 
 -- the farthest of those so far, and of the rest, is the farthest of all

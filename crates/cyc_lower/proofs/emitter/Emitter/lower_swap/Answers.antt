@@ -3,10 +3,10 @@ use Rattle.std.proofs.lemmas.List.{length-append}
 use Rattle.cyc_types.specs.TypedTrees.{Side, VariableSide, CellSide}
 use Rattle.cyc_types.specs.TypedTreeView.{view_side}
 use Rattle.cyc_plain.specs.declared.instruction.Instruction.{Instruction}
-use Rattle.cyc_lower.specs.Slots.{Starts}
-use Rattle.cyc_lower.specs.ObjectCode.{right_slot}
-use Rattle.cyc_lower.specs.Lowering.{side_code}
-use Rattle.cyc_lower.specs.Emission.{most_locals, view_starts}
+use Rattle.cyc_lower.specs.inside.Slots.{Starts}
+use Rattle.cyc_lower.specs.inside.ObjectCode.{right_slot}
+use Rattle.cyc_lower.specs.inside.Lowering.{side_code}
+use Rattle.cyc_lower.specs.inside.Emission.{most_locals, view_starts}
 use Rattle.cyc_lower.proofs.emission.Emitting.{room_for_right}
 use Rattle.cyc_lower.proofs.emitter.Emitter.lower_swap.Goals as goal
 

@@ -1,5 +1,5 @@
 use Rattle.cyc_types.specs.TypedTreeView.{view_expression}
-use Rattle.cyc_lower.specs.Emission.{view_starts}
+use Rattle.cyc_lower.specs.inside.Emission.{view_starts}
 use Rattle.cyc_lower.proofs.emission.Conditions.{others_begin, others_next, others_end}
 use Rattle.cyc_lower.proofs.emitter.Emitter.lower_tests.Goals as goal
 

@@ -1,5 +1,5 @@
 use Rattle.cyc_types.specs.TypedTreeView.{view_expression}
-use Rattle.cyc_lower.specs.Emission.{view_starts}
+use Rattle.cyc_lower.specs.inside.Emission.{view_starts}
 use Rattle.cyc_lower.proofs.emission.Conditions.{OthersRemain}
 use Rattle.cyc_lower.proofs.emitter.Emitter.lower_tests.Given as goal
 

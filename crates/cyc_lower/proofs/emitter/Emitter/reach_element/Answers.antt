@@ -1,4 +1,4 @@
-use Rattle.cyc_lower.specs.Emission.{view_starts}
+use Rattle.cyc_lower.specs.inside.Emission.{view_starts}
 use Rattle.cyc_lower.proofs.emission.Emitting.{made_element}
 use Rattle.cyc_lower.proofs.emitter.Emitter.reach_element.Goals as goal
 

@@ -25,7 +25,7 @@ use Rattle.cyc_pagestore.specs.contracts.links.Roster.new as f
 use Rattle.cyc_pagestore.proofs.links.Roster.new.Statement as stated
 use Rattle.cyc_pagestore.proofs.links.Roster.new.Code as code
 use Rattle.cyc_pagestore.specs.contracts.links.Roster as made
-use Rattle.cyc_pagestore.specs.Links.{no_links}
+use Rattle.cyc_pagestore.specs.inside.Links.{no_links}
 
 abbrev stayed : Stays (f.ended).signature.params (f.ended).kept
 stayed = tt

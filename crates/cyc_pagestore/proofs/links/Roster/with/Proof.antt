@@ -32,7 +32,7 @@ use Rattle.cyc_pagestore.proofs.links.Roster.with.Statement as stated
 use Rattle.cyc_pagestore.proofs.links.Roster.with.Code as code
 use Rattle.cyc_pagestore.specs.contracts.links.Roster as roster
 use Rattle.cyc_pagestore.specs.contracts.step.Step as step
-use Rattle.cyc_pagestore.specs.Links.{after}
+use Rattle.cyc_pagestore.specs.inside.Links.{after}
 
 abbrev stayed : Stays (f.ended).signature.params (f.ended).kept
 stayed = (stay_none_ref (0 ∷ []) tt (plain (λ _. roster.the_row)) yes, (stay_none_ref (1 ∷ []) tt (plain (λ _. step.the_row)) yes, tt))

@@ -2,7 +2,7 @@ use Rattle.std.proofs.Common.{◌≡◌, ◌+◌, ◌*◌, ◌<◌, ◌≤◌, s
 use Rattle.std.specs.Vec.{vec_capacity}
 use Rattle.cyc_store.specs.Ledger.{Stored, held_of, store_of}
 use Rattle.cyc_store.specs.Services.{Allocate, Allocated, Refused, Full, Serves}
-use Rattle.cyc_pagestore.specs.Table.{TableState, row_of, Fills}
+use Rattle.cyc_pagestore.specs.inside.Table.{TableState, row_of, Fills}
 use Rattle.cyc_pagestore.proofs.Storing.{root-inside, root-few, root-role, taken-small}
 use Rattle.cyc_pagestore.proofs.Making.{newest-inside, newest-few, last-filled, behind-most, behind-stored, behind-served, after-spent, after-most, after-stored, after-served}
 use Rattle.cyc_pagestore.proofs.Finding.{region-of}

@@ -1,10 +1,9 @@
 use Rattle.std.proofs.Common.{◌≡◌, ◌+◌, ◌*◌, ◌^◌, ◌≤◌, Some, sym, ap, subst, ◌∙◌, arith}
 use Rattle.std.specs.Vec.{vec_capacity}
 use Rattle.cyc_store.specs.Ledger.{Stored, held_of, store_of}
-use Rattle.cyc_store.specs.Lookup.{lookup}
+use Rattle.cyc_store.specs.State.{lookup, address_of}
 use Rattle.cyc_store.specs.Services.{Free, Done, Serves}
-use Rattle.cyc_store.specs.State.{address_of}
-use Rattle.cyc_pagestore.specs.Table.{TableState}
+use Rattle.cyc_pagestore.specs.inside.Table.{TableState}
 use Rattle.cyc_pagestore.proofs.Cutting.{freed-class, freed-word, freed-small, freed-marks, freed-stored, freed-served}
 use Rattle.cyc_pagestore.proofs.paged.PageStore.empty.Goals as goal
 

@@ -2,7 +2,7 @@ use Rattle.std.proofs.Common.{◌+◌, ◌*◌, ◌≤◌, sym, ap, subst}
 use Rattle.std.specs.Vec.{vec_capacity}
 use Rattle.cyc_store.specs.Ledger.{Stored, held_of, store_of}
 use Rattle.cyc_store.specs.Slots.{HasSlot, Fills}
-use Rattle.cyc_pagestore.specs.Table.{TableState}
+use Rattle.cyc_pagestore.specs.inside.Table.{TableState}
 use Rattle.cyc_pagestore.proofs.Cutting.{next-dead, next-fresh, next-small, next-there, next-stored, next-fills}
 use Rattle.cyc_pagestore.proofs.paged.PageStore.fill.Goals as goal
 

@@ -5,7 +5,7 @@ use Rattle.cyc_words.proofs.Numbers.{nat_lt-true}
 use Rattle.cyc_store.specs.Ledger.{Stored, held_of}
 use Rattle.cyc_store.specs.State.{homes, holder}
 use Rattle.cyc_store.specs.declared.range.TheConstants.{STORE_BASE}
-use Rattle.cyc_pagestore.specs.Table.{row_of}
+use Rattle.cyc_pagestore.specs.inside.Table.{row_of}
 use Rattle.cyc_pagestore.proofs.Storing.{live-below, live-marked}
 use Rattle.cyc_pagestore.proofs.paged.PageStore.is_live.Goals as goal
 

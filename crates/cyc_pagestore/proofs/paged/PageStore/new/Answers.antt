@@ -1,7 +1,7 @@
 use Rattle.std.proofs.Common.{◌≤◌, sym, subst, arith}
 use Rattle.cyc_store.specs.Ledger.{Blocks, no_blocks}
 use Rattle.cyc_store.proofs.KeptStart.{all_new}
-use Rattle.cyc_pagestore.specs.Stored.{IsStored}
+use Rattle.cyc_pagestore.specs.inside.Stored.{IsStored}
 use Rattle.cyc_pagestore.proofs.Beginning.{heap-stored, heap-most, heap-held, heap-words}
 use Rattle.cyc_pagestore.proofs.paged.PageStore.new.Goals as goal
 

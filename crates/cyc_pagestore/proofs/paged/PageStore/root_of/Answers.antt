@@ -1,9 +1,8 @@
 use Rattle.std.proofs.Common.{◌≡◌, ◌+◌, ◌*◌, ◌/◌, true, None, subst, ◌∙◌, arith}
 use Rattle.std.specs.Prelude.{is_some}
 use Rattle.cyc_store.specs.Ledger.{Stored}
-use Rattle.cyc_store.specs.Lookup.{lookup}
-use Rattle.cyc_store.specs.State.{handle_of}
-use Rattle.cyc_pagestore.specs.Table.{IsRoot}
+use Rattle.cyc_store.specs.State.{lookup, handle_of}
+use Rattle.cyc_pagestore.specs.inside.Table.{IsRoot}
 use Rattle.cyc_pagestore.proofs.Finding.{even-unnamed, past-unnamed, rest-unnamed, root-known}
 use Rattle.cyc_pagestore.proofs.paged.PageStore.root_of.Goals as goal
 

@@ -1,7 +1,6 @@
 use Rattle.std.proofs.Common.{◌≡◌, ◌*◌, ◌/◌, ◌%◌, ◌^◌, ◌≤◌, None, Some, sym, subst, ◌∙◌, arith}
 use Rattle.cyc_store.specs.Ledger.{Stored}
-use Rattle.cyc_store.specs.Lookup.{lookup}
-use Rattle.cyc_store.specs.State.{address_of}
+use Rattle.cyc_store.specs.State.{lookup, address_of}
 use Rattle.cyc_pagestore.proofs.Finding.{nowhere-none, beyond-none, region-none, slots-class, inner-none, dead-none, live-some}
 use Rattle.cyc_pagestore.proofs.paged.PageStore.slot_of.Goals as goal
 

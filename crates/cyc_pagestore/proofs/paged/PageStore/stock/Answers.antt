@@ -2,7 +2,7 @@ use Rattle.std.proofs.Common.{◌≤◌, sym, ap, subst, ◌∙◌, arith}
 use Rattle.std.specs.Vec.{vec_capacity}
 use Rattle.cyc_store.specs.Ledger.{Stored, held_of, store_of}
 use Rattle.cyc_store.specs.Slots.{HasSlot, IsSpent, Stocks}
-use Rattle.cyc_pagestore.specs.Table.{TableState}
+use Rattle.cyc_pagestore.specs.inside.Table.{TableState}
 use Rattle.cyc_pagestore.proofs.Storing.{taken-small}
 use Rattle.cyc_pagestore.proofs.Cutting.{cut-spent, cut-stored, cut-stocks}
 use Rattle.cyc_pagestore.proofs.paged.PageStore.stock.Goals as goal

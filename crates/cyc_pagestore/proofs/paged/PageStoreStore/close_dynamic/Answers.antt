@@ -2,12 +2,11 @@ use Rattle.std.proofs.Common.{◌≡◌, ◌+◌, ◌*◌, ◌≤◌, true, fals
 use Rattle.std.specs.Prelude.{is_some}
 use Rattle.std.specs.Vec.{vec_capacity}
 use Rattle.cyc_store.specs.Ledger.{Stored, held_of, store_of}
-use Rattle.cyc_store.specs.Lookup.{lookup, without}
+use Rattle.cyc_store.specs.State.{lookup, without, handle_of}
 use Rattle.cyc_store.specs.Services.{CloseDynamic, Done, Serves, names_dynamic}
-use Rattle.cyc_store.specs.State.{handle_of}
 use Rattle.cyc_store.proofs.Responses.{refuses-close}
 use Rattle.cyc_store.proofs.KeptClosing.{dynamic-named, dynamic-left, dynamic-closes}
-use Rattle.cyc_pagestore.specs.Table.{row_of}
+use Rattle.cyc_pagestore.specs.inside.Table.{row_of}
 use Rattle.cyc_pagestore.proofs.Storing.{row-read, root-inside, root-role, closes-most, closed-stored, closed-served}
 use Rattle.cyc_pagestore.proofs.Finding.{in-rows, others-unnamed, region-of}
 use Rattle.cyc_pagestore.proofs.paged.PageStoreStore.close_dynamic.Goals as goal

@@ -3,10 +3,10 @@ use Rattle.std.specs.Vec.{vec_capacity}
 use Rattle.cyc_store.specs.Ledger.{Stored, held_of, store_of}
 use Rattle.cyc_store.specs.Services.{OpenDynamic, Opened, Refused, Full, Serves}
 use Rattle.cyc_store.specs.State.{StoreState}
-use Rattle.cyc_store.specs.Kept.{handle_of_page}
+use Rattle.cyc_store.specs.inside.Kept.{handle_of_page}
 use Rattle.cyc_store.specs.declared.row.Role.TheVariants.{Dynamic}
 use Rattle.cyc_store.proofs.Responses.{dynamic-full}
-use Rattle.cyc_pagestore.specs.Table.{TableState}
+use Rattle.cyc_pagestore.specs.inside.Table.{TableState}
 use Rattle.cyc_pagestore.proofs.Storing.{stored-held, stored-full, taken-small, opened-most, dynamic-stored, dynamic-served}
 use Rattle.cyc_pagestore.proofs.paged.PageStoreStore.open_dynamic.Goals as goal
 

@@ -2,11 +2,11 @@ use Rattle.std.proofs.Common.{◌≤◌, length, refl, sym, subst, arith}
 use Rattle.cyc_store.specs.Ledger.{Stored, held_of, store_of}
 use Rattle.cyc_store.specs.Services.{OpenLexical, OpenedLexical, Refused, Full, Serves}
 use Rattle.cyc_store.specs.State.{StoreState}
-use Rattle.cyc_store.specs.Kept.{handle_of_page}
+use Rattle.cyc_store.specs.inside.Kept.{handle_of_page}
 use Rattle.cyc_store.specs.declared.row.Role.TheVariants.{Lexical}
 use Rattle.cyc_store.proofs.Responses.{lexical-full}
 use Rattle.cyc_store.proofs.KeptServices.{kept-lexicals_few}
-use Rattle.cyc_pagestore.specs.Table.{TableState}
+use Rattle.cyc_pagestore.specs.inside.Table.{TableState}
 use Rattle.cyc_pagestore.proofs.Storing.{stored-held, stored-full, taken-small, opened-most, lexical-stored, lexical-served, lexical-room}
 use Rattle.cyc_pagestore.proofs.paged.PageStoreStore.open_lexical.Goals as goal
 

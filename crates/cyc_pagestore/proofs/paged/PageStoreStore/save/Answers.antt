@@ -4,7 +4,7 @@ use Rattle.std.specs.Vec.{vec_capacity}
 use Rattle.cyc_store.specs.Ledger.{Stored, held_of, store_of}
 use Rattle.cyc_store.specs.State.{saved, word_at}
 use Rattle.cyc_store.specs.declared.range.TheConstants.{STORE_BASE, PAGE_WORDS}
-use Rattle.cyc_pagestore.specs.Table.{TableState}
+use Rattle.cyc_pagestore.specs.inside.Table.{TableState}
 use Rattle.cyc_pagestore.proofs.Cutting.{words-all}
 use Rattle.cyc_pagestore.proofs.Finding.{word-inside, save-stored, save-held}
 use Rattle.cyc_pagestore.proofs.paged.PageStoreStore.save.Goals as goal

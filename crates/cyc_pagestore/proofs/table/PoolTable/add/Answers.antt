@@ -1,10 +1,10 @@
 use Rattle.std.proofs.Common.{ℕ, List, [], ◌∷◌, ◌++◌, ◌+◌, ◌*◌, ◌<◌, set, slice_index, ap, sym, subst, ◌∙◌}
-use Rattle.cyc_rawpages.specs.Lists.{chain_at}
-use Rattle.cyc_rawpages.specs.Pool.{PoolState, IsHead}
+use Rattle.cyc_rawpages.specs.inside.Lists.{chain_at}
+use Rattle.cyc_rawpages.specs.inside.Pool.{PoolState, IsHead}
 use Rattle.cyc_pagestore.specs.declared.step.Step.TheVariants.{Added}
 use Rattle.cyc_pagestore.specs.declared.table.Spot.{Spot}
-use Rattle.cyc_pagestore.specs.Links.{Links, after}
-use Rattle.cyc_pagestore.specs.Table.{IsBacked}
+use Rattle.cyc_pagestore.specs.inside.Links.{Links, after}
+use Rattle.cyc_pagestore.specs.inside.Table.{IsBacked}
 use Rattle.cyc_pagestore.proofs.Calls.{view_of, spot-read, there-in, in-spots, root-in, is-full, add-head, add-keeps, add-gives}
 use Rattle.cyc_pagestore.proofs.table.PoolTable.add.Goals as goal
 

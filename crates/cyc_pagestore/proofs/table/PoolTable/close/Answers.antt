@@ -1,6 +1,6 @@
 use Rattle.std.proofs.Common.{ℕ, List, [], set, ap, sym, subst, ◌∙◌}
-use Rattle.cyc_rawpages.specs.Lists.{chain_at, freed}
-use Rattle.cyc_rawpages.specs.Pool.{PoolState, IsHead}
+use Rattle.cyc_rawpages.specs.inside.Lists.{chain_at, freed}
+use Rattle.cyc_rawpages.specs.inside.Pool.{PoolState, IsHead}
 use Rattle.cyc_pagestore.proofs.Calls.{close-head, close-keeps}
 use Rattle.cyc_pagestore.proofs.table.PoolTable.close.Goals as goal
 

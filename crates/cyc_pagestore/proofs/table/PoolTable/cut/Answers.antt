@@ -1,7 +1,7 @@
 use Rattle.std.proofs.Common.{set, ap, ◌∙◌}
-use Rattle.cyc_rawpages.specs.Pool.{PoolState}
+use Rattle.cyc_rawpages.specs.inside.Pool.{PoolState}
 use Rattle.cyc_pagestore.specs.declared.step.Step.TheVariants.{Cut}
-use Rattle.cyc_pagestore.specs.Links.{Links, after}
+use Rattle.cyc_pagestore.specs.inside.Links.{Links, after}
 use Rattle.cyc_pagestore.proofs.Calls.{view_of, is-full, cut-keeps, cut-gives}
 use Rattle.cyc_pagestore.proofs.table.PoolTable.cut.Goals as goal
 

@@ -1,10 +1,10 @@
 use Rattle.std.proofs.Common.{◌≡◌, ℕ, false, List, [], ◌∷◌, set, sym, ap, subst, ◌∙◌}
 use Rattle.cyc_store.specs.declared.row.Role.TheVariants.{Heap}
-use Rattle.cyc_rawpages.specs.Pool.{PoolState, IsFree, new_pool}
+use Rattle.cyc_rawpages.specs.inside.Pool.{PoolState, IsFree, new_pool}
 use Rattle.cyc_pagestore.specs.declared.step.Step.TheVariants.{Made, Taken, Began}
 use Rattle.cyc_pagestore.specs.declared.table.Spot.{Spot}
-use Rattle.cyc_pagestore.specs.Links.{Links, no_links, after}
-use Rattle.cyc_pagestore.specs.Table.{AreAlone, IsBacked}
+use Rattle.cyc_pagestore.specs.inside.Links.{Links, no_links, after}
+use Rattle.cyc_pagestore.specs.inside.Table.{AreAlone, IsBacked}
 use Rattle.cyc_pagestore.proofs.Beginning.{first-free, first-alone, new-keeps, new-opens}
 use Rattle.cyc_pagestore.proofs.table.PoolTable.new.Goals as goal
 

@@ -1,8 +1,8 @@
 use Rattle.std.proofs.Common.{set, ap, subst, ◌∙◌}
-use Rattle.cyc_rawpages.specs.Pool.{PoolState}
+use Rattle.cyc_rawpages.specs.inside.Pool.{PoolState}
 use Rattle.cyc_pagestore.specs.declared.step.Step.TheVariants.{Began}
-use Rattle.cyc_pagestore.specs.Links.{Links, after}
-use Rattle.cyc_pagestore.specs.Live.{Readies}
+use Rattle.cyc_pagestore.specs.inside.Links.{Links, after}
+use Rattle.cyc_pagestore.specs.inside.Live.{Readies}
 use Rattle.cyc_pagestore.proofs.Calls.{view_of, is-full, open-keeps, open-gives}
 use Rattle.cyc_pagestore.proofs.table.PoolTable.open.Goals as goal
 

@@ -2,12 +2,12 @@ use Rattle.std.proofs.Common.{◌≡◌, ℕ, suc, List, [], map, Option, option
 use Rattle.std.proofs.lemmas.Result.{err_from_is_err_and}
 use Rattle.cyc_syntax.specs.Symbols.{Symbol}
 use Rattle.cyc_syntax.specs.Trees.{Postfixes, NoPostfixes, NoOperations, NoExpressions}
-use Rattle.cyc_syntax.specs.TreeView.{view_expression, then_postfix, postfixes_of, operations_of, expressions_of}
-use Rattle.cyc_parse.specs.Expressions.{nested, begins_expression, more_values, postfixes, operations}
-use Rattle.cyc_parse.specs.Steps.{one_field, operand, then_operation}
-use Rattle.cyc_parse.specs.Boxes.{view_boxed}
-use Rattle.cyc_parse.specs.Code.{Gives}
-use Rattle.cyc_parse.specs.Parsing.{Outcome, more_items}
+use Rattle.cyc_syntax.specs.inside.TreeView.{view_expression, then_postfix, postfixes_of, operations_of, expressions_of}
+use Rattle.cyc_parse.specs.inside.Expressions.{nested, begins_expression, more_values, postfixes, operations}
+use Rattle.cyc_parse.specs.inside.Steps.{one_field, operand, then_operation}
+use Rattle.cyc_parse.specs.inside.Boxes.{view_boxed}
+use Rattle.cyc_parse.specs.inside.Code.{Gives}
+use Rattle.cyc_parse.specs.inside.Parsing.{Outcome, more_items}
 use Rattle.cyc_parse.proofs.Loops.{goes_on, fails, fails_full, ends_as, is_full_as, onto-map, onto-expressions, onto-postfixes, onto-operations, more_items_steps, postfixes_steps, operations_steps, more_values_steps}
 use Rattle.cyc_parse.proofs.LoneOperands.{no_bracket, no_chain}
 use Rattle.cyc_parse.proofs.cursor.Parser.+expression.Goals as goal

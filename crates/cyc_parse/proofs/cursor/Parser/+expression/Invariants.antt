@@ -1,9 +1,9 @@
 use Rattle.std.proofs.Common.{◌≡◌, suc, ◌+◌, ◌-◌, ◌*◌, ◌∷◌}
 use Rattle.cyc_syntax.specs.Trees.{MoreExpressions}
-use Rattle.cyc_syntax.specs.TreeView.{view_expression, then_postfix}
-use Rattle.cyc_parse.specs.Parsing.{separated, more_items}
-use Rattle.cyc_parse.specs.Expressions.{nested, begins_expression, more_values, values, postfixes, operations}
-use Rattle.cyc_parse.specs.Steps.{operand, then_operation}
+use Rattle.cyc_syntax.specs.inside.TreeView.{view_expression, then_postfix}
+use Rattle.cyc_parse.specs.inside.Parsing.{separated, more_items}
+use Rattle.cyc_parse.specs.inside.Expressions.{nested, begins_expression, more_values, values, postfixes, operations}
+use Rattle.cyc_parse.specs.inside.Steps.{operand, then_operation}
 use Rattle.cyc_parse.proofs.Loops.{with_front}
 use Rattle.cyc_parse.proofs.cursor.Parser.+expression.Given as goal
 

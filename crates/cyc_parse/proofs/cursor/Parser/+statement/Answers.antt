@@ -2,9 +2,9 @@ use Rattle.std.proofs.Common.{◌≡◌, ℕ, List, Some, None, Ok, refl, sym, a
 use Rattle.std.proofs.lemmas.Result.{err_from_is_err_and}
 use Rattle.cyc_syntax.specs.Symbols.{Symbol}
 use Rattle.cyc_syntax.specs.Trees.{NoItems, Clauses, NoClauses}
-use Rattle.cyc_syntax.specs.TreeView.{view_item, items_of, default_of}
-use Rattle.cyc_parse.specs.Statements.{nested_statements, clauses_in, items_in}
-use Rattle.cyc_parse.specs.StatementSteps.{then_clause}
+use Rattle.cyc_syntax.specs.inside.TreeView.{view_item, items_of, default_of}
+use Rattle.cyc_parse.specs.inside.Statements.{nested_statements, clauses_in, items_in}
+use Rattle.cyc_parse.specs.inside.StatementSteps.{then_clause}
 use Rattle.cyc_parse.proofs.Loops.{goes_on, ends, fails, ends_as, is_full, is_full_as}
 use Rattle.cyc_parse.proofs.StatementLoops.{onto-items, onto-clauses, items_in_steps, clauses_in_steps, ends_badly, no_item, an_item, no_more_of_item}
 use Rattle.cyc_parse.proofs.cursor.Parser.+statement.Goals as goal

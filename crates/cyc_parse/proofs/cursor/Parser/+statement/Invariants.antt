@@ -1,8 +1,8 @@
 use Rattle.std.proofs.Common.{◌≡◌, ◌+◌, ◌-◌, ◌*◌, length}
 use Rattle.cyc_syntax.specs.Trees.{MoreItems}
-use Rattle.cyc_syntax.specs.TreeView.{view_item}
-use Rattle.cyc_parse.specs.Statements.{nested_statements, clauses_in, items_in, items}
-use Rattle.cyc_parse.specs.StatementSteps.{then_clause}
+use Rattle.cyc_syntax.specs.inside.TreeView.{view_item}
+use Rattle.cyc_parse.specs.inside.Statements.{nested_statements, clauses_in, items_in, items}
+use Rattle.cyc_parse.specs.inside.StatementSteps.{then_clause}
 use Rattle.cyc_parse.proofs.Loops.{with_front}
 use Rattle.cyc_parse.proofs.cursor.Parser.+statement.Given as goal
 

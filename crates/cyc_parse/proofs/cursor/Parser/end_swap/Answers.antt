@@ -1,8 +1,8 @@
 use Rattle.std.proofs.Common.{suc, sym, subst, ◌∙◌}
 use Rattle.cyc_syntax.specs.Symbols.{Place}
-use Rattle.cyc_syntax.specs.TreeView.{place_of_span, view_expression}
-use Rattle.cyc_parse.specs.Code.{Gives}
-use Rattle.cyc_parse.specs.Parsing.{Outcome}
+use Rattle.cyc_syntax.specs.inside.TreeView.{place_of_span, view_expression}
+use Rattle.cyc_parse.specs.inside.Code.{Gives}
+use Rattle.cyc_parse.specs.inside.Parsing.{Outcome}
 use Rattle.cyc_parse.proofs.StatementLevels.{swap_ends}
 use Rattle.cyc_parse.proofs.cursor.Parser.end_swap.Goals as goal
 

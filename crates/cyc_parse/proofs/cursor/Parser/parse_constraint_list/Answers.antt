@@ -1,8 +1,8 @@
 use Rattle.std.proofs.Common.{suc, [], map}
 use Rattle.std.proofs.lemmas.Result.{err_from_is_err_and}
-use Rattle.cyc_syntax.specs.TreeView.{view_constraint}
-use Rattle.cyc_parse.specs.Parsing.{begins_region, more_items}
-use Rattle.cyc_parse.specs.Declarations.{constraint}
+use Rattle.cyc_syntax.specs.inside.TreeView.{view_constraint}
+use Rattle.cyc_parse.specs.inside.Parsing.{begins_region, more_items}
+use Rattle.cyc_parse.specs.inside.Declarations.{constraint}
 use Rattle.cyc_parse.proofs.Loops.{goes_on, fails, fails_full, ends_as, is_full_as, onto-map, more_items_steps}
 use Rattle.cyc_parse.proofs.cursor.Parser.parse_constraint_list.Goals as goal
 

@@ -1,7 +1,7 @@
 use Rattle.std.proofs.Common.{◌≡◌, ℕ, suc, ◌-◌, ◌∷◌}
-use Rattle.cyc_syntax.specs.TreeView.{view_constraint}
-use Rattle.cyc_parse.specs.Parsing.{begins_region, more_items, separated}
-use Rattle.cyc_parse.specs.Declarations.{constraint}
+use Rattle.cyc_syntax.specs.inside.TreeView.{view_constraint}
+use Rattle.cyc_parse.specs.inside.Parsing.{begins_region, more_items, separated}
+use Rattle.cyc_parse.specs.inside.Declarations.{constraint}
 use Rattle.cyc_parse.proofs.Loops.{with_front}
 use Rattle.cyc_parse.proofs.cursor.Parser.parse_constraint_list.Given as goal
 

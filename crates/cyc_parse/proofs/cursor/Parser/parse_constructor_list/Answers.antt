@@ -1,7 +1,7 @@
 use Rattle.std.proofs.Common.{[], map}
 use Rattle.std.proofs.lemmas.Result.{err_from_is_err_and}
-use Rattle.cyc_syntax.specs.TreeView.{view_constructor}
-use Rattle.cyc_parse.specs.Declarations.{begins_constructor, constructor, more_of}
+use Rattle.cyc_syntax.specs.inside.TreeView.{view_constructor}
+use Rattle.cyc_parse.specs.inside.Declarations.{begins_constructor, constructor, more_of}
 use Rattle.cyc_parse.proofs.Loops.{goes_on, fails, fails_full, ends_as, is_full_as, onto-map, more_of_steps}
 use Rattle.cyc_parse.proofs.cursor.Parser.parse_constructor_list.Goals as goal
 

@@ -1,6 +1,6 @@
 use Rattle.std.proofs.Common.{◌≡◌, ◌-◌, ◌∷◌}
-use Rattle.cyc_syntax.specs.TreeView.{view_constructor}
-use Rattle.cyc_parse.specs.Declarations.{begins_constructor, constructor, more_of, some_of}
+use Rattle.cyc_syntax.specs.inside.TreeView.{view_constructor}
+use Rattle.cyc_parse.specs.inside.Declarations.{begins_constructor, constructor, more_of, some_of}
 use Rattle.cyc_parse.proofs.Loops.{with_front}
 use Rattle.cyc_parse.proofs.cursor.Parser.parse_constructor_list.Given as goal
 

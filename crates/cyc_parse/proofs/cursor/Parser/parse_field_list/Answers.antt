@@ -1,8 +1,8 @@
 use Rattle.std.proofs.Common.{suc, [], map}
 use Rattle.std.proofs.lemmas.Result.{err_from_is_err_and}
-use Rattle.cyc_syntax.specs.TreeView.{view_member}
-use Rattle.cyc_parse.specs.Types.{begins_type}
-use Rattle.cyc_parse.specs.Declarations.{field, more_of}
+use Rattle.cyc_syntax.specs.inside.TreeView.{view_member}
+use Rattle.cyc_parse.specs.inside.Types.{begins_type}
+use Rattle.cyc_parse.specs.inside.Declarations.{field, more_of}
 use Rattle.cyc_parse.proofs.Loops.{goes_on, fails, fails_full, ends_as, is_full_as, onto-map, more_of_steps}
 use Rattle.cyc_parse.proofs.cursor.Parser.parse_field_list.Goals as goal
 

@@ -1,7 +1,7 @@
 use Rattle.std.proofs.Common.{◌≡◌, ℕ, suc, ◌-◌, ◌∷◌}
-use Rattle.cyc_syntax.specs.TreeView.{view_member}
-use Rattle.cyc_parse.specs.Types.{begins_type}
-use Rattle.cyc_parse.specs.Declarations.{field, more_of, some_of}
+use Rattle.cyc_syntax.specs.inside.TreeView.{view_member}
+use Rattle.cyc_parse.specs.inside.Types.{begins_type}
+use Rattle.cyc_parse.specs.inside.Declarations.{field, more_of, some_of}
 use Rattle.cyc_parse.proofs.Loops.{with_front}
 use Rattle.cyc_parse.proofs.cursor.Parser.parse_field_list.Given as goal
 

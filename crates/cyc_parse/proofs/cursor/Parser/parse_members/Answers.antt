@@ -1,9 +1,9 @@
 use Rattle.std.proofs.Common.{suc, [], map}
 use Rattle.std.proofs.lemmas.Result.{err_from_is_err_and}
-use Rattle.cyc_syntax.specs.TreeView.{view_member}
-use Rattle.cyc_parse.specs.Types.{begins_type}
-use Rattle.cyc_parse.specs.Declarations.{member}
-use Rattle.cyc_parse.specs.Parsing.{more_items}
+use Rattle.cyc_syntax.specs.inside.TreeView.{view_member}
+use Rattle.cyc_parse.specs.inside.Types.{begins_type}
+use Rattle.cyc_parse.specs.inside.Declarations.{member}
+use Rattle.cyc_parse.specs.inside.Parsing.{more_items}
 use Rattle.cyc_parse.proofs.Loops.{goes_on, fails, fails_full, ends_as, is_full_as, onto-map, more_items_steps}
 use Rattle.cyc_parse.proofs.cursor.Parser.parse_members.Goals as goal
 

@@ -1,8 +1,8 @@
 use Rattle.std.proofs.Common.{◌≡◌, ℕ, suc, ◌-◌, ◌∷◌}
-use Rattle.cyc_syntax.specs.TreeView.{view_member}
-use Rattle.cyc_parse.specs.Parsing.{more_items, separated}
-use Rattle.cyc_parse.specs.Types.{begins_type}
-use Rattle.cyc_parse.specs.Declarations.{member}
+use Rattle.cyc_syntax.specs.inside.TreeView.{view_member}
+use Rattle.cyc_parse.specs.inside.Parsing.{more_items, separated}
+use Rattle.cyc_parse.specs.inside.Types.{begins_type}
+use Rattle.cyc_parse.specs.inside.Declarations.{member}
 use Rattle.cyc_parse.proofs.Loops.{with_front}
 use Rattle.cyc_parse.proofs.cursor.Parser.parse_members.Given as goal
 

@@ -1,7 +1,7 @@
 use Rattle.std.proofs.Common.{suc, [], map}
 use Rattle.std.proofs.lemmas.Result.{err_from_is_err_and}
-use Rattle.cyc_syntax.specs.TreeView.{view_pointer}
-use Rattle.cyc_parse.specs.Types.{pointers_of}
+use Rattle.cyc_syntax.specs.inside.TreeView.{view_pointer}
+use Rattle.cyc_parse.specs.inside.Types.{pointers_of}
 use Rattle.cyc_parse.proofs.Loops.{goes_on, fails, fails_full, ends_as, is_full_as, onto-map, pointers_of_steps}
 use Rattle.cyc_parse.proofs.cursor.Parser.parse_pointers.Goals as goal
 

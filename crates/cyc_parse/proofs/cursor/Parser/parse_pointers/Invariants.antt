@@ -1,6 +1,6 @@
 use Rattle.std.proofs.Common.{◌≡◌, ℕ, suc, ◌-◌, ◌∷◌}
-use Rattle.cyc_syntax.specs.TreeView.{view_pointer}
-use Rattle.cyc_parse.specs.Types.{pointers_of}
+use Rattle.cyc_syntax.specs.inside.TreeView.{view_pointer}
+use Rattle.cyc_parse.specs.inside.Types.{pointers_of}
 use Rattle.cyc_parse.proofs.Loops.{with_front}
 use Rattle.cyc_parse.proofs.cursor.Parser.parse_pointers.Given as goal
 

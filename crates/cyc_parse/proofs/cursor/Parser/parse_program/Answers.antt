@@ -1,8 +1,8 @@
 use Rattle.std.proofs.Common.{◌≡◌, List, [], map, Ok, refl}
 use Rattle.std.proofs.lemmas.Result.{err_from_is_err_and}
 use Rattle.cyc_syntax.specs.Symbols.{Symbol}
-use Rattle.cyc_syntax.specs.TreeView.{view_declaration}
-use Rattle.cyc_parse.specs.Declarations.{declarations_in}
+use Rattle.cyc_syntax.specs.inside.TreeView.{view_declaration}
+use Rattle.cyc_parse.specs.inside.Declarations.{declarations_in}
 use Rattle.cyc_parse.proofs.Loops.{goes_on, fails, ends_as, is_full_as, onto-map, declarations_steps}
 use Rattle.cyc_parse.proofs.cursor.Parser.parse_program.Goals as goal
 

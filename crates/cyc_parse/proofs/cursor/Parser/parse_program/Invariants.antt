@@ -1,6 +1,6 @@
 use Rattle.std.proofs.Common.{◌≡◌, ◌-◌, ◌∷◌}
-use Rattle.cyc_syntax.specs.TreeView.{view_declaration}
-use Rattle.cyc_parse.specs.Declarations.{declarations_in, program_of}
+use Rattle.cyc_syntax.specs.inside.TreeView.{view_declaration}
+use Rattle.cyc_parse.specs.inside.Declarations.{declarations_in, program_of}
 use Rattle.cyc_parse.proofs.Loops.{with_front}
 use Rattle.cyc_parse.proofs.cursor.Parser.parse_program.Given as goal
 

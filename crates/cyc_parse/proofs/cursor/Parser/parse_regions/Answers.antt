@@ -1,7 +1,7 @@
 use Rattle.std.proofs.Common.{suc, [], map}
 use Rattle.std.proofs.lemmas.Result.{err_from_is_err_and}
-use Rattle.cyc_syntax.specs.TreeView.{view_name}
-use Rattle.cyc_parse.specs.Parsing.{begins_region, region_name, more_items}
+use Rattle.cyc_syntax.specs.inside.TreeView.{view_name}
+use Rattle.cyc_parse.specs.inside.Parsing.{begins_region, region_name, more_items}
 use Rattle.cyc_parse.proofs.Loops.{goes_on, fails, fails_full, ends_as, is_full_as, onto-map, more_items_steps}
 use Rattle.cyc_parse.proofs.cursor.Parser.parse_regions.Goals as goal
 

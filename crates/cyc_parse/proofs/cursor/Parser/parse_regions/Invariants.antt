@@ -1,6 +1,6 @@
 use Rattle.std.proofs.Common.{◌≡◌, ℕ, suc, ◌-◌, ◌∷◌}
-use Rattle.cyc_syntax.specs.TreeView.{view_name}
-use Rattle.cyc_parse.specs.Parsing.{begins_region, region_name, regions, more_items}
+use Rattle.cyc_syntax.specs.inside.TreeView.{view_name}
+use Rattle.cyc_parse.specs.inside.Parsing.{begins_region, region_name, regions, more_items}
 use Rattle.cyc_parse.proofs.Loops.{with_front}
 use Rattle.cyc_parse.proofs.cursor.Parser.parse_regions.Given as goal
 

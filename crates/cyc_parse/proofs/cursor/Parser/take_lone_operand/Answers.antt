@@ -1,6 +1,6 @@
 use Rattle.std.proofs.Common.{Some, option_map, sym, ap, ◌∙◌}
-use Rattle.cyc_syntax.specs.TreeView.{place_of_span}
-use Rattle.cyc_parse.specs.Code.{view_terminal}
+use Rattle.cyc_syntax.specs.inside.TreeView.{place_of_span}
+use Rattle.cyc_parse.specs.inside.Code.{view_terminal}
 use Rattle.cyc_parse.proofs.LoneOperands.{lone_number, lone_variable}
 use Rattle.cyc_parse.proofs.cursor.Parser.take_lone_operand.Goals as goal
 

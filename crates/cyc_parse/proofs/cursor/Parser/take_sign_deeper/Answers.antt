@@ -1,7 +1,7 @@
 use Rattle.std.proofs.Common.{ℕ, subst}
-use Rattle.cyc_syntax.specs.TreeView.{place_of_span}
-use Rattle.cyc_parse.specs.Code.{Gives}
-use Rattle.cyc_parse.specs.Parsing.{sign}
+use Rattle.cyc_syntax.specs.inside.TreeView.{place_of_span}
+use Rattle.cyc_parse.specs.inside.Code.{Gives}
+use Rattle.cyc_parse.specs.inside.Parsing.{sign}
 use Rattle.cyc_parse.proofs.cursor.Parser.take_sign_deeper.Goals as goal
 
 pub returns : goal.returns

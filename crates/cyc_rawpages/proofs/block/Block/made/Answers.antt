@@ -1,5 +1,5 @@
 use Rattle.std.proofs.Common.{◌+◌, ◌≤◌, sym, ap, subst}
-use Rattle.cyc_rawpages.specs.Words.{Parts}
+use Rattle.cyc_rawpages.specs.inside.Words.{Parts}
 use Rattle.cyc_rawpages.proofs.WordLemmas.{made-within}
 use Rattle.cyc_rawpages.proofs.block.Block.made.Goals as goal
 

@@ -1,5 +1,5 @@
 use Rattle.std.proofs.Common.{◌+◌, ap, ◌∙◌, take, drop, arith}
-use Rattle.cyc_rawpages.specs.Words.{Parts}
+use Rattle.cyc_rawpages.specs.inside.Words.{Parts}
 use Rattle.cyc_rawpages.proofs.WordLemmas.{words-within, written-cleared, words-cleared}
 use Rattle.cyc_rawpages.proofs.block.Block.make_far.Goals as goal
 

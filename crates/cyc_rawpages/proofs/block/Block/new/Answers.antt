@@ -1,7 +1,7 @@
 use Rattle.std.proofs.Common.{◌+◌, ap, subst, ◌∙◌, length, get_or, arith}
 use Rattle.std.proofs.lemmas.List.{length-replicate}
 use Rattle.std.specs.Prelude.{None}
-use Rattle.cyc_rawpages.specs.Words.{AreWritten}
+use Rattle.cyc_rawpages.specs.inside.Words.{AreWritten}
 use Rattle.cyc_rawpages.proofs.WordLemmas.{written-first, parts-first}
 use Rattle.cyc_rawpages.proofs.block.Block.new.Goals as goal
 

@@ -1,6 +1,6 @@
 use Rattle.std.proofs.Common.{◌+◌, ◌<◌, ap, sym, subst, ◌∙◌, length, set, take, drop, length-set, arith}
 use Rattle.std.specs.Prelude.{Some}
-use Rattle.cyc_rawpages.specs.Words.{Parts, parts_of, AreWritten}
+use Rattle.cyc_rawpages.specs.inside.Words.{Parts, parts_of, AreWritten}
 use Rattle.cyc_rawpages.proofs.WordLemmas.{word-within, word-set, written-set, written-cleared, words-cleared}
 use Rattle.cyc_rawpages.proofs.block.Block.set_far_word.Goals as goal
 

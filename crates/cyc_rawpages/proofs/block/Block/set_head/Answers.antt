@@ -1,6 +1,6 @@
 use Rattle.std.proofs.Common.{◌+◌, ap, sym, subst, ◌∙◌, length, length-set, arith}
 use Rattle.std.specs.Prelude.{Some}
-use Rattle.cyc_rawpages.specs.Words.{Parts, headed, parts_of, AreWritten}
+use Rattle.cyc_rawpages.specs.inside.Words.{Parts, headed, parts_of, AreWritten}
 use Rattle.cyc_rawpages.proofs.WordLemmas.{head-within, head-set, written-set}
 use Rattle.cyc_rawpages.proofs.block.Block.set_head.Goals as goal
 

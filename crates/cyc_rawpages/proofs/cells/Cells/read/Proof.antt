@@ -31,7 +31,7 @@ use denote.Triple.Walked.{Stays, stay_dropped, walk_of, says, ends_at, Goes-drop
 use Rattle.std.proofs.raw_atomic.Walks.{proved}
 use Rattle.std.proofs.VecSteps.Shapes.{after}
 use Rattle.std.specs.Prelude.{Option, None}
-use Rattle.cyc_rawpages.specs.Ownership.{place_lent, lent_at, IsFilled}
+use Rattle.cyc_rawpages.specs.inside.Ownership.{place_lent, lent_at, IsFilled}
 use Rattle.cyc_rawpages.proofs.Values.{start_val, start_typed}
 use Rattle.cyc_rawpages.proofs.Places.{filled_within, place_seen}
 use Rattle.cyc_rawpages.specs.contracts.cells.Cells.read as f

@@ -28,7 +28,7 @@ use denote.Triple.Walked.{Stays, stay_dropped, stay_ref, walk_of, says, ends_at,
 use Rattle.std.proofs.raw_atomic.Walks.{proved}
 use Rattle.std.proofs.VecSteps.Shapes.{after}
 use Rattle.std.specs.Prelude.{Some, None}
-use Rattle.cyc_rawpages.specs.Ownership.{place, places, places_at}
+use Rattle.cyc_rawpages.specs.inside.Ownership.{place, places, places_at}
 use Rattle.cyc_rawpages.proofs.Values.{start_val, start_typed}
 use Rattle.cyc_rawpages.proofs.Places.{besides, place_out, place_in, place_room}
 use Rattle.cyc_rawpages.specs.contracts.cells.Cells.write as f

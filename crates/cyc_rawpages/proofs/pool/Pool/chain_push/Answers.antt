@@ -1,9 +1,9 @@
 use Rattle.std.proofs.Common.{ℕ, List, [], ◌∷◌, ◌++◌, set, length-set, sym, ap, subst, ◌∙◌, arith}
 use Rattle.std.specs.Prelude.{slice_index}
-use Rattle.cyc_rawpages.specs.Lists.{Lists, chain_at, after}
+use Rattle.cyc_rawpages.specs.inside.Lists.{Lists, chain_at, after}
 use Rattle.cyc_rawpages.specs.declared.change.Change.TheVariants.{Pushed}
-use Rattle.cyc_rawpages.specs.Words.{Parts, headed}
-use Rattle.cyc_rawpages.specs.Pool.{PoolState, header_at, field_of, state_of, IsHead, IsPool}
+use Rattle.cyc_rawpages.specs.inside.Words.{Parts, headed}
+use Rattle.cyc_rawpages.specs.inside.Pool.{PoolState, header_at, field_of, state_of, IsHead, IsPool}
 use Rattle.cyc_rawpages.specs.declared.header.TheConstants.{NEXT, TAIL}
 use Rattle.cyc_rawpages.proofs.Columns.{linked}
 use Rattle.cyc_rawpages.proofs.Heads.{head-pushed}

@@ -1,9 +1,9 @@
 use Rattle.std.proofs.Common.{[], set, sym, ap, subst, ◌∙◌, arith}
 use Rattle.std.specs.Prelude.{slice_index}
-use Rattle.cyc_rawpages.specs.Lists.{Lists, chain_at, after, freed}
+use Rattle.cyc_rawpages.specs.inside.Lists.{Lists, chain_at, after, freed}
 use Rattle.cyc_rawpages.specs.declared.change.Change.TheVariants.{Given}
-use Rattle.cyc_rawpages.specs.Words.{Parts, headed}
-use Rattle.cyc_rawpages.specs.Pool.{PoolState, header_at, field_of, state_of, IsPool}
+use Rattle.cyc_rawpages.specs.inside.Words.{Parts, headed}
+use Rattle.cyc_rawpages.specs.inside.Pool.{PoolState, header_at, field_of, state_of, IsPool}
 use Rattle.cyc_rawpages.specs.declared.header.TheConstants.{NEXT, TAIL}
 use Rattle.cyc_rawpages.proofs.Columns.{linked}
 use Rattle.cyc_rawpages.proofs.PoolLemmas.{header-in, tail-there, given-free, pool-given, there-in, head-in}

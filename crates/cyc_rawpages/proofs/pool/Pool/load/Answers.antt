@@ -1,6 +1,6 @@
 use Rattle.std.proofs.Common.{◌+◌, ◌*◌, ap, ◌∙◌}
 use Rattle.std.specs.Prelude.{slice_index}
-use Rattle.cyc_rawpages.specs.Pool.{PoolState}
+use Rattle.cyc_rawpages.specs.inside.Pool.{PoolState}
 use Rattle.cyc_rawpages.proofs.PoolLemmas.{word-in, there-in}
 use Rattle.cyc_rawpages.proofs.pool.Pool.load.Goals as goal
 

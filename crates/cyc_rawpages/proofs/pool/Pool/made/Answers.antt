@@ -1,7 +1,7 @@
 use Rattle.std.proofs.Common.{◌≡◌, true, ap, subst, ◌∙◌, inl, inr, arith}
 use Rattle.std.specs.Prelude.{false, slice_index_or}
-use Rattle.cyc_rawpages.specs.Lists.{is_among}
-use Rattle.cyc_rawpages.specs.Pool.{PoolState}
+use Rattle.cyc_rawpages.specs.inside.Lists.{is_among}
+use Rattle.cyc_rawpages.specs.inside.Pool.{PoolState}
 use Rattle.cyc_rawpages.proofs.Columns.{tab-read}
 use Rattle.cyc_rawpages.proofs.PoolLemmas.{there-in}
 use Rattle.cyc_rawpages.proofs.pool.Pool.made.Goals as goal

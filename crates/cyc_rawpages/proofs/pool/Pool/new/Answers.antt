@@ -1,8 +1,8 @@
 use Rattle.std.proofs.Common.{◌*◌, length, sym, ap, subst, ◌∙◌}
-use Rattle.cyc_rawpages.specs.Lists.{all_free}
+use Rattle.cyc_rawpages.specs.inside.Lists.{all_free}
 use Rattle.std.proofs.lemmas.List.{length-replicate}
-use Rattle.cyc_rawpages.specs.Words.{Parts}
-use Rattle.cyc_rawpages.specs.Pool.{state_of, IsPool}
+use Rattle.cyc_rawpages.specs.inside.Words.{Parts}
+use Rattle.cyc_rawpages.specs.inside.Pool.{state_of, IsPool}
 use Rattle.cyc_rawpages.proofs.Fresh.{fresh-pool, fresh-state}
 use Rattle.cyc_rawpages.proofs.pool.Pool.new.Goals as goal
 

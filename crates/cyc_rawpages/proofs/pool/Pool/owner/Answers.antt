@@ -1,6 +1,6 @@
 use Rattle.std.proofs.Common.{sym, ap, ◌∙◌, arith}
 use Rattle.std.specs.Prelude.{slice_index}
-use Rattle.cyc_rawpages.specs.Pool.{PoolState}
+use Rattle.cyc_rawpages.specs.inside.Pool.{PoolState}
 use Rattle.cyc_rawpages.specs.declared.header.TheConstants.{OWNER}
 use Rattle.cyc_rawpages.proofs.PoolLemmas.{header-in, column-read}
 use Rattle.cyc_rawpages.proofs.pool.Pool.owner.Goals as goal

@@ -1,5 +1,5 @@
 use Rattle.std.proofs.Common.{◌+◌, ◌*◌, set, length-set, sym, ap, subst, ◌∙◌, inl, inr, arith}
-use Rattle.cyc_rawpages.specs.Pool.{PoolState, state_of, IsPool}
+use Rattle.cyc_rawpages.specs.inside.Pool.{PoolState, state_of, IsPool}
 use Rattle.cyc_rawpages.proofs.PoolLemmas.{word-in, there-in}
 use Rattle.cyc_rawpages.proofs.pool.Pool.save.Goals as goal
 

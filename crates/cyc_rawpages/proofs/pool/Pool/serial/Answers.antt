@@ -1,6 +1,6 @@
 use Rattle.std.proofs.Common.{◌+◌, ◌*◌, ◌^◌, sym, ap, ◌∙◌}
 use Rattle.std.specs.Prelude.{slice_index}
-use Rattle.cyc_rawpages.specs.Pool.{PoolState, serial_of}
+use Rattle.cyc_rawpages.specs.inside.Pool.{PoolState, serial_of}
 use Rattle.cyc_rawpages.proofs.Columns.{tab-read}
 use Rattle.cyc_rawpages.proofs.PoolLemmas.{there-in}
 use Rattle.cyc_rawpages.proofs.pool.Pool.serial.Goals as goal

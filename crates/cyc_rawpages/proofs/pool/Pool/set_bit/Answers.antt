@@ -1,8 +1,8 @@
 use Rattle.std.proofs.Common.{◌+◌, ◌*◌, set, sym, ap, subst, ◌∙◌, arith}
 use Rattle.std.specs.Prelude.{slice_index}
 use Rattle.std.specs.Int.{bit_at}
-use Rattle.cyc_rawpages.specs.Words.{headed}
-use Rattle.cyc_rawpages.specs.Pool.{PoolState, bits_at, state_of, IsPool}
+use Rattle.cyc_rawpages.specs.inside.Words.{headed}
+use Rattle.cyc_rawpages.specs.inside.Pool.{PoolState, bits_at, state_of, IsPool}
 use Rattle.cyc_rawpages.proofs.Columns.{marked}
 use Rattle.cyc_rawpages.proofs.PoolLemmas.{there-in, kept}
 use Rattle.cyc_rawpages.proofs.pool.Pool.set_bit.Goals as goal

@@ -1,8 +1,8 @@
 use Rattle.std.proofs.Common.{ℕ, ◌+◌, ◌*◌, false, length, sym, ap, subst, ◌∙◌, arith, inl, inr}
 use Rattle.std.specs.Prelude.{slice_index, slice_index_or}
 use Rattle.std.specs.Int.{bit_at}
-use Rattle.cyc_rawpages.specs.Words.{headed}
-use Rattle.cyc_rawpages.specs.Pool.{PoolState, bits_at, bit_of, between, tabulate, state_of, IsPool}
+use Rattle.cyc_rawpages.specs.inside.Words.{headed}
+use Rattle.cyc_rawpages.specs.inside.Pool.{PoolState, bits_at, bit_of, between, tabulate, state_of, IsPool}
 use Rattle.cyc_rawpages.proofs.Columns.{rewritten, length-tab}
 use Rattle.cyc_rawpages.proofs.BitRuns.{run-is}
 use Rattle.cyc_rawpages.proofs.PoolLemmas.{there-in, kept}

@@ -1,6 +1,6 @@
 use Rattle.std.proofs.Common.{◌/◌, ◌%◌, ◌^◌, set, sym, ap, subst, ◌∙◌, arith}
-use Rattle.cyc_rawpages.specs.Words.{headed}
-use Rattle.cyc_rawpages.specs.Pool.{PoolState, header_at, state_of, IsPool}
+use Rattle.cyc_rawpages.specs.inside.Words.{headed}
+use Rattle.cyc_rawpages.specs.inside.Pool.{PoolState, header_at, state_of, IsPool}
 use Rattle.cyc_rawpages.specs.declared.header.TheConstants.{LOW, HIGH}
 use Rattle.cyc_rawpages.proofs.Columns.{numbered}
 use Rattle.cyc_rawpages.proofs.PoolLemmas.{there-in, kept, halves}

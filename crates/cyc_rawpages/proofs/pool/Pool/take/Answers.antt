@@ -1,9 +1,9 @@
 use Rattle.std.proofs.Common.{ℕ, [], ◌∷◌, ◌<◌, length, replicate, set, refl, sym, ap, subst, ◌∙◌, arith}
 use Rattle.std.specs.Prelude.{false, slice_index}
-use Rattle.cyc_rawpages.specs.Lists.{Lists, after}
+use Rattle.cyc_rawpages.specs.inside.Lists.{Lists, after}
 use Rattle.cyc_rawpages.specs.declared.change.Change.TheVariants.{Taken}
-use Rattle.cyc_rawpages.specs.Words.{Parts, headed}
-use Rattle.cyc_rawpages.specs.Pool.{PoolState, state_of, IsFree, IsPool}
+use Rattle.cyc_rawpages.specs.inside.Words.{Parts, headed}
+use Rattle.cyc_rawpages.specs.inside.Pool.{PoolState, state_of, IsFree, IsPool}
 use Rattle.cyc_rawpages.specs.declared.header.TheConstants.{NEXT, TAIL}
 use Rattle.cyc_rawpages.proofs.Columns.{linked}
 use Rattle.cyc_rawpages.proofs.PoolLemmas.{header-in, first-there, first-free, taken-free, no-free, pool-taken}

@@ -25,7 +25,7 @@ use Rattle.cyc_rawpages.specs.contracts.roll.Roll.new as f
 use Rattle.cyc_rawpages.proofs.roll.Roll.new.Statement as stated
 use Rattle.cyc_rawpages.proofs.roll.Roll.new.Code as code
 use Rattle.cyc_rawpages.specs.contracts.roll.Roll as made
-use Rattle.cyc_rawpages.specs.Lists.{no_pages}
+use Rattle.cyc_rawpages.specs.inside.Lists.{no_pages}
 
 abbrev stayed : Stays (f.ended).signature.params (f.ended).kept
 stayed = tt

@@ -32,7 +32,7 @@ use Rattle.cyc_rawpages.proofs.roll.Roll.with.Statement as stated
 use Rattle.cyc_rawpages.proofs.roll.Roll.with.Code as code
 use Rattle.cyc_rawpages.specs.contracts.roll.Roll as roll
 use Rattle.cyc_rawpages.specs.contracts.change.Change as change
-use Rattle.cyc_rawpages.specs.Lists.{after}
+use Rattle.cyc_rawpages.specs.inside.Lists.{after}
 
 abbrev stayed : Stays (f.ended).signature.params (f.ended).kept
 stayed = (stay_none_ref (0 ∷ []) tt (plain (λ _. roll.the_row)) yes, (stay_none_ref (1 ∷ []) tt (plain (λ _. change.the_row)) yes, tt))

@@ -1,7 +1,7 @@
 use Rattle.std.proofs.Common.{◌≡◌, map, Some, sym, ap, ◌∙◌}
 use Rattle.cyc_types.specs.typing.Scopes.{Declared}
-use Rattle.cyc_scope.specs.Tables.{first_place, declared_names, first_declared}
-use Rattle.cyc_scope.specs.Entries.{view_entry}
+use Rattle.cyc_scope.specs.inside.Tables.{first_place, declared_names, first_declared}
+use Rattle.cyc_scope.specs.inside.Entries.{view_entry}
 use Rattle.cyc_scope.proofs.TableLemmas.{first_lost}
 use Rattle.cyc_scope.proofs.EntryLemmas.{declared_lent}
 use Rattle.cyc_scope.proofs.declared.Declared.find.Goals as goal

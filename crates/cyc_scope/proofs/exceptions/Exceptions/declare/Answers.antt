@@ -1,6 +1,6 @@
 use Rattle.std.proofs.Common.{◌≡◌, ◌<◌, ℕ, rules, sym, ap, ◌∙◌, map, length, get_or, None, [], ◌∷◌, ◌++◌}
-use Rattle.cyc_scope.specs.Tables.{first_place, exception_names}
-use Rattle.cyc_scope.specs.Entries.{view_exception}
+use Rattle.cyc_scope.specs.inside.Tables.{first_place, exception_names}
+use Rattle.cyc_scope.specs.inside.Entries.{view_exception}
 use Rattle.cyc_scope.proofs.TableLemmas.{set_first, keep_first}
 use Rattle.cyc_scope.proofs.EntryLemmas.{exception_count, exception_push}
 use Rattle.cyc_scope.proofs.exceptions.Exceptions.declare.Goals as goal

@@ -1,8 +1,8 @@
 use Rattle.std.proofs.Common.{◌≡◌, ◌<◌, map, length, Some, option_map, sym, ap, ◌∙◌, arith}
 use Rattle.cyc_types.specs.typing.Scopes.{Exception}
 use Rattle.cyc_types.specs.typing.Statements.{exception_among}
-use Rattle.cyc_scope.specs.Tables.{first_place, exception_names}
-use Rattle.cyc_scope.specs.Entries.{view_exception}
+use Rattle.cyc_scope.specs.inside.Tables.{first_place, exception_names}
+use Rattle.cyc_scope.specs.inside.Entries.{view_exception}
 use Rattle.cyc_scope.proofs.TableLemmas.{first_within, first_lost, among_first, number_first}
 use Rattle.cyc_scope.proofs.EntryLemmas.{exception_count, exception_at}
 use Rattle.cyc_scope.proofs.exceptions.Exceptions.find.Goals as goal

@@ -1,6 +1,6 @@
 use Rattle.std.proofs.Common.{◌≡◌, Some, sym, ap, ◌∙◌}
-use Rattle.cyc_scope.specs.Tables.{newest_place}
-use Rattle.cyc_scope.specs.Entries.{locals_of, local_names, newest}
+use Rattle.cyc_scope.specs.inside.Tables.{newest_place}
+use Rattle.cyc_scope.specs.inside.Entries.{locals_of, local_names, newest}
 use Rattle.cyc_scope.proofs.LocalLemmas.{newest_lent, newest_lost}
 use Rattle.cyc_scope.proofs.locals.Locals.find.Goals as goal
 

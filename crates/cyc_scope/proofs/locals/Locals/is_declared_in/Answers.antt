@@ -1,5 +1,5 @@
 use Rattle.std.proofs.Common.{sym}
-use Rattle.cyc_scope.specs.Entries.{view_binding}
+use Rattle.cyc_scope.specs.inside.Entries.{view_binding}
 use Rattle.cyc_scope.proofs.LocalLemmas.{declared_found}
 use Rattle.cyc_scope.proofs.locals.Locals.is_declared_in.Goals as goal
 

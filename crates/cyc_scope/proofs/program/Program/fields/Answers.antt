@@ -1,7 +1,7 @@
 use Rattle.std.proofs.Common.{[], unwrap_or, map, Some, None, ap, ◌∙◌}
 use Rattle.std.specs.List.{slice_get}
 use Rattle.cyc_types.specs.typing.Programs.{Program}
-use Rattle.cyc_scope.specs.Entries.{view_field}
+use Rattle.cyc_scope.specs.inside.Entries.{view_field}
 use Rattle.cyc_scope.proofs.EntryLemmas.{fields_lent}
 use Rattle.cyc_scope.proofs.program.Program.fields.Goals as goal
 

@@ -1,5 +1,5 @@
 use Rattle.std.proofs.Common.{◌≡◌, ◌+◌, ◌-◌, ◌++◌}
-use Rattle.cyc_select.specs.Selection.{ordinary, copies}
+use Rattle.cyc_select.specs.inside.Selection.{ordinary, copies}
 use Rattle.cyc_select.proofs.emitter.Emitter.arguments.Given as goal
 
 -- the lines so far, with those of the other arguments, are all of them

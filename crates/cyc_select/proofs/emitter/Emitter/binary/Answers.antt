@@ -1,5 +1,5 @@
 use Rattle.std.proofs.Common.{sym, subst, ◌∙◌}
-use Rattle.cyc_select.specs.Emission.{IsPlanFound}
+use Rattle.cyc_select.specs.inside.Emission.{IsPlanFound}
 use Rattle.cyc_select.proofs.values.Found.{binary_found}
 use Rattle.cyc_select.proofs.emitter.Emitter.binary.Goals as goal
 

@@ -1,7 +1,7 @@
 use Rattle.std.proofs.Common.{sym, subst}
-use Rattle.cyc_plain.specs.Program.{Routine, routine_at}
-use Rattle.cyc_plain.specs.WellFormed.{IsInRange}
-use Rattle.cyc_select.specs.Emission.{IsTestFound}
+use Rattle.cyc_plain.specs.inside.Program.{Routine, routine_at}
+use Rattle.cyc_plain.specs.inside.WellFormed.{IsInRange}
+use Rattle.cyc_select.specs.inside.Emission.{IsTestFound}
 use Rattle.cyc_select.proofs.emission.Numbering.{arguments_small}
 use Rattle.cyc_select.proofs.values.Found.{operand_found, test_found, request_found}
 use Rattle.cyc_select.proofs.emitter.Emitter.body.Goals as goal

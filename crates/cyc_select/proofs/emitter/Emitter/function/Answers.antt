@@ -2,12 +2,12 @@ use Rattle.std.proofs.Common.{◌≡◌, ℕ, ◌+◌, ◌<◌, ◌≤◌, List,
 use Rattle.std.specs.Prelude.{sum_by}
 use Rattle.cyc_plain.specs.declared.instruction.Instruction.{Instruction}
 use Rattle.cyc_plain.specs.declared.limits.TheConstants.{MOST_SIZE}
-use Rattle.cyc_plain.specs.Program.{Routine, routine_at, instruction_size}
-use Rattle.cyc_select.specs.Selection.{function_line, saving_count}
-use Rattle.cyc_select.specs.Emission.{instruction_lines}
+use Rattle.cyc_plain.specs.inside.Program.{Routine, routine_at, instruction_size}
+use Rattle.cyc_select.specs.inside.Selection.{function_line, saving_count}
+use Rattle.cyc_select.specs.inside.Emission.{instruction_lines}
 use Rattle.cyc_select.proofs.emission.Numbering.{ready_starts, ready_start, ready_size, ready_fits}
 use Rattle.cyc_select.proofs.emitter.Emitter.function.Goals as goal
-use Rattle.cyc_frame.specs.Layout.{frame_at}
+use Rattle.cyc_frame.specs.inside.Layout.{frame_at}
 
 pub offset_bounds-program-function : goal.offset_bounds-program-function
 offset_bounds-program-function c =

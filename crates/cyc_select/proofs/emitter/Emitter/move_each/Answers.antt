@@ -1,5 +1,5 @@
 use Rattle.std.proofs.Common.{◌++◌}
-use Rattle.cyc_select.specs.Selection.{ordinary, moves}
+use Rattle.cyc_select.specs.inside.Selection.{ordinary, moves}
 use Rattle.cyc_select.proofs.emission.Emitting.{moved_next}
 use Rattle.cyc_select.proofs.emitter.Emitter.move_each.Goals as goal
 

@@ -1,5 +1,5 @@
 use Rattle.std.proofs.Common.{◌≡◌, ◌+◌, ◌-◌, ◌++◌}
-use Rattle.cyc_select.specs.Selection.{ordinary, moves}
+use Rattle.cyc_select.specs.inside.Selection.{ordinary, moves}
 use Rattle.cyc_select.proofs.emitter.Emitter.move_each.Given as goal
 
 -- the lines so far, with those of the other words, are all of them

@@ -1,5 +1,5 @@
 use Rattle.std.proofs.Common.{◌≡◌, ◌++◌, take}
-use Rattle.cyc_select.specs.Selection.{ordinary}
+use Rattle.cyc_select.specs.inside.Selection.{ordinary}
 use Rattle.cyc_select.proofs.emitter.Emitter.ordinary.Given as goal
 
 -- the instructions so far have their lines

@@ -1,5 +1,5 @@
 use Rattle.std.proofs.Common.{◌++◌}
-use Rattle.cyc_select.specs.Selection.{ordinary, spills}
+use Rattle.cyc_select.specs.inside.Selection.{ordinary, spills}
 use Rattle.cyc_select.proofs.emission.Emitting.{spilled_next}
 use Rattle.cyc_select.proofs.emitter.Emitter.spills.Goals as goal
 

@@ -2,8 +2,7 @@ use Rattle.std.proofs.Common.{◌≡◌, ◌+◌, ◌*◌, ◌<◌, ◌≤◌, t
 use Rattle.std.specs.Prelude.{is_some}
 use Rattle.cyc_words.proofs.Booleans.{some_there}
 use Rattle.cyc_store.specs.Ledger.{Stored, IsUsedUp, held_of, store_of}
-use Rattle.cyc_store.specs.Lookup.{lookup}
-use Rattle.cyc_store.specs.State.{handle_of}
+use Rattle.cyc_store.specs.State.{lookup, handle_of}
 use Rattle.cyc_store.specs.Services.{Allocate, Allocated, Refused, Full, refusal, Serves}
 use Rattle.cyc_store.proofs.KeptServices.{not-true, kept-full, kept-unchanged, held-unchanged, kept-some, kept-used}
 use Rattle.cyc_store.proofs.KeptMaking.{root-there, root-small, first-there, first-small, first-count, last-few, behind-serves, behind-kept, after-full, after-none, after-serves, after-kept}

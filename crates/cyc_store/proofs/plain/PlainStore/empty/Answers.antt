@@ -1,8 +1,7 @@
 use Rattle.std.proofs.Common.{◌≡◌, ◌+◌, ◌*◌, ◌^◌, ◌<◌, ◌≤◌, length, Some, sym, subst, arith}
 use Rattle.cyc_store.specs.Ledger.{Stored, held_of, store_of}
-use Rattle.cyc_store.specs.Lookup.{lookup}
+use Rattle.cyc_store.specs.State.{lookup, address_of}
 use Rattle.cyc_store.specs.Services.{Free, Done, Serves}
-use Rattle.cyc_store.specs.State.{address_of}
 use Rattle.cyc_store.proofs.KeptFreeing.{empty-class, empty-word, empty-small, empty-live, empty-serves, empty-kept}
 use Rattle.cyc_store.proofs.plain.PlainStore.empty.Goals as goal
 

@@ -1,8 +1,7 @@
 use Rattle.std.proofs.Common.{◌≡◌, ◌+◌, ◌*◌, ◌/◌, ◌<◌, true, None, length, sym, subst, arith}
 use Rattle.std.specs.Prelude.{is_some}
 use Rattle.cyc_store.specs.Ledger.{Stored}
-use Rattle.cyc_store.specs.Lookup.{lookup}
-use Rattle.cyc_store.specs.State.{handle_of}
+use Rattle.cyc_store.specs.State.{lookup, handle_of}
 use Rattle.cyc_store.proofs.KeptClosing.{even-none, past-none, other-none, root-named, odd-handle}
 use Rattle.cyc_store.proofs.plain.PlainStore.root_of.Goals as goal
 

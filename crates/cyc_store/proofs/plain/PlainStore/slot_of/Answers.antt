@@ -1,7 +1,6 @@
 use Rattle.std.proofs.Common.{◌≡◌, ◌*◌, ◌/◌, ◌%◌, ◌^◌, ◌<◌, ◌≤◌, None, Some, length, sym, subst, arith}
 use Rattle.cyc_store.specs.Ledger.{Stored}
-use Rattle.cyc_store.specs.Lookup.{lookup}
-use Rattle.cyc_store.specs.State.{address_of}
+use Rattle.cyc_store.specs.State.{lookup, address_of}
 use Rattle.cyc_store.proofs.KeptBlocks.{block-unplaced, block-past, block-other, block-class, block-inner, block-live}
 use Rattle.cyc_store.proofs.plain.PlainStore.slot_of.Goals as goal
 

@@ -2,9 +2,8 @@ use Rattle.std.proofs.Common.{◌≡◌, ◌+◌, ◌*◌, ◌<◌, true, length
 use Rattle.std.specs.Prelude.{is_some}
 use Rattle.cyc_words.proofs.Booleans.{some_there}
 use Rattle.cyc_store.specs.Ledger.{Stored, held_of, store_of}
-use Rattle.cyc_store.specs.Lookup.{lookup, without}
+use Rattle.cyc_store.specs.State.{lookup, without, handle_of}
 use Rattle.cyc_store.specs.Services.{CloseDynamic, Done, Serves, names_dynamic}
-use Rattle.cyc_store.specs.State.{handle_of}
 use Rattle.cyc_store.proofs.Responses.{refuses-close}
 use Rattle.cyc_store.proofs.KeptMaking.{root-there, first-counted}
 use Rattle.cyc_store.proofs.KeptClosing.{dynamic-named, dynamic-left, dynamic-closes, close-there, close-kept}

@@ -1,7 +1,7 @@
 use Rattle.std.proofs.Common.{◌≡◌, true, None, refl, subst}
 use Rattle.cyc_store.specs.Ledger.{Stored, IsUsedUp, held_of, store_of}
 use Rattle.cyc_store.specs.Services.{OpenDynamic, Opened, Refused, Full, refusal, Serves}
-use Rattle.cyc_store.specs.Kept.{handle_of_page}
+use Rattle.cyc_store.specs.inside.Kept.{handle_of_page}
 use Rattle.cyc_store.proofs.Responses.{dynamic-full, dynamic-none}
 use Rattle.cyc_store.proofs.KeptServices.{not-true, kept-full, kept-unchanged, held-unchanged, kept-some, kept-used, dynamic-kept, dynamic-serves}
 use Rattle.cyc_store.proofs.plain.PlainStoreStore.open_dynamic.Goals as goal

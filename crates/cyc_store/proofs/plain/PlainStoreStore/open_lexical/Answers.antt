@@ -2,7 +2,7 @@ use Rattle.std.proofs.Common.{◌≡◌, ◌≤◌, true, None, [], ◌∷◌, �
 use Rattle.cyc_store.specs.Ledger.{Stored, HasNoRoom, IsUsedUp, held_of, store_of}
 use Rattle.cyc_store.specs.State.{lexical_count}
 use Rattle.cyc_store.specs.Services.{OpenLexical, OpenedLexical, Refused, Full, refusal, Serves}
-use Rattle.cyc_store.specs.Kept.{handle_of_page, IsKept}
+use Rattle.cyc_store.specs.inside.Kept.{handle_of_page, IsKept}
 use Rattle.cyc_store.proofs.Responses.{lexical-full, lexical-none}
 use Rattle.cyc_store.proofs.KeptServices.{not-true, kept-full, kept-unchanged, held-unchanged, kept-some, kept-used, kept-lexicals, kept-lexicals_few, lexical-kept, lexical-serves}
 use Rattle.cyc_store.proofs.plain.PlainStoreStore.open_lexical.Goals as goal

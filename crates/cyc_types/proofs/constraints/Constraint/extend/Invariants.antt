@@ -1,6 +1,6 @@
 use Rattle.std.proofs.Common.{◌≡◌, ◌||◌, take}
 use Rattle.cyc_types.specs.declared.region.Region.{Region}
-use Rattle.cyc_types.specs.Regions.{is_region_among}
+use Rattle.cyc_types.specs.Types.{is_region_among}
 use Rattle.cyc_types.specs.Closure.{entry_leads}
 use Rattle.cyc_types.proofs.constraints.Constraint.extend.Given as goal
 

@@ -1,6 +1,6 @@
 use Rattle.std.proofs.Common.{◌≡◌, ◌<◌, ℕ, rules, sym, ap, ◌∙◌, map, length, get_or, None, [], ◌∷◌, ◌++◌}
 use Rattle.std.proofs.lemmas.List.{map-append}
-use Rattle.cyc_types.specs.StructTables.{view_entry, known_from}
+use Rattle.cyc_types.specs.inside.StructTables.{view_entry, known_from}
 use Rattle.cyc_types.proofs.StructLemmas.{set_known, old_known}
 use Rattle.cyc_types.proofs.structs.StructNames.declare.Goals as goal
 

@@ -1,0 +1,138 @@
+-- When the words of a text mean labelled code whose lines lie at given addresses: each line's instruction stands once, each
+-- label is its line's address, and each delay slot has the instruction that fills it, or is empty. Branches, jumps and
+-- delay slots are those of the MIPS32 architecture, volume II; how a branch goes far is this project's own choice.
+use Rattle.std.specs.Prelude.{◌≡◌, ℕ, zero, suc, ◌+◌, ◌-◌, ◌*◌, ◌/◌, ◌≤◌, Bool, true, false, List, [], ◌∷◌, length, map, Option, Some, None, slice_get}
+use Rattle.std.specs.List.{range_with_len, flat_map}
+use Rattle.cyc_isa.specs.Encoding.{word_of, IsEncodable}
+use Rattle.cyc_isa.specs.Decoding.{register_of, shift_amount_of}
+use Rattle.cyc_isa.specs.Effect.{branch_target, jump_target}
+use Rattle.cyc_isa.specs.declared.operand.Register.{Register}
+use Rattle.cyc_isa.specs.declared.operand.JumpIndex.{JumpIndex}
+use Rattle.cyc_isa.specs.declared.instr.Instr.{Instr}
+use Rattle.cyc_isa.specs.declared.instr.Instr.TheVariants.{Branch, BranchZero, Jump, JumpRegister, Shift}
+use Rattle.cyc_isa.specs.declared.instr.BranchOp.TheVariants.{Equal, NotEqual}
+use Rattle.cyc_isa.specs.declared.instr.BranchZeroOp.TheVariants as signs
+use Rattle.cyc_isa.specs.declared.instr.JumpOp.{JumpOp}
+use Rattle.cyc_isa.specs.declared.instr.JumpOp.TheVariants.{Plain, AndLink}
+use Rattle.cyc_isa.specs.declared.instr.ShiftOp.TheVariants.{Left}
+use Rattle.cyc_machine.specs.declared.constants.TheConstants.{RETURN_ADDRESS}
+use Rattle.cyc_machine.specs.State.{text_base, text_end, text_at}
+use Rattle.cyc_select.specs.inside.Labelled.{Labelled, AreAddresses, all_words}
+use Rattle.cyc_select.specs.declared.code.Condition.{Condition}
+use Rattle.cyc_select.specs.declared.code.Condition.TheVariants as conditions
+use Rattle.cyc_select.specs.declared.code.Line.{Line}
+use Rattle.cyc_select.specs.declared.code.Line.TheVariants as lines
+use Rattle.cyc_asm.specs.inside.Layout.{is_near}
+use Rattle.cyc_asm.specs.inside.Slots.{filling}
+use Rattle.cyc_asm.specs.inside.Order.{in_order}
+
+-- the text that these words are
+abbrev pub text_of : List ℕ → List (Option ℕ)
+text_of words = map (λ (word : ℕ). Some word) words
+
+-- an instruction stands at an address of the text
+pub record IsAt (words : List ℕ) (address : ℕ) (i : Instr) : Type 0 where
+  pub encodable : IsEncodable i
+  pub word : text_at (text_of words) address ≡ Some (word_of i)
+
+-- the instruction that does nothing, whose word is 0: it stands in a slot that no other fills
+abbrev pub nothing : Instr
+nothing = Shift Left (register_of 0) (register_of 0) (shift_amount_of 0)
+
+-- where a call leaves its return address
+abbrev pub return_register : Register
+return_register = register_of RETURN_ADDRESS
+
+-- the branch on a condition
+abbrev pub branch_of : Condition → (offset : ℕ) → Instr
+branch_of (conditions.Registers op left right) offset = Branch op left right offset
+branch_of (conditions.Sign op source) offset = BranchZero op source offset
+
+-- the condition that holds where the other does not
+abbrev pub inverse_of : Condition → Condition
+inverse_of (conditions.Registers Equal left right) = conditions.Registers NotEqual left right
+inverse_of (conditions.Registers NotEqual left right) = conditions.Registers Equal left right
+inverse_of (conditions.Sign signs.LessOrEqual source) = conditions.Sign signs.Greater source
+inverse_of (conditions.Sign signs.Greater source) = conditions.Sign signs.LessOrEqual source
+inverse_of (conditions.Sign signs.Less source) = conditions.Sign signs.GreaterOrEqual source
+inverse_of (conditions.Sign signs.GreaterOrEqual source) = conditions.Sign signs.Less source
+
+-- a branch from one address to another, with this in its delay slot
+pub record IsBranchAt (words : List ℕ) (condition : Condition) (slotted : Instr) (from to : ℕ) : Type 0 where
+  pub offset : ℕ
+  pub branch : IsAt words from (branch_of condition offset)
+  pub target : branch_target from offset ≡ to
+  pub slot : IsAt words (from + 4) slotted
+
+-- a jump from one address to another, with this in its delay slot
+pub record IsJumpAt (words : List ℕ) (op : JumpOp) (slotted : Instr) (from to : ℕ) : Type 0 where
+  pub index : JumpIndex
+  pub jump : IsAt words from (Jump op index)
+  pub target : jump_target from index.index ≡ to
+  pub slot : IsAt words (from + 4) slotted
+
+-- A branch or jump stands in the text, from this address up to the next line's. A branch that is not near is its inverse,
+-- which goes round a jump.
+abbrev pub StandsBranch : Bool → List ℕ → (ℕ → ℕ) → (number : ℕ) → Condition → (label : ℕ) → (slotted : Instr) → (from : ℕ) → Type 0
+StandsBranch true words addresses number condition label slotted from =
+    IsBranchAt words condition slotted from (addresses label) × (addresses (suc number) ≡ from + 8)
+StandsBranch false words addresses number condition label slotted from =
+    IsBranchAt words (inverse_of condition) slotted from (addresses (suc number))
+    × IsJumpAt words Plain nothing (from + 8) (addresses label)
+    × (addresses (suc number) ≡ from + 16)
+
+abbrev pub StandsFrom : Labelled → List ℕ → (ℕ → ℕ) → (number : ℕ) → Line → (slotted : Instr) → (from : ℕ) → Type 0
+StandsFrom code words addresses number (lines.Ordinary instruction) slotted from = ⊥
+StandsFrom code words addresses number (lines.Branch condition label) slotted from =
+    StandsBranch (is_near code.lines number label) words addresses number condition label slotted from
+StandsFrom code words addresses number (lines.Jump label) slotted from =
+    IsJumpAt words Plain slotted from (addresses label) × (addresses (suc number) ≡ from + 8)
+StandsFrom code words addresses number (lines.Call label) slotted from =
+    IsJumpAt words AndLink slotted from (addresses label) × (addresses (suc number) ≡ from + 8)
+StandsFrom code words addresses number lines.Return slotted from =
+    IsAt words from (JumpRegister return_register) × IsAt words (from + 4) slotted
+    × (addresses (suc number) ≡ from + 8)
+
+-- With an empty slot it stands at its line's address. With a filled one it stands at that of the line before, so that what
+-- goes there meets it first, and its slot is at its own.
+abbrev pub StandsFilled : Option Instr → Labelled → List ℕ → (ℕ → ℕ) → (number : ℕ) → Line → Type 0
+StandsFilled None code words addresses number line =
+    StandsFrom code words addresses number line nothing (addresses number)
+StandsFilled (Some slotted) code words addresses number line =
+    (from : ℕ) × (addresses number ≡ from + 4) × StandsFrom code words addresses number line slotted from
+
+-- an ordinary instruction stands at its line's address, or in the slot of the line behind it
+abbrev pub StandsOrdinary : Option Instr → List ℕ → (ℕ → ℕ) → (number : ℕ) → Instr → Type 0
+StandsOrdinary None words addresses number instruction =
+    IsAt words (addresses number) instruction × (addresses (suc number) ≡ addresses number + 4)
+StandsOrdinary (Some slotted) words addresses number instruction = addresses (suc number) ≡ addresses number + 4
+
+abbrev pub Stands : Labelled → List ℕ → (ℕ → ℕ) → (number : ℕ) → Line → Type 0
+Stands code words addresses number (lines.Ordinary instruction) =
+    StandsOrdinary (filling code.lines (suc number)) words addresses number instruction
+Stands code words addresses number line = StandsFilled (filling code.lines number) code words addresses number line
+
+-- so many addresses of words, from this one on
+abbrev pub stretch : (from count : ℕ) → List ℕ
+stretch from zero = []
+stretch from (suc count) = from ∷ stretch (from + 4) count
+
+-- The addresses of a line's own words: those up to the next line. Where a slot is filled, the line before has the word of
+-- the branch or jump, and this line has its slot.
+abbrev pub own : (ℕ → ℕ) → ℕ → List ℕ
+own addresses number = stretch (addresses number) ((addresses (suc number) - addresses number) / 4)
+
+-- The words mean the code, whose lines stand in this order. Nothing else stands in the text: the lines' own words are all
+-- its words, each once.
+pub record IsTextInOrder (code order : Labelled) (addresses : ℕ → ℕ) (words : List ℕ) : Type 0 where
+  pub places : AreAddresses code addresses
+  pub first : addresses 0 ≡ text_base
+  pub stands : (number : ℕ) (line : Line) → slice_get order.lines number ≡ Some line
+      → Stands order words addresses number line
+  pub all : flat_map (own addresses) (range_with_len 0 (length code.lines)) ≡ stretch text_base (length words)
+  pub few : length words ≤ all_words code.lines
+  pub inside : text_base + 4 * length words ≤ text_end
+
+-- The words mean the code: its lines stand as they are but for the instructions that come down to a branch or jump.
+abbrev pub IsTextOf : Labelled → (ℕ → ℕ) → List ℕ → Type 0
+IsTextOf code addresses words = IsTextInOrder code (in_order code) addresses words

@@ -1,0 +1,2 @@
+-- what the functions of the walk promise each other
+pub mod Walks

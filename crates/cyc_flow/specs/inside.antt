@@ -1,0 +1,4 @@
+-- The contract of `flow` rests on the definitions of `cyc_types` alone. These are what the functions inside the crate promise each
+-- other.
+pub mod Code
+pub mod Steps

@@ -1,0 +1,85 @@
+-- Where a function's words lie in its frame. The System V ABI has a frame grow downward from the caller's; how its words
+-- are used, and how many there may be, is this project's own choice.
+use Rattle.std.specs.Prelude.{◌≡◌, ◌≢◌, ℕ, ◌+◌, ◌<◌, ◌≤◌, Bool, true, false, ◌||◌, nat_lt, if◌then◌else◌, List, [], ◌∷◌, length, Option, Some, None, slice_index_or}
+use Rattle.cyc_words.specs.declared.fault.Code.TheVariants as faults
+use Rattle.cyc_words.specs.declared.fault.Fault.{Fault}
+use Rattle.cyc_words.specs.declared.span.Span.{Span}
+use Rattle.cyc_plain.specs.declared.instruction.Instruction.{Instruction}
+use Rattle.cyc_plain.specs.declared.instruction.Instruction.TheVariants as instructions
+use Rattle.cyc_plain.specs.inside.Program.{Routine, Program, routine_at}
+use Rattle.cyc_frame.specs.inside.Frame.{Frame}
+use Rattle.cyc_frame.specs.inside.Homes.{AreHomes}
+use Rattle.cyc_frame.specs.inside.Idle.{AreIdle}
+use Rattle.cyc_frame.specs.declared.frame.TheConstants.{MOST_FRAME_WORDS}
+
+-- the word of a frame that holds a slot
+abbrev pub slot_word : Frame → ℕ → ℕ
+slot_word frame slot = frame.first_slot + slot
+
+-- an instruction that loses the register of return addresses: a call, and the opening of a handler
+abbrev pub loses : Instruction → Bool
+loses (instructions.Call function arguments count result) = true
+loses (instructions.Try first handler) = true
+loses instruction = false
+
+abbrev pub loses_any : List Instruction → Bool
+loses_any [] = false
+loses_any (i ∷ code) = loses i || loses_any code
+
+-- A function's frame: its slots have words of their own, beside the one for the return address, and all are among the first
+-- words of the frame, no more of them than the function says and may be.
+pub record IsFrame (r : Routine) (frame : Frame) : Type 0 where
+  pub apart : (a b : ℕ) → a < r.slots → b < r.slots → slot_word frame a ≡ slot_word frame b → a ≡ b
+  pub inside : (slot : ℕ) → slot < r.slots → slot_word frame slot < r.frame_count
+  -- (of a function without slots `inside` says nothing)
+  pub first_inside : frame.first_slot ≤ r.frame_count
+  pub beside : (slot : ℕ) → slot < r.slots → slot_word frame slot ≢ frame.return_address
+  pub return_inside : frame.return_address < r.frame_count
+  pub small : r.frame_count ≤ MOST_FRAME_WORDS
+  pub saved : frame.saves ≡ loses_any r.code
+
+-- the frame of the function of this index; where there is none, an empty one
+abbrev pub frame_at : List Frame → ℕ → Frame
+frame_at frames function =
+    slice_index_or frames function (record { return_address = 0; saves = false; first_slot = 0; homes = []; idle = [] })
+
+-- frames of the first functions, so many of them, with homes of their slots and idle places
+pub record AreFirstFrames (program : Program) (count : ℕ) (frames : List Frame) : Type 0 where
+  pub as_many : length frames ≡ count
+  pub each : (k : ℕ) → k < count → IsFrame (routine_at program k) (frame_at frames k)
+  pub homes : (k : ℕ) → k < count → AreHomes program (routine_at program k) (frame_at frames k).homes
+  pub idle : (k : ℕ) → k < count → AreIdle program (routine_at program k) (frame_at frames k).homes (frame_at frames k).idle
+
+-- there is a frame for each function
+pub record AreFrames (program : Program) (frames : List Frame) : Type 0 where
+  pub as_many : length frames ≡ length program.functions
+  pub each : (k : ℕ) → k < length program.functions → IsFrame (routine_at program k) (frame_at frames k)
+  pub homes : (k : ℕ) → k < length program.functions → AreHomes program (routine_at program k) (frame_at frames k).homes
+  pub idle : (k : ℕ) → k < length program.functions
+      → AreIdle program (routine_at program k) (frame_at frames k).homes (frame_at frames k).idle
+
+-- where the name stands of the first function whose frame is too large
+abbrev pub is_too_large : Routine → Bool
+is_too_large r = nat_lt MOST_FRAME_WORDS r.frame_count
+
+abbrev pub first_too_large : List Routine → Option Span
+first_too_large [] = None
+first_too_large (r ∷ routines) = if is_too_large r then Some r.name else first_too_large routines
+
+-- each function's frame may be as large as the function says
+abbrev pub HasSmallFrames : Program → Type 0
+HasSmallFrames program = (k : ℕ) → k < length program.functions → (routine_at program k).frame_count ≤ MOST_FRAME_WORDS
+
+-- the refusal of the first function that says more
+pub record IsTooLarge (program : Program) (fault : Fault) : Type 0 where
+  pub function : ℕ
+  pub is_function : function < length program.functions
+  pub large : MOST_FRAME_WORDS < (routine_at program function).frame_count
+  pub first : (k : ℕ) → k < function → (routine_at program k).frame_count ≤ MOST_FRAME_WORDS
+  pub code : fault.code ≡ faults.FrameTooLarge
+  pub line : fault.line ≡ (routine_at program function).name.line
+  pub column : fault.column ≡ (routine_at program function).name.column
+
+-- what is accepted
+abbrev pub IsAccepted : (given program : Program) → Type 0
+IsAccepted given program = (program ≡ given) × HasSmallFrames program

@@ -1,0 +1,3 @@
+-- what the functions inside the crate promise each other
+pub mod Beginnings
+pub mod Found

@@ -1,0 +1,276 @@
+-- The code of conditions, branches, loops, regions, ways out of a statement, and handlers.
+use Rattle.std.specs.Prelude.{ℕ, ◌+◌, Bool, true, false, ◌&&◌, List, [], ◌∷◌, ◌++◌, length, Option, None, Some, ◌%◌, ◌^◌}
+use Rattle.cyc_types.specs.declared.typed.UnaryOperator.TheVariants as unary
+use Rattle.cyc_types.specs.declared.typed.LogicalOperator.{LogicalOperator}
+use Rattle.cyc_types.specs.declared.typed.LogicalOperator.TheVariants as logical
+use Rattle.cyc_types.specs.TypedTrees.{Expression, Number, Unary, Binary, Statement, Empty, Operations, NoOperations, ThenCompute, ThenTest}
+use Rattle.cyc_plain.specs.declared.instruction.Comparison.{Comparison}
+use Rattle.cyc_plain.specs.declared.instruction.Comparison.TheVariants as comparisons
+use Rattle.cyc_plain.specs.declared.instruction.Operand.{Operand}
+use Rattle.cyc_plain.specs.declared.instruction.Operand.TheVariants as operands
+use Rattle.cyc_plain.specs.declared.instruction.Request.TheVariants as requests
+use Rattle.cyc_plain.specs.declared.instruction.Instruction.{Instruction}
+use Rattle.cyc_plain.specs.declared.instruction.Instruction.TheVariants as instructions
+use Rattle.cyc_plain.specs.declared.limits.TheConstants.{RECORD_WORDS}
+use Rattle.cyc_lower.specs.inside.Slots.{Starts, slot_of}
+use Rattle.cyc_lower.specs.declared.operands.Condition.{Condition}
+use Rattle.cyc_lower.specs.declared.statements.Exits.{Exits}
+use Rattle.cyc_lower.specs.declared.statements.Opened.{Opened}
+use Rattle.cyc_lower.specs.inside.ValueCode.{failing_comparison, move_of}
+
+-- ---- conditions, branches and loops
+
+-- A condition compares two expressions, and this comparison of them holds where it fails.
+pub record Compared : Type 0 where
+  pub failing : Comparison
+  pub left : Expression
+  pub right : Expression
+
+-- the comparison that holds where another one fails
+abbrev pub opposite : Comparison → Comparison
+opposite comparisons.Equal = comparisons.NotEqual
+opposite comparisons.NotEqual = comparisons.Equal
+opposite comparisons.Less = comparisons.GreaterOrEqual
+opposite comparisons.LessOrEqual = comparisons.Greater
+opposite comparisons.Greater = comparisons.LessOrEqual
+opposite comparisons.GreaterOrEqual = comparisons.Less
+opposite comparisons.LessUnsigned = comparisons.GreaterOrEqualUnsigned
+opposite comparisons.GreaterOrEqualUnsigned = comparisons.LessUnsigned
+
+-- a condition that compares nothing fails where its value is 0
+abbrev pub with_zero : Expression → Compared
+with_zero a = record { failing = comparisons.Equal; left = a; right = Number 0 }
+
+abbrev pub compared_or : Option Comparison → (left right whole : Expression) → Compared
+compared_or (Some failing) left right whole = record { failing = failing; left = left; right = right }
+compared_or None left right whole = with_zero whole
+
+-- one that is negated compares the same, and fails where that holds
+abbrev pub negated : Compared → Compared
+negated x = record { failing = opposite x.failing; left = x.left; right = x.right }
+
+abbrev pub compared_of : Expression → Compared
+compared_of (Unary unary.Not a) = negated (compared_of a)
+compared_of (Binary a (ThenCompute o b NoOperations) ty) =
+    compared_or (failing_comparison o) a b (Binary a (ThenCompute o b NoOperations) ty)
+compared_of a = with_zero a
+
+abbrev pub negated_condition : Condition → Condition
+negated_condition c = record { failing = opposite c.failing; left = c.left; right = c.right }
+
+-- jumps where a condition fails, and where it holds
+abbrev pub failing_jump : Condition → (target : ℕ) → Instruction
+failing_jump c target = instructions.Branch c.failing c.left c.right target
+
+abbrev pub holding_jump : Condition → (target : ℕ) → Instruction
+holding_jump c target = instructions.Branch (opposite c.failing) c.left c.right target
+
+-- where its left operand decides what a test gives
+abbrev pub deciding_jump : LogicalOperator → Condition → (target : ℕ) → Instruction
+deciding_jump logical.AndThen c target = failing_jump c target
+deciding_jump logical.OrElse c target = holding_jump c target
+
+-- a chain has tests by this operator alone, and one at least
+abbrev pub is_same : (u o : LogicalOperator) → Bool
+is_same logical.AndThen logical.AndThen = true
+is_same logical.OrElse logical.OrElse = true
+is_same u o = false
+
+abbrev pub all_test : LogicalOperator → Operations → Bool
+all_test u NoOperations = true
+all_test u (ThenTest o b os) = is_same u o && all_test u os
+all_test u os = false
+
+abbrev pub are_tests : LogicalOperator → Operations → Bool
+are_tests u NoOperations = false
+are_tests u os = all_test u os
+
+-- The jump over what stands behind `else`. Where nothing does, it is left out.
+abbrev pub is_nothing : Statement → Bool
+is_nothing Empty = true
+is_nothing s = false
+
+abbrev pub over_code : (last : Bool) → (target : ℕ) → List Instruction
+over_code true target = []
+over_code false target = instructions.Jump target ∷ []
+
+abbrev pub over_length : (last : Bool) → ℕ
+over_length true = 0
+over_length false = 1
+
+-- A branch whose condition stands at place p, the first statement behind the jump over it, and the other behind the jump
+-- to the end.
+abbrev pub if_code : (last : Bool) → (condition : List Instruction) → (jump : ℕ → Instruction) → (first second : List Instruction) → (p : ℕ) → List Instruction
+if_code last condition jump first second p =
+    (condition ++ jump (p + length condition + 1 + length first + over_length last) ∷ first)
+    ++ (over_code last (p + length condition + 1 + length first + over_length last + length second) ++ second)
+
+-- A loop begins with what leads to its body where its condition holds, and else to the jump behind it, which leads to the loop's end. So a
+-- continue, which goes to where the loop begins, and a break, which goes to that jump, have targets that are known before the body's code
+-- is made. Behind the body stands the condition, with a jump back to the body where it holds.
+abbrev pub continue_target : Exits → ℕ
+continue_target exits = exits.head
+
+abbrev pub break_target : Exits → ℕ
+break_target exits = exits.leaving
+
+abbrev pub body_target : (leaving : ℕ) → ℕ
+body_target leaving = leaving + 1
+
+-- A loop whose condition has little code has it in front too: then nothing goes to the one behind its body, but what stands before that. Any
+-- other begins with a jump to it, at place `test`.
+abbrev pub entry_code : (guarded : Bool) → (condition : List Instruction) → (jump : ℕ → Instruction) → (test p : ℕ) → List Instruction
+entry_code true condition jump test p = condition ++ jump (p + length condition + 1 + 1) ∷ []
+entry_code false condition jump test p = instructions.Jump test ∷ []
+
+abbrev pub entry_length : (guarded : Bool) → (condition : List Instruction) → ℕ
+entry_length true condition = length condition + 1
+entry_length false condition = 1
+
+abbrev pub while_code : (entry body condition : List Instruction) → (jump : ℕ → Instruction) → (leaving : ℕ) → List Instruction
+while_code entry body condition jump leaving =
+    entry ++ (instructions.Jump (body_target leaving + length body + length condition + 1) ∷ ((body ++ condition) ++ jump (body_target leaving) ∷ []))
+
+-- A loop at place p with the jump to its end at place `leaving`. The code of its condition is made for its place, and that of its body for
+-- that of the jump.
+abbrev pub entered_code : (guarded : Bool) → (condition : ℕ → List Instruction) → (body : List Instruction) → (jump : ℕ → Instruction) → (p leaving : ℕ) → List Instruction
+entered_code guarded condition body jump p leaving =
+    while_code (entry_code guarded (condition p) jump (body_target leaving + length body) p) body (condition (body_target leaving + length body)) jump leaving
+
+abbrev pub looped_code : (guarded : Bool) → (condition body : ℕ → List Instruction) → (jump : ℕ → Instruction) → (p : ℕ) → List Instruction
+looped_code guarded condition body jump p =
+    entered_code guarded condition (body (p + entry_length guarded (condition p))) jump p (p + entry_length guarded (condition p))
+
+-- ---- regions
+
+-- a local that is declared gets a value of so many words, which stands in an operand
+abbrev pub named_code : Starts → (words number : ℕ) → Operand → List Instruction
+named_code starts words n o = move_of words (slot_of starts n) o ∷ []
+
+-- A lexical region is opened, and a local becomes its handle. Its mark comes to slot t, where it stays until the region is closed.
+abbrev pub opened_code : Starts → (number t : ℕ) → List Instruction
+opened_code starts n t =
+    instructions.Ask (requests.OpenLexical (t + 1))
+    ∷ instructions.Move t (operands.Slot (t + 2))
+    ∷ named_code starts 1 n (operands.Slot (t + 1))
+
+-- the newest lexical regions are closed, down to the mark in slot m
+abbrev pub closed_code : (m : ℕ) → List Instruction
+closed_code m = instructions.Ask (requests.CloseTo (operands.Slot m)) ∷ []
+
+-- a dynamic region is opened, and a local becomes its key
+abbrev pub dynamic_code : Starts → (number t : ℕ) → List Instruction
+dynamic_code starts n t = instructions.Ask (requests.OpenDynamic t) ∷ named_code starts 1 n (operands.Slot t)
+
+-- the dynamic region of a key is closed
+abbrev pub closing_code : (handle : Operand) → List Instruction
+closing_code o = instructions.Ask (requests.CloseDynamic o) ∷ []
+
+-- ---- ways out
+
+-- What was opened round a statement since a loop began, or its function: the first slot of the outermost handler's record, and that of the
+-- mark of the outermost lexical region.
+abbrev pub nothing_opened : Opened
+nothing_opened = record { handler = None; mark = None }
+
+abbrev pub outermost : Option ℕ → (slot : ℕ) → Option ℕ
+outermost (Some first) slot = Some first
+outermost None slot = Some slot
+
+abbrev pub with_handler : Opened → (slot : ℕ) → Opened
+with_handler opened slot = record { handler = outermost opened.handler slot; mark = opened.mark }
+
+abbrev pub with_mark : Opened → (slot : ℕ) → Opened
+with_mark opened slot = record { handler = opened.handler; mark = outermost opened.mark slot }
+
+-- all handlers are closed, from the outermost on
+abbrev pub handlers_code : Option ℕ → List Instruction
+handlers_code None = []
+handlers_code (Some first) = instructions.Leave first ∷ []
+
+-- all lexical regions are closed, down to the outermost one's mark
+abbrev pub marks_code : Option ℕ → List Instruction
+marks_code None = []
+marks_code (Some m) = closed_code m
+
+abbrev pub leave_code : Opened → List Instruction
+leave_code opened = handlers_code opened.handler ++ marks_code opened.mark
+
+-- ---- handlers
+
+-- A `try` has the record of its handler in the slots from t on. Behind it it keeps how many lexical regions are open, where a program may
+-- open some.
+abbrev pub behind_record_in : Option ℕ → (t : ℕ) → ℕ
+behind_record_in None t = t + RECORD_WORDS
+behind_record_in (Some place) t = t + RECORD_WORDS + 1
+
+abbrev pub behind_record : Starts → (t : ℕ) → ℕ
+behind_record starts t = behind_record_in starts.scopes t
+
+abbrev pub kept_code_in : Option ℕ → (t : ℕ) → List Instruction
+kept_code_in None t = []
+kept_code_in (Some place) t = instructions.CountLexical (t + RECORD_WORDS) ∷ []
+
+abbrev pub kept_code : Starts → (t : ℕ) → List Instruction
+kept_code starts t = kept_code_in starts.scopes t
+
+-- where an exception comes to it, the lexical regions are closed that were opened in it
+abbrev pub restored_code_in : Option ℕ → (t : ℕ) → List Instruction
+restored_code_in None t = []
+restored_code_in (Some place) t = closed_code (t + RECORD_WORDS)
+
+abbrev pub restored_code : Starts → (t : ℕ) → List Instruction
+restored_code starts t = restored_code_in starts.scopes t
+
+-- the word of an exception's number, which is less than 2 ^ 32 in every text
+abbrev pub tag_operand : (tag : ℕ) → Operand
+tag_operand tag = operands.Word (tag % 2 ^ 32)
+
+-- A `try` at place p with its record in slot t. Behind its body stands the jump over its clauses, to which an exception comes.
+abbrev pub try_code : (t : ℕ) → (body clauses : List Instruction) → (p : ℕ) → List Instruction
+try_code t body clauses p =
+    instructions.Try t (p + 1 + length body + 1)
+    ∷ body
+    ++ instructions.Jump (p + 1 + length body + 1 + length clauses)
+    ∷ clauses
+
+-- The rest of a `try` at place p, with its record in slot t. The code of its body is made for its place, and that of its clauses for theirs
+-- and for the place of the jump over them.
+abbrev pub handled_code : Starts → (body : ℕ → List Instruction) → (clauses : (p out : ℕ) → List Instruction) → (p t : ℕ) → List Instruction
+handled_code starts body clauses p t =
+    try_code t (body (p + 1) ++ instructions.Leave t ∷ [])
+    (restored_code starts t
+    ++ clauses (p + 1 + length (body (p + 1) ++ instructions.Leave t ∷ []) + 1 + length (restored_code starts t)) (p + 1 + length (body (p + 1) ++ instructions.Leave t ∷ [])))
+    p
+
+-- the jump over a clause, where the number of the exception in slot t is another
+abbrev pub other_jump : (tag t target : ℕ) → Instruction
+other_jump tag t target = instructions.Branch comparisons.NotEqual (operands.Slot t) (tag_operand tag) target
+
+-- A clause at place p. Behind it is a jump to that over all clauses.
+abbrev pub clause_code : (tag t : ℕ) → (items : List Instruction) → (p out : ℕ) → List Instruction
+clause_code tag t items p out = other_jump tag t (p + 1 + length items + 1) ∷ items ++ instructions.Jump out ∷ []
+
+-- an exception that no clause catches goes on
+abbrev pub goes_on : (t : ℕ) → Instruction
+goes_on t = instructions.Throw (operands.Slot t) (operands.Slot (t + 1))
+
+-- The ways out of a statement: what is known of the loop and the function round it. Here they are outside any loop.
+abbrev pub outside_loops : Exits
+outside_loops = record { head = 0; leaving = 0; in_loop = nothing_opened; in_function = nothing_opened }
+
+-- in a loop that begins at this place, with the jump to its end at this one
+abbrev pub inside_loop : (head leaving : ℕ) → Exits → Exits
+inside_loop head leaving exits = record { head = head; leaving = leaving; in_loop = nothing_opened; in_function = exits.in_function }
+
+-- in the body of a `try`, whose handler's record begins with this slot, and behind a region, whose mark is in this slot
+abbrev pub inside_try : Exits → (slot : ℕ) → Exits
+inside_try exits slot = record { head = exits.head; leaving = exits.leaving; in_loop = with_handler exits.in_loop slot; in_function = with_handler exits.in_function slot }
+
+abbrev pub inside_region : Exits → (slot : ℕ) → Exits
+inside_region exits slot = record { head = exits.head; leaving = exits.leaving; in_loop = with_mark exits.in_loop slot; in_function = with_mark exits.in_function slot }
+
+-- a counter that has a slot is in it
+abbrev pub counter_operand : Option ℕ → Option Operand
+counter_operand (Some slot) = Some (operands.Slot slot)
+counter_operand None = None

@@ -1,0 +1,183 @@
+-- What the code that emits says of itself: what it adds to the code made so far.
+use Rattle.std.specs.Prelude.{◌≡◌, ℕ, suc, ◌+◌, ◌^◌, ◌≤◌, Bool, false, if◌then◌else◌, Option, IfOk, List, [], ◌∷◌, ◌++◌, length, map, set, Some, option_map, Result, OnOk, slice_get}
+use Rattle.std.specs.declared.alloc.AllocError.{AllocError}
+use Rattle.cyc_types.specs.declared.typed.Operation.{Operation}
+use Rattle.cyc_types.specs.declared.typed.Operation.TheVariants as operation
+use Rattle.cyc_types.specs.declared.typed.LogicalOperator.{LogicalOperator}
+use Rattle.cyc_types.specs.declared.typed.LogicalOperator.TheVariants as logical
+use Rattle.cyc_types.specs.declared.typed.PointerOperator.{PointerOperator}
+use Rattle.cyc_types.specs.declared.typed.Item.{Item}
+use Rattle.cyc_types.specs.declared.typed.Clause.{Clause}
+use Rattle.cyc_types.specs.declared.typed.Item.TheVariants as item
+use Rattle.cyc_types.specs.Types.{Ty, words_of}
+use Rattle.cyc_types.specs.TypeView.{view_ty}
+use Rattle.cyc_types.specs.TypedTrees.{Expression, Converted, Convert, Arguments, Operations, ThenCompute, Statement, Clauses, Items, Function, Binary, If, Empty}
+use Rattle.cyc_types.specs.TypedTreeView.{view_struct, view_expression, view_converted, view_statement, clauses_of}
+use Rattle.cyc_plain.specs.declared.instruction.Operand.{Operand}
+use Rattle.cyc_plain.specs.declared.instruction.Operand.TheVariants.{Slot, Word}
+use Rattle.cyc_plain.specs.declared.instruction.Instruction.{Instruction}
+use Rattle.cyc_plain.specs.declared.instruction.Instruction.TheVariants.{WriteByte, Throw, Jump}
+use Rattle.cyc_frame_count.specs.inside.Needs.{most_frame_count}
+use Rattle.cyc_lower.specs.inside.Slots.{Starts, slot_of}
+use Rattle.cyc_lower.specs.inside.ValueCode.{code_unless, slot_or, code_unless_slot, conversion_code, compute_code, test_code, behind_left, pointer_code, span_of}
+use Rattle.cyc_lower.specs.inside.ControlCode.{is_same, deciding_jump, holding_jump, inside_loop, tag_operand, clause_code, opened_code, named_code, dynamic_code, inside_region, entry_code, looped_code, body_target}
+use Rattle.cyc_lower.specs.inside.ExpressionCode.{operand_of, source_of, source_slot, printed_operand, printed_code, left_of, value_slot, left_slot, value_operand, expression_code, brought_code, are_simple, is_simple}
+use Rattle.cyc_lower.specs.inside.Lowering.{is_guard, condition_code, choice_code, choice_of, statement_code, declaration_code, condition_of, thrown_operand, thrown_code, caught_code, items_code, clauses_code}
+use Rattle.cyc_meaning.specs.FrameCount.{frame_count}
+use Rattle.cyc_plain.specs.declared.instruction.Comparison.TheVariants as comparisons
+use Rattle.cyc_lower.specs.declared.emitter.Emitter.{Emitter}
+use Rattle.cyc_lower.specs.declared.starts.Starts.{Starts as StartsCode}
+use Rattle.cyc_lower.specs.declared.operands.Condition.{Condition}
+use Rattle.cyc_lower.specs.declared.statements.Exits.{Exits}
+
+-- this code is added behind what there was
+abbrev pub Appends : {T : Type 0} → Result T AllocError → (old new : Emitter) → List Instruction → Type 0
+Appends result old new code = OnOk result (new.code.items ≡ old.code.items ++ code)
+
+-- the same, and this is answered
+abbrev pub Gives : {T : Type 0} → T → Result T AllocError → (old new : Emitter) → List Instruction → Type 0
+Gives answer result old new code = IfOk result (λ given. (given ≡ answer) × (new.code.items ≡ old.code.items ++ code))
+
+-- where things begin, as the code has it
+abbrev pub view_starts : StartsCode → Starts
+view_starts starts = record { locals = starts.locals.now; structs = map view_struct starts.structs.now; raises = starts.raises; counters = starts.counters.now; globals = starts.globals.now; scopes = starts.scopes }
+
+-- Slots are numbers that a word holds: a function has fewer locals than this, and of its temporaries no more are in use than
+-- there are instructions before.
+abbrev pub most_locals : ℕ
+most_locals = 2 ^ 32
+
+-- this expression is a chain of these operators
+abbrev pub IsChain : (whole first : Expression) → Operations → Type 0
+IsChain whole first os = (ty : Ty) × (whole ≡ Binary first os ty)
+
+-- a test by this operator
+abbrev pub is_test : LogicalOperator → Operation → Bool
+is_test u (operation.Test o e) = is_same u o
+is_test u o = false
+
+-- Locals that have these first slots, in a program with these structs.
+module _ (starts : Starts) where
+  -- the code of an expression that is an operand
+  abbrev pub value_code : Expression → (p t : ℕ) → List Instruction
+  value_code a p t = code_unless (operand_of starts a) (expression_code starts a p (value_slot starts a t) t)
+
+  -- a condition that is such an expression compared with 0
+  abbrev pub zero_condition : Expression → (t : ℕ) → Condition
+  zero_condition a t = record { failing = comparisons.Equal; left = value_operand starts a t; right = Word 0 }
+
+  -- `putchar` of its argument
+  abbrev pub print_code : Arguments → (p t : ℕ) → List Instruction
+  print_code cs p t = printed_code starts cs p t ++ WriteByte (printed_operand starts cs (Slot t) t) ∷ []
+
+  -- the code of a value that is to be converted
+  abbrev pub source_code : Converted → (p t : ℕ) → List Instruction
+  source_code (Convert from to a) p t =
+      code_unless (source_of starts (Convert from to a)) (brought_code starts (Convert from to a) p (source_slot starts (Convert from to a) t) t)
+
+  -- that of one which only a slot will do for
+  abbrev pub slot_code : Converted → (p t : ℕ) → List Instruction
+  slot_code (Convert from to a) p t = code_unless_slot (source_of starts (Convert from to a)) (brought_code starts (Convert from to a) p t t)
+
+  -- a value that is returned, converted, and its slot
+  abbrev pub converted_slot : Converted → (t : ℕ) → ℕ
+  converted_slot c t = slot_or (source_of starts c) t
+
+  abbrev pub converted_slot_code : Converted → (p t : ℕ) → List Instruction
+  converted_slot_code (Convert from to a) p t =
+      code_unless_slot (source_of starts (Convert from to a)) (brought_code starts (Convert from to a) p t t)
+      ++ conversion_code starts from to (span_of a) (Slot (slot_or (source_of starts (Convert from to a)) t)) (p + length (code_unless_slot (source_of starts (Convert from to a)) (brought_code starts (Convert from to a) p t t)))
+
+  -- what brings the left operand of a chain
+  abbrev pub left_code : Expression → Operations → (p d t : ℕ) → List Instruction
+  left_code a os p d t = code_unless (left_of starts a os) (expression_code starts a p (left_slot starts a os d t) t)
+
+  -- behind a simple operand a chain is, with these operators
+  abbrev pub is_simple_chain : Operations → Bool
+  is_simple_chain (ThenCompute o b os) = are_simple starts (ThenCompute o b os)
+  is_simple_chain os = false
+
+  -- the first of these operators has a simple operand on its right
+  abbrev pub takes_operand : Operations → Bool
+  takes_operand (ThenCompute o b os) = is_simple starts b
+  takes_operand os = false
+
+  -- an operator on pointers with its right operand
+  abbrev pub pointer_operation_code : PointerOperator → Expression → (p : ℕ) → (l : Operand) → (d t : ℕ) → List Instruction
+  pointer_operation_code o b p l d t = pointer_code o l (value_operand starts b (behind_left o t)) (value_code b p (behind_left o t)) d
+
+  -- one operator of a chain with its right operand, where the left one is l
+  abbrev pub operation_code : Operation → (p : ℕ) → (l : Operand) → (d t : ℕ) → List Instruction
+  operation_code (operation.Compute o e) p l d t =
+      compute_code starts o l (value_operand starts (view_expression e) (suc t)) (value_code (view_expression e) p (suc t)) d
+  operation_code (operation.Test o e) p l d t = test_code o (expression_code starts (view_expression e) (p + 1) t t) p d t
+  operation_code (operation.Pointer o e) p l d t = pointer_operation_code o (view_expression e) p l d t
+  operation_code (operation.PointerPeek n o e) p l d t = pointer_operation_code o (view_expression e) p l d t
+
+  -- the right operand of a test, behind a jump that is taken where the left one decides, and its condition
+  abbrev pub other_code : LogicalOperator → Operation → Condition → (behind p t : ℕ) → List Instruction
+  other_code u (operation.Test o e) c behind p t = deciding_jump u c behind ∷ condition_code starts (view_expression e) (p + 1) t
+  other_code u o c behind p t = []
+
+  abbrev pub other_condition : Operation → Condition → (t : ℕ) → Condition
+  other_condition (operation.Test o e) c t = condition_of starts (view_expression e) t
+  other_condition o c t = c
+
+  -- an exception is thrown
+  abbrev pub throw_code : (tag : ℕ) → Option Expression → (p t : ℕ) → List Instruction
+  throw_code tag v p t = thrown_code starts v p t ++ Throw (tag_operand tag) (thrown_operand starts v t) ∷ []
+
+  -- what comes behind the jump over a clause
+  abbrev pub caught_items_code : (number : Option ℕ) → Items → (p : ℕ) → Exits → (t : ℕ) → List Instruction
+  caught_items_code x js p exits t = caught_code starts x t ++ items_code starts js (p + length (caught_code starts x t)) exits t
+
+  -- one item of a block
+  abbrev pub item_code : Item → (p : ℕ) → Exits → (t : ℕ) → List Instruction
+  item_code (item.Execute s) p exits t = statement_code starts (view_statement s) p exits t
+  item_code (item.Local n ty v) p exits t = declaration_code starts n (view_ty ty) (option_map view_converted v) p t
+  item_code (item.Region r n) p exits t = opened_code starts n t
+  item_code (item.Open r n w k) p exits t = named_code starts 1 n (Slot (slot_of starts k))
+  item_code (item.Alias r n ty w s) p exits t = named_code starts (words_of (view_ty ty)) n (Slot (slot_of starts s))
+  item_code (item.DynamicRegion r n) p exits t = dynamic_code starts n t
+
+  -- a clause of a `try`
+  abbrev pub case_code : (tag : ℕ) → (number : Option ℕ) → Items → (p out : ℕ) → Exits → (t : ℕ) → List Instruction
+  case_code tag x js p out exits t = clause_code tag t (caught_items_code x js (p + 1) exits t) p out
+
+  -- clauses were added behind what there was, before the default, whichever that is
+  abbrev pub BeginClauses : List Clause → (out : ℕ) → Exits → (t : ℕ) → (old new : List Instruction) → Type 0
+  BeginClauses cs out exits t old new =
+      (default : Clauses)
+      → new ++ clauses_code starts default (length new) out exits t ≡ old ++ clauses_code starts (clauses_of cs default) (length old) out exits t
+
+  -- what a loop begins with, where it is not known yet at which place its condition is behind its body
+  abbrev pub begun_loop : Expression → (p t : ℕ) → List Instruction
+  begun_loop a p t = entry_code (is_guard starts a) (choice_code starts logical.AndThen a p t) (holding_jump (choice_of starts logical.AndThen a t)) 0 p
+
+  -- and once that is known, as the next place, in code that has the loop from this place on
+  abbrev pub entered_loop : Expression → (code : List Instruction) → (head : ℕ) → List Instruction
+  entered_loop a code head = if is_guard starts a then code else set code head (Jump (length code))
+
+  -- a branch with nothing behind `else`
+  abbrev pub then_code : Expression → Statement → (p : ℕ) → Exits → (t : ℕ) → List Instruction
+  then_code a s p exits t = statement_code starts (If a s Empty) p exits t
+
+  -- a loop
+  abbrev pub loop_code : Expression → Statement → (p : ℕ) → Exits → (t : ℕ) → List Instruction
+  loop_code a s p exits t =
+      looped_code (is_guard starts a) (λ q. choice_code starts logical.AndThen a q t) (λ leaving. statement_code starts s (body_target leaving) (inside_loop p leaving exits) t) (holding_jump (choice_of starts logical.AndThen a t)) p
+
+-- behind an item of a block: the ways out, and the first slot for temporaries
+abbrev pub exits_behind : Item → Exits → (t : ℕ) → Exits
+exits_behind (item.Region r n) exits t = inside_region exits t
+exits_behind i exits t = exits
+
+abbrev pub free_behind : Item → (t : ℕ) → ℕ
+free_behind (item.Region r n) t = t + 1
+free_behind i t = t
+
+-- ---- programs
+
+-- the frame of each function has few enough words
+abbrev pub HaveFewWords : List Function → Type 0
+HaveFewWords hs = (n : ℕ) (h : Function) → slice_get hs n ≡ Some h → frame_count h ≤ most_frame_count

@@ -1,0 +1,67 @@
+-- What the lowering promises of the plain program that it makes, and what it accepts.
+use Rattle.std.specs.Prelude.{◌≡◌, ℕ, ◌*◌, ◌≤◌, ◌<◌, List, [], ◌∷◌, length}
+use Rattle.std.specs.List.{AllByRecursion}
+use Rattle.cyc_types.specs.TypedTrees.{Function, Program}
+use Rattle.cyc_types.specs.Weight.{function_weight}
+use Rattle.cyc_words.specs.Simulation.{NeverFails}
+use Rattle.cyc_words.specs.inside.Following.{Follows}
+use Rattle.cyc_store.specs.State.{StoreState, IsNew}
+use Rattle.cyc_store.specs.declared.range.TheConstants.{MOST_PAGES}
+use Rattle.cyc_plain.specs.declared.limits.TheConstants.{MOST_GLOBALS}
+use Rattle.cyc_plain.specs.inside.Program.{Routine, Program as PlainProgram, size, places_of}
+use Rattle.cyc_plain.specs.inside.Step.{machine}
+use Rattle.cyc_plain.specs.inside.Step as plain
+use Rattle.cyc_plain.specs.inside.WellFormed.{IsWellFormed, HasWords}
+use Rattle.cyc_meaning.specs.Run.{start}
+use Rattle.cyc_meaning.specs.SourceMachine.{source_machine}
+use Rattle.cyc_meaning.specs.FrameCount.{frame_count, words_of_all}
+use Rattle.cyc_meaning.specs.Sizes.{max_functions, size_per_weight}
+use Rattle.cyc_lower.specs.inside.Slots.{global_types}
+use Rattle.cyc_lower.specs.inside.Lowering.{span_of_place}
+use Rattle.cyc_lower.specs.inside.Words.{IsOfWordsProgram}
+use Rattle.cyc_lower.specs.inside.Lowerable.{IsLowerableProgram}
+use Rattle.cyc_plain.specs.inside.Memory.{IsBelow, slots_end}
+
+-- ---- what the plain program does
+
+-- Each run of the plain program from this store, with the slots of `main` at this address, is one of the source, with these limits and
+-- this input, if no run of the source fails. The steps of the plain program that match one of the source meet no place twice.
+abbrev pub FollowsSource : Program → PlainProgram → (pages calls base : ℕ) → StoreState → (input : List ℕ) → Type 0
+FollowsSource source lowered pages calls base store input =
+    NeverFails (source_machine source pages calls) (start source input)
+    → Follows (source_machine source pages calls) (machine lowered pages calls) [] (λ s. places_of lowered) (start source input) (plain.start lowered base store input)
+
+-- ---- what is promised
+
+pub record IsLoweredFunction (h : Function) (r : Routine) : Type 0 where
+  pub name : r.name ≡ span_of_place h.place
+  pub frame : r.frame_count ≡ frame_count h
+  pub small : size r ≤ size_per_weight * function_weight h
+
+-- function by function, in order
+abbrev pub AreLoweredFunctions : List Function → List Routine → Type 0
+AreLoweredFunctions [] [] = Unit {0}
+AreLoweredFunctions (h ∷ hs) (r ∷ rs) = IsLoweredFunction h r × AreLoweredFunctions hs rs
+AreLoweredFunctions [] (r ∷ rs) = ⊥
+AreLoweredFunctions (h ∷ hs) [] = ⊥
+
+-- A plain program for a source program: it is well formed, and does what the source does. Of each function it says where its
+-- name stands and how large its frame may be, and its globals are the words of the source's.
+pub record IsLowered (source : Program) (lowered : PlainProgram) : Type 0 where
+  pub well_formed : IsWellFormed lowered
+  pub words : HasWords lowered
+  pub functions : AreLoweredFunctions source.functions lowered.functions
+  pub globals : length lowered.globals ≡ words_of_all (global_types source.globals)
+  pub follows : (pages calls base : ℕ) (store : StoreState) (input : List ℕ) → IsNew pages store → 1 ≤ pages → pages ≤ MOST_PAGES → 1 ≤ calls → AllByRecursion (λ b. b < 256) input
+      → IsBelow lowered lowered.main base slots_end → FollowsSource source lowered pages calls base store input
+
+-- What is asked of the typed tree. That of a text has it all: its forms are lowered and its numbers name what is there, its
+-- constants are words, and its globals have no more words than it has tokens.
+pub record CanBeLowered (source : Program) : Type 0 where
+  pub lowerable : IsLowerableProgram source
+  pub of_words : IsOfWordsProgram source
+  pub few_globals : words_of_all (global_types source.globals) ≤ MOST_GLOBALS
+
+-- What is accepted: a program with no more functions than there may be.
+abbrev pub IsAccepted : (given program : Program) → Type 0
+IsAccepted given program = (program ≡ given) × (length program.functions ≤ max_functions)

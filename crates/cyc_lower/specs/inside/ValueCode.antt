@@ -1,0 +1,489 @@
+-- The code that brings words to slots: of operands, places, operators and conversions.
+use Rattle.std.specs.Prelude.{ℕ, zero, suc, ◌+◌, ◌==◌, Bool, false, not, ◌&&◌, if◌then◌else◌, List, [], ◌∷◌, ◌++◌, length, Option, None, Some, ◌%◌, ◌^◌, true, option_map, unwrap_or}
+use Rattle.cyc_words.specs.Word.{add_of, mul_of}
+use Rattle.cyc_types.specs.declared.typed.Kind.{Kind}
+use Rattle.cyc_types.specs.declared.typed.Kind.TheVariants as kinds
+use Rattle.cyc_types.specs.declared.typed.UnaryOperator.{UnaryOperator}
+use Rattle.cyc_types.specs.declared.typed.UnaryOperator.TheVariants as unary
+use Rattle.cyc_types.specs.declared.typed.Operator.{Operator}
+use Rattle.cyc_types.specs.declared.typed.Operator.TheVariants as operators
+use Rattle.cyc_types.specs.declared.typed.PointerOperator.{PointerOperator}
+use Rattle.cyc_types.specs.declared.typed.PointerOperator.TheVariants as pointers
+use Rattle.cyc_types.specs.declared.typed.LogicalOperator.{LogicalOperator}
+use Rattle.cyc_types.specs.declared.typed.LogicalOperator.TheVariants as logical
+use Rattle.cyc_types.specs.Types.{Ty, Value}
+use Rattle.cyc_types.specs.TypedTrees.{Lvalue, Local, Global, Expression, Converted, Convert, Arguments, NoArguments, MoreArguments, Operations, NoOperations, Function}
+use Rattle.cyc_plain.specs.declared.instruction.UnaryOperator.TheVariants as plain_unary
+use Rattle.cyc_plain.specs.declared.instruction.BinaryOperator.{BinaryOperator as PlainBinary}
+use Rattle.cyc_plain.specs.declared.instruction.BinaryOperator.TheVariants as plain_binary
+use Rattle.cyc_plain.specs.declared.instruction.Comparison.{Comparison}
+use Rattle.cyc_plain.specs.declared.instruction.Comparison.TheVariants as comparisons
+use Rattle.cyc_plain.specs.declared.instruction.Operand.{Operand}
+use Rattle.cyc_plain.specs.declared.instruction.Operand.TheVariants as operands
+use Rattle.cyc_plain.specs.declared.instruction.Instruction.{Instruction}
+use Rattle.cyc_plain.specs.declared.instruction.Instruction.TheVariants as instructions
+use Rattle.cyc_plain.specs.declared.limits.TheConstants.{GLOBALS_BASE}
+use Rattle.cyc_meaning.specs.Values.{words_of_kind, bytes_of_kind}
+use Rattle.cyc_meaning.specs.Operators.{null_exception, array_size, division_by_zero, array_bounds}
+use Rattle.cyc_meaning.specs.FrameCount.{words_of_all}
+use Rattle.cyc_lower.specs.inside.Slots.{Starts, slot_of, global_of}
+use Rattle.cyc_meaning.specs.Parts.{target_of, target_by, target_of_value}
+
+-- ---- slots and operators
+
+-- the types by which a function's locals have their slots
+abbrev pub slot_types : Function → List Ty
+slot_types h = h.parameters ++ h.locals
+
+-- the first slot behind the locals of a function
+abbrev pub first_temporary : Function → ℕ
+first_temporary h = words_of_all (slot_types h)
+
+-- the low 8 bits of a word
+abbrev pub low_byte : Operand → (d : ℕ) → Instruction
+low_byte o d = instructions.Binary plain_binary.And d o (operands.Word 255)
+
+-- what an operator of one operand becomes; a char that serves as an int is its word
+abbrev pub unary_instruction : UnaryOperator → (d : ℕ) → Operand → Instruction
+unary_instruction unary.Negate d o = instructions.Unary plain_unary.Negate d o
+unary_instruction unary.Not d o = instructions.Unary plain_unary.Not d o
+unary_instruction unary.Complement d o = instructions.Unary plain_unary.Complement d o
+unary_instruction unary.Widen d o = instructions.Move d o
+unary_instruction unary.LowByte d o = low_byte o d
+
+abbrev pub binary_operator : Operator → PlainBinary
+binary_operator operators.Or = plain_binary.Or
+binary_operator operators.Xor = plain_binary.Xor
+binary_operator operators.And = plain_binary.And
+binary_operator operators.Equal = plain_binary.Equal
+binary_operator operators.NotEqual = plain_binary.NotEqual
+binary_operator operators.Less = plain_binary.Less
+binary_operator operators.LessOrEqual = plain_binary.LessOrEqual
+binary_operator operators.Greater = plain_binary.Greater
+binary_operator operators.GreaterOrEqual = plain_binary.GreaterOrEqual
+binary_operator operators.ShiftLeft = plain_binary.ShiftLeft
+binary_operator operators.ShiftRight = plain_binary.ShiftRight
+binary_operator operators.Add = plain_binary.Add
+binary_operator operators.Subtract = plain_binary.Subtract
+binary_operator operators.Multiply = plain_binary.Multiply
+binary_operator operators.Divide = plain_binary.Divide
+binary_operator operators.Remainder = plain_binary.Remainder
+
+-- what an operator does to words: to the first ones of two pointers, of which that of null is 0, or to an index
+abbrev pub pointer_operator : PointerOperator → PlainBinary
+pointer_operator pointers.AddFat = plain_binary.Add
+pointer_operator pointers.SubtractFat = plain_binary.Subtract
+pointer_operator pointers.ThinIsNull = plain_binary.Equal
+pointer_operator pointers.ThinIsNotNull = plain_binary.NotEqual
+pointer_operator pointers.FatIsNull = plain_binary.Equal
+pointer_operator pointers.FatIsNotNull = plain_binary.NotEqual
+pointer_operator pointers.NullIs = plain_binary.Equal
+pointer_operator pointers.NullIsNot = plain_binary.NotEqual
+pointer_operator pointers.EqualThin = plain_binary.Equal
+pointer_operator pointers.NotEqualThin = plain_binary.NotEqual
+
+-- a kind with as many words as the left operand of an operator on pointers has
+abbrev pub left_kind : PointerOperator → Kind
+left_kind pointers.AddFat = kinds.Fat
+left_kind pointers.SubtractFat = kinds.Fat
+left_kind pointers.FatIsNull = kinds.Fat
+left_kind pointers.FatIsNotNull = kinds.Fat
+left_kind o = kinds.Nullable
+
+-- the slot behind that operand, which is in slot t
+abbrev pub behind_left : PointerOperator → (t : ℕ) → ℕ
+behind_left o t = t + words_of_kind (left_kind o)
+
+-- the comparison that holds where that of an operator fails, if it is one
+abbrev pub failing_comparison : Operator → Option Comparison
+failing_comparison operators.Equal = Some comparisons.NotEqual
+failing_comparison operators.NotEqual = Some comparisons.Equal
+failing_comparison operators.Less = Some comparisons.GreaterOrEqual
+failing_comparison operators.LessOrEqual = Some comparisons.Greater
+failing_comparison operators.Greater = Some comparisons.LessOrEqual
+failing_comparison operators.GreaterOrEqual = Some comparisons.Less
+failing_comparison o = None
+
+-- ---- operands
+
+-- where the value is: in that operand, or in the slot to which the code brings it
+abbrev pub operand_or : Option Operand → (slot : ℕ) → Operand
+operand_or (Some o) slot = o
+operand_or None slot = operands.Slot slot
+
+abbrev pub code_unless : Option Operand → List Instruction → List Instruction
+code_unless (Some o) code = []
+code_unless None code = code
+
+-- the same where only a slot will do
+abbrev pub slot_or : Option Operand → (slot : ℕ) → ℕ
+slot_or (Some (operands.Slot n)) slot = n
+slot_or o slot = slot
+
+abbrev pub code_unless_slot : Option Operand → List Instruction → List Instruction
+code_unless_slot (Some (operands.Slot n)) code = []
+code_unless_slot o code = code
+
+-- A left operand is taken without code only where the right one is simple: so nothing between can assign it.
+abbrev pub left_with : (simple : Bool) → (left : Option Operand) → Option Operand
+left_with true left = left
+left_with false left = None
+
+-- the slot for the value of all before these operators: the destination where none is left
+abbrev pub next_slot : Operations → (d t : ℕ) → ℕ
+next_slot NoOperations d t = d
+next_slot os d t = t
+
+-- a value comes to a slot, where it is not there yet
+abbrev pub is_in : Operand → (d : ℕ) → Bool
+is_in (operands.Slot n) d = n == d
+is_in (operands.Word n) d = false
+
+-- ---- instructions
+
+-- jumps where a word is 0, and where it is another
+abbrev pub jump_if_zero : Operand → (target : ℕ) → Instruction
+jump_if_zero o target = instructions.Branch comparisons.Equal o (operands.Word 0) target
+
+abbrev pub jump_if_nonzero : Operand → (target : ℕ) → Instruction
+jump_if_nonzero o target = instructions.Branch comparisons.NotEqual o (operands.Word 0) target
+
+-- what raises an exception, which tells 0
+abbrev pub raising : (tag : ℕ) → Instruction
+raising tag = instructions.Throw (operands.Word tag) (operands.Word 0)
+
+-- Such an instruction stands behind a function's body for each exception that the language itself raises, in the order of their tags.
+abbrev pub blocks : List Instruction
+blocks = raising null_exception ∷ raising array_bounds ∷ raising array_size ∷ raising division_by_zero ∷ []
+
+-- where this comparison of two operands holds, an exception is raised
+abbrev pub guard_code : Starts → (tag : ℕ) → Comparison → (l r : Operand) → List Instruction
+guard_code starts tag failing l r = instructions.Branch failing l r (starts.raises + tag) ∷ []
+
+-- where a word is 0
+abbrev pub check_code : Starts → (tag : ℕ) → Operand → List Instruction
+check_code starts tag o = guard_code starts tag comparisons.Equal o (operands.Word 0)
+
+-- A value of so many words comes to a slot and those behind it. A number has one word: no value of more is an operand without slots.
+abbrev pub move_of : (words d : ℕ) → Operand → Instruction
+move_of words d (operands.Slot n) = if words == 1 then instructions.Move d (operands.Slot n) else instructions.MoveWords d n words
+move_of words d (operands.Word n) = instructions.Move d (operands.Word n)
+
+-- a value that may not be null is tested
+abbrev pub tested_code : Starts → (to : Kind) → Operand → List Instruction
+tested_code starts kinds.NonNull o = check_code starts null_exception o
+tested_code starts to o = []
+
+-- an index that is not below a length raises an exception
+abbrev pub bounds_code : Starts → (index length : Operand) → List Instruction
+bounds_code starts index length = guard_code starts array_bounds comparisons.GreaterOrEqualUnsigned index length
+
+-- an index that counts cells of so many bytes becomes a number of bytes
+abbrev pub scale_of : (bytes d m : ℕ) → Instruction
+scale_of bytes d m =
+    if bytes == 4
+    then instructions.Binary plain_binary.ShiftLeft d (operands.Slot m) (operands.Word 2)
+    else if bytes == 1
+    then instructions.Move d (operands.Slot m)
+    else instructions.Binary plain_binary.Multiply d (operands.Slot m) (operands.Word 12)
+
+-- The cell at an index has its address in slot t then: that of the first is in slot n, the index is in slot m, and each cell has so many
+-- bytes. A struct stands alone, where the source does not go wrong.
+abbrev pub stepped_code : (span : Option ℕ) → (n m t : ℕ) → List Instruction
+stepped_code None n m t = []
+stepped_code (Some bytes) n m t =
+    scale_of bytes (t + 2) m
+    ∷ instructions.Binary plain_binary.Add t (operands.Slot n) (operands.Slot (t + 2))
+    ∷ []
+
+-- the same where the index, in slot m, is compared with the length behind the first word
+abbrev pub bounded_code : Starts → (span : Option ℕ) → (n m t : ℕ) → List Instruction
+bounded_code starts span n m t = bounds_code starts (operands.Slot m) (operands.Slot (n + 1)) ++ stepped_code span n m t
+
+-- the parts of that: the index in slot m becomes a number of bytes in slot x, and the address is that of the first cell and so many more
+abbrev pub scaled_code : (span : Option ℕ) → (m x : ℕ) → List Instruction
+scaled_code None m x = []
+scaled_code (Some bytes) m x = scale_of bytes x m ∷ []
+
+abbrev pub summed_code : (span : Option ℕ) → (n x t : ℕ) → List Instruction
+summed_code None n x t = []
+summed_code (Some bytes) n x t = instructions.Binary plain_binary.Add t (operands.Slot n) (operands.Slot x) ∷ []
+
+-- At place p the index in slot m is compared with the length behind slot n, which is 0 where the pointer is null: so the pointer is only
+-- asked for where the index is not below it, to tell which exception that is.
+abbrev pub inside_code : Starts → (n m p : ℕ) → List Instruction
+inside_code starts n m p =
+    instructions.Branch comparisons.LessUnsigned (operands.Slot m) (operands.Slot (n + 1)) (p + 3)
+    ∷ instructions.Branch comparisons.Equal (operands.Slot n) (operands.Word 0) (starts.raises + null_exception)
+    ∷ instructions.Jump (starts.raises + array_bounds)
+    ∷ []
+
+-- An access at place p by a fat pointer whose first words are in slot n and the next, and whose index is in slot m. The number of bytes
+-- comes behind the three slots from t on before the index is compared: it is no use where the index is past the length, and does no harm
+-- there, but so the branch has an instruction before it that may fill its slot.
+abbrev pub reached_code : Starts → (span : Option ℕ) → (n m t p : ℕ) → List Instruction
+reached_code starts span n m t p =
+    scaled_code span m (t + 3) ++ (inside_code starts n m (p + length (scaled_code span m (t + 3))) ++ summed_code span n (t + 3) t)
+
+abbrev pub reached_operand : (span : Option ℕ) → (n t : ℕ) → Operand
+reached_operand None n t = operands.Slot n
+reached_operand (Some bytes) n t = operands.Slot t
+
+-- an access by a pointer in an operand, which is thin or fat
+abbrev pub followed_code : Starts → (thin : Bool) → (span : Option ℕ) → Operand → (t p : ℕ) → List Instruction
+followed_code starts true span o t p = check_code starts null_exception o
+followed_code starts false span (operands.Slot n) t p = reached_code starts span n (n + 2) t p
+followed_code starts false span (operands.Word w) t p = check_code starts null_exception (operands.Word w)
+
+abbrev pub followed_operand : (thin : Bool) → (span : Option ℕ) → Operand → (t : ℕ) → Operand
+followed_operand true span o t = o
+followed_operand false span (operands.Slot n) t = reached_operand span n t
+followed_operand false span (operands.Word w) t = operands.Word w
+
+-- the bytes of a cell of a type, where it is none of structs
+abbrev pub span_in : Ty → Option ℕ
+span_in t = option_map bytes_of_kind (target_of t)
+
+-- A thin pointer gets the length and the index of a fat one that leads to one cell, and null the length 0.
+abbrev pub widened_code : Operand → List Instruction
+widened_code (operands.Slot n) =
+    instructions.Binary plain_binary.NotEqual (n + 1) (operands.Slot n) (operands.Word 0) ∷ instructions.Move (n + 2) (operands.Word 0) ∷ []
+widened_code (operands.Word n) = []
+
+-- how long that is with a jump over it
+abbrev pub past_bounded : (span : Option ℕ) → ℕ
+past_bounded None = 2
+past_bounded (Some bytes) = 4
+
+-- A fat pointer in slots becomes a thin one in the first of them, to the cell at its index. Null stays null, or raises an exception.
+abbrev pub thinned_code : Starts → (to : Kind) → (span : Option ℕ) → Operand → (p : ℕ) → List Instruction
+thinned_code starts kinds.NonNull span (operands.Slot n) p = check_code starts null_exception (operands.Slot n) ++ bounded_code starts span n (n + 2) n
+thinned_code starts kinds.Nullable span (operands.Slot n) p =
+    jump_if_zero (operands.Slot n) (p + past_bounded span) ∷ bounded_code starts span n (n + 2) n
+thinned_code starts to span o p = []
+
+-- a value has as many words after a conversion as before it
+abbrev pub are_as_wide : (from to : Kind) → Bool
+are_as_wide from to = words_of_kind from == words_of_kind to
+
+-- an int loses all but its low byte
+abbrev pub masks : (from to : Kind) → Bool
+masks kinds.Int kinds.Char = true
+masks from to = false
+
+-- a value has the same words after a conversion as before it
+abbrev pub keeps_words : (from to : Kind) → Bool
+keeps_words from to = are_as_wide from to && not (masks from to)
+
+-- A value is converted where it is, and its words stay or not. The cells that it leads to, if it is a pointer to cells, have so many bytes
+-- each. An int that becomes a char has lost its other bytes before.
+abbrev pub conversion_by : Starts → (same : Bool) → (to : Kind) → (span : Option ℕ) → Operand → (p : ℕ) → List Instruction
+conversion_by starts true to span o p = tested_code starts to o
+conversion_by starts false kinds.Fat span o p = widened_code o
+conversion_by starts false to span o p = thinned_code starts to span o p
+
+abbrev pub conversion_code : Starts → (from to : Kind) → (span : Option ℕ) → Operand → (p : ℕ) → List Instruction
+conversion_code starts from to span o p = conversion_by starts (keeps_words from to) to span o p
+
+abbrev pub span_of : Expression → Option ℕ
+span_of a = option_map bytes_of_kind (target_by a)
+
+-- a divisor is tested, but a number other than 0
+abbrev pub divisor_code : Starts → Operand → List Instruction
+divisor_code starts (operands.Word (suc n)) = []
+divisor_code starts o = check_code starts division_by_zero o
+
+abbrev pub checked_code : Starts → Operator → (l r : Operand) → (d : ℕ) → List Instruction
+checked_code starts o l r d = divisor_code starts r ++ instructions.Binary (binary_operator o) d l r ∷ []
+
+abbrev pub operator_code : Starts → Operator → (l r : Operand) → (d : ℕ) → List Instruction
+operator_code starts operators.Divide l r d = checked_code starts operators.Divide l r d
+operator_code starts operators.Remainder l r d = checked_code starts operators.Remainder l r d
+operator_code starts o l r d = instructions.Binary (binary_operator o) d l r ∷ []
+
+-- where the value in t decides, the next operand is jumped over
+abbrev pub test_jump : LogicalOperator → (t target : ℕ) → Instruction
+test_jump logical.AndThen t target = jump_if_zero (operands.Slot t) target
+test_jump logical.OrElse t target = jump_if_nonzero (operands.Slot t) target
+
+-- Arithmetic changes the third word of a fat pointer, its index. The first two come before it, where they are not there yet.
+abbrev pub index_of : Operand → Operand
+index_of (operands.Slot n) = operands.Slot (n + 2)
+index_of (operands.Word n) = operands.Word n
+
+abbrev pub first_two : Operand → (d : ℕ) → List Instruction
+first_two (operands.Slot n) d = if n == d then [] else instructions.MoveWords d n 2 ∷ []
+first_two (operands.Word n) d = []
+
+abbrev pub index_code : PlainBinary → (l r : Operand) → (d : ℕ) → List Instruction
+index_code o l r d = instructions.Binary o (d + 2) (index_of l) r ∷ first_two l d
+
+-- what an operator on pointers becomes, which compares their first words or changes an index
+abbrev pub pointer_instructions : PointerOperator → (l r : Operand) → (d : ℕ) → List Instruction
+pointer_instructions pointers.AddFat l r d = index_code (pointer_operator pointers.AddFat) l r d
+pointer_instructions pointers.SubtractFat l r d = index_code (pointer_operator pointers.SubtractFat) l r d
+pointer_instructions o l r d = instructions.Binary (pointer_operator o) d l r ∷ []
+
+-- How many elements a fat pointer has from its index on: none where it is null, or its index is past its length.
+abbrev pub count_code : Operand → (p d : ℕ) → List Instruction
+count_code (operands.Slot n) p d =
+    jump_if_zero (operands.Slot n) (p + 4)
+    ∷ instructions.Branch comparisons.LessUnsigned (operands.Slot (n + 1)) (operands.Slot (n + 2)) (p + 4)
+    ∷ instructions.Binary plain_binary.Subtract d (operands.Slot (n + 1)) (operands.Slot (n + 2))
+    ∷ instructions.Jump (p + 5)
+    ∷ instructions.Move d (operands.Word 0)
+    ∷ []
+count_code (operands.Word n) p d = instructions.Move d (operands.Word 0) ∷ []
+
+-- 0 stays 0, and any other word becomes 1
+abbrev pub truth_code : (t d : ℕ) → List Instruction
+truth_code t d =
+    instructions.Unary plain_unary.Not t (operands.Slot t)
+    ∷ instructions.Unary plain_unary.Not d (operands.Slot t)
+    ∷ []
+
+-- an operator with its right operand
+abbrev pub compute_code : Starts → Operator → (l r : Operand) → (operand : List Instruction) → (d : ℕ) → List Instruction
+compute_code starts o l r operand d = operand ++ operator_code starts o l r d
+
+-- an operator on pointers with its right operand
+abbrev pub pointer_code : PointerOperator → (l r : Operand) → (operand : List Instruction) → (d : ℕ) → List Instruction
+pointer_code o l r operand d = operand ++ pointer_instructions o l r d
+
+-- a test at place p with its right operand, whose code stands behind the jump
+abbrev pub test_code : LogicalOperator → (operand : List Instruction) → (p d t : ℕ) → List Instruction
+test_code o operand p d t = test_jump o t (p + 1 + length operand) ∷ operand ++ truth_code t d
+
+abbrev pub copy_code : (words : ℕ) → Operand → (d : ℕ) → List Instruction
+copy_code words o d = if is_in o d then [] else move_of words d o ∷ []
+
+-- An address comes to a slot: the word of an operand, and so many bytes more.
+abbrev pub address_code : Operand → (bytes d : ℕ) → List Instruction
+address_code o zero d = copy_code 1 o d
+address_code o (suc bytes) d = instructions.Binary plain_binary.Add d o (operands.Word (suc bytes)) ∷ []
+
+-- that of a place, which stands in an operand but for so many bytes
+abbrev pub addressed_by : (place : List Instruction) → Operand → (bytes d : ℕ) → List Instruction
+addressed_by place o bytes d = place ++ address_code o bytes d
+
+-- an instruction for each of so many words, by its number in the globals and its slot
+abbrev pub word_by_word : (each : (global slot : ℕ) → Instruction) → (words first slot : ℕ) → List Instruction
+word_by_word each zero first slot = []
+word_by_word each (suc words) first slot = each first slot ∷ word_by_word each words (suc first) (suc slot)
+
+abbrev pub load_word : (global slot : ℕ) → Instruction
+load_word global slot = instructions.LoadGlobal slot global
+
+abbrev pub store_word : (global slot : ℕ) → Instruction
+store_word global slot = instructions.StoreGlobal global (operands.Slot slot)
+
+-- A value of so many words comes to a global. A number has one word: no value of more is an operand without slots.
+abbrev pub global_code : (words first : ℕ) → Operand → List Instruction
+global_code words first (operands.Slot n) = word_by_word store_word words first n
+global_code words first (operands.Word n) = instructions.StoreGlobal first (operands.Word n) ∷ []
+
+-- a word of a cell comes to a slot, or the byte of a char
+abbrev pub load_of : Kind → (d : ℕ) → (address : Operand) → (offset : ℕ) → Instruction
+load_of kinds.Char d address offset = instructions.LoadByte d address offset
+load_of kind d address offset = instructions.Load d address offset
+
+-- and the other way
+abbrev pub store_of : Kind → (address : Operand) → (offset : ℕ) → Operand → Instruction
+store_of kinds.Char address offset o = instructions.StoreByte address offset o
+store_of kind address offset o = instructions.Store address offset o
+
+-- A cell of a kind comes to a slot and those behind it, whose address stands in an operand but for so many bytes. Where it has more words
+-- than one the address comes to slot t, and not to a local, which may be the cell itself. The first word is loaded last, since it may come
+-- to slot t.
+abbrev pub loaded_code : Kind → Operand → (bytes d t : ℕ) → List Instruction
+loaded_code kind o bytes d t =
+    if words_of_kind kind == 1
+    then load_of kind d o bytes ∷ []
+    else address_code o bytes t
+    ++ instructions.Load (d + 2) (operands.Slot t) 8
+    ∷ instructions.Load (d + 1) (operands.Slot t) 4
+    ∷ instructions.Load d (operands.Slot t) 0
+    ∷ []
+
+-- the kind of a variable that a value of this type leads to
+abbrev pub kind_behind : Ty → Kind
+kind_behind t = unwrap_or (target_of_value (Value t)) kinds.Int
+
+-- So many bytes of a variable's words stand before it: a char is the last byte of its word.
+abbrev pub variable_bytes : Kind → ℕ
+variable_bytes kinds.Char = 3
+variable_bytes kind = 0
+
+-- the address of the global of a kind whose first word has this number
+abbrev pub address_of_global : Kind → (first : ℕ) → ℕ
+address_of_global kind first = add_of (add_of GLOBALS_BASE (mul_of (first % 2 ^ 32) 4)) (variable_bytes kind)
+
+-- an address of a variable's first word becomes that of the variable
+abbrev pub last_byte_code : Kind → (d : ℕ) → List Instruction
+last_byte_code kinds.Char d = instructions.Binary plain_binary.Add d (operands.Slot d) (operands.Word 3) ∷ []
+last_byte_code kind d = []
+
+-- The address of a variable of a kind. That of a global is a number.
+abbrev pub address_of_code : Starts → Lvalue → Kind → (d : ℕ) → List Instruction
+address_of_code starts (Local w n) kind d = instructions.AddressOf d (slot_of starts n) (words_of_kind kind) ∷ last_byte_code kind d
+address_of_code starts (Global n) kind d = instructions.Move d (operands.Word (address_of_global kind (global_of starts n))) ∷ []
+
+-- a local that is declared without a value holds none, but the word of a char is below 256 all the same
+abbrev pub blank_code : Kind → (slot : ℕ) → List Instruction
+blank_code kinds.Char slot = instructions.Move slot (operands.Word 0) ∷ []
+blank_code kind slot = []
+
+-- ---- conversions
+
+-- It may come to the slot where it is to be before it is converted: it has as many words, and is not tested there.
+abbrev pub converts_there : (from to : Kind) → Bool
+converts_there from kinds.NonNull = false
+converts_there from to = are_as_wide from to
+
+-- the words that an argument is passed with
+abbrev pub passed_words : Converted → ℕ
+passed_words (Convert from to a) = words_of_kind to
+
+abbrev pub all_passed : Arguments → ℕ
+all_passed NoArguments = 0
+all_passed (MoreArguments c cs) = passed_words c + all_passed cs
+
+-- and the kind that it is passed with
+abbrev pub kind_passed : Converted → Kind
+kind_passed (Convert from to a) = to
+
+abbrev pub kinds_passed : Arguments → List Kind
+kinds_passed NoArguments = []
+kinds_passed (MoreArguments c cs) = kind_passed c ∷ kinds_passed cs
+
+-- code that brings an int, whose low byte comes to slot d
+abbrev pub masked_by : Option Operand → (code : List Instruction) → Operand → (d : ℕ) → List Instruction
+masked_by known code o d = code_unless known code ++ low_byte o d ∷ []
+
+-- code that brings a value to slot d before it is converted, and of an int that becomes a char only its low byte
+abbrev pub brought_by : (from to : Kind) → Option Operand → (code : List Instruction) → Operand → (at_once : List Instruction) → (d : ℕ) → List Instruction
+brought_by from to known code o at_once d = if masks from to then masked_by known code o d else at_once
+
+-- code that brings a value, and its conversion where it is then
+abbrev pub converted_by : Starts → Option Operand → (code : List Instruction) → (from to : Kind) → (span : Option ℕ) → Operand → (p : ℕ) → List Instruction
+converted_by starts known code from to span o p = code_unless known code ++ conversion_code starts from to span o (p + length (code_unless known code))
+
+-- the same, and the value comes to slot d
+abbrev pub moved_by : Starts → Option Operand → (code : List Instruction) → (from to : Kind) → (span : Option ℕ) → Operand → (p d : ℕ) → List Instruction
+moved_by starts known code from to span o p d = converted_by starts known code from to span o p ++ move_of (words_of_kind to) d o ∷ []
+
+-- code that brings a pointer, and an access by it
+abbrev pub followed_by : Starts → Option Operand → (code : List Instruction) → (thin : Bool) → (span : Option ℕ) → Operand → (t p : ℕ) → List Instruction
+followed_by starts known code thin span o t p = code_unless known code ++ followed_code starts thin span o t (p + length (code_unless known code))
+
+-- code that brings a fat pointer to slot n, and an index, by which it moves before the access
+abbrev pub element_by : Starts → (pointer index : List Instruction) → (span : Option ℕ) → (n : ℕ) → Operand → (t p : ℕ) → List Instruction
+element_by starts pointer index span n o t p =
+    pointer
+    ++ (index
+    ++ instructions.Binary plain_binary.Add (t + 2) (operands.Slot (n + 2)) o
+    ∷ reached_code starts span n (t + 2) t (p + length pointer + length index + 1))
+
+-- code that brings a pointer, which is tested where it is then
+abbrev pub tested_by : Starts → Option Operand → (code : List Instruction) → Operand → List Instruction
+tested_by starts known code o = code_unless known code ++ check_code starts null_exception o

@@ -1,0 +1,2 @@
+-- how the code keeps its memory, which only the crate's own functions speak of
+pub mod Operations

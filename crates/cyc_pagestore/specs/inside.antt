@@ -1,0 +1,4 @@
+pub mod Links
+pub mod Live
+pub mod Table
+pub mod Stored

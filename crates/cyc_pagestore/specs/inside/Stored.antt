@@ -1,0 +1,28 @@
+-- What is true of every store on a table of pages over a pool: a table in memory that reads the same would keep it.
+use Rattle.std.specs.Prelude.{◌≡◌, ℕ, ◌≤◌, List, length}
+use Rattle.std.specs.Global.{Vec}
+use Rattle.std.specs.Vec.{vec_capacity}
+use Rattle.cyc_store.specs.Ledger.{Blocks}
+use Rattle.cyc_store.specs.inside.Kept.{IsKept}
+use Rattle.cyc_store.specs.declared.row.PageTable.{PageTable}
+use Rattle.cyc_store.specs.declared.row.ClassSlots.{ClassSlots}
+use Rattle.cyc_pagestore.specs.inside.Table.{TableState}
+
+-- this table in memory says the same
+pub record Reads (t : PageTable) (x : TableState) : Type 0 where
+  pub most : t.most ≡ x.most
+  pub words : t.words.items ≡ x.words
+  pub live : t.live.items ≡ x.live
+  pub rows : t.rows.items ≡ x.rows
+  pub free : t.free ≡ x.free
+
+pub record IsStored (x : TableState) (lexicals : List ℕ) (classes : List ClassSlots) (b : Blocks) : Type 0 where
+  pub table : PageTable
+  pub reads : Reads table x
+  pub whole : length x.rows ≡ x.most
+  pub kept : IsKept table lexicals classes b
+
+-- a store: the lexical regions have room for as many as there are pages
+pub record IsPagedStore (x : TableState) (lexicals : Vec ℕ) (classes : List ClassSlots) (b : Blocks) : Type 0 where
+  pub room : x.most ≤ vec_capacity lexicals
+  pub stored : IsStored x lexicals.items classes b

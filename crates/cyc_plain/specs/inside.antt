@@ -1,0 +1,10 @@
+-- what the type `Plain` and its facts rest on
+pub mod Requests
+pub mod Program
+pub mod WellFormed
+-- what a plain program means
+pub mod Operators
+pub mod State
+pub mod Memory
+pub mod Step
+pub mod Straight

@@ -1,0 +1,124 @@
+-- Memory as loads and stores see it. It has three ranges: the words of the globals, those of the store's live blocks, and of each
+-- call under way the slots whose address its code takes. Every other slot is private to its call, as a register is: no store by an
+-- address changes it.
+use Rattle.std.specs.Prelude.{◌≡◌, ℕ, ◌+◌, ◌-◌, ◌*◌, ◌/◌, ◌%◌, ◌^◌, ◌≤◌, Bool, false, ◌&&◌, ◌||◌, ◌==◌, nat_le, nat_lt, if◌then◌else◌, List, [], ◌∷◌, length, Option, Some, None}
+use Rattle.cyc_store.specs.State.{word_at, saved}
+use Rattle.cyc_store.specs.declared.range.TheConstants.{STORE_BASE, PAGE_WORDS, MOST_PAGES}
+use Rattle.cyc_plain.specs.declared.instruction.Instruction.{Instruction}
+use Rattle.cyc_plain.specs.declared.instruction.Instruction.TheVariants as instructions
+use Rattle.cyc_plain.specs.declared.limits.TheConstants.{GLOBALS_BASE}
+use Rattle.cyc_plain.specs.inside.Program.{Program, routine_at}
+use Rattle.cyc_plain.specs.inside.State.{Words, put, Activation, Frame, Configuration, State, Running, Ended, Stuck}
+
+-- ---- where the slots of calls lie
+
+-- behind all addresses that a store may have, and in the lower half of memory
+abbrev pub slots_base : ℕ
+slots_base = STORE_BASE + 4 * (PAGE_WORDS * MOST_PAGES)
+
+abbrev pub slots_end : ℕ
+slots_end = 2 ^ 31
+
+-- Where the slots of a call of this function may lie: from `base` on, and below `above`.
+pub record IsBelow (program : Program) (function base above : ℕ) : Type 0 where
+  pub aligned : base % 4 ≡ 0
+  pub low : slots_base ≤ base
+  pub high : base + 4 * (routine_at program function).slots ≤ above
+
+-- The slots of each call lie below those of the one that waits for it.
+abbrev pub AreBelow : Program → (function base : ℕ) → List Frame → Type 0
+AreBelow program function base [] = IsBelow program function base slots_end
+AreBelow program function base (f ∷ frames) =
+    IsBelow program function base f.caller.base × AreBelow program f.caller.function f.caller.base frames
+
+abbrev pub LieBelow : Program → State → Type 0
+LieBelow program (Running c) = AreBelow program c.active.function c.active.base c.frames
+LieBelow program (Ended ending output input) = Unit {0}
+LieBelow program (Stuck output input) = Unit {0}
+
+-- ---- which words have an address
+
+-- an instruction by which this slot can be loaded and stored
+abbrev pub pins : Instruction → (slot : ℕ) → Bool
+pins (instructions.AddressOf destination first count) slot = nat_le first slot && nat_lt slot (first + count)
+pins instruction slot = false
+
+abbrev pub is_pinned : List Instruction → (slot : ℕ) → Bool
+is_pinned [] slot = false
+is_pinned (i ∷ code) slot = pins i slot || is_pinned code slot
+
+-- of words that lie one behind the other from `base` on, the number of the one with this address, where it is one of those asked for
+abbrev pub numbered : (is_asked : ℕ → Bool) → (base address : ℕ) → Option ℕ
+numbered is_asked base address =
+    if base + 4 * ((address - base) / 4) == address && is_asked ((address - base) / 4) then Some ((address - base) / 4) else None
+
+-- the global at this address
+abbrev pub global_at : Program → (address : ℕ) → Option ℕ
+global_at program address = numbered (λ (number : ℕ). nat_lt number (length program.globals)) GLOBALS_BASE address
+
+-- the slot of a call at this address
+abbrev pub slot_at : Program → Activation → (address : ℕ) → Option ℕ
+slot_at program a address = numbered (is_pinned (routine_at program a.function).code) a.base address
+
+-- ---- the calls that wait
+
+abbrev pub word_or : Option ℕ → Words → (other : Option ℕ) → Option ℕ
+word_or (Some number) words other = Some (words number)
+word_or None words other = other
+
+-- the word at an address, where it is that of a slot of one of these calls
+abbrev pub word_waiting : Program → List Frame → (address : ℕ) → Option ℕ
+word_waiting program [] address = None
+word_waiting program (f ∷ frames) address =
+    word_or (slot_at program f.caller address) f.caller.slots (word_waiting program frames address)
+
+abbrev pub put_or : Option ℕ → (word : ℕ) → Frame → (frames others : List Frame) → List Frame
+put_or (Some slot) word f frames others =
+    record f { caller = record f.caller { slots = put f.caller.slots slot word } } ∷ frames
+put_or None word f frames others = f ∷ others
+
+-- it is written there
+abbrev pub with_waiting : Program → List Frame → (address word : ℕ) → List Frame
+with_waiting program [] address word = []
+with_waiting program (f ∷ frames) address word =
+    put_or (slot_at program f.caller address) word f frames (with_waiting program frames address word)
+
+-- ---- loads and stores
+
+-- which range an address is in
+pub data Range : Type 0 where
+  OfGlobals : Range
+  OfStore : Range
+  OfSlots : Range
+
+abbrev pub range_of : (address : ℕ) → Range
+range_of address =
+    if nat_lt address STORE_BASE then OfGlobals else if nat_lt address slots_base then OfStore else OfSlots
+
+abbrev pub word_in : Program → Configuration → (address : ℕ) → Range → Option ℕ
+word_in program c address OfGlobals = word_or (global_at program address) c.globals None
+word_in program c address OfStore = word_at c.store address
+word_in program c address OfSlots =
+    word_or (slot_at program c.active address) c.active.slots (word_waiting program c.frames address)
+
+-- the word at an address, where there is one
+abbrev pub memory_at : Program → Configuration → (address : ℕ) → Option ℕ
+memory_at program c address = word_in program c address (range_of address)
+
+abbrev pub with_global : Configuration → Option ℕ → (word : ℕ) → Configuration
+with_global c (Some number) word = record c { globals = put c.globals number word }
+with_global c None word = c
+
+abbrev pub with_slot : Program → Configuration → Option ℕ → (address word : ℕ) → Configuration
+with_slot program c (Some number) address word =
+    record c { active = record c.active { slots = put c.active.slots number word } }
+with_slot program c None address word = record c { frames = with_waiting program c.frames address word }
+
+abbrev pub with_word : Program → Configuration → (address word : ℕ) → Range → Configuration
+with_word program c address word OfGlobals = with_global c (global_at program address) word
+with_word program c address word OfStore = record c { store = saved c.store address word }
+with_word program c address word OfSlots = with_slot program c (slot_at program c.active address) address word
+
+-- the word at an address is written, where there is one
+abbrev pub with_memory : Program → Configuration → (address word : ℕ) → Configuration
+with_memory program c address word = with_word program c address word (range_of address)

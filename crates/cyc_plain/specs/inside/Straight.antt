@@ -1,0 +1,60 @@
+-- Straight code: instructions without jumps, which run one after the other to a configuration that is a function of the
+-- first one. What a pass makes of such code is shown at once, and not instruction by instruction.
+use Rattle.std.specs.Prelude.{◌≡◌, ℕ, zero, suc, ◌+◌, Bool, true, false, List, [], ◌∷◌, Some, slice_get}
+use Rattle.cyc_plain.specs.declared.instruction.Instruction.{Instruction}
+use Rattle.cyc_plain.specs.declared.instruction.Instruction.TheVariants as instructions
+use Rattle.cyc_plain.specs.declared.instruction.BinaryOperator.{BinaryOperator}
+use Rattle.cyc_plain.specs.declared.instruction.BinaryOperator.TheVariants as binary
+use Rattle.cyc_plain.specs.inside.Program.{Program, CodePlace}
+use Rattle.cyc_plain.specs.inside.State.{Configuration, State, Running, Ended, Stuck}
+use Rattle.cyc_plain.specs.inside.Step.{Choice, performed}
+
+-- where instructions stand in a code, one behind the other
+abbrev pub At : List Instruction → ℕ → Instruction → Type 0
+At code p i = slice_get code p ≡ Some i
+
+abbrev pub HasAt : List Instruction → ℕ → List Instruction → Type 0
+HasAt code p [] = Unit {0}
+HasAt code p (i ∷ is) = At code p i × HasAt code (p + 1) is
+
+-- an operator with a result for any words
+abbrev pub is_total : BinaryOperator → Bool
+is_total binary.Divide = false
+is_total binary.Remainder = false
+is_total operator = true
+
+-- an instruction behind which the next one is always executed
+abbrev pub is_straight : Instruction → Bool
+is_straight (instructions.Move destination source) = true
+is_straight (instructions.MoveWords destination source count) = true
+is_straight (instructions.Unary operator destination operand) = true
+is_straight (instructions.Binary operator destination left right) = is_total operator
+is_straight (instructions.ReadByte destination) = true
+is_straight (instructions.WriteByte source) = true
+is_straight (instructions.AddressOf destination slot count) = true
+is_straight (instructions.LoadGlobal destination global) = true
+is_straight (instructions.StoreGlobal global source) = true
+is_straight (instructions.CountLexical destination) = true
+is_straight instruction = false
+
+abbrev pub AreStraight : List Instruction → Type 0
+AreStraight [] = Unit {0}
+AreStraight (i ∷ is) = (is_straight i ≡ true) × AreStraight is
+
+-- the configuration of a run that goes on
+abbrev pub configuration_or : State → Configuration → Configuration
+configuration_or (Running c) other = c
+configuration_or (Ended ending output input) other = other
+configuration_or (Stuck output input) other = other
+
+-- Straight code, executed: nothing is chosen in it.
+abbrev pub executed_in : Program → Choice → Configuration → List Instruction → Configuration
+executed_in program choice c [] = c
+executed_in program choice c (i ∷ is) =
+    executed_in program choice (configuration_or (performed program choice c i) c) is
+
+-- so many places of a function's code, from one on
+abbrev pub places_behind : (function index count : ℕ) → List CodePlace
+places_behind function index zero = []
+places_behind function index (suc count) =
+    record { function = function; index = index } ∷ places_behind function (index + 1) count

@@ -1,0 +1,44 @@
+-- What a block holds, as lists.
+use Rattle.std.specs.Prelude.{◌≡◌, ℕ, ◌+◌, ◌<◌, ◌≤◌, List, [], ◌∷◌, length, get_or, set, take, drop, Option, Some, None}
+use Rattle.std.specs.declared.alloc.Global.{Global}
+use Rattle.cyc_rawpages.specs.declared.cells.Start.{Start}
+use Rattle.cyc_rawpages.specs.declared.cells.Cells.{Cells}
+use Rattle.cyc_rawpages.specs.declared.cells.Lease.{Lease}
+use Rattle.cyc_rawpages.specs.inside.Ownership.{IsFilled}
+
+-- What is read of a block: its heads, its words behind them, and of how many words, from the first on, each is written.
+pub record Parts : Type 0 where
+  pub heads : List ℕ
+  pub words : List ℕ
+  pub made : ℕ
+
+-- a head was written
+abbrev pub headed : Parts → (index word : ℕ) → Parts
+headed parts index word = record parts { heads = set parts.heads index word }
+
+-- a place where no word was written is read as 0
+abbrev pub value_of : Option ℕ → ℕ
+value_of None = 0
+value_of (Some w) = w
+
+abbrev pub words_of : List (Option ℕ) → List ℕ
+words_of [] = []
+words_of (c ∷ cs) = value_of c ∷ words_of cs
+
+abbrev pub parts_of : (heads made : ℕ) → List (Option ℕ) → Parts
+parts_of heads made cs = record { heads = take heads (words_of cs); words = drop heads (words_of cs); made = made }
+
+-- the places before this one hold words, and the others none
+pub record AreWritten (cs : List (Option ℕ)) (end : ℕ) : Type 0 where
+  pub filled : (index : ℕ) → index < end → IsFilled cs index
+  pub blank : (index : ℕ) → end ≤ index → get_or cs index None ≡ None
+
+-- The fields are those of one block. Its heads hold words, and so do its first words behind them.
+pub record IsBlock (start : Start) (count heads made : ℕ) (cells : Cells) (lease : Lease Global) (alloc : Global) : Type 0 where
+  pub at : cells.at ≡ start.at
+  pub many : length cells.slots ≡ count
+  pub few : heads + made ≤ count
+  pub written : AreWritten cells.slots (heads + made)
+  pub leased : lease.at ≡ start.at
+  pub size : lease.count ≡ count
+  pub by : lease.alloc ≡ alloc

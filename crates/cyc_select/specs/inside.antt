@@ -1,0 +1,9 @@
+-- what the contract of `select` rests on
+pub mod Labelled
+pub mod Machine
+pub mod Selected
+-- what the functions inside the crate promise each other
+pub mod Numbers
+pub mod Plans
+pub mod Selection
+pub mod Emission

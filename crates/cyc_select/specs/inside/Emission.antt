@@ -1,0 +1,105 @@
+-- What the code that emits says of itself: what it adds to the lines made so far, and the tables of line numbers that it
+-- looks targets up in. This project's own choice.
+use Rattle.std.specs.Prelude.{◌≡◌, ℕ, suc, ◌+◌, ◌<◌, ◌≤◌, ◌⊎◌, List, [], ◌∷◌, ◌++◌, length, sum_by, Option, Some, None, Result, OnOk}
+use Rattle.std.specs.declared.alloc.AllocError.{AllocError}
+use Rattle.cyc_machine.specs.declared.constants.TheConstants.{END_FULL, SERVICE}
+use Rattle.cyc_plain.specs.declared.instruction.Instruction.{Instruction}
+use Rattle.cyc_plain.specs.declared.instruction.Operand.{Operand}
+use Rattle.cyc_plain.specs.declared.instruction.Operand.TheVariants as operands
+use Rattle.cyc_plain.specs.declared.instruction.Request.{Request}
+use Rattle.cyc_plain.specs.inside.Requests.{first_operand, second_operand, answer_count, destination_of}
+use Rattle.cyc_plain.specs.inside.Program.{Routine, Program, routine_at, size}
+use Rattle.cyc_plain.specs.inside.WellFormed.{IsWellFormed}
+use Rattle.cyc_plain.specs.declared.limits.TheConstants.{GREATEST_VALUE, MOST_SIZE}
+use Rattle.cyc_frame.specs.declared.frame.TheConstants.{MOST_FRAME_WORDS}
+use Rattle.cyc_frame.specs.inside.Layout.{AreFrames, frame_at, slot_word}
+use Rattle.cyc_frame.specs.inside.Frame.{Frame}
+use Rattle.cyc_select.specs.declared.constants.TheConstants.{START_LINES}
+use Rattle.cyc_select.specs.declared.code.Line.{Line}
+use Rattle.cyc_select.specs.inside.Selection.{push_frame, small, syscall, ordinary, saving_count, count_of, function_count, function_line}
+use Rattle.cyc_select.specs.declared.emitter.Emitter.{Emitter}
+use Rattle.cyc_select.specs.declared.plan.Plan.{Plan}
+use Rattle.cyc_select.specs.declared.plan.Test.{Test}
+use Rattle.cyc_select.specs.declared.plan.Test.TheVariants as tests
+use Rattle.cyc_select.specs.declared.tables.Ready.{Ready}
+use Rattle.cyc_select.specs.declared.tables.Tables.{Tables}
+
+-- these lines are added behind what there was
+abbrev pub AddsLines : {T : Type 0} → Result T AllocError → (old new : Emitter) → List Line → Type 0
+AddsLines result old new lines = OnOk result (new.lines.items ≡ old.lines.items ++ lines)
+
+-- a call up to its arguments
+abbrev pub enter_code : List Line
+enter_code = ordinary (small SERVICE END_FULL ∷ syscall ∷ push_frame ∷ [])
+
+-- a slot lies where an offset reaches
+abbrev pub IsReached : Frame → (slot : ℕ) → Type 0
+IsReached frame slot = slot_word frame slot < MOST_FRAME_WORDS
+
+-- and so do so many slots from this one on, where there are any
+abbrev pub AreReached : Frame → (first count : ℕ) → Type 0
+AreReached frame first count = (count ≡ 0) ⊎ (slot_word frame first + count ≤ MOST_FRAME_WORDS)
+
+-- an operand's slot, if it has one
+abbrev pub IsFound : Frame → Operand → Type 0
+IsFound frame (operands.Slot number) = IsReached frame number
+IsFound frame (operands.Word word) = Unit {0}
+
+abbrev pub IsArgumentFound : Frame → Option Operand → Type 0
+IsArgumentFound frame (Some operand) = IsFound frame operand
+IsArgumentFound frame None = Unit {0}
+
+-- What a request takes is found, and the slots that get its answer are reached.
+pub record IsRequestFound (frame : Frame) (request : Request) : Type 0 where
+  pub first : IsArgumentFound frame (first_operand request)
+  pub second : IsArgumentFound frame (second_operand request)
+  pub answer : AreReached frame (destination_of request) (answer_count request)
+
+abbrev pub IsPlanFound : Frame → Plan → Type 0
+IsPlanFound frame plan = IsFound frame plan.left × IsFound frame plan.right
+
+abbrev pub IsTestFound : Frame → Test → Type 0
+IsTestFound frame (tests.Operands op left right) = IsFound frame left × IsFound frame right
+IsTestFound frame (tests.Sign op operand) = IsFound frame operand
+IsTestFound frame (tests.Computed plan) = IsPlanFound frame plan
+
+-- so many lines a program has at most
+abbrev pub most_lines : ℕ
+most_lines = START_LINES + MOST_SIZE
+
+-- no function returns more than a value has words
+abbrev pub AreFew : Program → Type 0
+AreFew program = (k : ℕ) → (routine_at program k).results ≤ GREATEST_VALUE
+
+-- the line numbers of the instructions of a function's code from this index on, of which the first has this one
+abbrev pub instruction_lines : Program → List Frame → (function index here : ℕ) → List Instruction → List ℕ
+instruction_lines program frames function index here [] = []
+instruction_lines program frames function index here (i ∷ code) =
+    here ∷ instruction_lines program frames function (suc index) (here + count_of program frames function index i) code
+
+-- the line numbers of functions, of which the first has this one
+abbrev pub function_starts : Program → List Frame → (function here : ℕ) → List Routine → List ℕ
+function_starts program frames function here [] = []
+function_starts program frames function here (r ∷ routines) =
+    here ∷ function_starts program frames (suc function) (here + function_count program frames function r) routines
+
+-- What the lines of a program are made from: its functions are not too large together, these are their frames, and these the
+-- numbers of their first lines.
+pub record AreReady (program : Program) (frames : List Frame) (starts : List ℕ) : Type 0 where
+  pub well_formed : IsWellFormed program
+  pub few : sum_by size program.functions ≤ MOST_SIZE
+  pub fit : AreFrames program frames
+  pub starts_are : starts ≡ function_starts program frames 0 START_LINES program.functions
+
+abbrev pub IsReady : Ready → Type 0
+IsReady ready = AreReady ready.plain.now ready.frames.now ready.starts.now
+
+-- The same for a function of the program, with the numbers of the first lines of its instructions.
+pub record AreTables (program : Program) (frames : List Frame) (starts lines : List ℕ) (function : ℕ) : Type 0 where
+  pub ready : AreReady program frames starts
+  pub function_in_range : function < length program.functions
+  pub lines_are : lines ≡ instruction_lines program frames function 0 (function_line program frames function + saving_count (frame_at frames function)) (routine_at program function).code
+
+abbrev pub IsKnown : Tables → Type 0
+IsKnown tables =
+    AreTables tables.plain.now tables.frames.now tables.starts.now tables.lines.now tables.function

@@ -1,0 +1,222 @@
+-- Which instructions compute what an operator or a comparison says, and of which operands. This project's own choice; that
+-- they compute it is proved (`proofs/Plans`).
+use Rattle.std.specs.Prelude.{ℕ, Bool, true, false, Option, Some, None, if◌then◌else◌}
+use Rattle.cyc_isa.specs.declared.instr.ImmediateOp.{ImmediateOp}
+use Rattle.cyc_isa.specs.declared.instr.ImmediateOp.TheVariants as immediate
+use Rattle.cyc_isa.specs.declared.instr.ArithmeticOp.{ArithmeticOp}
+use Rattle.cyc_isa.specs.declared.instr.ArithmeticOp.TheVariants as arithmetic
+use Rattle.cyc_isa.specs.declared.instr.BranchOp.TheVariants as branch
+use Rattle.cyc_isa.specs.declared.instr.BranchZeroOp.{BranchZeroOp}
+use Rattle.cyc_isa.specs.declared.instr.BranchZeroOp.TheVariants as signs
+use Rattle.cyc_isa.specs.declared.instr.MoveFromOp.{MoveFromOp}
+use Rattle.cyc_isa.specs.declared.instr.MoveFromOp.TheVariants.{High, Low}
+use Rattle.cyc_isa.specs.declared.instr.MultiplyDivideOp.{MultiplyDivideOp}
+use Rattle.cyc_isa.specs.declared.instr.MultiplyDivideOp.TheVariants.{Multiply, Divide}
+use Rattle.cyc_isa.specs.declared.instr.ShiftOp.{ShiftOp}
+use Rattle.cyc_isa.specs.declared.instr.ShiftOp.TheVariants as shift
+use Rattle.cyc_plain.specs.declared.instruction.UnaryOperator.{UnaryOperator}
+use Rattle.cyc_plain.specs.declared.instruction.UnaryOperator.TheVariants as unary
+use Rattle.cyc_plain.specs.declared.instruction.BinaryOperator.{BinaryOperator}
+use Rattle.cyc_plain.specs.declared.instruction.BinaryOperator.TheVariants as binary
+use Rattle.cyc_plain.specs.declared.instruction.Comparison.{Comparison}
+use Rattle.cyc_plain.specs.declared.instruction.Comparison.TheVariants as comparisons
+use Rattle.cyc_plain.specs.declared.instruction.Operand.{Operand}
+use Rattle.cyc_plain.specs.declared.instruction.Operand.TheVariants as operands
+use Rattle.cyc_select.specs.inside.Numbers.{signed_half, negated_half, next_half, low_half, is_word, is_zero_word, shift_amount, power_of}
+use Rattle.cyc_select.specs.declared.plan.Operation.TheVariants as operations
+use Rattle.cyc_select.specs.declared.plan.Outcome.{Outcome}
+use Rattle.cyc_select.specs.declared.plan.Outcome.TheVariants as outcomes
+use Rattle.cyc_select.specs.declared.plan.Plan.{Plan}
+use Rattle.cyc_select.specs.declared.plan.Test.{Test}
+use Rattle.cyc_select.specs.declared.plan.Test.TheVariants as tests
+
+abbrev pub arithmetic_plan : ArithmeticOp → (left right : Operand) → Outcome → Plan
+arithmetic_plan op left right outcome =
+    record { operation = operations.Arithmetic op; left = left; right = right; outcome = outcome }
+
+-- a plan with a number in the instruction: the right operand is the word 0, which needs no line
+abbrev pub immediate_plan : ImmediateOp → Operand → (half : ℕ) → Outcome → Plan
+immediate_plan op left half outcome =
+    record { operation = operations.Immediate op half; left = left; right = operands.Word 0; outcome = outcome }
+
+-- such a plan, if there is a number, and otherwise another
+abbrev pub immediate_or : Option ℕ → ImmediateOp → Operand → Outcome → Plan → Plan
+immediate_or (Some half) op left outcome other = immediate_plan op left half outcome
+immediate_or None op left outcome other = other
+
+abbrev pub shift_by : Option ℕ → ShiftOp → (left right : Operand) → Plan
+shift_by (Some amount) op left right = record {
+  operation = operations.ShiftBy op amount;
+  left = left;
+  right = operands.Word 0;
+  outcome = outcomes.AsItIs;
+}
+shift_by None op left right =
+    record { operation = operations.Shift op; left = left; right = right; outcome = outcomes.AsItIs }
+
+abbrev pub shift_plan : ShiftOp → (left right : Operand) → Plan
+shift_plan op left right = shift_by (shift_amount right) op left right
+
+abbrev pub multiply_divide_plan : MultiplyDivideOp → MoveFromOp → (left right : Operand) → Plan
+multiply_divide_plan op from left right =
+    record { operation = operations.MultiplyDivide op from; left = left; right = right; outcome = outcomes.AsItIs }
+
+-- a product: by a power of two it is a shift
+abbrev pub product_or : Option ℕ → (left right : Operand) → Plan
+product_or (Some amount) left right = shift_by (Some amount) shift.Left left right
+product_or None left right = multiply_divide_plan Multiply Low left right
+
+abbrev pub product_plan : (left right : Operand) → Plan
+product_plan left right = product_or (power_of right) left right
+
+-- ---- comparisons
+
+-- the comparison with its operands the other way round
+abbrev pub mirrored : Comparison → Comparison
+mirrored comparisons.Less = comparisons.Greater
+mirrored comparisons.LessOrEqual = comparisons.GreaterOrEqual
+mirrored comparisons.Greater = comparisons.Less
+mirrored comparisons.GreaterOrEqual = comparisons.LessOrEqual
+mirrored comparison = comparison
+
+-- whether a word is 0, or is not
+abbrev pub zero_plan : Operand → (holds : Bool) → Plan
+zero_plan operand holds =
+    if holds
+    then immediate_plan immediate.SetLessUnsigned operand 1 outcomes.AsItIs
+    else arithmetic_plan arithmetic.SetLessUnsigned (operands.Word 0) operand outcomes.AsItIs
+
+-- whether two words are equal, or are not: their difference is 0, or is not
+abbrev pub differs_plan : (left right : Operand) → Outcome → Plan
+differs_plan left right outcome =
+    immediate_or (negated_half right) immediate.AddUnsigned left outcome
+    (arithmetic_plan arithmetic.SubtractUnsigned left right outcome)
+
+abbrev pub equal_plan : (left right : Operand) → (holds : Bool) → Plan
+equal_plan left right holds =
+    if is_zero_word right
+    then zero_plan left holds
+    else differs_plan left right (if holds then outcomes.WhetherZero else outcomes.WhetherNotZero)
+
+-- whether the left word is less than the right one, or is not
+abbrev pub less_plan : (left right : Operand) → Outcome → Plan
+less_plan left right outcome =
+    immediate_or (signed_half right) immediate.SetLess left outcome
+    (arithmetic_plan arithmetic.SetLess left right outcome)
+
+abbrev pub less_unsigned_plan : (left right : Operand) → Outcome → Plan
+less_unsigned_plan left right outcome =
+    immediate_or (signed_half right) immediate.SetLessUnsigned left outcome
+    (arithmetic_plan arithmetic.SetLessUnsigned left right outcome)
+
+-- whether the left word is at most the right one, which is whether it is less than one more, or is not
+abbrev pub at_most_plan : (left right : Operand) → (holds : Bool) → Plan
+at_most_plan left right holds =
+    immediate_or (next_half right) immediate.SetLess left (if holds then outcomes.AsItIs else outcomes.WhetherZero)
+    (arithmetic_plan arithmetic.SetLess right left (if holds then outcomes.WhetherZero else outcomes.AsItIs))
+
+abbrev pub compared_plan : Comparison → (left right : Operand) → Plan
+compared_plan comparisons.Equal left right = equal_plan left right true
+compared_plan comparisons.NotEqual left right = equal_plan left right false
+compared_plan comparisons.Less left right = less_plan left right outcomes.AsItIs
+compared_plan comparisons.LessOrEqual left right = at_most_plan left right true
+compared_plan comparisons.Greater left right = at_most_plan left right false
+compared_plan comparisons.GreaterOrEqual left right = less_plan left right outcomes.WhetherZero
+compared_plan comparisons.LessUnsigned left right = less_unsigned_plan left right outcomes.AsItIs
+compared_plan comparisons.GreaterOrEqualUnsigned left right = less_unsigned_plan left right outcomes.WhetherZero
+
+-- the operands are better the other way round: the left one is a word, and the comparison can be mirrored
+abbrev pub is_mirrored : Comparison → Operand → Bool
+is_mirrored comparisons.LessUnsigned left = false
+is_mirrored comparisons.GreaterOrEqualUnsigned left = false
+is_mirrored comparison left = is_word left
+
+-- whether a comparison holds: 1 or 0
+abbrev pub comparison_plan : Comparison → (left right : Operand) → Plan
+comparison_plan comparison left right =
+    if is_mirrored comparison left
+    then compared_plan (mirrored comparison) right left
+    else compared_plan comparison left right
+
+-- ---- operators
+
+abbrev pub unary_plan : UnaryOperator → Operand → Plan
+unary_plan unary.Negate operand =
+    arithmetic_plan arithmetic.SubtractUnsigned (operands.Word 0) operand outcomes.AsItIs
+unary_plan unary.Complement operand = arithmetic_plan arithmetic.Nor (operands.Word 0) operand outcomes.AsItIs
+unary_plan unary.Not operand = comparison_plan comparisons.Equal operand (operands.Word 0)
+
+abbrev pub sum_plan : (left right : Operand) → Plan
+sum_plan left right =
+    immediate_or (signed_half right) immediate.AddUnsigned left outcomes.AsItIs
+    (arithmetic_plan arithmetic.AddUnsigned left right outcomes.AsItIs)
+
+abbrev pub difference_plan : (left right : Operand) → Plan
+difference_plan left right =
+    immediate_or (negated_half right) immediate.AddUnsigned left outcomes.AsItIs
+    (arithmetic_plan arithmetic.SubtractUnsigned left right outcomes.AsItIs)
+
+-- an operation on bits, of registers and of a register and a number
+abbrev pub bits_plan : ArithmeticOp → ImmediateOp → (left right : Operand) → Plan
+bits_plan op number_op left right =
+    immediate_or (low_half right) number_op left outcomes.AsItIs (arithmetic_plan op left right outcomes.AsItIs)
+
+-- (a division's plan is for a divisor by which the machine divides any word)
+abbrev pub operator_plan : BinaryOperator → (left right : Operand) → Plan
+operator_plan binary.Add left right = sum_plan left right
+operator_plan binary.Subtract left right = difference_plan left right
+operator_plan binary.Multiply left right = product_plan left right
+operator_plan binary.Divide left right = multiply_divide_plan Divide Low left right
+operator_plan binary.Remainder left right = multiply_divide_plan Divide High left right
+operator_plan binary.And left right = bits_plan arithmetic.And immediate.And left right
+operator_plan binary.Or left right = bits_plan arithmetic.Or immediate.Or left right
+operator_plan binary.Xor left right = bits_plan arithmetic.Xor immediate.Xor left right
+operator_plan binary.ShiftLeft left right = shift_plan shift.Left left right
+operator_plan binary.ShiftRight left right = shift_plan shift.RightArithmetic left right
+operator_plan binary.Equal left right = comparison_plan comparisons.Equal left right
+operator_plan binary.NotEqual left right = comparison_plan comparisons.NotEqual left right
+operator_plan binary.Less left right = comparison_plan comparisons.Less left right
+operator_plan binary.LessOrEqual left right = comparison_plan comparisons.LessOrEqual left right
+operator_plan binary.Greater left right = comparison_plan comparisons.Greater left right
+operator_plan binary.GreaterOrEqual left right = comparison_plan comparisons.GreaterOrEqual left right
+
+-- the operands are better the other way round: the left one is a word, and the operator commutes
+abbrev pub is_swapped : BinaryOperator → Operand → Bool
+is_swapped binary.Add left = is_word left
+is_swapped binary.Multiply left = is_word left
+is_swapped binary.And left = is_word left
+is_swapped binary.Or left = is_word left
+is_swapped binary.Xor left = is_word left
+is_swapped operator left = false
+
+-- an operator on two operands
+abbrev pub binary_plan : BinaryOperator → (left right : Operand) → Plan
+binary_plan operator left right =
+    if is_swapped operator left then operator_plan operator right left else operator_plan operator left right
+
+-- ---- tests
+
+-- the branch on a sign that is a comparison with 0, if there is one
+abbrev pub sign_of : Comparison → Option BranchZeroOp
+sign_of comparisons.Less = Some signs.Less
+sign_of comparisons.LessOrEqual = Some signs.LessOrEqual
+sign_of comparisons.Greater = Some signs.Greater
+sign_of comparisons.GreaterOrEqual = Some signs.GreaterOrEqual
+sign_of comparison = None
+
+-- a test for order: with 0 by the sign
+abbrev pub sign_or : Option BranchZeroOp → Operand → Test → Test
+sign_or (Some op) operand other = tests.Sign op operand
+sign_or None operand other = other
+
+abbrev pub order_test : Comparison → (left right : Operand) → Test
+order_test comparison left right =
+    if is_zero_word right
+    then sign_or (sign_of comparison) left (tests.Computed (comparison_plan comparison left right))
+    else tests.Computed (comparison_plan comparison left right)
+
+-- what a branch tests
+abbrev pub test_of : Comparison → (left right : Operand) → Test
+test_of comparisons.Equal left right = tests.Operands branch.Equal left right
+test_of comparisons.NotEqual left right = tests.Operands branch.NotEqual left right
+test_of comparison left right = order_test comparison left right

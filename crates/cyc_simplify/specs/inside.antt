@@ -1,0 +1,8 @@
+-- what the contract of `simplify` rests on
+pub mod Simplified
+-- the functions inside the crate
+pub mod Facts
+pub mod Replacement
+pub mod Table
+pub mod Entries
+pub mod Pins

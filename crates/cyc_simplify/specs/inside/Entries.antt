@@ -1,0 +1,65 @@
+-- What is known at the places that are jumped to, as the code holds it, and the two halves of the check.
+use Rattle.std.specs.Prelude.{◌≡◌, ℕ, ◌+◌, ◌<◌, Bool, true, ◌==◌, ◌&&◌, if◌then◌else◌, List, [], ◌∷◌, length, Option, Some, None, slice_get, slice_index_or}
+use Rattle.cyc_plain.specs.declared.instruction.Instruction.{Instruction}
+use Rattle.cyc_plain.specs.declared.instruction.Instruction.TheVariants as instructions
+use Rattle.cyc_simplify.specs.declared.entry.Entry.{Entry}
+use Rattle.cyc_simplify.specs.declared.fact.Fact.{Fact}
+use Rattle.cyc_plain.specs.inside.Program.{Program, Routine, no_routine, routine_at}
+use Rattle.cyc_frame.specs.inside.Homes.{At}
+use Rattle.cyc_simplify.specs.declared.fact.Written.{Written}
+use Rattle.cyc_simplify.specs.inside.Facts.{keeps, made}
+use Rattle.cyc_simplify.specs.inside.Replacement.{simplified_instruction}
+use Rattle.cyc_simplify.specs.inside.Table.{facts_at, may_jump, may_go_on, is_checked_at, IsReplaced}
+
+abbrev pub entry_of : Option Entry → Option (List Fact)
+entry_of (Some entry) = if entry.is_target then Some entry.facts.items else None
+entry_of None = None
+
+abbrev pub entry_in : List Entry → (index : ℕ) → Option (List Fact)
+entry_in entries index = entry_of (slice_get entries index)
+
+-- an instruction leads by a jump to a place that asks for no more than what is known
+abbrev pub jumps_well : List Bool → (entry : ℕ → Option (List Fact)) → List Fact → Instruction → (index : ℕ) → Bool
+jumps_well pinned entry facts (instructions.Jump target) index = may_jump (entry target) facts None
+jumps_well pinned entry facts (instructions.Branch comparison left right target) index =
+    may_jump (entry target) facts (made pinned (instructions.Branch comparison left right target) index target)
+jumps_well pinned entry facts (instructions.Try first handler) index = length facts == 0 && may_jump (entry handler) facts None
+jumps_well pinned entry facts i index = true
+
+-- so does the place behind it, where it goes on to that
+abbrev pub goes_well : (entry : ℕ → Option (List Fact)) → (behind : List Fact) → Instruction → (index : ℕ) → Bool
+goes_well entry behind (instructions.Jump target) index = true
+goes_well entry behind (instructions.Return value) index = true
+goes_well entry behind (instructions.Throw tag value) index = true
+goes_well entry behind (instructions.Finish value) index = true
+goes_well entry behind (instructions.Uncaught tag value) index = true
+goes_well entry behind i index = may_go_on (entry (index + 1)) behind None
+
+-- the first instructions of a function, so many of them, were checked and simplified; behind them these facts are known
+pub record AreWalked (program : Program) (r : Routine) (pinned : List Bool) (entries : List Entry) (count : ℕ) (code : List Instruction) (facts : List Fact) : Type 0 where
+  pub as_many : length code ≡ count
+  pub known : facts ≡ facts_at program pinned (entry_in entries) r.code count
+  pub each : (k : ℕ) (i : Instruction) → At r k i → k < count
+      → slice_get code k ≡ Some (simplified_instruction (facts_at program pinned (entry_in entries) r.code k) i)
+  pub checked : (k : ℕ) (i : Instruction) → At r k i → k < count
+      → is_checked_at program pinned (entry_in entries) (facts_at program pinned (entry_in entries) r.code k)
+      (simplified_instruction (facts_at program pinned (entry_in entries) r.code k) i) k
+      ≡ true
+
+-- all of them were
+abbrev pub IsWalked : Program → Routine → List Bool → List Entry → (code : List Instruction) → Type 0
+IsWalked program r pinned entries code = (facts : List Fact) × AreWalked program r pinned entries (length r.code) code facts
+
+-- the function with other code
+abbrev pub with_code : Routine → List Instruction → Routine
+with_code r code = record r { code = code }
+
+-- the first functions of a program, so many of them, replaced
+pub record AreFirstReplaced (program : Program) (count : ℕ) (routines : List Routine) : Type 0 where
+  pub as_many : length routines ≡ count
+  pub each : (k : ℕ) → k < count → IsReplaced program (routine_at program k) (slice_index_or routines k no_routine)
+
+-- no fact is about a slot that is written
+abbrev pub keeps_all : Written → List Fact → Bool
+keeps_all slots [] = true
+keeps_all slots (fact ∷ facts) = keeps slots fact && keeps_all slots facts

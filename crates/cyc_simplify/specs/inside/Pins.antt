@@ -1,0 +1,28 @@
+-- Which slots have their address taken, as ranges of slots.
+use Rattle.std.specs.Prelude.{◌≡◌, ℕ, ◌<◌, Bool, true, false, ◌||◌, not, List, [], ◌∷◌, length, Option, Some, None, slice_index_or}
+use Rattle.cyc_plain.specs.declared.instruction.Instruction.{Instruction}
+use Rattle.cyc_plain.specs.declared.instruction.Instruction.TheVariants as instructions
+use Rattle.cyc_plain.specs.declared.limits.TheConstants.{RECORD_WORDS}
+use Rattle.cyc_plain.specs.inside.Memory.{is_pinned}
+use Rattle.cyc_simplify.specs.declared.fact.Written.{Written}
+use Rattle.cyc_simplify.specs.inside.Facts.{leaves_slot}
+
+-- a slot is in one of these ranges
+abbrev pub is_within : List Written → (slot : ℕ) → Bool
+is_within [] slot = false
+is_within (range ∷ ranges) slot = not (leaves_slot range slot) || is_within ranges slot
+
+-- the range of an instruction, if it has one
+abbrev pub range_of : Instruction → Option Written
+range_of (instructions.AddressOf destination slot count) = Some (record { first = slot; count = count })
+range_of (instructions.Try first handler) = Some (record { first = first; count = RECORD_WORDS })
+range_of instruction = None
+
+-- each slot that code pins is in one of them
+abbrev pub AreRanges : List Instruction → List Written → Type 0
+AreRanges code ranges = (slot : ℕ) → is_pinned code slot ≡ true → is_within ranges slot ≡ true
+
+-- of the first slots, whether each is in one of them
+pub record AreFirstPins (ranges : List Written) (count : ℕ) (pinned : List Bool) : Type 0 where
+  pub as_many : length pinned ≡ count
+  pub each : (slot : ℕ) → slot < count → slice_index_or pinned slot true ≡ is_within ranges slot

@@ -1,0 +1,134 @@
+-- Tables of what is known at each place of a function, and how one is checked, instruction by instruction: whatever made the
+-- entries, where the check holds everywhere what the table says is true in each run.
+use Rattle.std.specs.Prelude.{◌≡◌, ℕ, zero, suc, ◌+◌, ◌<◌, Bool, true, false, ◌&&◌, ◌||◌, List, [], ◌∷◌, length, Option, Some, None, slice_get}
+use Rattle.cyc_plain.specs.declared.instruction.Instruction.{Instruction}
+use Rattle.cyc_plain.specs.declared.instruction.Instruction.TheVariants as instructions
+use Rattle.cyc_plain.specs.inside.Memory.{is_pinned}
+use Rattle.cyc_plain.specs.inside.Program.{Routine, Program, routine_at}
+use Rattle.cyc_frame.specs.inside.Homes.{At}
+use Rattle.cyc_frame.specs.inside.Uses.{leads}
+use Rattle.cyc_simplify.specs.declared.fact.Fact.{Fact}
+use Rattle.cyc_simplify.specs.declared.fact.Fact.TheVariants as facts_are
+use Rattle.cyc_simplify.specs.inside.Facts.{Entails, is_same_fact, is_known, is_free, are_suited, written, kept, made, facts_behind}
+use Rattle.cyc_simplify.specs.inside.Replacement.{simplified_operand, simplified_instruction}
+
+-- ---- tables
+
+-- which slots of a function have their address taken
+pub record ArePins (r : Routine) (pinned : List Bool) : Type 0 where
+  pub as_many : length pinned ≡ r.slots
+  pub right : (slot : ℕ) → is_free pinned slot ≡ true → is_pinned r.code slot ≡ false
+
+-- Facts for each place of a function. Nothing is known where it begins, nor where a handler is opened, to which exceptions come.
+pub record IsTable (program : Program) (r : Routine) (pinned : List Bool) (table : ℕ → List Fact) : Type 0 where
+  pub first : table 0 ≡ []
+  pub tries : (index first handler : ℕ) → At r index (instructions.Try first handler) → table index ≡ []
+  pub suited : (index : ℕ) → index < length r.code → are_suited pinned (table index) ≡ true
+  pub edges : (index next : ℕ) (i : Instruction) → At r index i → leads i index next ≡ true
+      → Entails (kept (written program i) (table index)) (made pinned i index next) (table next)
+
+-- The second function is the first with each instruction replaced, by what is known of the slots where it stands.
+pub record IsReplaced (program : Program) (r s : Routine) : Type 0 where
+  pub name : s.name ≡ r.name
+  pub parameters : s.parameters ≡ r.parameters
+  pub results : s.results ≡ r.results
+  pub slots : s.slots ≡ r.slots
+  pub frame_count : s.frame_count ≡ r.frame_count
+  pub as_many : length s.code ≡ length r.code
+  pub pinned : List Bool
+  pub pins : ArePins r pinned
+  pub table : ℕ → List Fact
+  pub is_table : IsTable program s pinned table
+  pub each : (index : ℕ) (i : Instruction) → At r index i → At s index (simplified_instruction (table index) i)
+
+-- function by function, in order
+pub record AreReplaced (program simplified : Program) : Type 0 where
+  pub as_many : length simplified.functions ≡ length program.functions
+  pub each : (k : ℕ) → k < length program.functions → IsReplaced program (routine_at program k) (routine_at simplified k)
+  pub globals : simplified.globals ≡ program.globals
+  pub main : simplified.main ≡ program.main
+
+-- ---- a table by its entries
+
+-- `entry` has the facts of the places that are jumped to. At any other they are what is known behind the instruction before it.
+abbrev pub entered_or : Option (List Fact) → List Fact → List Fact
+entered_or (Some facts) others = facts
+entered_or None others = others
+
+abbrev pub facts_behind_place : Program → List Bool → List Fact → Option Instruction → (index : ℕ) → List Fact
+facts_behind_place program pinned facts (Some i) index =
+    facts_behind program pinned facts (simplified_instruction facts i) index (index + 1)
+facts_behind_place program pinned facts None index = []
+
+abbrev pub facts_at : Program → List Bool → (entry : ℕ → Option (List Fact)) → List Instruction → (index : ℕ) → List Fact
+facts_at program pinned entry code zero = []
+facts_at program pinned entry code (suc index) =
+    entered_or (entry (suc index)) (facts_behind_place program pinned (facts_at program pinned entry code index) (slice_get code index) index)
+
+-- ---- the check
+
+-- a fact is the one more
+abbrev pub is_more : Option Fact → Fact → Bool
+is_more (Some other) fact = is_same_fact other fact
+is_more None fact = false
+
+abbrev pub is_known_with : List Fact → Option Fact → Fact → Bool
+is_known_with facts more fact = is_known facts fact || is_more more fact
+
+-- a comparison, of operands that are known to be equal
+abbrev pub resolved_fact : List Fact → Fact → Fact
+resolved_fact facts (facts_are.Holds comparison left right) =
+    facts_are.Holds comparison (simplified_operand facts left) (simplified_operand facts right)
+resolved_fact facts fact = fact
+
+abbrev pub follows : List Fact → Option Fact → Fact → Bool
+follows facts more fact = is_known_with facts more fact || is_known_with facts more (resolved_fact facts fact)
+
+abbrev pub are_known : (asked facts : List Fact) → Option Fact → Bool
+are_known [] facts more = true
+are_known (fact ∷ asked) facts more = follows facts more fact && are_known asked facts more
+
+-- a place that is jumped to asks for no more than what is known, and one more
+abbrev pub may_jump : Option (List Fact) → (facts : List Fact) → Option Fact → Bool
+may_jump (Some asked) facts more = are_known asked facts more
+may_jump None facts more = false
+
+-- nor does one that is come to from the instruction before it, if it is jumped to
+abbrev pub may_go_on : Option (List Fact) → (facts : List Fact) → Option Fact → Bool
+may_go_on (Some asked) facts more = are_known asked facts more
+may_go_on None facts more = true
+
+abbrev pub is_entry_suited : List Bool → Option (List Fact) → Bool
+is_entry_suited pinned (Some facts) = are_suited pinned facts
+is_entry_suited pinned None = true
+
+abbrev pub is_empty : List Fact → Bool
+is_empty [] = true
+is_empty (fact ∷ facts) = false
+
+-- The instruction, as it is simplified, leads to places that ask for no more than what is known then. A jump and a branch write
+-- nothing.
+abbrev pub leads_well : Program → List Bool → (entry : ℕ → Option (List Fact)) → List Fact → Instruction → (index : ℕ) → Bool
+leads_well program pinned entry facts (instructions.Jump target) index = may_jump (entry target) facts None
+leads_well program pinned entry facts (instructions.Branch comparison left right target) index =
+    may_jump (entry target) facts (made pinned (instructions.Branch comparison left right target) index target)
+    && may_go_on (entry (index + 1)) (facts_behind program pinned facts (instructions.Branch comparison left right target) index (index + 1)) None
+leads_well program pinned entry facts (instructions.Try first handler) index =
+    is_empty facts && (may_jump (entry handler) [] None && may_go_on (entry (index + 1)) [] None)
+leads_well program pinned entry facts (instructions.Return value) index = true
+leads_well program pinned entry facts (instructions.Throw tag value) index = true
+leads_well program pinned entry facts (instructions.Finish value) index = true
+leads_well program pinned entry facts (instructions.Uncaught tag value) index = true
+leads_well program pinned entry facts i index =
+    may_go_on (entry (index + 1)) (facts_behind program pinned facts i index (index + 1)) None
+
+abbrev pub is_checked_at : Program → List Bool → (entry : ℕ → Option (List Fact)) → List Fact → Instruction → (index : ℕ) → Bool
+is_checked_at program pinned entry facts i index =
+    is_entry_suited pinned (entry (index + 1)) && leads_well program pinned entry facts i index
+
+-- the check holds of each instruction of a function
+abbrev pub IsChecked : Program → Routine → List Bool → (entry : ℕ → Option (List Fact)) → Type 0
+IsChecked program r pinned entry = (index : ℕ) (i : Instruction) → At r index i
+    → is_checked_at program pinned entry (facts_at program pinned entry r.code index)
+    (simplified_instruction (facts_at program pinned entry r.code index) i) index
+    ≡ true

@@ -1,0 +1,7 @@
+-- how the states of a run are typed
+pub mod Lives
+pub mod Worlds
+pub mod Frames
+pub mod Stacks
+-- which programs a theorem speaks of
+pub mod Classes

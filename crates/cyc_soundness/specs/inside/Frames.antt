@@ -1,0 +1,346 @@
+-- THE LOCALS OF A CALL: to which objects the numbers in scope lead, what the flow rules say of them, and where control may go.
+use Rattle.std.specs.Prelude.{◌≡◌, ◌⊎◌, ℕ, ◌<◌, ◌==◌, Bool, true, false, if◌then◌else◌, List, [], ◌∷◌, ◌++◌, length, map, Option, Some, None, Contains, slice_get, slice_index_or}
+use Rattle.cyc_syntax.specs.Symbols.{Place}
+use Rattle.cyc_types.specs.declared.region.Region.{Region}
+use Rattle.cyc_types.specs.declared.region.Region.TheVariants as regions
+use Rattle.cyc_types.specs.Types.{Ty, ValueType, result_type}
+use Rattle.cyc_types.specs.TypedTrees.{StructType, GlobalVariable, Function}
+use Rattle.cyc_types.specs.Outlives.{RegionContext, live_regions, IsGiven}
+use Rattle.cyc_types.specs.typing.Tests.{is_moved, is_key}
+use Rattle.cyc_types.specs.typing.WellTyped.{LocalInScope, Context, signature_of, AreConstraints}
+use Rattle.cyc_types.specs.flow.States as flow
+use Rattle.cyc_types.specs.flow.States.{fullness, is_vacant, is_reached, Reached}
+use Rattle.cyc_types.specs.flow.Statements.{Loop, Around}
+use Rattle.cyc_meaning.specs.State.{globals_number, Entry, CloseRegion, Caller}
+use Rattle.cyc_meaning.specs.inside.Nesting.{ends_of}
+use Rattle.cyc_soundness.specs.inside.Lives.{Life, OfRegion, Kept, RunTy, RunValue, Void, Lives, at, value_at, heap_life, lives_of, as_heap, Reading, AsHeap, ByScope, AllIn, AllInValue, IsKnown}
+pub use Rattle.cyc_soundness.specs.inside.Worlds.{IsAmong, first, later}
+use Rattle.cyc_soundness.specs.inside.Worlds.{OfLocal, ObjectType, Typing, IsHere, IsOpenIn, IsKnownLife, IsFull, variable_type, global_type, IsEndOf, Outlasts, IsNumber}
+use Rattle.cyc_soundness.specs.inside.Classes.{is_full, Relied, frees_of, HasLoans, IsDeclarable, Source, only}
+
+-- a local in scope, with its object and how long this is there
+pub record Bound : Type 0 where
+  pub number : ℕ
+  pub object : ℕ
+  pub of_type : RunTy
+  pub life : Life
+  -- no pointer leads to it
+  pub is_hidden : Bool
+
+-- the type of its object, in a call with so many others around
+abbrev pub local_type : (depth : ℕ) → Bound → ObjectType
+local_type d b = variable_type b.of_type b.life b.is_hidden (OfLocal d b.number)
+
+-- what is in scope
+pub data InScope : Type 0 where
+  Variable : Bound → InScope
+  -- the counter of a `for` around
+  Level : (level : ℕ) → InScope
+  -- what the region variable of this number stands for, and whether that is live
+  Names : (number : ℕ) → Life → (is_live : Bool) → InScope
+  -- what all region variables of a call stand for, and which of that is live; and whether objects are given back
+  Instance : (frees : Bool) → (ℕ → Life) → (ℕ → Bool) → InScope
+  -- the region in which the variables of the innermost block live
+  Home : (region : ℕ) → InScope
+
+-- ---- regions
+
+-- a region variable that nothing here names stands for the heap
+abbrev pub life_named : List InScope → ℕ → Life
+life_named [] k = heap_life
+life_named (Variable b ∷ bs) k = life_named bs k
+life_named (Level l ∷ bs) k = life_named bs k
+life_named (Names number life live ∷ bs) k = if k == number then life else life_named bs k
+life_named (Instance frees these live ∷ bs) k = these k
+life_named (Home region ∷ bs) k = life_named bs k
+
+abbrev pub is_live_named : List InScope → ℕ → Bool
+is_live_named [] k = true
+is_live_named (Variable b ∷ bs) k = is_live_named bs k
+is_live_named (Level l ∷ bs) k = is_live_named bs k
+is_live_named (Names number life live ∷ bs) k = if k == number then live else is_live_named bs k
+is_live_named (Instance frees these live ∷ bs) k = live k
+is_live_named (Home region ∷ bs) k = is_live_named bs k
+
+abbrev pub frees_in : List InScope → Bool
+frees_in [] = false
+frees_in (Variable b ∷ bs) = frees_in bs
+frees_in (Level l ∷ bs) = frees_in bs
+frees_in (Names number life live ∷ bs) = frees_in bs
+frees_in (Instance frees these live ∷ bs) = frees
+frees_in (Home region ∷ bs) = frees_in bs
+
+-- what the regions of the function stand for here
+abbrev pub lives_in : List InScope → Lives
+lives_in bs = lives_of (frees_in bs) (λ n. life_named bs n)
+
+-- types as this run reads them here
+abbrev pub read : List InScope → Ty → RunTy
+read bs t = at (lives_in bs) t
+
+abbrev pub read_value : List InScope → ValueType → RunValue
+read_value bs t = value_at (lives_in bs) t
+
+-- where these region variables are live, so is this region
+abbrev pub IsThereBy : (ℕ → Bool) → Region → Type 0
+IsThereBy live regions.Heap = Unit {0}
+IsThereBy live regions.Unique = Unit {0}
+IsThereBy live (regions.Variable n) = live n ≡ true
+
+-- what this region stands for has not ended
+abbrev pub IsThere : List InScope → Region → Type 0
+IsThere bs r = IsThereBy (λ n. is_live_named bs n) r
+
+-- in which region variables live here
+abbrev pub home_of : List InScope → ℕ
+home_of [] = globals_number
+home_of (Home region ∷ bs) = region
+home_of (b ∷ bs) = home_of bs
+
+-- ---- locals
+
+-- A pointer to a local is one into the region of its block; read as the heap, there are none.
+abbrev pub IsHomed : Reading → Lives → (region : ℕ) → Life → Type 0
+IsHomed AsHeap m region l = Unit {0}
+IsHomed (ByScope lends frees) m region l = l ≡ m (regions.Variable region)
+
+-- the newest in scope, and then the rest of the locals
+abbrev pub IsNewest : Reading → Lives → List LocalInScope → InScope → (rest : List LocalInScope) → Type 0
+IsNewest r m vs (Variable b) rest =
+    (v : LocalInScope) × (vs ≡ v ∷ rest) × (v.number ≡ b.number) × (at m v.of_type ≡ b.of_type) × (is_moved v.of_type ≡ b.is_hidden) × IsHomed r m v.region b.life
+IsNewest r m vs b rest = vs ≡ rest
+
+-- the scope of a tree, as this run has it
+abbrev pub IsScope : Reading → Lives → List LocalInScope → List InScope → Type 0
+IsScope r m vs [] = vs ≡ []
+IsScope r m vs (b ∷ bs) = (rest : List LocalInScope) × IsNewest r m vs b rest × IsScope r m rest bs
+
+-- the numbers of locals in scope were given out before this one
+abbrev pub IsBelow : ℕ → InScope → Type 0
+IsBelow n (Variable b) = b.number < n
+IsBelow n b = Unit {0}
+
+abbrev pub AreBelow : ℕ → List InScope → Type 0
+AreBelow n [] = Unit {0}
+AreBelow n (b ∷ bs) = IsBelow n b × AreBelow n bs
+
+-- locals lead to their objects, and counters have values
+abbrev pub HasMeaning : (locals counters : ℕ → Option ℕ) → InScope → Type 0
+HasMeaning locals counters (Variable b) = locals b.number ≡ Some b.object
+HasMeaning locals counters (Level l) = (index : ℕ) × (counters l ≡ Some index)
+HasMeaning locals counters b = Unit {0}
+
+abbrev pub IsBound : (locals counters : ℕ → Option ℕ) → List InScope → Type 0
+IsBound locals counters [] = Unit {0}
+IsBound locals counters (b ∷ bs) = HasMeaning locals counters b × IsBound locals counters bs
+
+-- the objects of locals are variables of their types, and what regions stand for is known; what is live is open
+abbrev pub IsOfVariable : Typing → InScope → Type 0
+IsOfVariable g (Variable b) = (slice_get g.objects b.object ≡ Some (local_type g.depth b)) × IsOpenIn g b.life
+IsOfVariable g (Names number life live) = IsKnownLife g life × (live ≡ true → IsOpenIn g life)
+IsOfVariable g (Instance frees these live) = (n : ℕ) → IsKnownLife g (these n) × (live n ≡ true → IsOpenIn g (these n))
+IsOfVariable g b = Unit {0}
+
+abbrev pub AreVariables : Typing → List InScope → Type 0
+AreVariables g [] = Unit {0}
+AreVariables g (b ∷ bs) = IsOfVariable g b × AreVariables g bs
+
+-- there to the end of one of these regions, of those that will end, or for ever
+abbrev pub IsLasting : List ℕ → Life → Type 0
+IsLasting regions (OfRegion number around lent) = (OfRegion number around lent ≡ heap_life) ⊎ IsEndOf (number ∷ around) regions
+IsLasting regions (Kept a) = Unit {0}
+IsLasting regions l = ⊥
+
+-- what is live has not ended
+abbrev pub IsLiveIn : List ℕ → InScope → Type 0
+IsLiveIn regions (Variable b) = IsLasting regions b.life
+IsLiveIn regions (Names number life live) = live ≡ true → IsLasting regions life
+IsLiveIn regions (Instance frees these live) = (n : ℕ) → live n ≡ true → IsLasting regions (these n)
+IsLiveIn regions b = Unit {0}
+
+abbrev pub AreLiveIn : List ℕ → List InScope → Type 0
+AreLiveIn regions [] = Unit {0}
+AreLiveIn regions (b ∷ bs) = IsLiveIn regions b × AreLiveIn regions bs
+
+-- and in which by the stack, that of the innermost block
+abbrev pub home_in : List Entry → ℕ
+home_in [] = globals_number
+home_in (CloseRegion region outer ∷ stack) = region
+home_in (Caller outer ∷ stack) = globals_number
+home_in (entry ∷ stack) = home_in stack
+
+-- what a scope above this stack names is live by the stack
+abbrev pub LiveIn : List Entry → List InScope → Type 0
+LiveIn stack bs = AreLiveIn (ends_of stack) bs × (home_of bs ≡ home_in stack)
+
+-- what goes out of scope before its block ends
+abbrev pub IsInner : InScope → Type 0
+IsInner (Home region) = ⊥
+IsInner b = Unit {0}
+
+-- an outer scope in the same block
+pub data Within : (outer inner : List InScope) → Type 0 where
+  itself : (bs : List InScope) → Within bs bs
+  older : (b : InScope) (bs cs : List InScope) → IsInner b → Within bs cs → Within bs (b ∷ cs)
+
+-- ---- flow
+
+-- by what is known here, this local holds something
+abbrev pub IsSet : flow.State → ℕ → Type 0
+IsSet f n = is_vacant (fullness f n) ≡ false
+
+-- and is not lent
+abbrev pub IsFullIn : flow.State → ℕ → Type 0
+IsFullIn f n = is_full (fullness f n) ≡ true
+
+abbrev pub HoldsIts : Typing → flow.State → InScope → Type 0
+HoldsIts g f (Variable b) = (IsSet f b.number → IsFull g b.object) × (IsFullIn f b.number → IsHere g g.depth b.number b.object)
+HoldsIts g f b = Unit {0}
+
+abbrev pub AreSet : Typing → flow.State → List InScope → Type 0
+AreSet g f [] = Unit {0}
+AreSet g f (b ∷ bs) = HoldsIts g f b × AreSet g f bs
+
+-- what is known here holds, and so code that is never run is not reached
+abbrev pub Holds : Typing → flow.State → List InScope → Type 0
+Holds g f bs = (is_reached f ≡ true) × AreSet g f bs
+
+-- where the first holds, so does the second
+pub record Implies (f h : flow.State) : Type 0 where
+  pub reached : is_reached f ≡ true → is_reached h ≡ true
+  pub set : (n : ℕ) → IsSet h n → IsSet f n
+  pub full : (n : ℕ) → IsFullIn h n → IsFullIn f n
+
+-- ---- where control may go
+
+-- a loop around: what is known at its head, and at all breaks that leave it
+pub record LoopExit : Type 0 where
+  pub place : Place
+  pub head : flow.State
+  pub breaks : flow.State
+
+pub record Exits : Type 0 where
+  pub loop : Option LoopExit
+  -- of the function
+  pub result : Option Ty
+  -- as its caller reads it
+  pub gives : RunValue
+  -- the locals that the items around have lent since the loop's body began
+  pub locks : List ℕ
+  -- what the clauses around rely on, and the ends of loans, the innermost first
+  pub relied : Relied
+
+-- where there is no result, nothing is given
+abbrev pub HasResult : Option Ty → RunValue → Type 0
+HasResult None r = r ≡ Void
+HasResult (Some t) r = Unit {0}
+
+abbrev pub loop_of : Option LoopExit → Option Loop
+loop_of None = None
+loop_of (Some l) = Some (record { place = l.place; head = l.head })
+
+abbrev pub around : Exits → Around
+around x = record { loop = loop_of x.loop; locks = x.locks }
+
+-- where one more is lent, which stays as it is
+abbrev pub lending : Exits → ℕ → Exits
+lending x n = record x { locks = x.locks ++ n ∷ []; relied = Reached (only n) ∷ x.relied }
+
+-- in the body of a `try` whose clauses begin with this known
+abbrev pub relying : Exits → flow.State → Exits
+relying x f = record x { relied = f ∷ x.relied }
+
+-- a local of this number has this object, and holds something
+abbrev pub IsFullAt : Typing → (number object : ℕ) → InScope → Type 0
+IsFullAt g n object (Variable b) = b.number ≡ n → IsFull g b.object × (b.object ≡ object)
+IsFullAt g n object b = Unit {0}
+
+abbrev pub AreFullAt : Typing → (number object : ℕ) → List InScope → Type 0
+AreFullAt g n object [] = Unit {0}
+AreFullAt g n object (b ∷ bs) = IsFullAt g n object b × AreFullAt g n object bs
+
+-- what is known at breaks so far holds behind the loop
+abbrev pub AreBreaks : Option LoopExit → flow.State → Type 0
+AreBreaks None b = Unit {0}
+AreBreaks (Some l) b = Implies b l.breaks
+
+abbrev pub is_loop : Option LoopExit → Bool
+is_loop None = false
+is_loop (Some l) = true
+
+-- ---- what the regions of a context stand for
+
+-- what is live has not ended, and what outlives another lasts as long
+pub record AreNamed (c : RegionContext) (frees : Bool) (these : ℕ → Life) (live : ℕ → Bool) : Type 0 where
+  pub there : (r : Region) → Contains (live_regions c.live c.opened) r → IsThereBy live r
+  pub agrees : (a b : Region) → IsGiven c a b → Outlasts (lives_of frees these a) (lives_of frees these b)
+  -- nothing else outlives what is unique
+  pub plain : (a : Region) → IsGiven c a regions.Unique → ⊥
+
+-- as the program is read, region variables stand for the heap, or for what the context says of them
+abbrev pub StandBy : Reading → RegionContext → (frees : Bool) → (ℕ → Life) → (ℕ → Bool) → Type 0
+StandBy AsHeap c freed these live = (freed ≡ false) × ((n : ℕ) → (these n ≡ heap_life) × (live n ≡ true))
+StandBy (ByScope lends frees) c freed these live = (freed ≡ frees) × AreNamed c freed these live
+
+abbrev pub Stand : Reading → RegionContext → List InScope → Type 0
+Stand m c bs = StandBy m c (frees_in bs) (λ n. life_named bs n) (λ n. is_live_named bs n)
+
+abbrev pub IsHomeBy : Reading → Life → (is_live : Bool) → (home : ℕ) → Type 0
+IsHomeBy AsHeap l live home = Unit {0}
+IsHomeBy (ByScope lends frees) l live home = IsNumber l home × (live ≡ true)
+
+-- the variables of the innermost block live in the region that this one stands for
+abbrev pub IsHome : Reading → (region : ℕ) → List InScope → Type 0
+IsHome m region bs = IsHomeBy m (life_named bs region) (is_live_named bs region) (home_of bs)
+
+abbrev pub AreKnownLocals : ℕ → List LocalInScope → Type 0
+AreKnownLocals n [] = Unit {0}
+AreKnownLocals n (v ∷ vs) = (AllIn (IsKnown n) v.of_type × (v.region < n)) × AreKnownLocals n vs
+
+-- only regions below this number are named
+pub record IsKnownBy (n : ℕ) (c : RegionContext) (vs : List LocalInScope) (result : Option Ty) : Type 0 where
+  pub live : (r : Region) → Contains (live_regions c.live c.opened) r → IsKnown n r
+  pub pairs : (a b : Region) → Contains c.written (a, b) → IsKnown n a × IsKnown n b
+  pub locals : AreKnownLocals n vs
+  pub gives : AllInValue (IsKnown n) (result_type result)
+
+abbrev pub AreKnown : Reading → ℕ → RegionContext → List LocalInScope → Option Ty → Type 0
+AreKnown AsHeap n c vs result = Unit {0}
+AreKnown (ByScope lends frees) n c vs result = IsKnownBy n c vs result
+
+-- the context of a tree in a function of this program, where control may go there and this is in scope
+pub record IsContext (p : Source) (x : Exits) (bs : List InScope) (c : Context) : Type 0 where
+  pub globals : c.globals ≡ map (λ (g : GlobalVariable). g.of_type) p.program.globals
+  pub functions : c.functions ≡ map signature_of p.program.functions
+  pub structs : c.structs ≡ p.program.structs
+  pub result : c.result ≡ x.result
+  pub gives : read_value bs (result_type c.result) ≡ x.gives
+  pub loop : c.in_loop ≡ true → is_loop x.loop ≡ true
+  pub scope : IsScope p.reading (lives_in bs) c.locals bs
+  pub below : AreBelow c.next_local bs
+  pub counters : (level : ℕ) → level < c.counters → IsAmong (Level level) bs
+  pub known : AreKnown p.reading c.next_region c.regions c.locals c.result
+  pub regions : Stand p.reading c.regions bs
+  pub home : IsHome p.reading c.region bs
+
+-- ---- programs
+
+-- the region parameters of a struct stand for these
+abbrev pub lives_among : (frees : Bool) → List Life → Lives
+lives_among frees ls = lives_of frees (λ n. slice_index_or ls n heap_life)
+
+-- what is known of a program: its globals are the first objects, and its structs have the cells of their fields
+pub record KnowsProgram (g : Typing) (p : Source) : Type 0 where
+  pub globals : (number : ℕ) (t : Ty) → slice_get (map (λ (v : GlobalVariable). v.of_type) p.program.globals) number ≡ Some t
+      → (slice_get g.objects number ≡ Some (global_type (at (as_heap (frees_of p.reading)) t))) × IsFull g number × IsDeclarable p.reading 0 t
+  pub structs : (number : ℕ) (s : StructType) (ls : List Life) → slice_get p.program.structs number ≡ Some s → length ls ≡ s.parameters
+      → g.fields number ls ≡ Some (map (at (lives_among (frees_of p.reading) ls)) s.fields)
+  -- a struct has so many parameters
+  pub counts : (number : ℕ) (s : StructType) (ls : List Life) (ts : List RunTy) → slice_get p.program.structs number ≡ Some s → g.fields number ls ≡ Some ts → length ls ≡ s.parameters
+  -- there are dynamic regions only where things are lent, and then no field is a key
+  pub keys : (number : ℕ) → IsAmong number g.kept → HasLoans p.reading
+  pub plain : HasLoans p.reading → (number : ℕ) (s : StructType) → slice_get p.program.structs number ≡ Some s → (field : ℕ) (t : Ty) → slice_get s.fields field ≡ Some t → is_key t ≡ false
+  -- no constraint names the region of unique pointers
+  pub constraints : (number : ℕ) (h : Function) → slice_get p.program.functions number ≡ Some h → AreConstraints h.variables h.constraints
+  -- its fields speak of no others
+  pub fields : (number : ℕ) (s : StructType) → slice_get p.program.structs number ≡ Some s → (field : ℕ) (t : Ty) → slice_get s.fields field ≡ Some t → IsDeclarable p.reading s.parameters t

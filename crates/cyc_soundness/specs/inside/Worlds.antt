@@ -1,0 +1,409 @@
+-- THE TYPING OF A WORLD: what is known of each object that was ever made, which nothing takes back. Values are typed against it, and never
+-- against what is open: a pointer keeps its type when its region closes, and that it may be followed is shown where it is followed.
+use Rattle.std.specs.Prelude.{◌≡◌, ◌≢◌, ℕ, zero, suc, ◌+◌, ◌<◌, ◌≤◌, Bool, true, false, List, [], ◌∷◌, length, Option, Some, None, slice_get, ◌==◌, nat_lt, if◌then◌else◌}
+use Rattle.cyc_syntax.specs.declared.tree.PointerKind.TheVariants as marks
+use Rattle.cyc_types.specs.declared.region.Region.{Region as NamedRegion}
+use Rattle.cyc_types.specs.declared.typed.Kind.TheVariants as kinds
+use Rattle.cyc_types.specs.Outlives.{RegionContext, OutlivesIn}
+use Rattle.cyc_meaning.specs.Values.{Operand, Cell}
+use Rattle.cyc_meaning.specs.Values as values
+use Rattle.cyc_meaning.specs.Operators.{Result, Gives, Raises, Misfits}
+use Rattle.cyc_meaning.specs.State.{Dynamic, Region, Owner, InRegion, Unique, Object, heap_number, globals_number, is_open}
+pub use Rattle.cyc_soundness.specs.inside.Lives.{Thing, KeyOf, PointerTo}
+use Rattle.cyc_soundness.specs.inside.Lives.{Life, OfRegion, Owned, Kept, heap_life, RunTy, Int, Char, Pointer, Handle, Key, Struct, RunValue, Void, Null, Value, Seen, Into, Lives, kind_at}
+
+pub data IsAmong {A : Type 0} (a : A) : List A → Type 0 where
+  first : (as' : List A) → IsAmong a (a ∷ as')
+  later : (b : A) (as' : List A) → IsAmong a as' → IsAmong a (b ∷ as')
+
+-- the local of this number, in a call with so many others around, whose variable an object is
+pub data Slot : Type 0 where
+  NoLocal : Slot
+  OfLocal : (depth number : ℕ) → Slot
+
+pub record ObjectType : Type 0 where
+  pub cells : List RunTy
+  pub life : Life
+  -- no pointer leads to it
+  pub is_hidden : Bool
+  pub slot : Slot
+
+-- who has it
+pub data Holder : Type 0 where
+  -- nobody who may use it
+  Nobody : Holder
+  -- an operand, above so many others on the stack
+  Hand : ℕ → Holder
+  -- this cell of an object
+  At : (object offset : ℕ) → Holder
+  -- this variable has lent it, behind so many other loans
+  Lent : (before object : ℕ) → Holder
+
+-- whether a variable has what is in it
+pub data Standing : Type 0 where
+  Gone : Standing
+  Here : Standing
+  -- it is lent to the end of a block, behind so many other loans
+  Away : (before : ℕ) → Standing
+
+-- whether a swap is between its two writes, and which cell it has still to write
+pub data Pending : Type 0 where
+  Settled : Pending
+  Awaits : (object offset : ℕ) → Pending
+
+pub record Typing : Type 0 where
+  -- by number
+  pub objects : List ObjectType
+  -- of each, how many of its cells hold something, from the first on: they do so for good
+  pub filled : List ℕ
+  -- the types of a struct's cells, by its number and what its regions stand for
+  pub fields : ℕ → List Life → Option (List RunTy)
+  -- the dynamic regions
+  pub kept : List ℕ
+  -- AT THIS MOMENT: who has each thing, which variables have what is in them, or have lent it, how many calls are around the running one, and how many
+  -- loans there are
+  pub own : Thing → Holder
+  pub here : (object : ℕ) → Standing
+  pub pending : Pending
+  pub depth : ℕ
+  pub loans : ℕ
+
+-- what a region variable may stand for: a dynamic region is one of this world
+abbrev pub IsKnownLife : Typing → Life → Type 0
+IsKnownLife g (Kept (KeyOf region)) = IsAmong region g.kept
+IsKnownLife g Owned = ⊥
+IsKnownLife g l = Unit {0}
+
+-- and what an object may have
+abbrev pub IsKnownOwner : Typing → Life → Type 0
+IsKnownOwner g (Kept (KeyOf region)) = IsAmong region g.kept
+IsKnownOwner g l = Unit {0}
+
+-- at least so many cells of an object hold something
+abbrev pub IsFilled : Typing → (object count : ℕ) → Type 0
+IsFilled g object count = (filled : ℕ) × (slice_get g.filled object ≡ Some filled) × (count ≤ filled)
+
+-- a variable holds something
+abbrev pub IsFull : Typing → (object : ℕ) → Type 0
+IsFull g object = IsFilled g object 1
+
+-- an object of one cell
+abbrev pub variable_type : RunTy → Life → (is_hidden : Bool) → Slot → ObjectType
+variable_type t life hidden slot = record { cells = t ∷ []; life = life; is_hidden = hidden; slot = slot }
+
+abbrev pub global_life : Life
+global_life = OfRegion globals_number [] (λ a. false)
+
+abbrev pub global_type : RunTy → ObjectType
+global_type t = variable_type t global_life false NoLocal
+
+-- these are the last of those
+pub data IsEndOf (ms : List ℕ) : List ℕ → Type 0 where
+  whole : IsEndOf ms ms
+  behind : (n : ℕ) (ns : List ℕ) → IsEndOf ms ns → IsEndOf ms (n ∷ ns)
+
+-- What is there as long as the first is there as long as the second: the heap and the globals are for ever, and a region that was open
+-- around a scope is open to its end, as is what was lent then. A unique pointer may lead to any unique object.
+pub data Outlasts : Life → Life → Type 0 where
+  alike : (l : Life) → Outlasts l l
+  heap : (l : Life) → Outlasts heap_life l
+  globals : (l : Life) → Outlasts global_life l
+  stays : (a : Thing) (n : ℕ) (ns : List ℕ) (lent : Thing → Bool) → lent a ≡ true → Outlasts (Kept a) (OfRegion n ns lent)
+  borrows : (object : ℕ) → Outlasts (Kept (PointerTo object)) Owned
+  encloses : (m n : ℕ) (ms ns : List ℕ) (us vs : Thing → Bool) → IsEndOf (m ∷ ms) ns → ((a : Thing) → us a ≡ true → vs a ≡ true) → Outlasts (OfRegion m ms us) (OfRegion n ns vs)
+
+-- regions stand for lives of which those last as long that are known here to outlive the others
+abbrev pub AgreesWith : RegionContext → Lives → Type 0
+AgreesWith c n = (a b : NamedRegion) → OutlivesIn c a b → Outlasts (n a) (n b)
+
+-- ---- values
+
+-- An object of this type holds something of that type at this cell: a value, or a struct, which is all of the object.
+abbrev pub IsPart : Typing → (object : ℕ) → ObjectType → RunTy → (offset : ℕ) → Type 0
+IsPart g object x (Struct n ls) offset = (offset ≡ 0) × (g.fields n ls ≡ Some x.cells) × IsFilled g object (length x.cells)
+IsPart g object x t offset = (slice_get x.cells offset ≡ Some t) × IsFilled g object (suc offset)
+
+-- how long this object of this life is there for a pointer
+abbrev pub life_at : (object : ℕ) → Life → Life
+life_at object Owned = Kept (PointerTo object)
+life_at object l = l
+
+-- a pointer of this type may lead to this cell
+abbrev pub IsTarget : Typing → RunTy → Life → (object offset : ℕ) → Type 0
+IsTarget g t l object offset =
+    (x : ObjectType) × (slice_get g.objects object ≡ Some x) × (x.is_hidden ≡ false) × Outlasts (life_at object x.life) l × IsPart g object x t offset
+
+-- the region of this number has this life
+abbrev pub IsNumber : Life → (region : ℕ) → Type 0
+IsNumber (OfRegion number around lent) region = number ≡ region
+IsNumber (Kept (KeyOf number)) region = number ≡ region
+IsNumber l region = ⊥
+
+-- and the key of a dynamic region has this number
+abbrev pub IsKeyOf : Life → (region : ℕ) → Type 0
+IsKeyOf (Kept (KeyOf number)) region = number ≡ region
+IsKeyOf l region = ⊥
+
+-- a value of this type
+abbrev pub HasType : Typing → RunTy → values.Value → Type 0
+HasType g Int (values.Int word) = Unit {0}
+HasType g Char (values.Int word) = Unit {0}
+HasType g (Pointer marks.Nullable t l) values.Null = Unit {0}
+HasType g (Pointer marks.Nullable t l) (values.Thin object offset) = IsTarget g t l object offset
+HasType g (Pointer marks.NonNull t l) (values.Thin object offset) = IsTarget g t l object offset
+HasType g (Pointer marks.Fat t l) values.Null = Unit {0}
+HasType g (Pointer marks.Fat t l) (values.Fat object start count index) = (i : ℕ) → i < count → IsTarget g t l object (start + i)
+HasType g (Handle l) (values.Handle region) = IsNumber l region
+HasType g (Key l) (values.Key region) = IsKeyOf l region
+HasType g t value = ⊥
+
+-- what an expression gave
+abbrev pub IsResult : Typing → RunValue → Operand → Type 0
+IsResult g Void v = Unit {0}
+IsResult g Null v = (v.kind ≡ kinds.Nullable) × (v.value ≡ values.Null)
+IsResult g (Value t) v = (v.kind ≡ kind_at t) × HasType g t v.value
+IsResult g (Seen object t) v = (v.kind ≡ kind_at t) × HasType g t v.value
+IsResult g (Into peek t) v = (v.kind ≡ kind_at t) × HasType g t v.value
+
+-- what was computed: a value of this type, or an exception
+abbrev pub Fits : Typing → RunTy → Result → Type 0
+Fits g t (Gives v) = HasType g t v
+Fits g t (Raises tag) = Unit {0}
+Fits g t Misfits = ⊥
+
+-- operands that wait, each of its type
+abbrev pub AreOperands : Typing → List RunTy → List Operand → Type 0
+AreOperands g [] [] = Unit {0}
+AreOperands g [] (v ∷ vs) = ⊥
+AreOperands g (t ∷ ts) [] = ⊥
+AreOperands g (t ∷ ts) (v ∷ vs) = IsResult g (Value t) v × AreOperands g ts vs
+
+-- ---- objects
+
+-- a cell holds nothing only where it is not known to hold something
+abbrev pub IsContent : Typing → (full : Bool) → RunTy → Option values.Value → Type 0
+IsContent g full t None = full ≡ false
+IsContent g full t (Some v) = HasType g t v
+
+abbrev pub IsCell : Typing → (full : Bool) → RunTy → Cell → Type 0
+IsCell g full t c = (c.kind ≡ kind_at t) × IsContent g full t c.content
+
+-- cells of these types, the first so many of which hold something
+abbrev pub AreCells : Typing → List RunTy → List Cell → (filled : ℕ) → Type 0
+AreCells g [] [] n = Unit {0}
+AreCells g [] (c ∷ cs) n = ⊥
+AreCells g (t ∷ ts) [] n = ⊥
+AreCells g (t ∷ ts) (c ∷ cs) zero = IsCell g false t c × AreCells g ts cs zero
+AreCells g (t ∷ ts) (c ∷ cs) (suc n) = IsCell g true t c × AreCells g ts cs n
+
+-- where nothing is given back, a unique object is there as long as the heap, and else as long as somebody has the pointer to it
+abbrev pub IsOwner : Life → Owner → Type 0
+IsOwner (OfRegion region around lent) (InRegion number) = region ≡ number
+IsOwner (OfRegion region around lent) (Unique live) = (region ≡ heap_number) × (live ≡ true)
+IsOwner Owned (Unique live) = Unit {0}
+IsOwner (Kept (KeyOf region)) (InRegion number) = region ≡ number
+IsOwner l o = ⊥
+
+-- and is so where an object is made
+abbrev pub IsNewOwner : Life → Owner → Type 0
+IsNewOwner l (Unique false) = ⊥
+IsNewOwner l (Unique true) = IsOwner l (Unique true)
+IsNewOwner l (InRegion number) = IsOwner l (InRegion number)
+
+-- no cell that a pointer may lead to has a key
+abbrev pub IsKeyless : RunTy → Type 0
+IsKeyless (Key (Kept (KeyOf region))) = ⊥
+IsKeyless t = Unit {0}
+
+abbrev pub AreKeyless : List RunTy → Type 0
+AreKeyless [] = Unit {0}
+AreKeyless (t ∷ ts) = IsKeyless t × AreKeyless ts
+
+-- and no value of this type is what only one may have
+abbrev pub IsPlain : RunTy → Type 0
+IsPlain (Key (Kept (KeyOf region))) = ⊥
+IsPlain (Pointer k t Owned) = ⊥
+IsPlain t = Unit {0}
+
+pub record IsObject (g : Typing) (filled : ℕ) (t : ObjectType) (x : Object) : Type 0 where
+  pub owner : IsOwner t.life x.owner
+  pub known : IsKnownOwner g t.life
+  pub keyless : t.is_hidden ≡ false → AreKeyless t.cells
+  pub cells : AreCells g t.cells x.cells filled
+
+-- ---- what only one may have
+
+abbrev pub IsHeld : Holder → Type 0
+IsHeld Nobody = ⊥
+IsHeld h = Unit {0}
+
+abbrev pub key_at : Life → Option Thing
+key_at (Kept (KeyOf region)) = Some (KeyOf region)
+key_at l = None
+
+abbrev pub pointer_at : Life → (object : ℕ) → Option Thing
+pointer_at Owned object = Some (PointerTo object)
+pointer_at l object = None
+
+-- the thing that a value of this type is, if it is one
+abbrev pub thing_of : RunTy → values.Value → Option Thing
+thing_of (Key l) v = key_at l
+thing_of (Pointer k t l) (values.Thin object offset) = pointer_at l object
+thing_of (Pointer k t l) (values.Fat object start count index) = pointer_at l object
+thing_of t v = None
+
+-- it is this holder's
+abbrev pub Owns : (own : Thing → Holder) → Holder → Option Thing → Type 0
+Owns own h None = Unit {0}
+Owns own h (Some a) = own a ≡ h
+
+-- a unique pointer leads to the first cell
+abbrev pub AtStart : Life → (start index : ℕ) → Type 0
+AtStart Owned start index = (start ≡ 0) × (index ≡ 0)
+AtStart l start index = Unit {0}
+
+abbrev pub IsStart : RunTy → values.Value → Type 0
+IsStart (Pointer k t l) (values.Thin object offset) = AtStart l offset 0
+IsStart (Pointer k t l) (values.Fat object start count index) = AtStart l start index
+IsStart t v = Unit {0}
+
+-- a value of this type, that may be used, is this holder's
+abbrev pub Claims : (own : Thing → Holder) → Holder → RunTy → values.Value → Type 0
+Claims own h t v = Owns own h (thing_of t v) × IsStart t v
+
+-- and is so from now on
+abbrev pub same_thing : Thing → Thing → Bool
+same_thing (KeyOf m) (KeyOf n) = m == n
+same_thing (PointerTo m) (PointerTo n) = m == n
+same_thing a b = false
+
+abbrev pub given : Option Thing → Holder → (Thing → Holder) → Thing → Holder
+given None h own = own
+given (Some a) h own = λ b. if same_thing b a then h else own b
+
+abbrev pub giving : Typing → Option Thing → Holder → Typing
+giving g o h = record g { own = given o h g.own }
+
+-- a variable stands so to what is in it from now on
+abbrev pub marked : (object : ℕ) → Standing → (ℕ → Standing) → ℕ → Standing
+marked object b here = λ n. if n == object then b else here n
+
+abbrev pub handing : Typing → Option Thing → Holder → (object : ℕ) → Standing → Typing
+handing g o h object b = record g { own = given o h g.own; here = marked object b g.here }
+
+-- the object is the variable of this local, in a call with so many others around
+abbrev pub IsSlot : Typing → (depth number object : ℕ) → Type 0
+IsSlot g d n object = (x : ObjectType) × (slice_get g.objects object ≡ Some x) × (x.slot ≡ OfLocal d n)
+
+-- and has what is in it
+abbrev pub IsHere : Typing → (depth number object : ℕ) → Type 0
+IsHere g d n object = (g.here object ≡ Here) × IsSlot g d n object
+
+-- whether a pointer may lead to an object
+abbrev pub IsHiding : Typing → (object : ℕ) → (is_hidden : Bool) → Type 0
+IsHiding g object hidden = (x : ObjectType) × (slice_get g.objects object ≡ Some x) × (x.is_hidden ≡ hidden)
+
+-- this local has it, to which no pointer leads
+abbrev pub IsLookedAt : Typing → (number : ℕ) → Option Thing → Type 0
+IsLookedAt g n None = Unit {0}
+IsLookedAt g n (Some a) = (object : ℕ) × IsHere g g.depth n object × IsHiding g object true × (g.own a ≡ At object 0)
+
+-- or it is in hand
+abbrev pub ClaimsPart : Typing → (hand : ℕ) → (peek : Option ℕ) → Option Thing → Type 0
+ClaimsPart g i None o = Owns g.own (Hand i) o
+ClaimsPart g i (Some n) o = IsLookedAt g n o
+
+-- somebody has it
+abbrev pub IsHad : Typing → Option Thing → Type 0
+IsHad g None = Unit {0}
+IsHad g (Some a) = IsHeld (g.own a)
+
+abbrev pub ClaimsBy : Typing → (hand : ℕ) → RunValue → values.Value → Type 0
+ClaimsBy g i (Value t) v = Claims g.own (Hand i) t v
+ClaimsBy g i (Seen object t) v = Owns g.own (At object 0) (thing_of t v)
+ClaimsBy g i (Into peek t) v = ClaimsPart g i peek (thing_of t v)
+ClaimsBy g i r v = Unit {0}
+
+-- also where a call is left
+abbrev pub ClaimsAlone : (own : Thing → Holder) → (hand : ℕ) → RunValue → values.Value → Type 0
+ClaimsAlone own i (Value t) v = Claims own (Hand i) t v
+ClaimsAlone own i (Seen object t) v = ⊥
+ClaimsAlone own i (Into peek t) v = ⊥
+ClaimsAlone own i r v = Unit {0}
+
+-- what is in this cell of an object is its own: a hidden one has what is in it or not
+abbrev pub IsKept : Typing → (object offset : ℕ) → (is_hidden : Bool) → Type 0
+IsKept g object offset hidden = (hidden ≡ true → g.here object ≡ Here) × (g.pending ≢ Awaits object offset)
+
+abbrev pub AreOwned : Typing → (object : ℕ) → ObjectType → List Cell → Type 0
+AreOwned g object y cs = (i : ℕ) (t : RunTy) (c : Cell) (v : values.Value) → IsKept g object i y.is_hidden → slice_get y.cells i ≡ Some t → slice_get cs i ≡ Some c → c.content ≡ Some v → Claims g.own (At object i) t v
+
+-- and what a hidden one has lent is still in it
+abbrev pub AreLent : Typing → (object : ℕ) → ObjectType → List Cell → Type 0
+AreLent g object y cs = (i j : ℕ) (t : RunTy) (c : Cell) (v : values.Value) → g.here object ≡ Away j → y.is_hidden ≡ true → slice_get y.cells i ≡ Some t → slice_get cs i ≡ Some c → c.content ≡ Some v → Claims g.own (Lent j object) t v
+
+-- a dynamic region that is open
+abbrev pub IsDynamic : Option Region → Type 0
+IsDynamic None = ⊥
+IsDynamic (Some r) = (r.sort ≡ Dynamic) × (r.is_open ≡ true)
+
+-- a unique object that is not given back
+abbrev pub IsUniqueObject : Typing → List Object → (object : ℕ) → Type 0
+IsUniqueObject g objects object = (t : ObjectType) × (x : Object) × (slice_get g.objects object ≡ Some t) × (t.life ≡ Owned) × (slice_get objects object ≡ Some x) × (x.owner ≡ Unique true)
+
+-- Each object has its type, and there are no others. The heap is open, and so are dynamic regions whose key somebody has; unique objects
+-- to which somebody has the pointer are there.
+pub record IsTyped (g : Typing) (regions : List Region) (objects : List Object) : Type 0 where
+  pub count : length objects ≡ length g.objects
+  pub counts : length objects ≡ length g.filled
+  pub each : (number : ℕ) (t : ObjectType) → slice_get g.objects number ≡ Some t
+      → (x : Object) × (filled : ℕ) × (slice_get objects number ≡ Some x) × (slice_get g.filled number ≡ Some filled) × IsObject g filled t x
+  pub heap : is_open (slice_get regions heap_number) ≡ true
+  pub kept : (number : ℕ) → IsAmong number g.kept → (1 < number) × (IsHeld (g.own (KeyOf number)) → IsDynamic (slice_get regions number))
+  pub fresh : (number : ℕ) → length regions ≤ number → g.own (KeyOf number) ≡ Nobody
+  pub unique : (object : ℕ) → IsHeld (g.own (PointerTo object)) → IsUniqueObject g objects object
+  pub owned : (object : ℕ) (t : ObjectType) (x : Object) → slice_get g.objects object ≡ Some t → slice_get objects object ≡ Some x → AreOwned g object t x.cells
+  pub lent : (object : ℕ) (t : ObjectType) (x : Object) → slice_get g.objects object ≡ Some t → slice_get objects object ≡ Some x → AreLent g object t x.cells
+
+-- where what has this life is made, by which regions are open
+abbrev pub IsOpenLife : List Region → Life → Type 0
+IsOpenLife regions (OfRegion number around lent) = is_open (slice_get regions number) ≡ true
+IsOpenLife regions (Kept (KeyOf number)) = is_open (slice_get regions number) ≡ true
+IsOpenLife regions l = Unit {0}
+
+-- what has this life is there
+abbrev pub IsOpenObject : Typing → List Region → (object : ℕ) → Life → Type 0
+IsOpenObject g regions object Owned = IsHeld (g.own (PointerTo object))
+IsOpenObject g regions object l = IsOpenLife regions l
+
+-- whether a thing is lent by one of so many loans, the first ones
+abbrev pub is_lent_by : ℕ → Holder → Bool
+is_lent_by count (Lent before object) = nat_lt before count
+is_lent_by count h = false
+
+abbrev pub lent_now : Typing → Thing → Bool
+lent_now g a = is_lent_by g.loans (g.own a)
+
+-- what is lent as long as this life is so now
+abbrev pub IsOpenIn : Typing → Life → Type 0
+IsOpenIn g (Kept a) = lent_now g a ≡ true
+IsOpenIn g (OfRegion number around lent) = (a : Thing) → lent a ≡ true → lent_now g a ≡ true
+IsOpenIn g l = Unit {0}
+
+-- ---- growth
+
+-- what was known stays known
+pub record Grows (g h : Typing) : Type 0 where
+  pub objects : (number : ℕ) (t : ObjectType) → slice_get g.objects number ≡ Some t → slice_get h.objects number ≡ Some t
+  pub filled : (number count : ℕ) → IsFilled g number count → IsFilled h number count
+  pub fields : (struct : ℕ) (ls : List Life) (ts : List RunTy) → g.fields struct ls ≡ Some ts → h.fields struct ls ≡ Some ts
+  pub kept : (number : ℕ) → IsAmong number g.kept → IsAmong number h.kept
+
+-- and nothing changes hands
+pub record Stays (g h : Typing) : Type 0 where
+  pub grows : Grows g h
+  pub own : h.own ≡ g.own
+  pub here : h.here ≡ g.here
+  pub pending : h.pending ≡ g.pending
+  pub depth : h.depth ≡ g.depth
+  pub loans : h.loans ≡ g.loans

@@ -1,0 +1,2 @@
+-- worked examples, by computation
+pub mod Examples

@@ -1,0 +1,9 @@
+-- what the functions inside these crates promise each other: the rules as functions, and the table of constraints
+pub mod Openings
+pub mod Names
+pub mod StructTables
+pub mod WrittenMarks
+pub mod Namings
+pub mod SignatureView
+pub mod flow
+pub mod typing

@@ -1,0 +1,2 @@
+-- The flow rules of the whole language.
+pub mod Readings
