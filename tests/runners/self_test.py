@@ -14,6 +14,7 @@ import contextlib
 import json
 import os
 import re
+import shutil
 import subprocess
 import sys
 import tempfile
@@ -688,6 +689,52 @@ def is_first_run_kept():
     return right
 
 
+# The files that a wrong body's run reads, and others: where one of the first changed it is tried anew.
+READ = ["clone/mid/src/lib.rt", "clone/mid/proofs/Lemma.antt", "clone/low/out/rlib/low.rlib/format", "kit/KIT-ID", "kit/bin/rattle", "kit/rlibs/core/format"]
+NOT_READ = ["clone/low/src/lib.rt", "clone/mid/README.md"]
+
+
+def is_refusal_kept(folder):
+    """Whether a wrong body that was refused, and no other, is kept while all that its run read stays the same, in another clone too."""
+    home, refused, let_through = os.path.join(folder, "keeping"), case_on("src/lib.rt"), case_on("src/other.rt")
+    for path in [*READ, *NOT_READ, "kit/WHAT"]:
+        os.makedirs(os.path.dirname(os.path.join(home, path)), exist_ok=True)
+        with open(os.path.join(home, path), "w", encoding="utf-8") as file:
+            file.write(path)
+    shutil.copytree(os.path.join(home, "clone"), os.path.join(home, "other"))
+
+    def known_in(clone, cases, is_anew=False):
+        crates, kit = os.path.join(home, clone), os.path.join(home, "kit")
+        group = wrong.Group("mid", set(), list(cases), wrong.Settings(kit, crates, {"low": [], "mid": ["low"]}, crates, folder))
+        kept = wrong.Kept(os.path.join(home, "kept"), kit)
+        groups, known = wrong.left_to_try([group], set(cases), kept, is_anew)
+        return groups, known, kept
+
+    both = [refused, let_through]
+    groups, first, kept = known_in("clone", both)
+    groups[0].prove = lambda: ({}, 0.0)
+    groups[0].attempt = lambda together: ([None if case is refused else "it is not refused" for case, _ in together], 1.0)
+    with contextlib.redirect_stdout(None):
+        wrong.Run(groups, False, kept).on(1)
+    got = {"before": first, "in another clone": known_in("other", both)[1], "anew": known_in("clone", both, True)[1]}
+    wanted = {"before": [], "in another clone": [refused], "anew": []}
+    for path in READ + NOT_READ:
+        there = os.path.join(home, path)
+        state = os.stat(there)
+        with open(there, "a", encoding="utf-8") as file:
+            file.write("changed")
+        got[path], wanted[path] = known_in("clone", both)[1], [refused] * (path in NOT_READ)
+        with open(there, "w", encoding="utf-8") as file:
+            file.write(path)
+        os.utime(there, ns=(state.st_atime_ns, state.st_mtime_ns))
+    got["as it was"], wanted["as it was"] = known_in("clone", both)[1], [refused]
+    refused.edits[0].new.append("c")
+    got["another body"], wanted["another body"] = known_in("clone", both)[1], []
+    if got != wanted:
+        print(suite.difference("wrong bodies that are kept", wanted, got))
+    return got == wanted
+
+
 # So many runs of the prover side by side, by processors and by free memory in GB.
 LANES = {(1, 16): 1, (2, 8): 2, (4, 7): 2, (4, 13): 4, (2, 1): 1}
 
@@ -1124,7 +1171,7 @@ def main():
     with tempfile.TemporaryDirectory() as folder:
         right = [is_runner_right(folder), is_judge_of_images_right(folder), is_table_right(), are_rounds_right(folder), are_missing_found(folder)]
         right += [are_lanes_right(), are_groups_right(folder), are_proofs_taken(folder), is_right_body_wanted(folder)]
-        right += [is_library_made(folder), is_first_run_kept(), is_judge_right()]
+        right += [is_library_made(folder), is_first_run_kept(), is_refusal_kept(folder), is_judge_right()]
         right += [are_pairs_right(folder), are_dialogs_judged(folder), are_drifts_found(), are_sessions_tried(folder), is_gate_published()]
         right += needs.tried(folder, os.path.join(folder, "stand_in"))
         right.append(reference.with_room(lambda: is_shrinker_right(folder)))

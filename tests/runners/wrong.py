@@ -1,7 +1,7 @@
 #!/usr/bin/env python3
 """Wrong bodies of functions and wrong definitions, each refused by the proof of a function or a law.
 
-    python3 tests/runners/wrong.py [CRATE ..] [--only NAME ..]
+    python3 tests/runners/wrong.py [CRATE ..] [--only NAME ..] [--anew]
 
 `wrong/CRATE.cases` has those that a proof of the crate must refuse: what each puts in the place of what, and the functions, laws or
 files of proofs which that is. As they stand these are proved, so that what is refused is refused for the case. With the case in its
@@ -19,10 +19,17 @@ it leaves of their crate is newer then than all that this is made of. Each run h
 must be proved: so the runs themselves show that a right body is proved where a wrong one is refused. Where each function of the crate has
 a wrong body, one of them is proved as it stands before. With `--right` all are proved here.
 
-Before the last line, `N passed, M failed`, stands what it took.
+A case that was refused is kept, on this machine alone, by the sum of all that its run read: the crate's files and those of the crates
+that it is taken with as they are written, the libraries of the others below, what the case changes and names, the toolchain and this
+runner. So a run tries the cases of the crates whose files or libraries changed, and those that changed themselves; another machine, or
+`--anew`, tries all, and so do `--right` and `--alone`.
+
+Before the last line, `N passed, M failed`, stands what it took, and how many cases were tried and how many kept.
 """
 import argparse
 import collections
+import contextlib
+import hashlib
 import itertools
 import os
 import re
@@ -32,6 +39,7 @@ import subprocess
 import sys
 import tempfile
 import threading
+import time
 from concurrent.futures import FIRST_COMPLETED, ThreadPoolExecutor, wait
 
 import suite  # first: it says where the references and the generators are
@@ -210,6 +218,27 @@ def show_missing(chosen_crates):
     return count
 
 
+def is_private(case, bodies):
+    """Whether functions that others cannot call are all that must refuse a case: neither the promise of a public one, nor a law or a
+    file of lemmas."""
+    hidden = {it.function for it in bodies.all if not it.is_public}
+    return set(case.refused) <= hidden
+
+
+def show_private(chosen_crates):
+    """Prints the cases of these crates, or of all, that private functions alone refuse, with how many of each crate's they are."""
+    crates, cases = os.path.join(suite.ROOT, "crates"), all_cases()
+    traits, lines, count = traits_of(crates), [], 0
+    for crate in dict.fromkeys(it.crate for it in cases):
+        own = [it for it in cases if it.crate == crate and crate in (chosen_crates or [crate])]
+        bodies = Bodies(crates, crate, traits)
+        private = [it for it in own if is_private(it, bodies)]
+        print("".join(f"{crate}, {it.name}: {' '.join(it.refused)}\n" for it in private), end="")
+        lines += [f"{crate}: {len(private)} of {len(own)}"] * bool(private)
+        count += len(private)
+    print("\n".join([*lines, f"{count} wrong bodies are refused by private functions alone"]))
+
+
 # ---- which wrong bodies are tried together
 
 
@@ -380,6 +409,8 @@ def make_library(crate):
     shutil.rmtree(os.path.join(crate, "proofs", MAIN), ignore_errors=True)
 
 
+# The file of a library that has the sum of its others.
+FORMAT = "format"
 # Where the prover and its libraries are, the crates, what each stands on, a folder with the libraries that are built of them, and one for
 # what is made here; and whether functions are taken for proved that `rt ci` has proved.
 Settings = collections.namedtuple("Settings", "kit crates graph built room is_trusting", defaults=(True,))
@@ -409,7 +440,7 @@ class Group:
 
     def is_proved(self):
         """Whether what `rt ci` leaves of the crate, its library or its program, is newer than all that it is made of."""
-        left = [os.path.join(self.library(self.crate), "format"), os.path.join(self.settings.built, self.crate, "out", self.crate)]
+        left = [os.path.join(self.library(self.crate), FORMAT), os.path.join(self.settings.built, self.crate, "out", self.crate)]
         made = [os.path.getmtime(it) for it in left if os.path.isfile(it)]
         return bool(made) and self.settings.is_trusting and self.written == [self.crate] and max(self.changes()) < max(made)
 
@@ -419,7 +450,7 @@ class Group:
             for at, _, names in os.walk(os.path.join(self.settings.crates, self.crate, part)):
                 yield from (os.path.getmtime(os.path.join(at, name)) for name in names)
         for it in self.order[:-1]:
-            yield os.path.getmtime(os.path.join(self.library(it), "format"))
+            yield os.path.getmtime(os.path.join(self.library(it), FORMAT))
 
     def unproved(self):
         """The functions of its cases that are to be proved as they stand."""
@@ -433,12 +464,17 @@ class Group:
 
     def missing(self):
         """The crates whose libraries it needs and that are not built."""
-        return [it for it in self.order if it not in self.written and not os.path.exists(os.path.join(self.library(it), "format"))]
+        return [it for it in self.order if it not in self.written and not os.path.exists(os.path.join(self.library(it), FORMAT))]
+
+    def sources(self):
+        """The files of the crates that are taken as they are written, by their paths from the folder of the crates, in order."""
+        folders = [os.path.join(self.settings.crates, name, part) for name in self.written for part in PARTS]
+        paths = [os.path.join(at, name) for folder in folders for at, _, names in os.walk(folder) for name in names]
+        return sorted(os.path.relpath(it, self.settings.crates) for it in paths)
 
     def size(self):
         """How much there is to prove, about: the bytes of its sources."""
-        folders = [os.path.join(self.settings.crates, name, part) for name in self.written for part in PARTS]
-        return sum(os.path.getsize(os.path.join(at, name)) for folder in folders for at, _, names in os.walk(folder) for name in names)
+        return sum(os.path.getsize(os.path.join(self.settings.crates, it)) for it in self.sources())
 
     def fill(self, folder, cases, functions):
         """Makes a folder of crates that has those which are taken as they are written, with cases in their places. The bodies and the
@@ -550,6 +586,85 @@ def linked(seed, folder):
     shutil.copytree(seed, folder, copy_function=copy)
 
 
+# ---- what is kept
+
+# What no run has asked for in so many seconds is no longer kept.
+LONG = 90 * 24 * 60 * 60
+# The parts of the toolchain that a proof reads, beside its libraries.
+TOOLS = ("bin", "logic_built", os.path.join("rattle", "logic"))
+
+
+def kept_folder():
+    """Where it is kept what earlier runs refused: with what else programs keep for this user, outside each checkout."""
+    return os.path.join(os.environ.get("XDG_CACHE_HOME") or os.path.expanduser("~/.cache"), "hengvuol", "wrong")
+
+
+def bytes_of(path):
+    with open(path, "rb") as file:
+        return file.read()
+
+
+def kit_sum(kit):
+    """A sum of the toolchain, by the texts that name it and the size and time of each file, and of what judges its answers."""
+    found = [bytes_of(os.path.join(kit, it)) for it in ("KIT-ID", "WHAT")]
+    paths = [os.path.join(at, name) for part in TOOLS for at, _, names in os.walk(os.path.join(kit, part)) for name in names]
+    rlibs = os.path.join(kit, "rlibs")
+    paths += [os.path.join(rlibs, it, FORMAT) for it in os.listdir(rlibs)] if os.path.isdir(rlibs) else []
+    for path in sorted(paths):
+        state = os.stat(path)
+        found.append((os.path.relpath(path, kit), state.st_size, state.st_mtime_ns))
+    judges = [bytes_of(os.path.join(os.path.dirname(os.path.abspath(__file__)), it)) for it in ("wrong.py", "bodies.py")]
+    return hashlib.sha256(repr((found, judges)).encode()).hexdigest()
+
+
+class Kept:
+    """The cases that were refused in a run on this machine: of each an empty file, which is named by the sum of all that its run read. So
+    one that reads anything else is tried."""
+
+    def __init__(self, folder, kit):
+        self.folder = folder
+        self.kit = kit_sum(kit)
+        # of each group the sum that it had when its first case was looked for
+        self.states = {}
+        with contextlib.suppress(OSError):
+            os.makedirs(folder, 0o700, exist_ok=True)
+            old = time.time() - LONG
+            for it in os.scandir(folder):
+                if it.stat().st_mtime < old:
+                    os.remove(it.path)
+
+    def state(self, group):
+        """A sum of all that a group's runs read but for the cases, or None where a library is missing."""
+        crates, graph = group.settings.crates, group.settings.graph
+        try:
+            files = [(it, bytes_of(os.path.join(crates, it))) for it in group.sources()]
+            below = [(it, bytes_of(os.path.join(group.library(it), FORMAT))) for it in group.order if it not in group.written]
+        except OSError:
+            return None
+        return hashlib.sha256(repr((self.kit, files, below, [(it, graph[it]) for it in group.order])).encode()).hexdigest()
+
+    def place(self, group, case):
+        """Where it is kept that a case was refused."""
+        edits = [(it.path, it.old, it.new) for it in case.edits]
+        return os.path.join(self.folder, hashlib.sha256(repr((self.states[group], case.crate, edits, case.refused)).encode()).hexdigest())
+
+    def has(self, group, case):
+        """Whether a case was refused over just what its run would read now."""
+        if group not in self.states:
+            self.states[group] = self.state(group)
+        try:
+            os.utime(self.place(group, case))
+        except OSError:
+            return False
+        return self.states[group] is not None
+
+    def add(self, group, case):
+        """Keeps a case that was refused, unless a file that it reads changed meanwhile, or nothing can be kept."""
+        if self.states.get(group) and self.state(group) == self.states[group]:
+            with contextlib.suppress(OSError), open(self.place(group, case), "wb"):
+                pass
+
+
 # A task of a lane: the group, and the cases to be tried together, or None where the functions are to be proved as they stand.
 Task = collections.namedtuple("Task", "group together")
 
@@ -557,9 +672,10 @@ Task = collections.namedtuple("Task", "group together")
 class Run:
     """Groups of cases, tried on several lanes."""
 
-    def __init__(self, groups, is_alone):
+    def __init__(self, groups, is_alone, kept=None):
         self.waiting = [Task(group, None) for group in groups]
         self.is_alone = is_alone
+        self.kept = kept
         self.ready = []
         # the tasks of groups whose first run is still to keep what the others take
         self.later = {}
@@ -602,8 +718,10 @@ class Run:
         for (case, turned), fault in zip(task.together, result):
             if fault and len(task.together) > 1:
                 self.ready.append(Task(task.group, [(case, turned)]))
-            else:
-                self.end(case, fault)
+                continue
+            if self.kept and not fault:
+                self.kept.add(task.group, case)
+            self.end(case, fault)
 
     def begin(self, group, faults):
         """Makes tasks of a group's cases, where the functions are proved as they stand."""
@@ -638,9 +756,8 @@ class Run:
         return [*lines, f"| all | {len(self.faults)} | {runs} | {right:.0f} | {wrong:.0f} |"]
 
 
-def chosen(options):
+def chosen(options, every):
     """The cases that are asked for, or None where there is no such crate or name."""
-    every = all_cases()
     unknown = set(options.crates) - {it.crate for it in every} | set(options.only) - {it.name for it in every}
     if unknown:
         print(f"there is no case or crate {' '.join(sorted(unknown))}", file=sys.stderr)
@@ -663,6 +780,17 @@ def groups_of(cases, settings):
     return sorted(groups, key=lambda it: -it.size())
 
 
+def left_to_try(groups, cases, kept, is_anew):
+    """The groups with those of these cases that are to be tried, and the cases that are kept. What is tried together hangs on all cases of a
+    crate, so that a case reads the same whichever others are asked for."""
+    known = []
+    for group in groups:
+        asked = [it for it in group.cases if it in cases]
+        known += [it for it in asked if kept.has(group, it) and not is_anew]
+        group.cases = [it for it in asked if it not in known]
+    return [it for it in groups if it.cases], known
+
+
 def main():
     parser = argparse.ArgumentParser(description=__doc__.split("\n")[0])
     parser.add_argument("crates", nargs="*", metavar="CRATE")
@@ -672,11 +800,17 @@ def main():
     built = os.path.join(suite.ROOT, "crates")
     parser.add_argument("--built", default=built, metavar="FOLDER", help="the crates whose libraries are taken")
     parser.add_argument("--right", action="store_true", help="proves all functions as they stand first, also what `rt ci` has proved")
+    parser.add_argument("--anew", action="store_true", help="tries also what an earlier run on this machine refused")
     parser.add_argument("--missing", action="store_true", help="lists the public functions that have no wrong body, and tries none")
+    parser.add_argument("--private", action="store_true", help="lists the cases that private functions alone refuse, and tries none")
     options = parser.parse_args()
+    if options.private:
+        show_private(options.crates)
+        return 0
     if options.missing:
         return 1 if show_missing(options.crates) else 0
-    cases = chosen(options)
+    every = all_cases()
+    cases = chosen(options, every)
     if cases is None:
         return 2
     signal.signal(signal.SIGTERM, lambda *_: sys.exit("it was ended"))
@@ -685,8 +819,12 @@ def main():
     with tempfile.TemporaryDirectory(prefix="wrong-") as room:
         crates = os.path.join(suite.ROOT, "crates")
         settings = Settings(kit, crates, stands_on(suite.ROOT), os.path.abspath(options.built), room, not options.right)
-        groups = groups_of(cases, settings)
-        run = Run([it for it in groups if not it.missing()], options.alone)
+        kept = Kept(kept_folder(), kit)
+        is_anew = options.anew or options.right or options.alone
+        of_crates = {it.crate for it in cases}
+        groups, known = left_to_try(groups_of([it for it in every if it.crate in of_crates], settings), set(cases), kept, is_anew)
+        run = Run([it for it in groups if not it.missing()], options.alone, kept)
+        run.faults.update(dict.fromkeys(known))
         for group in groups:
             for case in group.cases if group.missing() else []:
                 run.end(case, f"there is no library of {group.missing()[0]}: `rt ci {group.missing()[-1]}` makes those that are needed")
@@ -696,6 +834,7 @@ def main():
             if missing:
                 run.end(case, f"there is no program {missing[0]} in refused.programs")
     print("\n".join(run.table()))
+    print(f"{len(run.faults) - len(known)} wrong bodies were tried, and {len(known)} are kept, which a run on this machine refused before")
     failed = sum(1 for it in run.faults.values() if it)
     print(f"{len(run.faults) - failed} passed, {failed} failed")
     return 1 if failed else 0
