@@ -926,6 +926,48 @@ def is_gate_published():
     return right
 
 
+# What the page of what must be trusted is held against, with one text changed: the file, the text, what stands in its place, and what is
+# said then.
+UNTRUSTED = [
+    ("cyc_system/specs/FullPreservation.antt", "\nuse ", "\nuse Rattle.cyc_plain.specs.inside.State.{Configuration}\nuse ", "lacks: | `cyc_plain/specs/inside/State.antt`"),
+    ("cyc_system/specs/FullPreservation.antt", "own choice", "choice", "FullPreservation.antt names no public source"),
+    ("cyc_plain/specs/inside.antt", "pub mod State\n", "pub mod Status\n", None),
+    ("cyc_words/specs/Seen.antt", "\nabbrev pub ", "\n" * 2_000 + "abbrev pub ", "are to be read"),
+]
+
+
+def is_reading_watched(folder):
+    """Whether the page of what must be trusted holds as the tree stands, and not where a contract comes to mean a file of a pass, where a
+    definition names no source, or where more is to be read than may be; a list of modules alone changes nothing."""
+    room = os.path.join(folder, "trusted")
+    shutil.copytree(os.path.join(suite.TESTS, "runners"), os.path.join(room, "tests", "runners"))
+    for part in ("crates.txt", "docs/TRUSTED.md", *(f"crates/{crate}/{kind}" for crate in wrong.stands_on(suite.ROOT) for kind in ("src", "specs"))):
+        there, here = os.path.join(suite.ROOT, part), os.path.join(room, part)
+        if os.path.isdir(there):
+            shutil.copytree(there, here)
+        elif os.path.exists(there):
+            os.makedirs(os.path.dirname(here), exist_ok=True)
+            shutil.copy(there, here)
+
+    def is_said(said):
+        done = subprocess.run([sys.executable, os.path.join(room, "tests", "runners", "trusted.py")], capture_output=True, text=True)
+        right = done.returncode == 0 if said is None else done.returncode == 1 and said in done.stdout
+        if not right:
+            print(f"of what must be trusted is said, in place of {said}\n{done.stdout[-2000:]}")
+        return right
+
+    def is_found(path, old, new, said):
+        place = os.path.join(room, "crates", path)
+        with open(place, encoding="utf-8") as file:
+            text = file.read()
+        needs.write(place, text.replace(old, new, 1))
+        right = old in text and is_said(said)
+        needs.write(place, text)
+        return right
+
+    return is_said(None) and all(is_found(*change) for change in UNTRUSTED)
+
+
 # Stand-ins for the program and for gcc where bench/pairs.py compiles and runs pairs. An image is the number of its instructions, the
 # last line of its run, and what it prints; a source file in C has one for each level, behind the level's name.
 PAIRS_PROGRAM = """#!/bin/sh
@@ -1173,6 +1215,7 @@ def main():
         right += [are_lanes_right(), are_groups_right(folder), are_proofs_taken(folder), is_right_body_wanted(folder)]
         right += [is_library_made(folder), is_first_run_kept(), is_refusal_kept(folder), is_judge_right()]
         right += [are_pairs_right(folder), are_dialogs_judged(folder), are_drifts_found(), are_sessions_tried(folder), is_gate_published()]
+        right.append(is_reading_watched(folder))
         right += needs.tried(folder, os.path.join(folder, "stand_in"))
         right.append(reference.with_room(lambda: is_shrinker_right(folder)))
     right += reference.with_room(lambda: [is_case_right(case) for case in cases] + [is_text_right(case) for case in texts])

@@ -7,7 +7,7 @@ A contract means the definitions that its clauses name, by the `ghost use` lines
 traits in its signature; and what these files use in turn. A path through `specs.declared` or `specs.contracts` leads to a file of
 `src`, whose types and constants are read there, as the types and traits of the signature are. --write makes the tables of docs/TRUSTED.md of that. The head of each file that is read names its
 public source, or says that it is this project's own choice. A file of `specs` is one that such a contract means, or stands in
-`specs/inside`. The last line is `N passed, M failed`, of calls, files and crates.
+`specs/inside`. What `compile` means has a bound. The last line is `N passed, M failed`, of calls, files, crates and that bound.
 """
 import argparse
 import functools
@@ -43,6 +43,8 @@ SOURCES = (
     ("own choice", r"own choice"),
 )
 INSIDE = "inside"
+# What a person reads for `compile` is at most so many files and lines of definitions.
+MOST_FILES, MOST_LINES = 81, 9_700
 CALL_TABLE = "| Call | Mark | Files | Lines | Files of types | Lines |\n|---|---|---|---|---|---|\n"
 FILE_TABLE = "| File | Lines | Calls | What it says | Source |\n|---|---|---|---|---|\n"
 TYPE_TABLE = "| File | Lines | Calls | What is read there |\n|---|---|---|---|\n"
@@ -434,6 +436,11 @@ def main():
     wrong = list(strangers())
     faults += [f"{named(file)} {'is meant by a public contract, and stands inside' if within else 'is meant by no public contract'}" for file, within in wrong]
     passed += sum(all(crate_of(file) != crate for file, _ in wrong) for crate in crates())
+    meant = reading_of("compile", "cyc_system").specs
+    if len(meant) <= MOST_FILES and sum(map(lines_of, meant)) <= MOST_LINES:
+        passed += 1
+    else:
+        faults.append(f"compile means {len(meant)} files, {sum(map(lines_of, meant))} lines; at most {MOST_FILES} and {MOST_LINES} are to be read")
     for fault in faults:
         print(f"FAILED {fault}")
     print(f"{passed} passed, {len(faults)} failed")
