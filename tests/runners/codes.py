@@ -25,7 +25,9 @@ ADVICE = os.path.join(suite.ROOT, "crates", "cyc_terminal", "src", "advice.rt")
 FIELDS = {"meaning", "place", "message", "hint", "text", "at", "by"}
 HABITS = os.path.join(suite.ROOT, "docs", "habits.txt")
 HABITS_CODE = os.path.join(suite.ROOT, "crates", "cyc_terminal", "src", "habits.rt")
-HABIT_FIELDS = {"code", "before", "at", "hint", "text", "place"}
+HABIT_FIELDS = {"code", "before", "at", "expected", "hint", "text", "place"}
+# What a list of words of a habit may be in place of words.
+KINDS = ("any", "number", "marked", "name", "call", "wide")
 # The table of codes in docs/LANGUAGE.md, from its head to the empty line behind it.
 HEAD = "| Code | What it means | Its place | Smallest text |\n|---|---|---|---|\n"
 PART = re.compile(r'"([^"]*)"(?: \* (\d+))?')
@@ -71,12 +73,21 @@ class Habit:
 
     def row(self, names):
         """What the code's table has of it, with the names of codes by their numbers."""
-        return names[int(self.code)], listed(self.before), listed(self.at), self.hint
+        return names[int(self.code)], listed(self.before), listed(self.at), listed(self.expected), self.hint
+
+    def source(self):
+        """The text that is refused so."""
+        return characters(self.text).encode("utf-8")
 
 
 def listed(words):
-    """A list of words of the table: each in brackets, or `any`."""
-    return ["any"] if words == "any" else re.findall(r"\[(.+?)\](?= \[|$)", words)
+    """A list of words of the table: each in brackets, or what stands in place of them."""
+    return [words] if words in KINDS else [characters(word) for word in re.findall(r"\[(.+?)\](?= \[|$)", words)]
+
+
+def characters(words):
+    """Words with the characters whose numbers stand in them as \\u{..}."""
+    return re.sub(r"\\u\{(\w+)\}", lambda found: chr(int(found[1], 16)), words)
 
 
 def words_of(piece, times):
@@ -120,6 +131,8 @@ def habits():
             setattr(found[-1], word, rest.strip())
         elif line and not line.startswith("#"):
             sys.exit(f"{HABITS}: no field is called {word}")
+    for habit in found:
+        habit.expected = getattr(habit, "expected", "any")
     return found
 
 
@@ -130,9 +143,9 @@ def faults_of_habits(found, kinds):
     lines = dict(re.findall(r'^const (\w+): &str = "\\\n(.*?)";\n', code, re.M | re.S))
     written = []
     for kind, constant in re.findall(r"Code::(\w+) => (\w+),", code):
-        for line in re.sub(r"\\(.)", r"\1", lines.pop(constant)).split("\n"):
-            before, at, hint = line.split(" ~~ ")
-            written.append((kind, before.split("~"), at.split("~"), hint))
+        for line in re.sub(r"\\(.)", r"\1", characters(lines.pop(constant))).split("\n"):
+            before, at, expected, hint = line.split(" ~~ ")
+            written.append((kind, before.split("~"), at.split("~"), expected.split("~"), hint))
     wanted = [habit.row(names) for habit in found]
     faults = [suite.difference("a row", one, other) for one, other in zip(wanted, written) if one != other]
     faults += [suite.difference("rows of no code", [], name) for name in lines]
@@ -142,8 +155,8 @@ def faults_of_habits(found, kinds):
 def faults_of_habit(habit, program, folder):
     """What the program says of the text of a habit otherwise."""
     source = os.path.join(folder, "habit.cyc")
-    with open(source, "w", encoding="ascii") as file:
-        file.write(habit.text)
+    with open(source, "wb") as file:
+        file.write(habit.source())
     done = suite.said([program, "check", source])
     wanted = [f"    hint: {habit.hint}", f"fault {habit.code} at {habit.place}"]
     return [suite.difference(habit.text, wanted, done[-2:])] if done[-2:] != wanted else []

@@ -8,7 +8,8 @@ fails.
 shows: the standard output, and behind it the last line on standard error, which also tells the exit status. `check` has
 to take the program too. A program in docs/LANGUAGE.md whose first line is `// done` or `// fault C at L:K` has this verdict, and a
 program in tests/sound the one that its head says. A fragment on the right of a table in docs/FROM_C.md is accepted where the program
-above the table says `/* here */`. The last line is `N passed, M failed`.
+above the table says `/* here */`, and what stands on the left gets the hint that tests/from_c.txt has for it. The last line is
+`N passed, M failed`.
 """
 import os
 import re
@@ -20,10 +21,13 @@ import in_trees
 FOLDER = os.path.join(suite.ROOT, "examples")
 LANGUAGE = os.path.join(suite.ROOT, "docs", "LANGUAGE.md")
 FROM_C = os.path.join(suite.ROOT, "docs", "FROM_C.md")
+HINTS = os.path.join(suite.TESTS, "from_c.txt")
 # A program that fragments stand in, and a row of the table below it: its number, and the first code of its last cell.
 FRAME = re.compile(r"^(?:    .*\n)+", re.M)
 HERE = "/* here */"
 FRAGMENT = re.compile(r"^\| (\d+) \|.* \| (?:`` (.+?) ``|`([^`]+)`)[^|]*\|$", re.M)
+# What a row has on its left: its number, and the first code there.
+LEFT = re.compile(r"^\| (\d+) \| (?:`` (.+?) ``|`([^`]+)`)", re.M)
 # A program in a document: lines that are indented, with empty lines between, and its verdict in the first.
 SHOWN = re.compile(r"^    // (done|fault \d+ at \d+:\d+)\n(?:    .*\n|\n(?=    ))*", re.M)
 PARTS = ("standard output", "last line on standard error", "exit status")
@@ -71,17 +75,44 @@ def shown_programs():
     return [(document[: found.start()].count("\n") + 1, re.sub("^    ", "", found[0], flags=re.M), found[1]) for found in SHOWN.finditer(document)]
 
 
-def fragments():
-    """The fragments in the page for C programmers: the number of each, and its text within the program above its table."""
-    with open(FROM_C, encoding="utf-8") as file:
-        document = file.read()
+def within(document, pattern):
+    """The fragments of a document that a pattern finds in its tables: the number of each, itself, and its text within the program above."""
     frames = [frame for frame in FRAME.finditer(document) if HERE in frame[0]]
     found = []
     for frame, after in zip(frames, frames[1:] + [None]):
         table = document[frame.end(): after.start() if after else len(document)]
-        for number, ticked, plain in FRAGMENT.findall(table):
+        for number, ticked, plain in pattern.findall(table):
             fragment = (ticked or plain).replace("\\|", "|")
-            found.append((int(number), re.sub("^    ", "", frame[0], flags=re.M).replace(HERE, fragment)))
+            found.append((int(number), fragment, re.sub("^    ", "", frame[0], flags=re.M).replace(HERE, fragment)))
+    return found
+
+
+def hints():
+    """The hint of each row by its number."""
+    with open(HINTS, encoding="utf-8") as file:
+        lines = [line.split(maxsplit=1) for line in file.read().split("\n") if line and not line.startswith("#")]
+    return {int(number): hint for number, hint in lines}
+
+
+def foreign():
+    """What stands on the left in the page for C programmers: the number of each row, its text, and its hint."""
+    with open(FROM_C, encoding="utf-8") as file:
+        document = file.read()
+    wanted = hints()
+    found = []
+    for number, fragment, text in within(document, LEFT):
+        whole = fragment + " { return 0; }" if fragment.startswith("int main(") else text
+        found.append((number, whole, wanted.pop(number)))
+    if wanted:
+        raise ValueError(f"{HINTS} has rows that docs/FROM_C.md lacks")
+    return found
+
+
+def fragments():
+    """The fragments in the page for C programmers: the number of each, and its text within the program above its table."""
+    with open(FROM_C, encoding="utf-8") as file:
+        document = file.read()
+    found = [(number, text) for number, _, text in within(document, FRAGMENT)]
     if [number for number, _ in found] != list(range(1, len(re.findall(r"^\| \d+ \|", document, flags=re.M)) + 1)):
         raise ValueError("docs/FROM_C.md has rows that are not read, or not numbered in order")
     return found
@@ -96,6 +127,17 @@ def faults_of_shown(program, text, verdict, folder):
     return [] if got == wanted else [suite.difference("check", wanted, got)]
 
 
+def faults_of_foreign(program, text, hint, folder):
+    """What the program advises on a text otherwise than this hint."""
+    path = os.path.join(folder, "text.cyc")
+    with open(path, "w", encoding="ascii") as file:
+        file.write(text)
+    lines = suite.said([program, "check", path])
+    wanted = "done" if hint == "done" else f"    hint: {hint}"
+    got = lines[-1] if hint == "done" else lines[-2]
+    return [] if got == wanted else [suite.difference("check", wanted, got)]
+
+
 def judged_programs():
     """The programs in tests/sound: where each stands, its text, and its verdict."""
     return [(f"tests/sound/{name}.programs: {head[0]}", text, in_trees.refusal_of(head)[0])
@@ -107,11 +149,14 @@ def main():
     names = sorted(name[: -len(".out")] for name in os.listdir(FOLDER) if name.endswith(".out"))
     judged = [(f"docs/LANGUAGE.md:{line}", text, verdict) for line, text, verdict in shown_programs()] + judged_programs()
     judged += [(f"docs/FROM_C.md: {number}", text, "done") for number, text in fragments()]
-    program = suite.program_of(options, len(names) + len(judged))
+    advised = foreign()
+    program = suite.program_of(options, len(names) + len(judged) + len(advised))
     with tempfile.TemporaryDirectory(prefix="cyclone-example-") as folder:
         things = [(f"examples/{name}.cyc", lambda name=name: faults_of(program, name, folder)) for name in names]
         for place, text, verdict in judged:
             things.append((place, lambda one=(text, verdict): faults_of_shown(program, *one, folder)))
+        for number, text, hint in advised:
+            things.append((f"docs/FROM_C.md: {number}, on the left", lambda one=(text, hint): faults_of_foreign(program, *one, folder)))
         suite.try_each(things, lambda thing: thing[0], lambda thing: thing[1]())
 
 

@@ -163,7 +163,7 @@ fn explain_item(teller: &mut Teller, scope: &mut Scope<'_>, item: &Item, end: Op
             source,
             ..
         } => {
-            add_region(teller, *region, Origin::Item);
+            add_region(teller, *region, Origin::Alias);
             explain_alias(teller, scope, *region, of_type, *source);
         }
     }

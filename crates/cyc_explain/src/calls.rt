@@ -1,6 +1,7 @@
 //! What a call asks, in the words of the caller and of the function that is called.
 use crate::conversions::{explain_conversion, say_closed, say_shorter};
 use crate::homes::Homes;
+use crate::lexicon::NO_NAME;
 use crate::messages::Message;
 use crate::names::{Sort, explain_unknown};
 use crate::teller::Teller;
@@ -17,14 +18,17 @@ use std::mem::ManuallyDrop;
 
 // ---- regions at the call
 
-/// Notes the regions of the function of this name, as its own head names them.
+/// Notes the name of a function, its regions, as its own head names them, and the name of its parameter of this number.
 fn note_theirs(
     teller: &mut Teller,
     declarations: &[Declaration],
     names: &RegionNames,
     function: Ident,
+    number: usize,
 ) {
     teller.notes.theirs.all.clear();
+    teller.notes.other = function.name.number;
+    teller.notes.name = NO_NAME;
     for declaration in declarations {
         if let Declaration::Function {
             name,
@@ -35,6 +39,9 @@ fn note_theirs(
             if name.name == function.name {
                 let theirs = &mut teller.notes.theirs;
                 theirs.add_parameters(names, *name, members(parameters));
+                if let Some(parameter) = members(parameters).get(number) {
+                    teller.notes.name = parameter.name.name.number;
+                }
             }
         }
     }
@@ -211,7 +218,13 @@ fn explain_argument(
     instance: &[Region],
 ) {
     if teller.want_type(parameter.substituted(teller.alloc, instance).ok()) {
-        explain_conversion(teller, scope, span);
+        // What the language has beforehand names no parameter.
+        let lead = if teller.notes.name == NO_NAME {
+            Message::OtherType
+        } else {
+            Message::ArgumentType
+        };
+        explain_conversion(teller, scope, span, lead);
     }
     if let Ty::Pointer { region, .. } = parameter {
         teller.notes.their_regions.0 = *region;
@@ -257,7 +270,6 @@ fn explain_called(
     signature: &Signature,
 ) {
     let instance = ManuallyDrop::new(instance_of(teller.alloc, signature, values));
-    teller.notes.name = function.name.number;
     match argument {
         Some((number, span)) => {
             if let Some(parameter) = signature.parameters.get(number) {
@@ -265,6 +277,7 @@ fn explain_called(
             }
         }
         None => {
+            teller.notes.name = function.name.number;
             explain_constraints(teller, scope, function, &signature.constraints, &instance);
             explain_effects(teller, scope, function, &signature.effect, &instance);
         }
@@ -288,7 +301,11 @@ pub(crate) fn explain_call(
     argument: Option<(usize, Span)>,
 ) {
     let values = ManuallyDrop::new(values_of(scope, arguments));
-    note_theirs(teller, declarations, scope.names(), function);
+    let number = match argument {
+        Some((number, _)) => number,
+        None => 0,
+    };
+    note_theirs(teller, declarations, scope.names(), function, number);
     match scope.meaning(function) {
         Meaning::Unknown => explain_unknown(teller, scope, Sort::Value, function),
         Meaning::Routine { signature, .. } => {

@@ -1,5 +1,6 @@
 //! Words for values that are converted to a type, and for regions: that are not live, or do not outlive each other.
-use crate::homes::{Home, Origin};
+use crate::homes::{Home, Homes, Origin};
+use crate::lexicon::NO_NAME;
 use crate::messages::Message;
 use crate::teller::Teller;
 use crate::words::{Notes, given};
@@ -29,9 +30,16 @@ pub(crate) fn say_closed(teller: &mut Teller, region: Region) {
         Some(
             Home {
                 origin: Origin::Caller,
+                name,
                 ..
             },
-        ) => teller.say(Message::NotInEffect),
+        ) => {
+            teller.say(Message::NotInEffect);
+            teller.say(match name {
+                Some(_) => Message::AddToEffect,
+                None => Message::NameForEffect,
+            });
+        }
         Some(
             Home {
                 origin: Origin::Dynamic,
@@ -45,6 +53,7 @@ pub(crate) fn say_closed(teller: &mut Teller, region: Region) {
                 teller.notes.place = end;
                 teller.say(Message::OpenBefore);
             }
+            teller.say(Message::OpenAgain);
         }
         _ => teller.say(Message::NotLive),
     }
@@ -67,7 +76,7 @@ fn beginning_of(region: Region, home: Option<Home>) -> Option<Message> {
         Some(home) => match home.origin {
             _ if matches!(home.name, None) => None,
             Origin::Caller => Some(Message::FromCaller),
-            Origin::Block | Origin::Item => Some(Message::BeginsAt),
+            Origin::Block | Origin::Item | Origin::Alias => Some(Message::BeginsAt),
             Origin::Dynamic => Some(Message::DynamicAt),
         },
         None => match region {
@@ -110,9 +119,21 @@ pub(crate) fn say_shorter(teller: &mut Teller, region: Region, other: Region) {
         say_beginning(teller, mark, other);
     }
     teller.notes.regions = (region, other);
+    if other == Region::Unique {
+        teller.say(Message::MakeUnique);
+    } else if region == Region::Unique {
+        teller.say(Message::LendUnique);
+    }
     if let Some(home) = teller.notes.homes.find(region) {
         let other_home = teller.notes.homes.find(other);
-        teller.say(advice_on_regions(home, other, other_home));
+        let advice = match (
+            advice_on_regions(home, other, other_home),
+            teller.notes.lead,
+        ) {
+            (Message::CallerToHeap, Message::ResultType) => Message::CallerToResult,
+            (advice, _) => advice,
+        };
+        teller.say(advice);
     }
 }
 
@@ -123,7 +144,7 @@ fn advice_on_regions(home: Home, other: Region, other_home: Option<Home>) -> Mes
         Region::Heap => match home.origin {
             Origin::Caller => Message::CallerToHeap,
             Origin::Block => Message::LocalToHeap,
-            Origin::Item | Origin::Dynamic => Message::RegionToHeap,
+            Origin::Item | Origin::Alias | Origin::Dynamic => Message::RegionToHeap,
         },
         Region::Variable(_) => match other_home {
             Some(other) => advice_between(home, other),
@@ -141,7 +162,7 @@ fn advice_between(home: Home, other: Home) -> Message {
             _ => Message::LeftOutByCaller,
         },
         (Origin::Block, _) => Message::LocalToRegion,
-        (Origin::Item | Origin::Dynamic, _) => Message::RegionToRegion,
+        (Origin::Item | Origin::Alias | Origin::Dynamic, _) => Message::RegionToRegion,
     }
 }
 
@@ -181,12 +202,93 @@ fn more_on(given: Given<'_>, wanted: &Ty) -> Message {
             Message::OtherRegions
         }
         (Given::Value(Ty::Pointer { .. }), Ty::Int | Ty::Char) => Message::TargetWanted,
-        (Given::Value(Ty::Pointer { target, .. }), Ty::Pointer { .. })
-            if !matches!(**target, Ty::Int | Ty::Char) => Message::OtherTarget,
+        (
+            Given::Value(Ty::Pointer { target, .. }),
+            Ty::Pointer {
+                target: wanted_target,
+                ..
+            },
+        ) => more_on_targets(target, wanted_target),
         (Given::Int | Given::Char | Given::Value(Ty::Int | Ty::Char), Ty::Pointer { .. }) => {
             Message::NullWanted
         }
         _ => Message::Nothing,
+    }
+}
+
+/// The same of pointers that lead to two types.
+fn more_on_targets(target: &Ty, wanted: &Ty) -> Message {
+    match (target, wanted) {
+        (Ty::Int, Ty::Char) => Message::BytesWanted,
+        (Ty::Char, Ty::Int) => Message::IntsWanted,
+        (Ty::Int | Ty::Char, _) => Message::Nothing,
+        _ => Message::OtherTarget,
+    }
+}
+
+/// Whether each region of a type has a name.
+fn has_names(homes: &Homes, of_type: &Ty) -> bool {
+    match of_type {
+        Ty::Int | Ty::Char => true,
+        Ty::Pointer { target, region, .. } => {
+            is_named(homes, *region) && has_names(homes, target)
+        }
+        Ty::Struct { regions, .. } => are_named(homes, regions),
+        Ty::Handle { region } | Ty::Key { region } => is_named(homes, *region),
+    }
+}
+
+fn are_named(homes: &Homes, regions: &[Region]) -> bool {
+    for region in regions {
+        if !is_named(homes, *region) {
+            return false;
+        }
+    }
+    true
+}
+
+fn is_named(homes: &Homes, region: Region) -> bool {
+    match (region, homes.find(region)) {
+        (Region::Variable(_), Some(home)) => matches!(home.name, Some(_)),
+        (Region::Variable(_), None) => false,
+        _ => true,
+    }
+}
+
+/// What to write, where what is found is known to become what this lead tells and there is more to say of it.
+fn better(notes: &Notes, lead: Message, more: Message) -> Message {
+    match more {
+        Message::OtherRegions | Message::OtherTarget => better_on_regions(notes, lead, more),
+        Message::BytesWanted if notes.is_new => Message::NewBytes,
+        Message::NullWanted => better_on_null(notes, lead),
+        _ => more,
+    }
+}
+
+/// The same where the regions inside of a type are others, or it leads to another type.
+fn better_on_regions(notes: &Notes, lead: Message, more: Message) -> Message {
+    let is_written = match &notes.found {
+        Some(ValueType::Value { of_type }) => has_names(&notes.homes, of_type),
+        _ => false,
+    };
+    match (lead, more) {
+        (Message::ArgumentType, Message::OtherRegions) => Message::RegionsOfParameter,
+        _ if !is_written => more,
+        (Message::LocalType | Message::VariableType, Message::OtherRegions) => {
+            Message::RegionsOfVariable
+        }
+        (Message::LocalType | Message::VariableType, _) => Message::TargetOfVariable,
+        (Message::ResultType, Message::OtherRegions) => Message::RegionsOfResult,
+        _ => more,
+    }
+}
+
+/// The same where an int is given for a pointer.
+fn better_on_null(notes: &Notes, lead: Message) -> Message {
+    match lead {
+        Message::VariableType => Message::ThroughWanted,
+        _ if notes.variable == NO_NAME => Message::NullWanted,
+        _ => Message::AddressWanted,
     }
 }
 
@@ -203,11 +305,19 @@ fn broken(notes: &Notes, scope: &Scope<'_>, span: Span) -> Option<(Code, Message
     None
 }
 
-/// The words for a value at this place whose type, which is found, is not converted to the one that is wanted.
-pub(crate) fn explain_conversion(teller: &mut Teller, scope: &Scope<'_>, span: Span) {
+/// The words for a value at this place whose type, which is found, is not converted to the one that is wanted; the lead tells what it
+/// becomes.
+pub(crate) fn explain_conversion(
+    teller: &mut Teller,
+    scope: &Scope<'_>,
+    span: Span,
+    lead: Message,
+) {
     if let Some((code, more)) = broken(&teller.notes, scope, span) {
         if teller.is_fault(code, span) {
-            teller.say(Message::OtherType);
+            let more = better(&teller.notes, lead, more);
+            teller.notes.lead = lead;
+            teller.say(lead);
             match code {
                 Code::TypeMismatch => teller.say(more),
                 Code::NotOutlived => {

@@ -1,7 +1,7 @@
 //! Words for the heads of declarations, and for the values of globals.
 use crate::lexicon::NO_NAME;
 use crate::messages::Message;
-use crate::names::explain_region;
+use crate::names::{explain_region, is_near};
 use crate::teller::Teller;
 use crate::written::explain_written;
 use cyc_heads::members;
@@ -12,7 +12,7 @@ use cyc_words::{Code, Span};
 
 /// The words for a fault in the head of a declaration, or for a `main` that is missing.
 pub(crate) fn explain_heads(teller: &mut Teller, declarations: &[Declaration]) {
-    teller.tell(Message::MainMissing, Span { line: 1, column: 1 });
+    explain_no_main(teller, declarations);
     explain_names(teller, declarations, true);
     explain_names(teller, declarations, false);
     for declaration in declarations {
@@ -20,6 +20,20 @@ pub(crate) fn explain_heads(teller: &mut Teller, declarations: &[Declaration]) {
         teller.notes.function = NO_NAME;
         explain_head(teller, declaration);
     }
+}
+
+/// The words for a `main` that is missing, where a function has a name that is near.
+fn explain_no_main(teller: &mut Teller, declarations: &[Declaration]) {
+    let mut message = Message::MainMissing;
+    for declaration in declarations {
+        if let Declaration::Function { name, .. } = declaration {
+            if is_near(b"main", teller.notes.lexicon.text(name.name.number)) {
+                teller.notes.name = name.name.number;
+                message = Message::MainNear;
+            }
+        }
+    }
+    teller.tell(message, Span { line: 1, column: 1 });
 }
 
 /// The words for structs of one name, or for globals and functions of one name.
@@ -162,7 +176,11 @@ fn initial(written: &WrittenType, value: Option<GlobalValue>) -> (Span, Message)
 
 /// The words for a global of a type that none has, or that does not begin with a value of its type.
 fn explain_global(teller: &mut Teller, written: &WrittenType, value: Option<GlobalValue>) {
-    teller.unknown = Message::UnknownInGlobal;
+    teller.unknown = match written.base {
+        BaseType::Key { .. } => Message::KeyNoGlobal,
+        BaseType::Handle { .. } => Message::HandleNoGlobal,
+        _ => Message::UnknownInGlobal,
+    };
     explain_written(teller, written);
     teller.tell(Message::GlobalType, written.span);
     let (span, found) = initial(written, value);

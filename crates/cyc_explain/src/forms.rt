@@ -18,8 +18,8 @@ pub(crate) enum Role<'b> {
     Operand(Wanted),
     /// It is assigned to this place.
     Assigned(&'b Expr),
-    /// It is put into a local of this type.
-    Local(&'b WrittenType),
+    /// It is put into a local of this name and type.
+    Local(Ident, &'b WrittenType),
     Returned,
     /// It is put into the field of this number, of a struct of this name with these regions.
     Field(Ident, &'b [Ident], usize),
@@ -141,10 +141,10 @@ impl<'b> Forms<'b> {
         match item {
             Item::Statement { statement } => self.add_statement(statement, end),
             Item::Local {
+                name,
                 of_type,
                 value: Some(value),
-                ..
-            } => self.add_expression(value, Role::Local(of_type)),
+            } => self.add_expression(value, Role::Local(*name, of_type)),
             _ => {}
         }
     }

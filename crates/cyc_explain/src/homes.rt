@@ -13,6 +13,8 @@ pub(crate) enum Origin {
     Block,
     /// An item that opens it.
     Item,
+    /// An alias.
+    Alias,
     /// An item that declares a dynamic region, or the caller that has one.
     Dynamic,
 }

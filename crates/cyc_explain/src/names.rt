@@ -38,7 +38,7 @@ fn is_among(fields: &[Field], name: usize) -> bool {
 
 /// Whether texts of at least three bytes differ in one place: by a byte that is another, is missing or is too many, or by two
 /// that stand the other way round.
-fn is_near(a: &[u8], b: &[u8]) -> bool {
+pub(crate) fn is_near(a: &[u8], b: &[u8]) -> bool {
     let shortest = a.len().min(b.len());
     let mut from_start = 0usize;
     let mut from_end = 0usize;

@@ -1,4 +1,5 @@
 //! What a new struct asks of its values, in words where that is the fault.
+use crate::lexicon::NO_NAME;
 use crate::messages::Message;
 use crate::names::{Sort, explain_unknown};
 use crate::teller::Teller;
@@ -37,11 +38,23 @@ fn explain_counts(
     if let Some(count) = scope.structs().parameters(name.name.number) {
         let number = scope.structs().number(name.name.number);
         let wanted = scope.fields(number).len();
+        teller.notes.name = name.name.number;
         if regions > 0 && regions != count {
             teller.say_count(Message::RegionCount, count, regions);
         } else if wanted != values {
             teller.say_count(Message::ValueCount, wanted, values);
         }
+    }
+}
+
+/// The number of the name of the field of this number, in a struct of this name.
+pub(crate) fn field_name(scope: &Scope<'_>, name: Ident, number: usize) -> usize {
+    match scope
+        .fields(scope.structs().number(name.name.number))
+        .get(number)
+    {
+        Some(field) => field.name,
+        None => NO_NAME,
     }
 }
 

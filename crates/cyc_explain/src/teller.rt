@@ -51,6 +51,9 @@ impl Teller {
                 other: NO_NAME,
                 place: Span { line: 0, column: 0 },
                 found: None,
+                lead: Message::OtherType,
+                variable: NO_NAME,
+                is_new: false,
                 wanted: None,
                 regions: (region, region),
                 their_regions: (region, region),
@@ -61,6 +64,7 @@ impl Teller {
             declared: Vec::new(alloc),
             words: Words {
                 bytes: Vec::new(alloc),
+                stand_in: b"",
                 is_whole: true,
             },
             is_whole: true,
@@ -155,12 +159,16 @@ impl Teller {
     /// Notes the type of an expression as what is found, whose value is used or only looked at; whether it is known.
     pub(crate) fn find(&mut self, scope: &mut Scope<'_>, value: &Expr, is_looked_at: bool) -> bool {
         self.notes.found = value_type(scope, value, is_looked_at);
+        self.notes.variable = variable_of(value);
+        self.notes.is_new = matches!(value, Expr::New { .. } | Expr::RegionNew { .. });
         matches!(self.notes.found, Some(_))
     }
 
     /// Notes a type as what is found.
     pub(crate) fn find_type(&mut self, of_type: Option<Ty>) -> bool {
         self.notes.found = value_of(of_type);
+        self.notes.variable = NO_NAME;
+        self.notes.is_new = false;
         matches!(self.notes.found, Some(_))
     }
 
@@ -168,6 +176,14 @@ impl Teller {
     pub(crate) fn want_type(&mut self, of_type: Option<Ty>) -> bool {
         self.notes.wanted = value_of(of_type);
         matches!(self.notes.wanted, Some(_))
+    }
+}
+
+/// The number of the name of the variable that an expression is; that of no name where it is none.
+fn variable_of(value: &Expr) -> usize {
+    match value {
+        Expr::Variable { name } => name.name.number,
+        _ => NO_NAME,
     }
 }
 

@@ -2,11 +2,12 @@
 use crate::calls::explain_call;
 use crate::conversions::explain_conversion;
 use crate::forms::Role;
-use crate::objects::field_type;
+use crate::messages::Message;
+use crate::objects::{field_name, field_type};
 use crate::statements::{result_type, type_here};
 use crate::teller::Teller;
 use crate::wanted::explain_found;
-use crate::words::given;
+use crate::words::{Notes, given};
 use cyc_check::place_type;
 use cyc_forms::{Given, span_of};
 use cyc_scope::Scope;
@@ -27,7 +28,7 @@ fn type_wanted(scope: &mut Scope<'_>, role: &Role<'_>, found: Given<'_>) -> Opti
     match role {
         Role::Operand(_) | Role::Argument(..) => None,
         Role::Assigned(target) => place_type(scope, target),
-        Role::Local(written) => type_here(scope, written, left_out_of(found)),
+        Role::Local(_, written) => type_here(scope, written, left_out_of(found)),
         Role::Returned => result_type(scope),
         Role::Field(name, regions, number) => field_type(scope, *name, regions, *number),
     }
@@ -60,6 +61,36 @@ pub(crate) fn explain_value(
 fn explain_converted(teller: &mut Teller, scope: &mut Scope<'_>, role: &Role<'_>, span: Span) {
     let wanted = type_wanted(scope, role, given(&teller.notes.found));
     if teller.want_type(wanted) {
-        explain_conversion(teller, scope, span);
+        let lead = note_target(&mut teller.notes, scope, role);
+        explain_conversion(teller, scope, span, lead);
+    }
+}
+
+/// How it is said what a value becomes, whose names are noted.
+fn note_target(notes: &mut Notes, scope: &Scope<'_>, role: &Role<'_>) -> Message {
+    match role {
+        Role::Local(name, _) => {
+            notes.name = name.name.number;
+            Message::LocalType
+        }
+        Role::Assigned(target) => note_assigned(notes, target),
+        Role::Returned => Message::ResultType,
+        Role::Field(name, _, number) => {
+            notes.other = name.name.number;
+            notes.name = field_name(scope, *name, *number);
+            Message::FieldType
+        }
+        _ => Message::OtherType,
+    }
+}
+
+/// The same of what is assigned to this place.
+fn note_assigned(notes: &mut Notes, target: &Expr) -> Message {
+    match target {
+        Expr::Variable { name } => {
+            notes.name = name.name.number;
+            Message::VariableType
+        }
+        _ => Message::OtherType,
     }
 }

@@ -1,5 +1,6 @@
 //! What is asked of one value, and how that is said.
 use crate::conversions::explain_closed;
+use crate::homes::{Home, Origin};
 use crate::messages::Message;
 use crate::teller::Teller;
 use crate::words::given;
@@ -17,6 +18,10 @@ pub(crate) enum Wanted {
     /// A value with a type, to be put into a new object.
     Content,
     Int,
+    /// What has a minus before it.
+    Negated,
+    /// What is added to what stands left of it.
+    Added,
     /// What is compared by size, or subtracted.
     Measured,
     /// What is tested against zero or null.
@@ -64,7 +69,7 @@ impl Wanted {
         match self {
             Wanted::Nothing => Message::Nothing,
             Wanted::Content => Message::NoContent,
-            Wanted::Int | Wanted::Measured => Message::NoInt,
+            Wanted::Int | Wanted::Negated | Wanted::Added | Wanted::Measured => Message::NoInt,
             Wanted::Tested | Wanted::Compared => Message::NotTested,
             Wanted::Moved => Message::NotMoved,
             Wanted::Pointer => Message::NoPointer,
@@ -81,7 +86,18 @@ impl Wanted {
             (_, Given::Void) => Message::VoidUsed,
             (Wanted::Content, Given::Null) => Message::NullAsContent,
             (Wanted::Tested, Given::Null) => Message::NullTested,
+            (Wanted::Handle, _) if given.is_key() => Message::OpenKey,
             _ if given.is_pointer() => self.advice_on_pointer(given),
+            _ if is_number(given) => self.advice_on_number(),
+            _ => Message::Nothing,
+        }
+    }
+
+    fn advice_on_number(self) -> Message {
+        match self {
+            Wanted::Pointer => Message::NoStar,
+            Wanted::Members => Message::NoArrow,
+            Wanted::Fat => Message::NoElements,
             _ => Message::Nothing,
         }
     }
@@ -92,6 +108,8 @@ impl Wanted {
             Wanted::Moved => Message::FatMoves,
             Wanted::Measured => Message::NoOrder,
             Wanted::Int => Message::TargetWanted,
+            Wanted::Negated => Message::NoSign,
+            Wanted::Added => Message::NoSum,
             Wanted::Members if is_fat(given) => Message::ElementFirst,
             _ => Message::Nothing,
         }
@@ -110,7 +128,7 @@ impl Wanted {
         match self {
             Wanted::Nothing => true,
             Wanted::Content => given.is_value(),
-            Wanted::Int | Wanted::Measured => is_number(given),
+            Wanted::Int | Wanted::Negated | Wanted::Added | Wanted::Measured => is_number(given),
             Wanted::Tested => is_number(given) || given.is_pointer(),
             Wanted::Compared => {
                 is_number(given) || given.is_pointer() || matches!(given, Given::Null)
@@ -128,7 +146,8 @@ impl Wanted {
 /// What a prefix operator asks of its operand.
 pub(crate) fn wanted_of(operator: PrefixOperator) -> Wanted {
     match operator {
-        PrefixOperator::Negate | PrefixOperator::Complement => Wanted::Int,
+        PrefixOperator::Negate => Wanted::Negated,
+        PrefixOperator::Complement => Wanted::Int,
         PrefixOperator::Not => Wanted::Tested,
         PrefixOperator::Dereference => Wanted::Pointer,
         PrefixOperator::AddressOf => Wanted::Nothing,
@@ -140,7 +159,7 @@ pub(crate) fn wanted_by(operator: BinaryOperator) -> (Wanted, Wanted) {
     match operator {
         BinaryOperator::OrElse | BinaryOperator::AndThen => (Wanted::Tested, Wanted::Tested),
         BinaryOperator::Equal | BinaryOperator::NotEqual => (Wanted::Compared, Wanted::Compared),
-        BinaryOperator::Add => (Wanted::Moved, Wanted::Int),
+        BinaryOperator::Add => (Wanted::Moved, Wanted::Added),
         BinaryOperator::Subtract => (Wanted::Moved, Wanted::Measured),
         BinaryOperator::Less
         | BinaryOperator::LessOrEqual
@@ -150,19 +169,35 @@ pub(crate) fn wanted_by(operator: BinaryOperator) -> (Wanted, Wanted) {
     }
 }
 
+/// What is said of a region or a key that may not be what is wanted.
+fn misused(teller: &Teller, wanted: Wanted) -> Message {
+    match wanted {
+        Wanted::Freed => {
+            let region = given(&teller.notes.found).region();
+            match teller.notes.homes.find(region) {
+                Some(
+                    Home {
+                        origin: Origin::Alias,
+                        ..
+                    },
+                ) => Message::FreedAlias,
+                _ => Message::FreedNotUnique,
+            }
+        }
+        _ => Message::KeyInObject,
+    }
+}
+
 /// The words where the type that is found at this place is not what is wanted, or its region is not live.
 pub(crate) fn explain_found(teller: &mut Teller, scope: &Scope<'_>, wanted: Wanted, span: Span) {
     let found = given(&teller.notes.found);
     if teller.is_fault(Code::TypeMismatch, span) && !wanted.allows(found) {
         let advice = wanted.advice(found);
+        teller.notes.regions.0 = found.region();
         teller.say(wanted.message());
         teller.say(advice);
     }
-    let misused = match wanted {
-        Wanted::Freed => Message::FreedNotUnique,
-        _ => Message::KeyInObject,
-    };
-    teller.tell(misused, span);
+    teller.tell(misused(teller, wanted), span);
     explain_closed(teller, scope, span);
 }
 

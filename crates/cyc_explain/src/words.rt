@@ -1,7 +1,7 @@
 //! Lines of words: a text, in whose gaps names, places, regions and types stand as a program writes them. Where memory runs out nothing is
 //! said. No call here stops, so who says something has no way out.
 use crate::homes::{Home, Homes, Origin};
-use crate::lexicon::Lexicon;
+use crate::lexicon::{Lexicon, NO_NAME};
 use crate::messages::{Message, TEXTS};
 use cyc_forms::Given;
 use cyc_syntax::{BaseType, Ident, PointerKind, WrittenType};
@@ -26,6 +26,11 @@ pub(crate) struct Notes {
     pub(crate) place: Span,
     /// The type that is found, if it is known, and the one that is wanted.
     pub(crate) found: Option<ValueType>,
+    /// How it is said what becomes of it.
+    pub(crate) lead: Message,
+    /// The variable whose value it is, if it is one's, and whether it is that of an object made there.
+    pub(crate) variable: usize,
+    pub(crate) is_new: bool,
     pub(crate) wanted: Option<ValueType>,
     /// Two regions of the function at hand, and two of the one that is called.
     pub(crate) regions: (Region, Region),
@@ -38,6 +43,8 @@ pub(crate) struct Notes {
 #[derive(Drop)]
 pub(crate) struct Words {
     pub(crate) bytes: Vec<u8>,
+    /// What stands for each region, where anything does.
+    pub(crate) stand_in: &'static [u8],
     /// Whether memory did not run out.
     pub(crate) is_whole: bool,
 }
@@ -62,7 +69,7 @@ fn mark_of(kind: PointerKind) -> &'static [u8] {
 fn text_on_place(origin: Origin) -> &'static [u8] {
     match origin {
         Origin::Block => b"the region that begins at ",
-        Origin::Caller | Origin::Item | Origin::Dynamic => b"a region left out at ",
+        Origin::Caller | Origin::Item | Origin::Alias | Origin::Dynamic => b"a region left out at ",
     }
 }
 
@@ -100,10 +107,24 @@ impl Words {
             b'o' => self.put_name(&notes.lexicon, notes.other),
             b'f' => self.put_name(&notes.lexicon, notes.function),
             b'p' => self.put_place(notes.place),
-            b't' => self.put_value(notes, &notes.found),
+            b't' => self.put_found(notes),
             b'w' => self.put_value(notes, &notes.wanted),
             b'r' | b's' | b'a' | b'b' => self.fill_region(notes, letter),
+            b'g' | b'h' | b'i' | b'j' | b'k' | b'v' => self.fill_written(notes, letter),
             _ => self.fill_plain(notes, letter),
+        }
+    }
+
+    /// The same of what is to be written.
+    fn fill_written(&mut self, notes: &Notes, letter: u8) {
+        match letter {
+            b'g' => self.put_declared(notes),
+            b'h' => self.put_in_one(notes, &notes.found, b"`r"),
+            b'i' => self.put_in_one(notes, &notes.wanted, b"`r"),
+            b'j' => self.put_in_one(notes, &notes.found, b"`H"),
+            b'k' => self.put_in_one(notes, &notes.found, b"`a"),
+            _ if notes.variable == NO_NAME => self.put_byte(b'p'),
+            _ => self.put_name(&notes.lexicon, notes.variable),
         }
     }
 
@@ -175,6 +196,7 @@ impl Words {
         is_placed: bool,
     ) {
         match region {
+            _ if !self.stand_in.is_empty() => self.put(self.stand_in),
             Region::Heap => self.put(b"`H"),
             Region::Unique => self.put(b"`U"),
             Region::Variable(_) => {
@@ -219,6 +241,46 @@ impl Words {
     }
 
     // ---- types
+
+    /// The type that is found, and the variable that has it.
+    fn put_found(&mut self, notes: &Notes) {
+        self.put_value(notes, &notes.found);
+        if notes.variable != NO_NAME {
+            self.put(b" (");
+            self.put_name(&notes.lexicon, notes.variable);
+            self.put_byte(b')');
+        }
+    }
+
+    /// The type that is found, as a pointer of the kind that is wanted.
+    fn put_declared(&mut self, notes: &Notes) {
+        match (&notes.found, &notes.wanted) {
+            (
+                Some(
+                    ValueType::Value {
+                        of_type: Ty::Pointer { target, region, .. },
+                    },
+                ),
+                Some(
+                    ValueType::Value {
+                        of_type: Ty::Pointer { kind, .. },
+                    },
+                ),
+            ) => {
+                self.put_type(notes, target);
+                self.put(mark_of(*kind));
+                self.put_unplaced(notes, *region);
+            }
+            _ => self.put_value(notes, &notes.found),
+        }
+    }
+
+    /// A type in which this stands for each region.
+    fn put_in_one(&mut self, notes: &Notes, value: &Option<ValueType>, region: &'static [u8]) {
+        self.stand_in = region;
+        self.put_value(notes, value);
+        self.stand_in = b"";
+    }
 
     fn put_value(&mut self, notes: &Notes, value: &Option<ValueType>) {
         match value {

@@ -9,6 +9,7 @@ use cyc_words::Code;
 fn explain_number(teller: &mut Teller, name: Ident, found: usize) {
     if let Some(count) = teller.notes.lexicon.region_count(name) {
         if found > 0 && found != count {
+            teller.notes.name = name.name.number;
             teller.say_count(Message::RegionCount, count, found);
         }
     }

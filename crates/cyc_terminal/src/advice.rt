@@ -54,10 +54,10 @@ pub(crate) fn hint(code: Code) -> &'static str {
         Code::UnexpectedEnd => "see whether a bracket is not closed or a semicolon is missing",
         Code::NestingTooDeep => "make a function of an inner part, or name its value by a variable",
         Code::ListTooLong => "split it, and name the value of one part by a variable",
-        Code::UnknownName => "declare it, or see how its declaration spells it",
-        Code::DeclaredTwice => "rename one of the two",
-        Code::TypeMismatch =>
-            "give a value of the type that is wanted, and a call as many arguments as its function has parameters",
+        Code::UnknownName =>
+            "declare it in this block or in one round it, as int x = 0;, or see how its declaration spells it",
+        Code::DeclaredTwice => "rename one of the two; to assign to the first leave out the type",
+        Code::TypeMismatch => "give a value of the type that is wanted",
         Code::NullForNonNull => "use a * or ? pointer, which may be null, or give it a value",
         Code::RegionNotLive => "use it within the block of its region, or open its key first",
         Code::NotOutlived => "use a region that lives as long, or declare the constraint `a > `b",

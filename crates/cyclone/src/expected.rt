@@ -11,11 +11,13 @@ const MOST: usize = 3;
 
 /// What is tried, in the order in which it is said: a token, how what it begins is called, and what else that is a part of, behind which
 /// it is not said.
-const CANDIDATES: [(&str, &str, &str); 29] = [
+const CANDIDATES: [(&str, &str, &str); 31] = [
     ("datatype", "a declaration", ""),
     ("while", "a statement", ""),
-    ("int", "a type", "a declaration"),
-    ("0", "an expression", "a statement"),
+    ("struct", "a type", "a declaration"),
+    ("int", "`int`", "a declaration~a type"),
+    ("!", "an expression", "a statement"),
+    ("0", "a constant", "an expression~a statement"),
     ("x", "a name", "an expression~a statement"),
     (")", "`)`", ""),
     ("]", "`]`", ""),
@@ -56,7 +58,7 @@ fn is_said(names: &str, said: &[&'static str]) -> bool {
 }
 
 /// The bytes of a text before a place.
-fn text_before(text: &[u8], line: u32, column: u32) -> &[u8] {
+pub fn text_before(text: &[u8], line: u32, column: u32) -> &[u8] {
     let mut start = 0_usize;
     for (n, part) in text.split(|byte| *byte == b'\n').enumerate() {
         if n as u64 + 1 == u64::from(line) {
