@@ -43,6 +43,7 @@ cases:
 	@python3 tests/runners/run.py --whole
 	@python3 tests/runners/run.py tests/traced/traced.cases
 	@python3 tests/runners/codes.py
+	@python3 tests/runners/warned.py
 	@python3 tests/runners/documents.py
 	@python3 tests/runners/scripts.py
 	@python3 tests/runners/trusted.py

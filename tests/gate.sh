@@ -62,6 +62,7 @@ add "command line" python3 tests/runners/run.py
 add "whole language" python3 tests/runners/run.py --whole
 add "traces" python3 tests/runners/run.py tests/traced/traced.cases
 add "codes" python3 tests/runners/codes.py
+add "warnings" python3 tests/runners/warned.py
 add "documents" python3 tests/runners/documents.py
 add "trusted" python3 tests/runners/trusted.py
 add "examples" python3 tests/runners/examples.py

@@ -62,11 +62,12 @@ begin "documents" python3 tests/runners/documents.py
 begin "scripts" python3 tests/runners/scripts.py
 begin "trusted" python3 tests/runners/trusted.py
 begin "codes" on codes.py
+begin "warnings" on warned.py --count 100
 begin "examples" on examples.py
 begin "sessions" on sessions.py
 begin "dialogs" on interactive.py
 wait
-for name in "command line" "whole language" "codes" "documents" "trusted" "scripts" "examples" "dialogs" "sessions" "editors" "random programs"; do
+for name in "command line" "whole language" "codes" "warnings" "documents" "trusted" "scripts" "examples" "dialogs" "sessions" "editors" "random programs"; do
   add "$name"
 done
 echo "$passed passed, $failed failed"

@@ -27,6 +27,7 @@ use cyc_plain::Plain;
 use cyc_select::select;
 use cyc_simplify::simplify;
 use cyc_syntax::Token;
+use cyc_warnings::{Found, find_warnings};
 use cyc_words::Fault;
 use std::alloc::Global;
 
@@ -81,15 +82,16 @@ fn build(alloc: Global, program: &Flowed, note: Option<(u32, u32)>) -> Result<Ve
     compile_plain(alloc, plain, frames, note)
 }
 
-/// What is made of a text that is compiled: its tokens, its typed tree, and the image, as the bytes of a file.
+/// What is made of a text that is compiled: its tokens, what a person is warned of, its typed tree, and the image, as the bytes of a file.
 #[derive(Drop)]
 pub struct Compilation {
     pub tokens: Vec<Token>,
+    pub warnings: Vec<Found>,
     pub program: Flowed,
     pub image: Vec<u8>,
 }
 
-/// `compile_with`, whose image is answered beside the text's tokens. The typed tree comes with them, so that a program that ends behind
+/// `compile_with`, whose image is answered beside the text's tokens and its warnings. The typed tree comes with them, so that a program that ends behind
 /// this need not give it back.
 pub fn compile_with_tokens(
     alloc: Global,
@@ -108,11 +110,13 @@ pub fn compile_with_tokens(
     ensures note { IfOk result (λ made. Carries made.image.items note) }
 {
     let phases = run_phases(alloc, text)?;
+    let warnings = find_warnings(alloc, &phases.tree);
     // The memory of the tree is enough for all that the passes behind the front end make.
     drop(phases.tree);
     let image = build(alloc, &phases.program, note)?;
     Ok(Compilation {
         tokens: phases.tokens,
+        warnings,
         program: phases.program,
         image,
     })

@@ -7,7 +7,6 @@ pub use arguments::{Request, read_request};
 pub use excerpt::{Excerpt, Shown, excerpt_at};
 pub use habits::{hint_at, is_in_name};
 pub use limits::GivenLimits;
-pub use warnings::Warnings;
 
 mod advice;
 mod arguments;
@@ -15,4 +14,3 @@ mod excerpt;
 mod habits;
 mod limits;
 mod number;
-mod warnings;

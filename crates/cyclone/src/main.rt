@@ -9,6 +9,7 @@ mod flow_cause;
 mod message;
 mod refusal;
 mod session;
+mod warnings;
 mod work;
 
 use std::process::ExitCode;

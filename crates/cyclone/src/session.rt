@@ -9,10 +9,11 @@ use crate::files::{read_image, read_text, write_image};
 use crate::flow_cause::cause_of;
 use crate::message::Message;
 use crate::refusal::words_for;
+use crate::warnings::Warnings;
 use crate::work::{check, compile, limits_of_run, list_image, run_image, widen_heap};
 use clap::error::ErrorKind;
-use cyc_syntax::Token;
-use cyc_terminal::{GivenLimits, Request, Shown, Warnings, read_request};
+use cyc_terminal::{GivenLimits, Request, Shown, read_request};
+use cyc_warnings::{Found, find_warnings};
 use cyc_words::Fault;
 use std::env::{Env, FillError};
 use std::io::IsTerminal;
@@ -42,9 +43,9 @@ fn report_refusal(rt: &HostRuntime, name: &str, text: &[u8], fault: Fault) -> An
     answer
 }
 
-/// Says to a person what an accepted program with these tokens has that means something else than in C.
-fn report_warnings(rt: &HostRuntime, name: &str, text: &[u8], tokens: &[Token]) {
-    let _ = rt.eprint(Warnings { name, text, tokens });
+/// Says to a person what an accepted program has that most likely means something else than its author thinks.
+fn report_warnings(rt: &HostRuntime, name: &str, text: &[u8], found: &[Found]) {
+    let _ = rt.eprint(Warnings { name, text, found });
 }
 
 /// `check SOURCE`.
@@ -54,7 +55,8 @@ fn check_file(rt: &HostRuntime, source: &str) -> Result<Answer, Answer> {
     widen_heap(rt.alloc());
     match check(rt.alloc(), text) {
         Ok(phases) => {
-            report_warnings(rt, source, text, phases.tokens.as_slice());
+            let found = find_warnings(rt.alloc(), &phases.tree);
+            report_warnings(rt, source, text, found.as_slice());
             Ok(Answer::Done)
         }
         Err(fault) => Err(report_refusal(rt, source, text, fault)),
@@ -75,7 +77,7 @@ fn compile_file(
         Ok(made) => {
             // The program ends behind this, so what was made is not given back, as in `check`.
             let made = ManuallyDrop::new(made);
-            report_warnings(rt, source, text, made.tokens.as_slice());
+            report_warnings(rt, source, text, made.warnings.as_slice());
             Ok(write_image(rt, image, made.image.as_slice()))
         }
         Err(fault) => Err(report_refusal(rt, source, text, fault)),

@@ -226,9 +226,9 @@ class Expressions(Types):
             count = count + 1 if LEVEL_OF[self.next.text] == chain else 1
             chain = LEVEL_OF[self.next.text]
             self.hold_count(count - 1, True)
-            sign = self.take().text
+            sign = self.take()
             right = self.binary(chain + 1)
-            left = Node("binary", left.start, sign=sign, left=left, right=right)
+            left = Node("binary", left.start, sign=sign.text, at=sign.place, left=left, right=right)
         return left
 
     def unary(self):

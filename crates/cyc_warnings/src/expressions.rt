@@ -1,0 +1,469 @@
+//! What expressions are warned of, and their parts.
+use crate::constants::{constant_of, is_more_than, is_past_width};
+use crate::finder::{Finder, Part};
+use crate::locals::{Local, Use};
+use crate::places::{is_next, leading_minus, minus_of, span_of};
+use crate::shapes::{CHAR, INT, Shape};
+use crate::warning::Warning;
+use cyc_syntax::{BinaryOperator, Expr, Ident, Initial, Operation, Postfix, PrefixOperator};
+use cyc_words::Span;
+
+/// The largest char.
+const LARGEST_CHAR: u32 = 255;
+
+// ---- what an expression is
+
+pub(crate) fn is_null(expression: &Expr) -> bool {
+    match expression {
+        Expr::Null { .. } => true,
+        Expr::Bracketed { inner, .. } => is_null(inner),
+        _ => false,
+    }
+}
+
+/// The variable that an expression is, in brackets or not.
+fn named(expression: &Expr) -> Option<Ident> {
+    match expression {
+        Expr::Variable { name } => Some(*name),
+        Expr::Bracketed { inner, .. } => named(inner),
+        _ => None,
+    }
+}
+
+/// Whether an expression does nothing but to have a value, its parts aside. What a pointer leads to, and a quotient, may throw; two minus
+/// signs have a warning of their own.
+pub(crate) fn is_bare(expression: &Expr) -> bool {
+    match expression {
+        Expr::Number { .. }
+        | Expr::Character { .. }
+        | Expr::Null { .. }
+        | Expr::HeapRegion { .. }
+        | Expr::Variable { .. }
+        | Expr::NumberOfElements { .. }
+        | Expr::LowByteOf { .. } => true,
+        Expr::Bracketed { inner, .. } => is_bare(inner),
+        Expr::Prefixed {
+            span,
+            operator,
+            operand,
+        } => match operator {
+            PrefixOperator::Negate => !is_double(*span, operand),
+            PrefixOperator::Dereference => false,
+            _ => true,
+        },
+        Expr::Binary { rest, .. } => !is_quotient(rest),
+        _ => false,
+    }
+}
+
+fn is_quotient(operations: &[Operation]) -> bool {
+    match operations.last() {
+        Some(operation) => matches!(
+            operation.operator,
+            BinaryOperator::Divide | BinaryOperator::Remainder
+        ),
+        None => false,
+    }
+}
+
+/// Whether this is the operand of a minus sign at this place, and begins with one that stands together with it.
+fn is_double(span: Span, operand: &Expr) -> bool {
+    match minus_of(operand) {
+        Some(second) => is_next(span, second),
+        None => false,
+    }
+}
+
+fn is_order(operator: BinaryOperator) -> bool {
+    matches!(
+        operator,
+        BinaryOperator::Less
+            | BinaryOperator::LessOrEqual
+            | BinaryOperator::Greater
+            | BinaryOperator::GreaterOrEqual
+    )
+}
+
+fn is_comparison(operator: BinaryOperator) -> bool {
+    matches!(operator, BinaryOperator::Equal | BinaryOperator::NotEqual) || is_order(operator)
+}
+
+/// Whether an expression is a comparison with no brackets round it.
+fn is_compared(expression: &Expr) -> bool {
+    match expression {
+        Expr::Binary { rest, .. } => match rest.last() {
+            Some(operation) => is_comparison(operation.operator),
+            None => false,
+        },
+        _ => false,
+    }
+}
+
+/// Whether an expression has a truth value, 0 or 1, as it is written.
+fn is_truth(expression: &Expr) -> bool {
+    match expression {
+        Expr::Bracketed { inner, .. } => is_truth(inner),
+        Expr::Prefixed {
+            operator: PrefixOperator::Not,
+            ..
+        } => true,
+        Expr::Binary { rest, .. } => match rest.last() {
+            Some(operation) => is_comparison(operation.operator) || is_logical(operation.operator),
+            None => false,
+        },
+        _ => false,
+    }
+}
+
+fn is_logical(operator: BinaryOperator) -> bool {
+    matches!(operator, BinaryOperator::AndThen | BinaryOperator::OrElse)
+}
+
+fn is_bits(operator: BinaryOperator) -> bool {
+    matches!(
+        operator,
+        BinaryOperator::And | BinaryOperator::Or | BinaryOperator::Xor
+    )
+}
+
+/// What becomes of the operands of an operator.
+fn use_by(operator: BinaryOperator) -> Use {
+    match operator {
+        BinaryOperator::OrElse
+        | BinaryOperator::AndThen
+        | BinaryOperator::Equal
+        | BinaryOperator::NotEqual => Use::Looked,
+        _ => Use::Value,
+    }
+}
+
+/// What becomes of the operand of an operator.
+fn use_of_prefix(operator: PrefixOperator) -> Use {
+    match operator {
+        PrefixOperator::Dereference | PrefixOperator::Not => Use::Looked,
+        PrefixOperator::AddressOf => Use::Taken,
+        PrefixOperator::Negate | PrefixOperator::Complement => Use::Value,
+    }
+}
+
+/// Where an operator of bits stands that has a comparison and something else than a truth value as its operands.
+fn loose_bits(first: &Expr, rest: &[Operation]) -> Option<Span> {
+    let mut place = None;
+    let mut is_other = !is_truth(first);
+    let mut is_first = is_compared(first);
+    for operation in rest {
+        if is_first || is_compared(&operation.operand) {
+            place = Some(operation.span);
+        }
+        is_first = false;
+        is_other = is_other || !is_truth(&operation.operand);
+    }
+    if is_other { place } else { None }
+}
+
+/// How many elements of a type are 1,000 words: four chars take one word, a fat pointer takes three. A type that is not known may be that
+/// of chars.
+fn most_elements(element: Option<Shape>) -> u32 {
+    match element {
+        Some(shape) if shape.is_fat => 333,
+        Some(shape) if !shape.is_char() => 1000,
+        _ => 4000,
+    }
+}
+
+/// The type of a sum that begins with a value of this type, and of what else an operator works out.
+fn shape_of_result(first: Option<Shape>, rest: &[Operation]) -> Option<Shape> {
+    match rest.last() {
+        Some(operation) if is_sum(operation.operator) => match first {
+            Some(shape) if shape.marks > 0 => first,
+            Some(_) => Some(INT),
+            None => None,
+        },
+        _ => Some(INT),
+    }
+}
+
+fn is_sum(operator: BinaryOperator) -> bool {
+    matches!(operator, BinaryOperator::Add | BinaryOperator::Subtract)
+}
+
+impl<'t> Finder<'t> {
+    // ---- types
+
+    /// The type of an expression, if it is told by names.
+    fn shape_of(&self, expression: &Expr) -> Option<Shape> {
+        match expression {
+            Expr::Variable { name } => match self.local_of(*name) {
+                Some(local) => Some(local.shape),
+                None => self.known.global(name.name.number),
+            },
+            Expr::Call { function, .. } => self.known.result(function.name.number),
+            Expr::Bracketed { inner, .. } => self.shape_of(inner),
+            Expr::Assign { target, .. } => self.shape_of(target),
+            Expr::Chained { base, postfixes } => self.shape_behind(self.shape_of(base), postfixes),
+            Expr::Prefixed {
+                operator: PrefixOperator::Dereference,
+                operand,
+                ..
+            } => match self.shape_of(operand) {
+                Some(shape) => shape.target(),
+                None => None,
+            },
+            Expr::Binary { first, rest } => shape_of_result(self.shape_of(first), rest),
+            Expr::Number { .. } | Expr::Character { .. } | Expr::NumberOfElements { .. } => Some(
+                INT,
+            ),
+            Expr::LowByteOf { .. } => Some(CHAR),
+            _ => None,
+        }
+    }
+
+    /// The type of what postfixes lead to.
+    fn shape_behind(&self, base: Option<Shape>, postfixes: &[Postfix]) -> Option<Shape> {
+        let mut shape = base;
+        for postfix in postfixes {
+            if let Some(pointer) = shape {
+                shape = match postfix {
+                    Postfix::Index { .. } => pointer.target(),
+                    Postfix::Field { name } => match pointer.struct_behind() {
+                        Some(owner) => self.known.field(owner, name.name.number),
+                        None => None,
+                    },
+                };
+            }
+        }
+        shape
+    }
+
+    /// Whether the value of an expression is a unique pointer.
+    pub(crate) fn is_unique(&self, expression: &Expr) -> bool {
+        match expression {
+            Expr::Bracketed { inner, .. } => self.is_unique(inner),
+            Expr::RegionNew { region, .. } => matches!(**region, Expr::UniqueRegion { .. }),
+            Expr::Call { .. } | Expr::Variable { .. } => match self.shape_of(expression) {
+                Some(shape) => shape.is_unique(),
+                None => false,
+            },
+            _ => false,
+        }
+    }
+
+    // ---- parts
+
+    pub(crate) fn look_at(&mut self, expression: &'t Expr, use_of: Use) {
+        match expression {
+            Expr::Variable { name } => self.note(*name, use_of),
+            Expr::Bracketed { inner, .. } => self.add_expression(inner, use_of),
+            Expr::NumberOfElements { pointer, .. } => self.add_expression(pointer, Use::Looked),
+            Expr::LowByteOf { value, .. } => self.add_expression(value, Use::Value),
+            Expr::Chained { base, postfixes } => self.look_at_chain(base, postfixes),
+            Expr::Prefixed {
+                span,
+                operator,
+                operand,
+            } => self.look_at_prefixed(*span, *operator, operand),
+            Expr::Binary { first, rest } => self.look_at_binary(first, rest),
+            Expr::Number { .. }
+            | Expr::Character { .. }
+            | Expr::Null { .. }
+            | Expr::HeapRegion { .. }
+            | Expr::UniqueRegion { .. } => {}
+            _ => self.look_at_effect(expression, use_of),
+        }
+    }
+
+    /// Looks at an expression that does something.
+    fn look_at_effect(&mut self, expression: &'t Expr, use_of: Use) {
+        self.effects = self.effects.saturating_add(1);
+        match expression {
+            Expr::Call { arguments, .. } => self.add_values(arguments),
+            Expr::FreeUnique { pointer, .. } => self.add_expression(pointer, Use::Value),
+            Expr::FreeKey { key, .. } => self.note(*key, Use::Value),
+            Expr::New { value, .. } => self.add_initial(value),
+            Expr::RegionNew { region, value, .. } => {
+                self.add_initial(value);
+                self.add_expression(region, Use::Value);
+            }
+            Expr::Assign { target, value } => self.look_at_assigned(target, value, use_of),
+            _ => {}
+        }
+    }
+
+    fn look_at_assigned(&mut self, target: &'t Expr, value: &'t Expr, use_of: Use) {
+        if let Some(name) = named(target) {
+            if !is_null(value) {
+                self.fill(name);
+            }
+        }
+        self.add_expression(value, Use::Value);
+        self.add_expression(target, Use::Assigned(!matches!(use_of, Use::Dropped)));
+    }
+
+    fn add_values(&mut self, values: &'t [Expr]) {
+        for value in values.iter().rev() {
+            self.add_expression(value, Use::Value);
+        }
+    }
+
+    fn add_initial(&mut self, initial: &'t Initial) {
+        match initial {
+            Initial::Plain { value } => self.add_expression(value, Use::Value),
+            Initial::Fields { values, .. } => self.add_values(values),
+            Initial::Array {
+                length,
+                element,
+                ..
+            } => {
+                self.add_end();
+                self.add(Part::Expression(element, Use::Value));
+                self.add(Part::Counted(initial));
+                self.add_expression(length, Use::Value);
+            }
+        }
+    }
+
+    /// Declares the variable of an array, and looks at its length.
+    pub(crate) fn count(&mut self, initial: &'t Initial) {
+        if let Initial::Array {
+            span,
+            variable,
+            length,
+            element,
+        } = initial
+        {
+            self.declare(*variable, Local::new(variable.span, INT));
+            if is_more_than(length, most_elements(self.shape_of(element))) {
+                self.warn(*span, Warning::ArraySize);
+            }
+        }
+    }
+
+    // ---- operands and their postfixes
+
+    fn look_at_prefixed(&mut self, span: Span, operator: PrefixOperator, operand: &'t Expr) {
+        if operator == PrefixOperator::Negate && is_double(span, operand) {
+            self.warn(span, Warning::DoubleMinus);
+        }
+        self.add_expression(operand, use_of_prefix(operator));
+    }
+
+    fn look_at_chain(&mut self, base: &'t Expr, postfixes: &'t [Postfix]) {
+        if let Some(Postfix::Index { index }) = postfixes.first() {
+            self.look_at_index(base, index);
+        }
+        for postfix in postfixes.iter().rev() {
+            if let Postfix::Index { index } = postfix {
+                self.add_expression(index, Use::Value);
+            }
+        }
+        self.add_expression(base, Use::Looked);
+    }
+
+    /// Looks at an index of what a local may have been declared with.
+    fn look_at_index(&mut self, base: &Expr, index: &Expr) {
+        if let Expr::Variable { name } = base {
+            if let Some(number) = self.known.local(name.name.number) {
+                if let Some(
+                    Local {
+                        length: Some(length),
+                        ..
+                    },
+                ) = self.locals.all.get(number).copied()
+                {
+                    self.look_at_number(number, length, index);
+                }
+            }
+        }
+    }
+
+    /// Looks at an index of the local of this number, which was declared with so many elements.
+    fn look_at_number(&mut self, local: usize, length: u32, index: &Expr) {
+        if let Some(value) = constant_of(index) {
+            if value >= length {
+                self.locals.add_suspect(local, span_of(index));
+            }
+        }
+    }
+
+    // ---- operators of two operands
+
+    fn look_at_binary(&mut self, first: &'t Expr, rest: &'t [Operation]) {
+        let mut left = Some(first);
+        let mut is_ordered = false;
+        for operation in rest {
+            if is_ordered && is_order(operation.operator) {
+                self.warn(operation.span, Warning::OrderChain);
+            }
+            self.look_at_operation(left, operation);
+            is_ordered = is_order(operation.operator);
+            left = None;
+        }
+        self.look_at_bits(first, rest);
+        for operation in rest.iter().rev() {
+            self.add_expression(&operation.operand, use_by(operation.operator));
+        }
+        if let Some(operation) = rest.first() {
+            self.add_expression(first, use_by(operation.operator));
+        }
+    }
+
+    fn look_at_bits(&mut self, first: &Expr, rest: &[Operation]) {
+        if let Some(operation) = rest.first() {
+            if is_bits(operation.operator) {
+                if let Some(span) = loose_bits(first, rest) {
+                    self.warn(span, Warning::ComparedFirst);
+                }
+            }
+        }
+    }
+
+    /// Looks at an operator and its right operand, and its left one where that is the first of the chain.
+    fn look_at_operation(&mut self, left: Option<&Expr>, operation: &Operation) {
+        let (span, operand) = (operation.span, &operation.operand);
+        match operation.operator {
+            BinaryOperator::ShiftLeft | BinaryOperator::ShiftRight => {
+                if is_past_width(operand) {
+                    self.warn(span, Warning::ShiftCount);
+                }
+            }
+            BinaryOperator::Divide | BinaryOperator::Remainder => {
+                if constant_of(operand) == Some(0) {
+                    self.warn(span, Warning::DivisionByZero);
+                }
+            }
+            BinaryOperator::Subtract => {
+                if is_added(span, operand) {
+                    self.warn(span, Warning::AddedMinus);
+                }
+            }
+            operator if is_comparison(operator) => {
+                if let Some(left) = left {
+                    if self.is_settled(left, operand) || self.is_settled(operand, left) {
+                        self.warn(span, Warning::CharCompared);
+                    }
+                }
+            }
+            _ => {}
+        }
+    }
+
+    /// Whether a comparison is that of a char with a constant that no char is.
+    fn is_settled(&self, one: &Expr, other: &Expr) -> bool {
+        is_more_than(other, LARGEST_CHAR) && self.is_char(one)
+    }
+
+    fn is_char(&self, expression: &Expr) -> bool {
+        match self.shape_of(expression) {
+            Some(shape) => shape.is_char(),
+            None => false,
+        }
+    }
+}
+
+/// Whether a minus sign at this place stands together with the one that its operand begins with.
+fn is_added(span: Span, operand: &Expr) -> bool {
+    match leading_minus(operand) {
+        Some(second) => is_next(span, second),
+        None => false,
+    }
+}

@@ -1,0 +1,22 @@
+//! The warnings of a program.
+use crate::finder::Finder;
+use crate::warning::Found;
+use cyc_syntax::{Declaration, Tree};
+use std::alloc::Global;
+
+/// What a program is warned of, which is accepted: in the order of the places, the first ones, and one more than are said. Where memory
+/// runs out there is nothing.
+pub fn find_warnings(alloc: Global, tree: &Tree) -> Vec<Found> {
+    let mut finder = Finder::new(alloc, tree);
+    for declaration in &tree.declarations {
+        if let Declaration::Function {
+            parameters,
+            body,
+            ..
+        } = declaration
+        {
+            finder.look_over(parameters, body);
+        }
+    }
+    finder.take_found()
+}

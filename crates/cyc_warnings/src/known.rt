@@ -1,0 +1,186 @@
+//! What names mean: the declarations of a program, and the locals in scope, each found in constant time.
+use crate::shapes::Shape;
+use cyc_syntax::{Declaration, Member, Tree};
+use std::alloc::Global;
+
+/// The number of no name, no local and no field.
+const NONE: usize = usize::MAX;
+
+/// What a name means.
+#[derive(Clone, Copy)]
+struct Entry {
+    /// The number of the local.
+    local: usize,
+    global: Option<Shape>,
+    /// The result of the function.
+    result: Option<Shape>,
+    /// Where the fields of the struct begin.
+    fields: usize,
+}
+
+const NOTHING: Entry = Entry {
+    local: NONE,
+    global: None,
+    result: None,
+    fields: NONE,
+};
+
+/// A field, with the name of its struct.
+#[derive(Clone, Copy)]
+struct Field {
+    owner: usize,
+    name: usize,
+    shape: Shape,
+}
+
+/// A name that is in scope, and the local that it was before.
+#[derive(Clone, Copy)]
+struct Binding {
+    name: usize,
+    hidden: usize,
+}
+
+/// What names mean at a place of a program.
+#[derive(Drop)]
+pub(crate) struct Known {
+    /// By the numbers of the names.
+    entries: Vec<Entry>,
+    /// Those of one struct stand together.
+    fields: Vec<Field>,
+    /// The names of locals in scope, the newest last.
+    bindings: Vec<Binding>,
+    /// The number of the name that the region of unique pointers has.
+    pub(crate) unique: usize,
+    /// Whether memory did not run out.
+    pub(crate) is_whole: bool,
+}
+
+impl Known {
+    pub(crate) fn of(alloc: Global, tree: &Tree) -> Known {
+        let mut known = Known {
+            entries: Vec::new(alloc),
+            fields: Vec::new(alloc),
+            bindings: Vec::new(alloc),
+            unique: NONE,
+            is_whole: true,
+        };
+        known.is_whole = known.entries.resize(tree.names.len(), NOTHING).is_ok();
+        if let Some(name) = tree.names.find(b"U") {
+            known.unique = name.number;
+        }
+        for declaration in &tree.declarations {
+            known.add(declaration);
+        }
+        known
+    }
+
+    fn add(&mut self, declaration: &Declaration) {
+        match declaration {
+            Declaration::Struct { name, fields, .. } => self.add_fields(name.name.number, fields),
+            Declaration::Global { of_type, name, .. } => {
+                let shape = Shape::written(of_type, self.unique);
+                if let Some(entry) = self.entries.get_mut(name.name.number) {
+                    entry.global = Some(shape);
+                }
+            }
+            Declaration::Function {
+                result: Some(result),
+                name,
+                ..
+            } => {
+                let shape = Shape::written(result, self.unique);
+                if let Some(entry) = self.entries.get_mut(name.name.number) {
+                    entry.result = Some(shape);
+                }
+            }
+            _ => {}
+        }
+    }
+
+    fn add_fields(&mut self, owner: usize, members: &[Member]) {
+        let start = self.fields.len();
+        if let Some(entry) = self.entries.get_mut(owner) {
+            entry.fields = start;
+        }
+        for member in members {
+            let field = Field {
+                owner,
+                name: member.name.name.number,
+                shape: Shape::written(&member.of_type, self.unique),
+            };
+            self.is_whole = self.fields.push(field).is_ok() && self.is_whole;
+        }
+    }
+
+    // ---- locals
+
+    /// How many names of locals are in scope.
+    pub(crate) fn depth(&self) -> usize {
+        self.bindings.len()
+    }
+
+    /// From here on a name is the local of this number.
+    pub(crate) fn bind(&mut self, name: usize, local: usize) {
+        if let Some(entry) = self.entries.get_mut(name) {
+            let hidden = entry.local;
+            entry.local = local;
+            self.is_whole = self.bindings.push(Binding { name, hidden }).is_ok() && self.is_whole;
+        }
+    }
+
+    /// Forgets all but so many of the oldest names of locals.
+    pub(crate) fn unbind(&mut self, depth: usize) {
+        for _ in depth..self.bindings.len() {
+            if let Some(binding) = self.bindings.pop() {
+                if let Some(entry) = self.entries.get_mut(binding.name) {
+                    entry.local = binding.hidden;
+                }
+            }
+        }
+    }
+
+    // ---- what a name means
+
+    /// The number of the local of a name.
+    pub(crate) fn local(&self, name: usize) -> Option<usize> {
+        match self.entries.get(name) {
+            Some(entry) if entry.local != NONE => Some(entry.local),
+            _ => None,
+        }
+    }
+
+    /// The type of the global of a name.
+    pub(crate) fn global(&self, name: usize) -> Option<Shape> {
+        match self.entries.get(name) {
+            Some(entry) => entry.global,
+            None => None,
+        }
+    }
+
+    /// The type of the result of the function of a name.
+    pub(crate) fn result(&self, name: usize) -> Option<Shape> {
+        match self.entries.get(name) {
+            Some(entry) => entry.result,
+            None => None,
+        }
+    }
+
+    /// The type of a field of the struct of a name.
+    pub(crate) fn field(&self, owner: usize, name: usize) -> Option<Shape> {
+        let start = match self.entries.get(owner) {
+            Some(entry) => entry.fields,
+            None => NONE,
+        };
+        if let Some(fields) = self.fields.get(start..) {
+            for field in fields {
+                if field.owner != owner {
+                    return None;
+                }
+                if field.name == name {
+                    return Some(field.shape);
+                }
+            }
+        }
+        None
+    }
+}

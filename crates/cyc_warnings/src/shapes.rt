@@ -1,0 +1,111 @@
+//! What a type is made of, as far as a warning asks.
+use cyc_syntax::{BaseType, PointerKind, WrittenType};
+
+/// A type before its marks.
+#[derive(Clone, Copy)]
+pub(crate) enum Base {
+    Int,
+    Char,
+    /// By the number of its name.
+    Struct(usize),
+    /// A handle or a key.
+    Other,
+}
+
+/// The region of the last mark.
+#[derive(Clone, Copy)]
+pub(crate) enum Home {
+    Unique,
+    /// None is written, so it may be that of an initial value.
+    LeftOut,
+    Other,
+}
+
+/// A type: what stands before its marks, how many these are, and what the last one is.
+#[derive(Clone, Copy)]
+pub(crate) struct Shape {
+    pub(crate) base: Base,
+    pub(crate) marks: usize,
+    pub(crate) is_fat: bool,
+    pub(crate) home: Home,
+}
+
+/// The type of an int.
+pub(crate) const INT: Shape = Shape {
+    base: Base::Int,
+    marks: 0,
+    is_fat: false,
+    home: Home::Other,
+};
+
+pub(crate) const CHAR: Shape = Shape {
+    base: Base::Char,
+    marks: 0,
+    is_fat: false,
+    home: Home::Other,
+};
+
+/// The type of a handle or a key.
+pub(crate) const OTHER: Shape = Shape {
+    base: Base::Other,
+    marks: 0,
+    is_fat: false,
+    home: Home::Other,
+};
+
+impl Shape {
+    /// A type that is written, where the region of unique pointers has the name of this number.
+    pub(crate) fn written(written: &WrittenType, unique: usize) -> Shape {
+        let base = match &written.base {
+            BaseType::Int => Base::Int,
+            BaseType::Char => Base::Char,
+            BaseType::Struct { name, .. } => Base::Struct(name.name.number),
+            BaseType::Handle { .. } | BaseType::Key { .. } => Base::Other,
+        };
+        let marks = written.marks.len();
+        let mut shape = Shape {
+            base,
+            marks,
+            is_fat: false,
+            home: Home::Other,
+        };
+        if let Some(mark) = written.marks.last() {
+            shape.is_fat = mark.kind == PointerKind::Fat;
+            shape.home = match mark.region {
+                Some(region) if region.name.number == unique => Home::Unique,
+                Some(_) => Home::Other,
+                None => Home::LeftOut,
+            };
+        }
+        shape
+    }
+
+    pub(crate) fn is_char(self) -> bool {
+        self.marks == 0 && matches!(self.base, Base::Char)
+    }
+
+    pub(crate) fn is_unique(self) -> bool {
+        matches!(self.home, Home::Unique)
+    }
+
+    /// What a pointer leads to, of whose own mark nothing is known.
+    pub(crate) fn target(self) -> Option<Shape> {
+        if self.marks == 0 {
+            return None;
+        }
+        Some(Shape {
+            base: self.base,
+            marks: self.marks - 1,
+            is_fat: false,
+            home: Home::Other,
+        })
+    }
+
+    /// The number of the name of the struct that a pointer leads to.
+    pub(crate) fn struct_behind(self) -> Option<usize> {
+        match self.base {
+            Base::Struct(name) if self.marks == 1 => Some(name),
+            _ => None,
+        }
+    }
+}
