@@ -95,7 +95,7 @@ any ~~ + ~~ an expression~a constant ~~ there is no + before a number, and x += 
 any ~~ ? ~~ any ~~ there is no ?:, so write if (a > b) y = a; else y = b;
 sizeof~sizeof(~sizeof (~sizeof(char~sizeof (char ~~ any ~~ any ~~ there is no sizeof: numelts(a) is the number of elements behind a ? pointer
 ( ~~ int~struct~void ~~ any ~~ there are no casts: an int needs none, and NULL is the null pointer
-(short)~(long)~(unsigned)~(float)~(double)~(bool) ~~ any ~~ any ~~ there are no casts: an int needs none, and NULL is the null pointer
+(short)~(long)~(float)~(double)~(bool) ~~ any ~~ any ~~ there are no casts: an int needs none, and NULL is the null pointer
 (unsigned *~(unsigned* ~~ ) ~~ any ~~ there are no casts: an int needs none, and NULL is the null pointer
 (char ~~ ) ~~ any ~~ there are no casts: char(x) is the low byte of x
 (char ~~ * ~~ any ~~ there are no casts: an int needs none, and NULL is the null pointer
