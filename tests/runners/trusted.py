@@ -33,6 +33,8 @@ CALLS = (
 )
 # The crates whose public contracts `specs/` is for.
 PUBLIC = ("cyc_system", "cyc_machine", "cyc_store", "cyc_elf", "cyc_isa")
+# What the program's messages take from the front end is no promise of the page: what the phases made of a text, as the code holds it.
+FOR_MESSAGES = ("run_phases", "Phases", "compile_with_tokens", "Compilation")
 # Each public source, by the words that name it in the head of a file.
 SOURCES = (
     ("Cyclone's manual", r"Cyclone (User's )?[Mm]anual|User's Manual"),
@@ -302,7 +304,7 @@ def public_reading():
     for crate in PUBLIC:
         names, files = public_names(crate)
         for name in names:
-            if declaring(crate, name)[0]:
+            if declaring(crate, name)[0] and name not in FOR_MESSAGES:
                 merge(reading, reading_of(name, crate))
         for file in files:
             for item in source(file).named(r"pub (const |unsafe )?(fn|struct|enum|trait) "):

@@ -6,11 +6,11 @@ use Rattle.cyc_syntax.specs.declared.tokens.Token.{Token as TokenCode}
 use Rattle.cyc_syntax.specs.declared.tree.Tree.{Tree}
 use Rattle.cyc_syntax.specs.Tokens.{Token, token_of}
 use Rattle.cyc_syntax.specs.Trees.{Declaration}
+use Rattle.cyc_syntax.specs.inside.TreeView.{declarations_of}
 use Rattle.cyc_lex.specs.Refusals as lexer
 use Rattle.cyc_words.specs.Decision.{Decides}
 use Rattle.cyc_words.specs.Fault.{memory_fault}
 use Rattle.cyc_parse.specs.Acceptance as parser
-use Rattle.cyc_parse.specs.Acceptance.{declarations_of}
 use Rattle.cyc_types.specs.TypedTrees.{Program}
 use Rattle.cyc_types.specs.declared.typed.TypedTree.{TypedTree}
 use Rattle.cyc_types.specs.TypedTreeView.{view_program}
@@ -18,7 +18,8 @@ use Rattle.cyc_types.specs.typing.Programs.{IsTypedProgram, IsRefusedProgram}
 use Rattle.cyc_types.specs.flow.Programs.{IsAllowedProgram, IsStoppedProgram}
 use Rattle.cyc_flow.specs.declared.check.Flowed.{Flowed}
 use Rattle.cyc_system.specs.declared.front.Phases.{Phases}
-use Rattle.cyc_system.specs.Front.{names_in, IsAcceptedText, HasTree, IsStoppedText, IsRefusedText, HasFault}
+use Rattle.cyc_system.specs.Front.{names_in, IsAcceptedText, IsStoppedText, IsRefusedText, HasFault}
+use Rattle.cyc_system.specs.inside.Phases.{HasTree}
 
 -- A phase let this pass: it is accepted, nothing else is, and there is no fault.
 pub record Passes {A : Type 0} (Accepted : A → Type 0) (Has : Fault → Type 0) (a : A) : Type 0 where

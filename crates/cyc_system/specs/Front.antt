@@ -2,17 +2,14 @@
 -- tokens have a tree, the tree has a typed program, and the typed program keeps the flow rules. Each phase says in words of its own what
 -- it accepts and what it refuses; here they stand together. (That the first phase to refuse a text names its fault is this project's
 -- own choice.)
-use Rattle.std.specs.Prelude.{◌≡◌, ◌⊎◌, ℕ, List, map}
+use Rattle.std.specs.Prelude.{◌⊎◌, ℕ, List}
 use Rattle.cyc_words.specs.declared.fault.Fault.{Fault}
 use Rattle.cyc_syntax.specs.Names.{distinct_texts}
-use Rattle.cyc_syntax.specs.declared.tokens.Token.{Token as TokenCode}
-use Rattle.cyc_syntax.specs.declared.tree.Tree.{Tree}
-use Rattle.cyc_syntax.specs.Tokens.{Token, token_of}
+use Rattle.cyc_syntax.specs.Tokens.{Token}
 use Rattle.cyc_syntax.specs.Symbols.{texts_in}
 use Rattle.cyc_syntax.specs.Trees.{Declaration}
 use Rattle.cyc_lex.specs.Refusals as lexer
 use Rattle.cyc_parse.specs.Acceptance as parser
-use Rattle.cyc_parse.specs.Acceptance.{declarations_of}
 use Rattle.cyc_types.specs.TypedTrees.{Program}
 use Rattle.cyc_types.specs.typing.Programs.{IsTypedProgram, IsRefusedProgram}
 use Rattle.cyc_types.specs.flow.Programs.{IsAllowedProgram, IsStoppedProgram}
@@ -29,15 +26,6 @@ pub record IsAcceptedText (text : List ℕ) (p : Program) : Type 0 where
   pub has_tree : parser.IsAccepted tokens tree
   pub typed : IsTypedProgram (names_in tokens) tree p
   pub allowed : IsAllowedProgram p
-
--- the tokens, as the code holds them, are the text's
-abbrev pub HasTokens : (text : List ℕ) → List TokenCode → Type 0
-HasTokens text tokens = lexer.IsAccepted text (map (token_of text) tokens)
-
--- the tree is that of these tokens, and has the texts of their names
-abbrev pub HasTree : (text : List ℕ) → List TokenCode → Tree → Type 0
-HasTree text tokens tree =
-    parser.IsAccepted (map (token_of text) tokens) (declarations_of tree) × (tree.names ≡ names_in (map (token_of text) tokens))
 
 -- The text is stopped with this fault by the first phase that refuses it: the lexer; or the grammar, where `OfGrammar` says what it
 -- refuses; or the typing rules; or the flow rules.

@@ -3,7 +3,8 @@ ghost use Rattle.std.specs.Prelude.{◌≡◌, IfOk};
 ghost use Rattle.cyc_words.specs.Decision.{Decides};
 ghost use Rattle.cyc_types.specs.TypedTreeView.{view_program};
 ghost use Rattle.cyc_soundness.specs.Sound.{IsSound};
-ghost use Rattle.cyc_system.specs.Front.{IsAcceptedText, IsRefusedText, HasFault, HasTokens, HasTree};
+ghost use Rattle.cyc_system.specs.Front.{IsAcceptedText, IsRefusedText, HasFault};
+ghost use Rattle.cyc_system.specs.inside.Phases.{HasTokens, HasTree};
 
 use cyc_check::check;
 use cyc_flow::{Flowed, flow};

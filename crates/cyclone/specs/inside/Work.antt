@@ -10,7 +10,8 @@ use Rattle.cyc_elf.specs.Reading.{reading}
 use Rattle.cyc_machine.specs.Bounds.{Bounds}
 use Rattle.cyc_system.specs.Engine.{AnswersAnew, Devices}
 use Rattle.cyc_system.specs.Compiled.{IsCompiledText, IsRefusedAtLast}
-use Rattle.cyc_system.specs.Front.{HasTokens, IsAcceptedText, IsRefusedText}
+use Rattle.cyc_system.specs.Front.{IsAcceptedText, IsRefusedText}
+use Rattle.cyc_system.specs.inside.Phases.{HasTokens}
 use Rattle.cyc_system.specs.FullPreservation.{IsImageOf}
 use Rattle.cyc_system.specs.Listing.{Shows}
 use Rattle.cyc_system.specs.Notes.{Carries}

@@ -3,7 +3,7 @@ use Rattle.std.specs.Prelude.{IfOk}
 use Rattle.cyc_words.specs.declared.fault.Fault.{Fault}
 use Rattle.cyc_words.specs.Decision.{Decides}
 use Rattle.cyc_system.specs.Compiled.{IsCompiledText, IsRefusedAtLast, HasFaultAtLast}
-use Rattle.cyc_system.specs.Front.{HasTokens}
+use Rattle.cyc_system.specs.inside.Phases.{HasTokens}
 use Rattle.cyc_system.specs.FullPreservation.{IsImageOf}
 use Rattle.cyc_system.specs.Notes.{Carries}
 use Rattle.cyc_system.specs.declared.compiler.Compilation.{Compilation}
