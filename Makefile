@@ -49,6 +49,7 @@ cases:
 	@python3 tests/runners/trusted.py
 	@python3 tests/runners/examples.py
 	@python3 tests/runners/sessions.py
+	@python3 tests/runners/judged.py
 	@python3 tests/runners/interactive.py
 	@python3 tests/runners/editors.py
 	@python3 tests/runners/calls.py

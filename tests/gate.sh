@@ -67,6 +67,7 @@ add "documents" python3 tests/runners/documents.py
 add "trusted" python3 tests/runners/trusted.py
 add "examples" python3 tests/runners/examples.py
 add "sessions" python3 tests/runners/sessions.py
+add "judged" python3 tests/runners/judged.py
 add "dialogs" python3 tests/runners/interactive.py
 add "editors" python3 tests/runners/editors.py
 add "calls" python3 tests/runners/calls.py

@@ -1,8 +1,8 @@
 #!/bin/sh
 # What can be tried in some minutes of a change, with no proof: builds the program unproved at the place that is named, and runs on it,
 # side by side, the command-line suite and the whole-language cases but for those with long files or many steps, the codes, the documents,
-# the scripts, the examples, the dialogs, the sessions that documents show, the syntax files and some random programs. Where a command is
-# missing that they need, it ends before. The last line is `N passed, M failed` over all of it.
+# the scripts, the examples, the dialogs, the sessions that documents show, the submissions for the judge, the syntax files and some random
+# programs. Where a command is missing that they need, it ends before. The last line is `N passed, M failed` over all of it.
 #
 #     sh tests/quick.sh PROGRAM
 set -u
@@ -45,7 +45,7 @@ add() {
   failed=$((failed + bad))
 }
 
-if ! sh tests/tools.sh gcc man pyflakes3 readelf shellcheck vim; then
+if ! sh tests/tools.sh gcc man parallel pyflakes3 readelf shellcheck vim; then
   echo "0 passed, 1 failed"
   exit 1
 fi
@@ -65,9 +65,10 @@ begin "codes" on codes.py
 begin "warnings" on warned.py --count 100
 begin "examples" on examples.py
 begin "sessions" on sessions.py
+begin "judged" on judged.py --count 60
 begin "dialogs" on interactive.py
 wait
-for name in "command line" "whole language" "codes" "warnings" "documents" "trusted" "scripts" "examples" "dialogs" "sessions" "editors" "random programs"; do
+for name in "command line" "whole language" "codes" "warnings" "documents" "trusted" "scripts" "examples" "dialogs" "sessions" "judged" "editors" "random programs"; do
   add "$name"
 done
 echo "$passed passed, $failed failed"

@@ -40,8 +40,8 @@ case "$*" in
 *) echo "1 passed, 0 failed";;
 esac
 """
-# 1 of the proofs, 15 of the cases, 3 of the codes, 4 of memory, 1 of eleven others; the failures are those above.
-ADDED = "34 passed, 5 failed"
+# 1 of the proofs, 15 of the cases, 3 of the codes, 4 of memory, 1 of twelve others; the failures are those above.
+ADDED = "35 passed, 5 failed"
 
 # A case file, and what is wrong with it.
 BAD_CASES = {
@@ -183,7 +183,7 @@ def try_runners(needs):
         ("qemu-mips", instructions), ("mips-linux-gnu-objdump", instructions), ("qemu-mips", (*instructions, "--without-objdump")),
         ("vim", ["editors.py"]), ("cc", ["refused.py", "--program", program, "--runner", program]),
         ("gcc", ["differential.py", "--program", program, "--count", "4"]), ("rt", ["codes.py", "--program", program]),
-        ("shellcheck", ["scripts.py"]), ("pyflakes3", ["scripts.py"]),
+        ("parallel", ["judged.py", "--program", program]), ("shellcheck", ["scripts.py"]), ("pyflakes3", ["scripts.py"]),
         *((it, ["run.py", "--program", program, os.path.join(needs.folder, f"{it}.cases")]) for it in cases),
     ):
         needs.fails(f"{words[0]} without {tool}", needs.room([tool]), runner(*words), missing(tool))
