@@ -1,12 +1,19 @@
 # `make` lists the targets, and proves nothing.
-.PHONY: help build demo try quick cases bench test install uninstall
+.PHONY: help build demo try quick cases bench test install uninstall dist
 
 PREFIX = /usr/local
 PROGRAM = crates/cyclone/out/cyclone
 UNPROVED = out/unproved/cyclone
 SOURCE = examples/hello.cyc
+ARCHIVE = out/hengvuol.tar.gz
 BIN = $(DESTDIR)$(PREFIX)/bin
-MAN = $(DESTDIR)$(PREFIX)/share/man/man1
+SHARE = $(DESTDIR)$(PREFIX)/share
+MAN = $(SHARE)/man/man1
+VIM = $(SHARE)/vim/vimfiles
+DOC = $(SHARE)/doc/hengvuol
+PAGES = cyclone.1 cyclone-judge.1
+SYNTAX = ftdetect/cyclone.vim syntax/cyclone.vim
+TEXTS = README.md $(wildcard docs/*.md examples/*.cyc examples/*.in examples/*.out)
 
 help:
 	@echo 'make build    proves and builds the program, $(PROGRAM), with a line for each crate: half an hour to an hour the first'
@@ -22,7 +29,9 @@ help:
 	@echo '              equal programs here and in C, in bench/pairs (Debian packages qemu-user, tcc, gcc and gcc-mips-linux-gnu)'
 	@echo 'make test     the gate: every proof, wrong body and test from nothing, and what `make cases` runs; hours. The last line'
 	@echo '              is `N passed, M failed`'
-	@echo 'make install  puts the program that was built and its manual page below PREFIX; make uninstall takes them away'
+	@echo 'make install  puts the program that was built, the judge, the manual pages, the files for vim, the documents and the examples'
+	@echo '              below PREFIX; make uninstall takes them away'
+	@echo 'make dist     makes one archive of all these, ARCHIVE=$(ARCHIVE), with the sum of each file and the last line of the gate'
 
 build:
 	@tools/build
@@ -71,7 +80,18 @@ test:
 install:
 	@test -x "$(PROGRAM)" || { echo 'there is no program $(PROGRAM): make build proves and builds it' >&2; exit 1; }
 	install -D -m 755 "$(PROGRAM)" "$(BIN)/cyclone"
-	install -D -m 644 docs/cyclone.1 "$(MAN)/cyclone.1"
+	install -D -m 755 tools/judge "$(BIN)/cyclone-judge"
+	for it in $(PAGES); do install -D -m 644 "docs/$$it" "$(MAN)/$$it" || exit; done
+	for it in $(SYNTAX); do install -D -m 644 "editors/vim/$$it" "$(VIM)/$$it" || exit; done
+	for it in $(TEXTS); do install -D -m 644 "$$it" "$(DOC)/$$it" || exit; done
 
+# Just the files that were put there, and the folders of this product's own that are empty then.
 uninstall:
-	rm -f "$(BIN)/cyclone" "$(MAN)/cyclone.1"
+	rm -f "$(BIN)/cyclone" "$(BIN)/cyclone-judge"
+	for it in $(PAGES); do rm -f "$(MAN)/$$it"; done
+	for it in $(SYNTAX); do rm -f "$(VIM)/$$it"; done
+	for it in $(TEXTS); do rm -f "$(DOC)/$$it"; done
+	for it in "$(DOC)/docs" "$(DOC)/examples" "$(DOC)"; do rmdir "$$it" 2>/dev/null || true; done
+
+dist:
+	@tools/dist "$(PROGRAM)" "$(ARCHIVE)"
