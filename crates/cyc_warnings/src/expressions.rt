@@ -209,6 +209,10 @@ impl<'t> Finder<'t> {
                 Some(shape) => shape.target(),
                 None => None,
             },
+            Expr::Prefixed {
+                operator: PrefixOperator::Negate | PrefixOperator::Complement | PrefixOperator::Not,
+                ..
+            } => Some(INT),
             Expr::Binary { first, rest } => shape_of_result(self.shape_of(first), rest),
             Expr::Number { .. } | Expr::Character { .. } | Expr::NumberOfElements { .. } => Some(
                 INT,

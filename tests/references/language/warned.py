@@ -192,11 +192,10 @@ class Warned:
         is_parameter = node in self.function.parameters
         if not hasattr(node, "written"):
             return
-        if is_unique(node.type) and (is_parameter or any(value.kind != "null" for value in values)):
-            if not {"moved", "taken"} & set(uses):
-                self.warn(node.place, "NeverGivenBack")
-                return
-        if not is_parameter and not set(uses) - {"assigned"}:
+        has_object = is_unique(node.type) and (is_parameter or any(value.kind != "null" for value in values))
+        if has_object and not {"moved", "taken"} & set(uses):
+            self.warn(node.place, "NeverGivenBack")
+        elif not is_parameter and not set(uses) - {"assigned"}:
             self.warn(node.place, "NeverRead")
         if not {"assigned", "assigned and used", "taken"} & set(uses):
             self.index(node, mine)
