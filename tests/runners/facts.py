@@ -238,9 +238,27 @@ def faults_of_sources():
     return [f"{path} names no source" for path in defining if not SOURCE.search(comments[path])] if defining else ["there are no definitions"]
 
 
+def names_in(crate):
+    """The words of a crate's code, definitions and proofs, comments among them."""
+    found = set()
+    for folder, ending in FOLDERS:
+        for where, _, names in os.walk(os.path.join(suite.ROOT, "crates", crate, folder)):
+            for name in names:
+                if name.endswith(ending):
+                    found.update(re.findall(r"\w+", content(os.path.join(where, name))))
+    return found
+
+
+def idle_edges(graph):
+    """What crates stand on and no file of theirs names: the crate is proved anew with it for nothing."""
+    return [f"{crate} stands on {below}, which no file of it names"
+            for crate, belows in graph.items() for names in [names_in(crate)] for below in belows if below not in names]
+
+
 def faults_of_crates():
-    """What `crates.txt` says otherwise than the folders."""
+    """What `crates.txt` says otherwise than the folders, and what it has crates stand on for nothing."""
     listed = crates()
     there = [name for name in os.listdir(os.path.join(suite.ROOT, "crates"))
              if os.path.exists(os.path.join(suite.ROOT, "crates", name, "src"))]
-    return [suite.difference("the crates", sorted(there), sorted(listed))] if sorted(there) != sorted(listed) else []
+    differ = [suite.difference("the crates", sorted(there), sorted(listed))] if sorted(there) != sorted(listed) else []
+    return differ + idle_edges(wrong.stands_on(suite.ROOT))

@@ -881,6 +881,10 @@ def are_drifts_found():
         if not facts.faults_of_crates() or not facts.faults_of_sources():
             print("a crate that is not in crates.txt, or a definition with no source, is not found")
             right = False
+    graph = wrong.stands_on(suite.ROOT)
+    if facts.idle_edges(graph | {"cyc_isa": graph["cyc_isa"] + ["cyc_elf"]}) != ["cyc_isa stands on cyc_elf, which no file of it names"]:
+        print("a crate that stands on another for nothing is not found, or one that needs it is")
+        right = False
     return right
 
 
