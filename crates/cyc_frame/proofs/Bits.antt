@@ -6,8 +6,8 @@ use Rattle.std.proofs.lemmas.Nat.{one_shl}
 use Rattle.std.proofs.lemmas.Nat.Bits.{bit_at_and, bit_at_or, bit_at_xor, bit_at-lt, bit_at-zero, bit_at_ones, bit_at-pow_same, bit_at-pow_other}
 use Rattle.std.proofs.lemmas.Bool.{and_parts, and_from, leb-true, ltb-true, le-leb, lt-ltb, both_ways, cases_lt, cases_eq}
 use Rattle.cyc_plain.specs.inside.Program.{Program, Routine, routine_at, no_routine}
+use Rattle.cyc_plain.specs.inside.Uses.{is_among}
 use Rattle.cyc_frame.specs.declared.live.TheConstants.{ALL_NUMBERS, MOST_CHOSEN}
-use Rattle.cyc_frame.specs.inside.Uses.{is_among}
 use Rattle.cyc_frame.specs.inside.Masks.{mask_at, HasBit, AreMasks, range_mask}
 
 -- ---- bits

@@ -9,14 +9,14 @@ use Rattle.cyc_plain.specs.declared.instruction.Instruction.TheVariants as instr
 use Rattle.cyc_plain.specs.declared.instruction.Operand.{Operand}
 use Rattle.cyc_plain.specs.declared.instruction.Operand.TheVariants as operands
 use Rattle.cyc_plain.specs.inside.Program.{Routine, Program}
+use Rattle.cyc_plain.specs.inside.Uses.{At, is_slot}
 use Rattle.cyc_frame.specs.declared.home.Home.{Home}
 use Rattle.cyc_frame.specs.declared.live.TheConstants.{MOST_CHOSEN}
-use Rattle.cyc_frame.specs.inside.Homes.{At, Wanted, is_kept, home_of}
+use Rattle.cyc_frame.specs.inside.Homes.{Wanted, is_kept, home_of}
 use Rattle.cyc_frame.specs.inside.Idle.{always_has_result, AreIdle, IsIdle, IsUnused, NeverHolds, idle_at}
 use Rattle.cyc_frame.specs.inside.IdlePlaces.{is_idle, is_unused, never_holds}
 use Rattle.cyc_frame.specs.inside.Live.{IsSound}
 use Rattle.cyc_frame.specs.inside.Masks.{AreMasks, mask_at}
-use Rattle.cyc_frame.specs.inside.Uses.{is_slot}
 use Rattle.cyc_frame.proofs.Bits.{apart_bits}
 use Rattle.cyc_frame.proofs.Lives.{wanted_bit}
 

@@ -12,12 +12,13 @@ use Rattle.cyc_plain.specs.declared.instruction.Request.{Request}
 use Rattle.cyc_plain.specs.declared.instruction.Request.TheVariants as requests
 use Rattle.cyc_plain.specs.declared.limits.TheConstants.{RECORD_WORDS}
 use Rattle.cyc_plain.specs.inside.Program.{Routine, Program, routine_at}
+use Rattle.cyc_plain.specs.inside.Uses.{At, is_slot, is_among, request_reads, request_writes, reads, writes, leads}
 use Rattle.cyc_frame.specs.declared.live.TheConstants.{MOST_CHOSEN}
-use Rattle.cyc_frame.specs.inside.Uses.{is_slot, is_among, is_crossing, request_reads, request_writes, reads, writes, leads, bars}
-use Rattle.cyc_frame.specs.inside.Homes.{At, WantedIn, Wanted}
+use Rattle.cyc_frame.specs.inside.Homes.{WantedIn, Wanted}
 use Rattle.cyc_frame.specs.inside.Masks.{mask_at, HasBit, AreMasks, operand_mask, range_mask, request_read_mask, read_mask, request_write_mask, write_mask, bar_mask}
 use Rattle.cyc_frame.specs.inside.Live.{behind_mask, unwritten_mask, needed_mask, kept_mask, is_within, is_sound_at, IsSound}
 use Rattle.cyc_frame.proofs.Bits.{bit_left, bit_right, bit_both, bit_within, unwritten, among_bit, other_bit, not_among_bit}
+use Rattle.cyc_frame.specs.inside.Bars.{is_crossing, bars}
 
 -- ---- where a run may stand behind an instruction
 

@@ -1,5 +1,5 @@
 -- what the contract of `layout` rests on
-pub mod Uses
+pub mod Bars
 pub mod Homes
 pub mod Idle
 pub mod Frame

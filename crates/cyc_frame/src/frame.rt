@@ -6,9 +6,6 @@ ghost use Rattle.cyc_frame.specs.inside.Idle.{idle_at};
 use crate::home::Home;
 use std::marker::Model;
 
-/// A frame has so many words, since the machine's stack has so many for each call. No function uses more.
-pub const MOST_FRAME_WORDS: usize = 256;
-
 /// How the words of a function's frame are used, and where its slots live. A word is named by its number from the frame's
 /// lowest address on.
 #[derive(Drop)]

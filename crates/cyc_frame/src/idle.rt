@@ -1,12 +1,12 @@
 //! Places where nothing is to be done.
 ghost use Rattle.std.specs.Prelude.{◌≡◌, ◌<◌, length, not, IfOk};
 ghost use Rattle.cyc_plain.specs.inside.Program.{routine_of};
+ghost use Rattle.cyc_plain.specs.inside.Uses.{is_slot};
 ghost use Rattle.cyc_frame.specs.inside.Homes as right;
 ghost use Rattle.cyc_frame.specs.inside.Idle.{AreIdle, always_has_result};
 ghost use Rattle.cyc_frame.specs.inside.IdlePlaces as checks;
 ghost use Rattle.cyc_frame.specs.inside.Live.{IsSound};
 ghost use Rattle.cyc_frame.specs.inside.Masks.{AreMasks};
-ghost use Rattle.cyc_frame.specs.inside.Uses.{is_slot};
 
 use crate::home::Home;
 use crate::live::{Lives, MOST_CHOSEN};

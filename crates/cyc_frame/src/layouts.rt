@@ -8,9 +8,9 @@ ghost use Rattle.cyc_frame.specs.inside.Idle.{AreIdle};
 ghost use Rattle.cyc_frame.specs.inside.Layout.{AreFirstFrames, AreFrames, HasSmallFrames, IsAccepted, IsFrame, IsTooLarge, first_too_large, loses, loses_any};
 
 use crate::allocation::allocate;
-use crate::frame::{Frame, MOST_FRAME_WORDS};
+use crate::frame::Frame;
 use crate::frames::Frames;
-use cyc_plain::{Function, Instruction, LAYOUT_WORDS, Plain};
+use cyc_plain::{Function, Instruction, LAYOUT_WORDS, MOST_FRAME_WORDS, Plain};
 use cyc_words::{Code, Fault, Span};
 use std::alloc::{AllocError, Global};
 

@@ -12,7 +12,7 @@ mod live;
 mod masks;
 mod moves;
 
-pub use frame::{Frame, MOST_FRAME_WORDS};
+pub use frame::Frame;
 pub use frames::Frames;
 pub use home::{FIRST_REGISTER, Home, MOST_BOTH, REGISTERS_END};
 pub use layouts::layout;

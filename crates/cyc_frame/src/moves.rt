@@ -1,6 +1,6 @@
 //! Moves of several words.
 ghost use Rattle.std.specs.Prelude.{◌≡◌};
-ghost use Rattle.cyc_frame.specs.inside.Uses.{is_crossing};
+ghost use Rattle.cyc_frame.specs.inside.Bars.{is_crossing};
 
 /// Whether words that are moved one by one, from the first on, get lost: some are still to be moved from slots that have
 /// got others.

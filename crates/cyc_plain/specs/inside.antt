@@ -1,6 +1,7 @@
 -- what the type `Plain` and its facts rest on
 pub mod Requests
 pub mod Program
+pub mod Uses
 pub mod WellFormed
 -- what a plain program means
 pub mod Operators

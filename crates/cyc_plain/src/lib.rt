@@ -9,6 +9,7 @@ pub mod program;
 
 pub use instruction::{BinaryOperator, Comparison, Instruction, Operand, Request, UnaryOperator};
 pub use limits::{
-    GLOBALS_BASE, GREATEST_VALUE, LAYOUT_WORDS, MOST_GLOBALS, MOST_SIZE, RECORD_WORDS,
+    GLOBALS_BASE, GREATEST_VALUE, LAYOUT_WORDS, MOST_FRAME_WORDS, MOST_GLOBALS, MOST_SIZE,
+    RECORD_WORDS,
 };
 pub use program::{Function, Plain, well_formed};

@@ -3,6 +3,9 @@
 /// How many words of a frame are kept for what the frame's layout adds to the slots, such as the return address.
 pub const LAYOUT_WORDS: usize = 8;
 
+/// A frame has so many words, since the machine's stack has so many for each call. No function uses more.
+pub const MOST_FRAME_WORDS: usize = 256;
+
 /// A value has at most so many words: a fat pointer has three.
 pub const GREATEST_VALUE: usize = 3;
 

@@ -9,12 +9,12 @@ use crate::constants::REGIONS;
 use crate::emitter::Emitter;
 use crate::instructions::{add_immediate, small, syscall};
 use crate::operands::{give_count, load_count};
-use cyc_frame::{Frame, MOST_FRAME_WORDS};
+use cyc_frame::Frame;
 use cyc_machine::constants::{
     ALLOCATE, ARGUMENT, CLOSE_DYNAMIC, CLOSE_LEXICAL, FREE, OPEN_DYNAMIC, OPEN_LEXICAL,
     SECOND_ANSWER, SECOND_ARGUMENT, SERVICE,
 };
-use cyc_plain::Request;
+use cyc_plain::{MOST_FRAME_WORDS, Request};
 use std::alloc::AllocError;
 
 /// Which service a request is.

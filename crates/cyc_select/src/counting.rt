@@ -17,8 +17,10 @@ use crate::operands::{
 };
 use crate::operators::{Parts, is_tested, plan_count, test_count};
 use crate::plan::{binary_plan, test_of, unary_plan};
-use cyc_frame::{Frame, MOST_FRAME_WORDS, is_crossing};
-use cyc_plain::{BinaryOperator, GREATEST_VALUE, Instruction, MOST_SIZE, Operand, Plain};
+use cyc_frame::{Frame, is_crossing};
+use cyc_plain::{
+    BinaryOperator, GREATEST_VALUE, Instruction, MOST_FRAME_WORDS, MOST_SIZE, Operand, Plain,
+};
 use std::alloc::{AllocError, Global};
 
 /// How many words a function returns.

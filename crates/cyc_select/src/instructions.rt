@@ -6,10 +6,11 @@ ghost use Rattle.cyc_select.specs.inside.Emission.{IsReached};
 
 use crate::constants::{FRAME, ZERO};
 use crate::operands::value_register;
-use cyc_frame::{Frame, MOST_FRAME_WORDS};
+use cyc_frame::Frame;
 use cyc_isa::{
     ArithmeticOp, ExceptionOp, ImmediateOp, Instr, MemoryOp, Register, ShiftAmount, TrapCode,
 };
+use cyc_plain::MOST_FRAME_WORDS;
 
 /// The register of this number, which counts modulo 32.
 pub(crate) fn register(number: u8) -> Register

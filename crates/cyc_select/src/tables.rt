@@ -7,8 +7,8 @@ ghost use Rattle.cyc_select.specs.inside.Selection.{reload_count, function_line,
 ghost use Rattle.cyc_select.specs.inside.Emission.{AreReached, IsKnown};
 
 use crate::counting::{frame_in, results_of};
-use cyc_frame::{Frame, MOST_FRAME_WORDS};
-use cyc_plain::{GREATEST_VALUE, Plain};
+use cyc_frame::Frame;
+use cyc_plain::{GREATEST_VALUE, MOST_FRAME_WORDS, Plain};
 
 /// A program, its functions' frames, and the number of the first line of each function.
 #[derive(Clone, Copy)]

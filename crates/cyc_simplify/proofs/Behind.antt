@@ -16,7 +16,7 @@ use Rattle.cyc_plain.specs.inside.Operators.{binary_result, has_no_result, compa
 use Rattle.cyc_plain.specs.inside.State.{Words, put, copied}
 use Rattle.cyc_plain.specs.inside.Step.{operand_word, call_in, told}
 use Rattle.cyc_plain.proofs.SlotLaws.{put-same, put-other}
-use Rattle.cyc_frame.specs.inside.Uses.{is_slot, is_among}
+use Rattle.cyc_plain.specs.inside.Uses.{is_slot, is_among}
 use Rattle.cyc_simplify.specs.declared.fact.Fact.TheVariants as facts_are
 use Rattle.cyc_simplify.specs.declared.fact.Written.{Written}
 use Rattle.cyc_simplify.specs.inside.Facts.{IsTrueIn, IsTrueIfAny, leaves_slot, negated, is_any_slot, suited, shown}

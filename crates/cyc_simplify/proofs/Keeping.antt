@@ -4,7 +4,7 @@ use Rattle.std.specs.Prelude.{not, nat_le, nat_lt}
 use Rattle.std.proofs.lemmas.Bool.{cases_lt, and_from, and_parts, and_right, cond-true, le-ltb, lt-ltb, le-leb, lt-leb, not_from_false}
 use Rattle.cyc_plain.specs.declared.instruction.Operand.{Operand}
 use Rattle.cyc_plain.specs.declared.instruction.Operand.TheVariants as operands
-use Rattle.cyc_frame.specs.inside.Uses.{is_among}
+use Rattle.cyc_plain.specs.inside.Uses.{is_among}
 use Rattle.cyc_simplify.specs.declared.fact.Fact.{Fact}
 use Rattle.cyc_simplify.specs.declared.fact.Fact.TheVariants as facts_are
 use Rattle.cyc_simplify.specs.declared.fact.Written.{Written}

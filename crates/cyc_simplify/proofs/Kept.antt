@@ -23,8 +23,7 @@ use Rattle.cyc_plain.proofs.Placed.{below_of_get}
 use Rattle.cyc_plain.proofs.RunLaws.{if_either}
 use Rattle.cyc_plain.proofs.MemoryLaws.{numbered-from}
 use Rattle.cyc_plain.proofs.SlotLaws.{put-other}
-use Rattle.cyc_frame.specs.inside.Homes.{At}
-use Rattle.cyc_frame.specs.inside.Uses.{is_slot, leads}
+use Rattle.cyc_plain.specs.inside.Uses.{At, is_slot, leads}
 use Rattle.cyc_simplify.specs.declared.fact.Fact.{Fact}
 use Rattle.cyc_simplify.specs.inside.Facts.{AreTrueIn, IsTrueIfAny, is_free, are_suited, written, kept, suited, made}
 use Rattle.cyc_simplify.specs.declared.fact.Fact.TheVariants as facts_are

@@ -20,8 +20,7 @@ use Rattle.cyc_plain.specs.inside.Requests.{first_operand, second_operand, reque
 use Rattle.cyc_plain.specs.inside.Program.{Routine, Program, no_routine, routine_at, operator_size, instruction_size, size}
 use Rattle.cyc_plain.specs.inside.WellFormed.{HasSlots, IsOperand, IsCallInRange, IsRequestInRange, IsInRange, IsRoutine, IsWellFormed, is_return, leaves, IsOfWord, IsArgumentOfWord, HasWord, HasWords, IsPlain}
 use Rattle.cyc_plain.proofs.Placed.{below_of_get, holds_at}
-use Rattle.cyc_frame.specs.inside.Homes.{At}
-use Rattle.cyc_frame.specs.inside.Uses.{is_slot}
+use Rattle.cyc_plain.specs.inside.Uses.{At, is_slot}
 use Rattle.cyc_simplify.specs.declared.fact.Fact.{Fact}
 use Rattle.cyc_simplify.specs.declared.fact.Fact.TheVariants as facts_are
 use Rattle.cyc_simplify.specs.inside.Facts.{is_same_operator, is_same_operand, is_known, is_free, suits_operand, suits, are_suited}

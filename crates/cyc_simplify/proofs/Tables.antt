@@ -15,8 +15,7 @@ use Rattle.cyc_plain.specs.inside.Program.{Routine, Program}
 use Rattle.cyc_plain.specs.inside.State.{Words}
 use Rattle.cyc_plain.specs.inside.Step.{operand_word}
 use Rattle.cyc_plain.proofs.Placed.{below_of_get}
-use Rattle.cyc_frame.specs.inside.Homes.{At}
-use Rattle.cyc_frame.specs.inside.Uses.{is_slot, is_among, leads}
+use Rattle.cyc_plain.specs.inside.Uses.{At, is_slot, is_among, leads}
 use Rattle.cyc_simplify.specs.declared.fact.Fact.{Fact}
 use Rattle.cyc_simplify.specs.declared.fact.Fact.TheVariants as facts_are
 use Rattle.cyc_simplify.specs.declared.fact.Written.{Written}

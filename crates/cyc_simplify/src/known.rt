@@ -1,6 +1,6 @@
 //! Which facts are the same, and which are among others.
 ghost use Rattle.std.specs.Prelude.{◌≡◌, ◌&&◌};
-ghost use Rattle.cyc_frame.specs.inside.Uses as uses;
+ghost use Rattle.cyc_plain.specs.inside.Uses as uses;
 ghost use Rattle.cyc_simplify.specs.inside.Facts as facts_of;
 ghost use Rattle.cyc_simplify.specs.inside.Table as table;
 

@@ -8,8 +8,7 @@ ghost use Rattle.cyc_simplify.specs.inside.Table.{ArePins};
 
 use crate::effects::{leaves_slot, suits};
 use crate::fact::{Fact, Written};
-use cyc_frame::MOST_FRAME_WORDS;
-use cyc_plain::{Function, Instruction, Operand, RECORD_WORDS};
+use cyc_plain::{Function, Instruction, MOST_FRAME_WORDS, Operand, RECORD_WORDS};
 use std::alloc::{AllocError, Global};
 
 /// Whether a slot is one of the function's, and its address is not taken.

@@ -1,7 +1,7 @@
 //! The code of a function, each instruction by what is known where it stands.
 ghost use Rattle.std.specs.Prelude.{◌≡◌, ◌+◌, ◌<◌, ◌^◌, true, IfOk, IfSome, length};
 ghost use Rattle.cyc_plain.specs.inside.Program.{routine_of};
-ghost use Rattle.cyc_frame.specs.inside.Homes.{At};
+ghost use Rattle.cyc_plain.specs.inside.Uses.{At};
 ghost use Rattle.cyc_simplify.specs.inside.Entries as entries_of;
 ghost use Rattle.cyc_simplify.specs.inside.Facts as facts_of;
 ghost use Rattle.cyc_simplify.specs.inside.Table as table;

@@ -3,12 +3,13 @@ use Rattle.std.specs.Prelude.{◌≡◌, ℕ, suc, ◌+◌, ◌<◌, ◌≤◌, 
 use Rattle.cyc_plain.specs.declared.instruction.Instruction.{Instruction}
 use Rattle.cyc_plain.specs.declared.instruction.Instruction.TheVariants as instructions
 use Rattle.cyc_plain.specs.inside.Program.{Routine, Program}
+use Rattle.cyc_plain.specs.inside.Uses.{At, writes}
 use Rattle.cyc_frame.specs.declared.home.Home.{Home}
 use Rattle.cyc_frame.specs.declared.home.Home.TheVariants as homes
 use Rattle.cyc_frame.specs.declared.home.TheConstants.{FIRST_REGISTER, MOST_BOTH}
 use Rattle.cyc_frame.specs.declared.live.TheConstants.{MOST_REGISTERS}
-use Rattle.cyc_frame.specs.inside.Homes.{At, Wanted, HasRegister, register_of, is_kept, home_of, both_count}
-use Rattle.cyc_frame.specs.inside.Uses.{writes, bars}
+use Rattle.cyc_frame.specs.inside.Homes.{Wanted, HasRegister, register_of, is_kept, home_of, both_count}
+use Rattle.cyc_frame.specs.inside.Bars.{bars}
 
 abbrev pub register_count : Home → ℕ
 register_count homes.Memory = 0

@@ -1,17 +1,14 @@
 -- Which slots are wanted later, and when the homes of a function's slots are right. "Wanted" is what compilers call live:
 -- there is a way through the code to an instruction that needs the slot's word, with none before that gives it another.
-use Rattle.std.specs.Prelude.{◌≡◌, ℕ, zero, suc, ◌<◌, ◌≤◌, ◌⊎◌, Bool, true, false, List, length, sum_by, Option, Some, None, slice_get, slice_index_or}
+use Rattle.std.specs.Prelude.{◌≡◌, ℕ, zero, suc, ◌<◌, ◌≤◌, ◌⊎◌, Bool, true, false, List, length, sum_by, Option, Some, None, slice_index_or}
 use Rattle.cyc_plain.specs.declared.instruction.Instruction.{Instruction}
 use Rattle.cyc_plain.specs.declared.instruction.Instruction.TheVariants as instructions
 use Rattle.cyc_plain.specs.inside.Program.{Routine, Program}
+use Rattle.cyc_plain.specs.inside.Uses.{is_among, reads, writes, leads}
 use Rattle.cyc_frame.specs.declared.home.Home.{Home}
 use Rattle.cyc_frame.specs.declared.home.Home.TheVariants as homes
 use Rattle.cyc_frame.specs.declared.home.TheConstants.{FIRST_REGISTER, REGISTERS_END, MOST_BOTH}
-use Rattle.cyc_frame.specs.inside.Uses.{is_among, reads, writes, leads, bars}
-
--- this instruction stands in the code
-abbrev pub At : Routine → (index : ℕ) → Instruction → Type 0
-At r index i = slice_get r.code index ≡ Some i
+use Rattle.cyc_frame.specs.inside.Bars.{bars}
 
 -- a slot's word is needed so many instructions later, and has not been written before
 abbrev pub WantedIn : Program → Routine → (slot steps index : ℕ) → Type 0

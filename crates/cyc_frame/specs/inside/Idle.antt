@@ -10,9 +10,10 @@ use Rattle.cyc_plain.specs.declared.instruction.Operand.{Operand}
 use Rattle.cyc_plain.specs.declared.instruction.Operand.TheVariants as operands
 use Rattle.cyc_plain.specs.inside.Operators.{compares}
 use Rattle.cyc_plain.specs.inside.Program.{Routine, Program}
+use Rattle.cyc_plain.specs.inside.Uses.{At}
 use Rattle.cyc_frame.specs.declared.home.Home.{Home}
 use Rattle.cyc_frame.specs.declared.home.Home.TheVariants as homes
-use Rattle.cyc_frame.specs.inside.Homes.{At, Wanted, HasRegister, is_kept, home_of}
+use Rattle.cyc_frame.specs.inside.Homes.{Wanted, HasRegister, is_kept, home_of}
 
 -- it has a result whatever the words are
 abbrev pub always_has_result : BinaryOperator → Bool

@@ -6,11 +6,11 @@ use Rattle.cyc_plain.specs.declared.instruction.Instruction.{Instruction}
 use Rattle.cyc_plain.specs.declared.instruction.Instruction.TheVariants as instructions
 use Rattle.cyc_plain.specs.declared.instruction.Operand.{Operand}
 use Rattle.cyc_plain.specs.declared.instruction.Operand.TheVariants as operands
+use Rattle.cyc_plain.specs.inside.Uses.{is_slot}
 use Rattle.cyc_frame.specs.declared.home.Home.{Home}
 use Rattle.cyc_frame.specs.inside.Homes.{is_kept, home_of}
 use Rattle.cyc_frame.specs.inside.Idle.{always_has_result}
 use Rattle.cyc_frame.specs.inside.Masks.{mask_at}
-use Rattle.cyc_frame.specs.inside.Uses.{is_slot}
 
 -- a word is said to be another than itself
 abbrev pub never_holds : Comparison → (left right : Operand) → Bool

@@ -7,10 +7,10 @@ use Rattle.cyc_words.specs.declared.span.Span.{Span}
 use Rattle.cyc_plain.specs.declared.instruction.Instruction.{Instruction}
 use Rattle.cyc_plain.specs.declared.instruction.Instruction.TheVariants as instructions
 use Rattle.cyc_plain.specs.inside.Program.{Routine, Program, routine_at}
+use Rattle.cyc_plain.specs.declared.limits.TheConstants.{MOST_FRAME_WORDS}
 use Rattle.cyc_frame.specs.inside.Frame.{Frame}
 use Rattle.cyc_frame.specs.inside.Homes.{AreHomes}
 use Rattle.cyc_frame.specs.inside.Idle.{AreIdle}
-use Rattle.cyc_frame.specs.declared.frame.TheConstants.{MOST_FRAME_WORDS}
 
 -- the word of a frame that holds a slot
 abbrev pub slot_word : Frame → ℕ → ℕ

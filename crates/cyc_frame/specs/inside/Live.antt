@@ -5,8 +5,8 @@ use Rattle.std.specs.Prelude.{◌≡◌, ℕ, ◌+◌, Bool, true, ◌==◌, ◌
 use Rattle.cyc_plain.specs.declared.instruction.Instruction.{Instruction}
 use Rattle.cyc_plain.specs.declared.instruction.Instruction.TheVariants as instructions
 use Rattle.cyc_plain.specs.inside.Program.{Routine, Program}
+use Rattle.cyc_plain.specs.inside.Uses.{At}
 use Rattle.cyc_frame.specs.declared.live.TheConstants.{ALL_NUMBERS}
-use Rattle.cyc_frame.specs.inside.Homes.{At}
 use Rattle.cyc_frame.specs.inside.Masks.{mask_at, read_mask, write_mask, bar_mask}
 
 -- what the table has where the run may stand behind an instruction

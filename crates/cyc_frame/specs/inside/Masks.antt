@@ -10,7 +10,7 @@ use Rattle.cyc_plain.specs.declared.instruction.Request.{Request}
 use Rattle.cyc_plain.specs.declared.instruction.Request.TheVariants as requests
 use Rattle.cyc_plain.specs.declared.limits.TheConstants.{RECORD_WORDS}
 use Rattle.cyc_plain.specs.inside.Program.{Program, routine_at}
-use Rattle.cyc_frame.specs.inside.Uses.{is_crossing}
+use Rattle.cyc_frame.specs.inside.Bars.{is_crossing}
 
 -- the mask of a slot, or of a place in the code; where there is none, 0
 abbrev pub mask_at : List ℕ → (place : ℕ) → ℕ

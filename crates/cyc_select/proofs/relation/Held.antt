@@ -1,5 +1,6 @@
 -- The words of an instruction's operands: each is a word, lies in memory, or is in the register of its slot.
 use Rattle.std.proofs.Common.{◌≡◌, ℕ, ◌*◌, ◌<◌, ◌≤◌, true, List, Option, Some, None, refl, subst}
+use Rattle.cyc_plain.specs.inside.Uses.{is_slot, reads}
 use Rattle.cyc_machine.specs.State.{globals_length, words_per_call}
 use Rattle.cyc_isa.specs.Effect.{memory_address}
 use Rattle.cyc_words.specs.Word.{IsWord}
@@ -14,7 +15,6 @@ use Rattle.cyc_plain.specs.inside.WellFormed.{IsOperand, IsOfWord, IsWellFormed}
 use Rattle.cyc_frame.specs.inside.Frame.{Frame}
 use Rattle.cyc_frame.specs.inside.Homes.{AreHomes, Wanted}
 use Rattle.cyc_frame.specs.inside.Layout.{AreFrames, frame_at}
-use Rattle.cyc_frame.specs.inside.Uses.{is_slot, reads}
 use Rattle.cyc_select.specs.declared.constants.TheConstants.{FRAME}
 use Rattle.cyc_select.specs.inside.Labelled.{Labelled, IsFormed}
 use Rattle.cyc_select.specs.inside.Machine as labelled

@@ -4,13 +4,14 @@ use Rattle.std.proofs.Common.{◌≡◌, ◌≢◌, ℕ, suc, ◌+◌, ◌*◌, 
 use Rattle.std.specs.Prelude.{nat_lt}
 use Rattle.std.proofs.lemmas.Bool.{cases_eq, ltb-true, or_cases}
 use Rattle.cyc_words.specs.Word.{IsWord}
+use Rattle.cyc_frame.specs.inside.Bars.{bars}
 use Rattle.cyc_isa.specs.Effect.{memory_address}
 use Rattle.cyc_isa.specs.declared.instr.Instr.TheVariants.{Memory}
 use Rattle.cyc_isa.specs.declared.instr.MemoryOp.TheVariants.{LoadWord, StoreWord, LoadByte, StoreByte}
 use Rattle.cyc_isa.specs.declared.operand.Register.{Register}
 use Rattle.cyc_machine.specs.State.{data_base, stack_end, globals_length, words_per_call}
 use Rattle.cyc_store.specs.State.{StoreState}
-use Rattle.cyc_plain.specs.declared.limits.TheConstants.{GLOBALS_BASE}
+use Rattle.cyc_plain.specs.declared.limits.TheConstants.{GLOBALS_BASE, MOST_FRAME_WORDS}
 use Rattle.cyc_plain.specs.declared.instruction.Instruction.{Instruction}
 use Rattle.cyc_plain.specs.declared.instruction.Instruction.TheVariants as instructions
 use Rattle.cyc_plain.specs.inside.Memory.{pins, is_pinned, global_at, slot_at, word_or, word_waiting, put_or, with_waiting, Range, OfGlobals, OfStore, OfSlots, range_of, word_in, memory_at, with_global, with_slot, with_word, with_memory}
@@ -21,10 +22,8 @@ use Rattle.cyc_plain.specs.inside.WellFormed.{IsWellFormed}
 use Rattle.cyc_plain.proofs.MemoryLaws.{numbered-from, pinned-inside, length-waiting}
 use Rattle.cyc_plain.proofs.SlotLaws.{put-same, put-other}
 use Rattle.cyc_frame.specs.inside.Homes.{AreHomes}
-use Rattle.cyc_frame.specs.inside.Uses.{bars}
 use Rattle.cyc_frame.specs.inside.Layout.{AreFrames, IsFrame, slot_word, frame_at}
 use Rattle.cyc_frame.specs.inside.Frame.{Frame}
-use Rattle.cyc_frame.specs.declared.frame.TheConstants.{MOST_FRAME_WORDS}
 use Rattle.cyc_select.specs.declared.constants.TheConstants.{HANDLERS}
 use Rattle.cyc_select.specs.declared.code.Line.TheVariants as lines
 use Rattle.cyc_select.specs.inside.Labelled.{Labelled, IsFormed}

@@ -2,6 +2,7 @@
 -- end of the stack on, each with its slots and, where it waits, its return address.
 use Rattle.std.proofs.Common.{◌≡◌, ◌≢◌, ℕ, zero, suc, ◌+◌, ◌*◌, ◌%◌, ◌^◌, ◌<◌, ◌≤◌, Bool, true, false, List, [], ◌∷◌, length, Some, None, slice_get, refl, sym, ap, subst, ◌∙◌, arith, inl, inr}
 use Rattle.std.specs.List.{AllByRecursion}
+use Rattle.cyc_plain.specs.declared.limits.TheConstants.{MOST_FRAME_WORDS}
 use Rattle.cyc_select.specs.declared.constants.TheConstants.{LOWEST, FRAME, HANDLERS, REGIONS, GLOBALS, GLOBALS_MIDDLE}
 use Rattle.cyc_words.specs.Word.{IsWord}
 use Rattle.cyc_isa.specs.Effect.{memory_address}
@@ -19,7 +20,6 @@ use Rattle.cyc_plain.proofs.SlotLaws.{put-same, put-other}
 use Rattle.std.proofs.lemmas.Bool.{cases_eq, or_left, or_right}
 use Rattle.cyc_frame.specs.inside.Layout.{IsFrame, AreFrames, slot_word, frame_at, loses, loses_any}
 use Rattle.cyc_frame.specs.inside.Frame.{Frame}
-use Rattle.cyc_frame.specs.declared.frame.TheConstants.{MOST_FRAME_WORDS}
 use Rattle.cyc_select.specs.inside.Selection.{slot_offset, is_kept, instruction_line, body_count}
 use Rattle.cyc_select.proofs.values.Blocks.{lasting, newest_lasts, count_lasts, middle_lasts}
 use Rattle.cyc_select.proofs.relation.Cells.{IsCell}

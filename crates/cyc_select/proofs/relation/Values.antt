@@ -4,6 +4,8 @@ use Rattle.std.specs.Prelude.{◌⊎◌, ◌==◌, nat_le, nat_lt, sum_by}
 use Rattle.std.proofs.lemmas.Bool.{cases_eq, cases_lt, cases_Bool, eq-eqb, ne_eqb, le-leb, lt-ltb, leb-true, leb-false, ltb-true, ltb-false, and_parts, and_from, and_cases, false≢true}
 use Rattle.std.proofs.lemmas.List.{get_or_past}
 use Rattle.std.proofs.lemmas.List.Sums.{sum_by-cons}
+use Rattle.cyc_plain.specs.inside.Uses.{is_among, writes, leads}
+use Rattle.cyc_frame.specs.inside.Bars.{bars}
 use Rattle.cyc_isa.specs.Effect.{memory_address}
 use Rattle.cyc_plain.specs.declared.instruction.Instruction.{Instruction}
 use Rattle.cyc_plain.specs.declared.instruction.Instruction.TheVariants as plain
@@ -15,7 +17,6 @@ use Rattle.cyc_frame.specs.inside.Frame.{Frame}
 use Rattle.cyc_frame.specs.inside.Homes as homing
 use Rattle.cyc_frame.specs.inside.Homes.{AreHomes, Wanted}
 use Rattle.cyc_frame.specs.inside.Layout.{frame_at}
-use Rattle.cyc_frame.specs.inside.Uses.{is_among, writes, leads, bars}
 use Rattle.cyc_frame.specs.declared.home.Home.{Home}
 use Rattle.cyc_frame.specs.declared.home.Home.TheVariants as homes
 use Rattle.cyc_select.specs.declared.constants.TheConstants.{FIRST, FRAME}

@@ -3,6 +3,7 @@ use Rattle.std.proofs.Common.{◌≡◌, ◌≢◌, ℕ, zero, suc, ◌+◌, ◌
 use Rattle.std.specs.Prelude.{◌⊎◌, ◌==◌, ◌||◌, if◌then◌else◌}
 use Rattle.std.proofs.lemmas.Bool.{cases_eq, eqb-false, ne_eqb, false≢true}
 use Rattle.cyc_words.specs.Word.{IsWord, add_of}
+use Rattle.cyc_plain.specs.declared.limits.TheConstants.{MOST_FRAME_WORDS}
 use Rattle.cyc_isa.specs.declared.instr.Instr.{Instr}
 use Rattle.cyc_select.specs.declared.constants.TheConstants.{FIRST, FRAME}
 use Rattle.cyc_isa.specs.Effect.{memory_address}
@@ -10,7 +11,6 @@ use Rattle.cyc_plain.specs.inside.State.{Words, put}
 use Rattle.cyc_plain.proofs.SlotLaws.{put-same, put-other}
 use Rattle.cyc_frame.specs.inside.Layout.{slot_word}
 use Rattle.cyc_frame.specs.inside.Frame.{Frame}
-use Rattle.cyc_frame.specs.declared.frame.TheConstants.{MOST_FRAME_WORDS}
 use Rattle.cyc_select.specs.inside.Selection.{value_register, or_else, is_kept, made_in, slot_offset, load, store_slot, copy, keep_code, give_to, is_taken, free_register, passed_from, pass_from, pass, copies}
 use Rattle.cyc_select.proofs.values.Blocks.{safe_append}
 use Rattle.cyc_select.proofs.relation.Cells.{IsCell}

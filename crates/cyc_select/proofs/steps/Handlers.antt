@@ -3,6 +3,7 @@ use Rattle.std.proofs.Common.{◌≡◌, ℕ, suc, ◌+◌, ◌*◌, ◌<◌, �
 use Rattle.std.specs.Prelude.{◌==◌, if◌then◌else◌}
 use Rattle.std.proofs.lemmas.Bool.{or_left, false≢true}
 use Rattle.cyc_words.specs.Word.{IsWord, add_of, sign_extended}
+use Rattle.cyc_plain.specs.inside.Uses.{is_among}
 use Rattle.cyc_isa.specs.Effect.{memory_address}
 use Rattle.cyc_isa.specs.declared.instr.Instr.{Instr}
 use Rattle.cyc_machine.specs.State.{globals_length, words_per_call}
@@ -18,7 +19,6 @@ use Rattle.cyc_plain.proofs.SlotLaws.{put-other, copied-below, copied-above}
 use Rattle.cyc_plain.proofs.RunLaws.{zeros, zeros_at, lies_at}
 use Rattle.cyc_plain.proofs.WordLaws.{either_word}
 use Rattle.cyc_frame.specs.inside.Homes.{AreHomes}
-use Rattle.cyc_frame.specs.inside.Uses.{is_among}
 use Rattle.cyc_frame.specs.inside.Layout.{AreFrames, frame_at}
 use Rattle.cyc_frame.specs.inside.Frame.{Frame}
 use Rattle.cyc_select.specs.declared.constants.TheConstants.{FRAME, LOWEST, HANDLERS, REGIONS, GLOBALS}

@@ -2,6 +2,7 @@
 use Rattle.std.proofs.Common.{◌≡◌, ◌≢◌, ℕ, suc, ◌+◌, ◌*◌, ◌≤◌, Bool, true, false, List, Some, refl, sym, ap, subst, ◌∙◌, arith, inl, inr}
 use Rattle.std.specs.Prelude.{◌⊎◌, ◌==◌, if◌then◌else◌}
 use Rattle.std.proofs.lemmas.Bool.{cases_eq, eq-eqb, false≢true, or_left}
+use Rattle.cyc_plain.specs.inside.Uses.{writes, leads}
 use Rattle.cyc_machine.specs.State.{globals_length, words_per_call}
 use Rattle.cyc_plain.specs.declared.instruction.Instruction.{Instruction}
 use Rattle.cyc_plain.specs.declared.instruction.Instruction.TheVariants as plain
@@ -25,7 +26,6 @@ use Rattle.cyc_frame.specs.inside.Homes as homing
 use Rattle.cyc_frame.specs.inside.Homes.{AreHomes, Wanted}
 use Rattle.cyc_frame.specs.inside.Idle.{IsIdle, IsThere, IsUnused, NeverHolds, always_has_result, idle_at}
 use Rattle.cyc_frame.specs.inside.Layout.{AreFrames, frame_at}
-use Rattle.cyc_frame.specs.inside.Uses.{writes, leads}
 use Rattle.cyc_select.specs.inside.Labelled.{Labelled, IsFormed}
 use Rattle.cyc_select.specs.inside.Machine.{State}
 use Rattle.cyc_select.specs.inside.Selection.{value_register, instruction_line, behind_count, body_count, is_idle}

@@ -4,6 +4,7 @@ use Rattle.std.specs.Prelude.{◌⊎◌}
 use Rattle.std.proofs.lemmas.Bool.{eq-eqb, ne_eqb, or_left, or_right}
 use Rattle.cyc_words.specs.Ending.{Full}
 use Rattle.cyc_words.specs.Word.{IsWord, add_of, sign_extended}
+use Rattle.cyc_plain.specs.inside.Uses.{is_slot, request_reads, request_writes}
 use Rattle.cyc_isa.specs.Effect.{memory_address}
 use Rattle.cyc_isa.specs.declared.instr.Instr.{Instr}
 use Rattle.cyc_machine.specs.State.{globals_length, words_per_call}
@@ -28,7 +29,6 @@ use Rattle.cyc_plain.proofs.SlotLaws.{put-other}
 use Rattle.cyc_plain.proofs.RunLaws.{zeros, zeros_refused, over_within, lies_at}
 use Rattle.cyc_frame.specs.inside.Homes.{AreHomes, Wanted}
 use Rattle.cyc_frame.specs.inside.Layout.{AreFrames, frame_at}
-use Rattle.cyc_frame.specs.inside.Uses.{is_slot, request_reads, request_writes}
 use Rattle.cyc_frame.specs.inside.Frame.{Frame}
 use Rattle.cyc_select.specs.declared.constants.TheConstants.{LOWEST, FRAME, HANDLERS, REGIONS, GLOBALS}
 use Rattle.cyc_select.specs.inside.Labelled.{Labelled, IsFormed}

@@ -7,6 +7,7 @@ use Rattle.cyc_words.specs.Ending.{Ending, Uncaught}
 use Rattle.cyc_words.specs.Word.{IsWord, signed, add_of, sign_extended}
 use Rattle.cyc_words.specs.Simulation as simulation
 use Rattle.cyc_words.proofs.SeenLemmas.{seen_same}
+use Rattle.cyc_plain.specs.inside.Uses.{is_slot, reads, writes, leads}
 use Rattle.cyc_isa.specs.Effect.{branch_taken, branch_zero_taken, memory_address}
 use Rattle.cyc_isa.specs.declared.instr.Instr.{Instr}
 use Rattle.cyc_isa.specs.declared.instr.BranchOp.TheVariants as branch
@@ -34,7 +35,6 @@ use Rattle.cyc_plain.proofs.SlotLaws.{put-same, put-other}
 use Rattle.cyc_plain.proofs.RunLaws.{zeros, over_within, zeros_at, calls_nothing}
 use Rattle.cyc_frame.specs.inside.Homes.{AreHomes}
 use Rattle.cyc_frame.specs.inside.Layout.{AreFrames, frame_at}
-use Rattle.cyc_frame.specs.inside.Uses.{is_slot, reads, writes, leads}
 use Rattle.cyc_frame.specs.inside.Frame.{Frame}
 use Rattle.cyc_machine.specs.declared.constants.TheConstants.{ARGUMENT, END_UNCAUGHT, PUT_BYTE, SECOND_ARGUMENT, SERVICE, RETURN_ADDRESS}
 use Rattle.cyc_select.specs.declared.code.Line.{Line}

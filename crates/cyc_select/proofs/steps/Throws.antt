@@ -4,6 +4,8 @@ use Rattle.std.specs.Prelude.{◌==◌, if◌then◌else◌}
 use Rattle.std.proofs.lemmas.Bool.{eq-eqb, ne_eqb, or_left, or_right}
 use Rattle.cyc_words.specs.Ending.{Ending, Uncaught}
 use Rattle.cyc_words.specs.Word.{signed, add_of, sign_extended}
+use Rattle.cyc_plain.specs.inside.Uses.{is_slot}
+use Rattle.cyc_plain.specs.declared.limits.TheConstants.{MOST_FRAME_WORDS}
 use Rattle.cyc_isa.specs.Effect.{memory_address}
 use Rattle.cyc_isa.specs.Decoding.{register_of}
 use Rattle.cyc_isa.specs.declared.instr.Instr.{Instr}
@@ -19,10 +21,8 @@ use Rattle.cyc_plain.specs.inside.State.{Words, AreWords, put, copied, Handler, 
 use Rattle.cyc_plain.specs.inside.Step.{is_intact, lands, throws, instruction_at, operand_word, performed}
 use Rattle.cyc_plain.specs.inside.WellFormed.{IsOperand, IsOfWord, IsTryInRange, IsWellFormed}
 use Rattle.cyc_plain.proofs.RunLaws.{zeros, zeros_at, over_within}
-use Rattle.cyc_frame.specs.inside.Uses.{is_slot}
 use Rattle.cyc_frame.specs.inside.Layout.{AreFrames, slot_word, frame_at}
 use Rattle.cyc_frame.specs.inside.Frame.{Frame}
-use Rattle.cyc_frame.specs.declared.frame.TheConstants.{MOST_FRAME_WORDS}
 use Rattle.cyc_select.specs.declared.constants.TheConstants.{FRAME, LOWEST, HANDLERS, REGIONS, ZERO, GLOBALS}
 use Rattle.cyc_select.specs.declared.code.Condition.TheVariants as conditions
 use Rattle.cyc_select.specs.declared.code.Line.{Line}

@@ -2,10 +2,10 @@
 use Rattle.std.specs.Prelude.{◌≡◌, ℕ, ◌+◌, ◌<◌, Bool, true, ◌==◌, ◌&&◌, if◌then◌else◌, List, [], ◌∷◌, length, Option, Some, None, slice_get, slice_index_or}
 use Rattle.cyc_plain.specs.declared.instruction.Instruction.{Instruction}
 use Rattle.cyc_plain.specs.declared.instruction.Instruction.TheVariants as instructions
+use Rattle.cyc_plain.specs.inside.Uses.{At}
 use Rattle.cyc_simplify.specs.declared.entry.Entry.{Entry}
 use Rattle.cyc_simplify.specs.declared.fact.Fact.{Fact}
 use Rattle.cyc_plain.specs.inside.Program.{Program, Routine, no_routine, routine_at}
-use Rattle.cyc_frame.specs.inside.Homes.{At}
 use Rattle.cyc_simplify.specs.declared.fact.Written.{Written}
 use Rattle.cyc_simplify.specs.inside.Facts.{keeps, made}
 use Rattle.cyc_simplify.specs.inside.Replacement.{simplified_instruction}

@@ -15,7 +15,7 @@ use Rattle.cyc_plain.specs.inside.Operators.{binary_result, has_no_result, compa
 use Rattle.cyc_plain.specs.inside.Program.{Program, routine_at}
 use Rattle.cyc_plain.specs.inside.State.{Words}
 use Rattle.cyc_plain.specs.inside.Step.{operand_word}
-use Rattle.cyc_frame.specs.inside.Uses.{is_slot, is_among}
+use Rattle.cyc_plain.specs.inside.Uses.{is_slot, is_among}
 use Rattle.cyc_simplify.specs.declared.fact.Fact.{Fact}
 use Rattle.cyc_simplify.specs.declared.fact.Fact.TheVariants as facts_are
 use Rattle.cyc_simplify.specs.declared.fact.Written.{Written}

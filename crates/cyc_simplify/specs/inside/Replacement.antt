@@ -9,7 +9,7 @@ use Rattle.cyc_plain.specs.declared.instruction.Request.TheVariants as requests
 use Rattle.cyc_plain.specs.declared.instruction.BinaryOperator.{BinaryOperator}
 use Rattle.cyc_plain.specs.declared.instruction.Comparison.{Comparison}
 use Rattle.cyc_plain.specs.declared.instruction.Comparison.TheVariants as comparisons
-use Rattle.cyc_frame.specs.inside.Uses.{is_slot}
+use Rattle.cyc_plain.specs.inside.Uses.{is_slot}
 use Rattle.cyc_simplify.specs.declared.fact.Fact.{Fact}
 use Rattle.cyc_simplify.specs.declared.fact.Fact.TheVariants as facts_are
 use Rattle.cyc_simplify.specs.inside.Facts.{is_same_operator, is_same_comparison, is_same_operand, is_known, negated}

@@ -5,8 +5,7 @@ use Rattle.cyc_plain.specs.declared.instruction.Instruction.{Instruction}
 use Rattle.cyc_plain.specs.declared.instruction.Instruction.TheVariants as instructions
 use Rattle.cyc_plain.specs.inside.Memory.{is_pinned}
 use Rattle.cyc_plain.specs.inside.Program.{Routine, Program, routine_at}
-use Rattle.cyc_frame.specs.inside.Homes.{At}
-use Rattle.cyc_frame.specs.inside.Uses.{leads}
+use Rattle.cyc_plain.specs.inside.Uses.{At, leads}
 use Rattle.cyc_simplify.specs.declared.fact.Fact.{Fact}
 use Rattle.cyc_simplify.specs.declared.fact.Fact.TheVariants as facts_are
 use Rattle.cyc_simplify.specs.inside.Facts.{Entails, is_same_fact, is_known, is_free, are_suited, written, kept, made, facts_behind}

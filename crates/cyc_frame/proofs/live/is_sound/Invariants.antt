@@ -1,7 +1,7 @@
 use Rattle.std.proofs.Common.{◌≡◌, ◌<◌, true, ℕ}
 use Rattle.cyc_plain.specs.declared.instruction.Instruction.{Instruction}
 use Rattle.cyc_plain.specs.inside.Program.{routine_of}
-use Rattle.cyc_frame.specs.inside.Homes.{At}
+use Rattle.cyc_plain.specs.inside.Uses.{At}
 use Rattle.cyc_frame.specs.inside.Live.{is_sound_at}
 use Rattle.cyc_frame.proofs.live.is_sound.Given as goal
 

@@ -1,8 +1,8 @@
 use Rattle.std.proofs.Common.{◌<◌, length, sym, subst, arith}
 use Rattle.cyc_plain.specs.inside.Program.{routine_at}
+use Rattle.cyc_plain.specs.declared.limits.TheConstants.{MOST_FRAME_WORDS}
 use Rattle.cyc_frame.specs.inside.Frame.{Frame}
 use Rattle.cyc_frame.specs.inside.Layout.{frame_at}
-use Rattle.cyc_frame.specs.declared.frame.TheConstants.{MOST_FRAME_WORDS}
 use Rattle.cyc_select.specs.inside.Emission.{AreReached}
 use Rattle.cyc_select.proofs.emission.Numbering.{slots_reached, homes_reached}
 use Rattle.cyc_select.proofs.tables.Tables.frame.Goals as goal

@@ -1,5 +1,6 @@
--- What an instruction does with the slots of its function, one by one.
-use Rattle.std.specs.Prelude.{ℕ, suc, ◌+◌, ◌-◌, Bool, false, ◌==◌, ◌||◌, ◌&&◌, nat_le, nat_lt}
+-- What an instruction does with the slots of its function, one by one: which it reads (uses) and writes (defines), and where the
+-- run may stand behind it (its successors).
+use Rattle.std.specs.Prelude.{◌≡◌, ℕ, suc, ◌+◌, Bool, false, ◌==◌, ◌||◌, ◌&&◌, nat_le, nat_lt, Some, slice_get}
 use Rattle.cyc_plain.specs.declared.instruction.Instruction.{Instruction}
 use Rattle.cyc_plain.specs.declared.instruction.Instruction.TheVariants as instructions
 use Rattle.cyc_plain.specs.declared.instruction.Operand.{Operand}
@@ -7,7 +8,11 @@ use Rattle.cyc_plain.specs.declared.instruction.Operand.TheVariants as operands
 use Rattle.cyc_plain.specs.declared.instruction.Request.{Request}
 use Rattle.cyc_plain.specs.declared.instruction.Request.TheVariants as requests
 use Rattle.cyc_plain.specs.declared.limits.TheConstants.{RECORD_WORDS}
-use Rattle.cyc_plain.specs.inside.Program.{Program, routine_at}
+use Rattle.cyc_plain.specs.inside.Program.{Routine, Program, routine_at}
+
+-- this instruction stands in the code
+abbrev pub At : Routine → (index : ℕ) → Instruction → Type 0
+At r index i = slice_get r.code index ≡ Some i
 
 abbrev pub is_slot : Operand → (slot : ℕ) → Bool
 is_slot (operands.Slot number) slot = number == slot
@@ -16,10 +21,6 @@ is_slot (operands.Word word) slot = false
 -- one of so many slots from this one on
 abbrev pub is_among : (first count slot : ℕ) → Bool
 is_among first count slot = nat_le first slot && nat_lt slot (first + count)
-
--- words that are moved one by one, from the first on, get lost: some are still to be moved from slots that have got others
-abbrev pub is_crossing : (destination source count : ℕ) → Bool
-is_crossing destination source count = nat_lt source destination && nat_lt (destination - source) count
 
 abbrev pub request_reads : Request → (slot : ℕ) → Bool
 request_reads (requests.OpenLexical destination) slot = false
@@ -87,12 +88,3 @@ leads (instructions.Throw tag value) index next = false
 leads (instructions.Finish value) index next = false
 leads (instructions.Uncaught tag value) index next = false
 leads instruction index next = suc index == next
-
--- it has the slot's word in memory, or needs it there beside others: no register for the slot
-abbrev pub bars : Instruction → (slot : ℕ) → Bool
-bars (instructions.MoveWords destination source count) slot =
-    is_crossing destination source count && (is_among destination count slot || is_among source count slot)
-bars (instructions.AddressOf destination taken count) slot = is_among taken count slot
-bars (instructions.Try first handler) slot = is_among first RECORD_WORDS slot
-bars (instructions.Leave first) slot = is_among first RECORD_WORDS slot
-bars instruction slot = false

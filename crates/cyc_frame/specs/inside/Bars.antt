@@ -1,0 +1,19 @@
+-- Which slots an instruction bars from registers: it has their words in memory, or needs them there.
+use Rattle.std.specs.Prelude.{ℕ, ◌-◌, Bool, false, ◌||◌, ◌&&◌, nat_lt}
+use Rattle.cyc_plain.specs.declared.instruction.Instruction.{Instruction}
+use Rattle.cyc_plain.specs.declared.instruction.Instruction.TheVariants as instructions
+use Rattle.cyc_plain.specs.declared.limits.TheConstants.{RECORD_WORDS}
+use Rattle.cyc_plain.specs.inside.Uses.{is_among}
+
+-- words that are moved one by one, from the first on, get lost: some are still to be moved from slots that have got others
+abbrev pub is_crossing : (destination source count : ℕ) → Bool
+is_crossing destination source count = nat_lt source destination && nat_lt (destination - source) count
+
+-- it has the slot's word in memory, or needs it there beside others: no register for the slot
+abbrev pub bars : Instruction → (slot : ℕ) → Bool
+bars (instructions.MoveWords destination source count) slot =
+    is_crossing destination source count && (is_among destination count slot || is_among source count slot)
+bars (instructions.AddressOf destination taken count) slot = is_among taken count slot
+bars (instructions.Try first handler) slot = is_among first RECORD_WORDS slot
+bars (instructions.Leave first) slot = is_among first RECORD_WORDS slot
+bars instruction slot = false
