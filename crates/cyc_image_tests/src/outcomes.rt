@@ -2,7 +2,7 @@
 
 use cyc_machine::Limits;
 use cyc_pagestore::PageStore;
-use cyc_store::PlainStore;
+use cyc_plainstore::PlainStore;
 use cyc_system::{Report, RunFault, run_with};
 use cyc_words::{ByteIn, ByteOut};
 use std::alloc::Global;

@@ -8,7 +8,7 @@ use Rattle.cyc_store.specs.Ledger.{Blocks, memory_of, store_of, no_blocks}
 use Rattle.cyc_store.specs.State.{AreWords, Heap, start, opened}
 use Rattle.cyc_store.specs.Soundness.{IsSound}
 use Rattle.cyc_store.specs.Slots.{IsLaidOut}
-use Rattle.cyc_store.specs.inside.Table.{free_row, row_at}
+use Rattle.cyc_store.specs.Table.{free_row, row_at}
 use Rattle.cyc_store.specs.inside.Kept.{handle_of_page, numbers_from, IsStocked, IsTied, table_of, no_slots}
 use Rattle.cyc_store.specs.declared.row.PageTable.{PageTable}
 use Rattle.cyc_store.specs.declared.row.Role.TheVariants as role

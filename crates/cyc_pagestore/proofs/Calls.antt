@@ -3,7 +3,7 @@ use Rattle.std.proofs.Common.{◌≡◌, ℕ, zero, suc, ◌+◌, ◌*◌, ◌^�
 use Rattle.std.specs.Prelude.{◌⊎◌, slice_index, slice_index_or}
 use Rattle.std.proofs.lemmas.Bool.{true≢false}
 use Rattle.std.proofs.lemmas.List.{get_or_default}
-use Rattle.cyc_store.specs.inside.Table.{marked_between, row_at}
+use Rattle.cyc_store.specs.Table.{marked_between, row_at}
 use Rattle.cyc_store.specs.declared.row.Role.{Role}
 use Rattle.cyc_store.specs.declared.row.Role.TheVariants.{Rest, Slots}
 use Rattle.cyc_store.specs.declared.row.TheConstants.{NONE}

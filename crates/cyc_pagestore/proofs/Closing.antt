@@ -4,7 +4,7 @@ use Rattle.std.specs.Prelude.{◌⊎◌, set}
 use Rattle.std.specs.List.{AllByRecursion}
 use Rattle.std.proofs.lemmas.Bool.{cases_eq}
 use Rattle.cyc_words.specs.Distinct.{IsDistinct}
-use Rattle.cyc_store.specs.inside.Table.{free_row, row_at, given_rows, given_free}
+use Rattle.cyc_store.specs.Table.{free_row, row_at, given_rows, given_free}
 use Rattle.cyc_store.specs.inside.Kept.{IsChain, IsOneOf}
 use Rattle.cyc_store.specs.declared.row.Role.TheVariants.{Rest}
 use Rattle.cyc_store.specs.declared.row.Row.{Row}

@@ -7,7 +7,7 @@ use Rattle.cyc_store.specs.Ledger.{Blocks, store_of, after}
 use Rattle.cyc_store.specs.State.{lookup, address_of, StoreState}
 use Rattle.cyc_store.specs.Services.{Allocate, Allocated, Free, Done, Refused, Full, Serves}
 use Rattle.cyc_store.specs.Slots.{HasSlot, IsSpent, Stocks, Fills}
-use Rattle.cyc_store.specs.inside.Table.{marked_between}
+use Rattle.cyc_store.specs.Table.{marked_between}
 use Rattle.cyc_store.specs.inside.Kept.{next_slot_of, no_slots}
 use Rattle.cyc_store.specs.declared.change.Change.TheVariants.{Stocked, MadeUnique, Freed}
 use Rattle.cyc_store.specs.declared.range.TheConstants.{MOST_BLOCK_WORDS, UNIQUE}

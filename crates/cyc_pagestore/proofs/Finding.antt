@@ -12,7 +12,7 @@ use Rattle.cyc_store.specs.State.{lookup, StoreState, Sort, Heap, Lexical, Dynam
 use Rattle.cyc_store.specs.Services.{names_dynamic}
 use Rattle.cyc_store.specs.Ordered.{IsOrdered}
 use Rattle.cyc_store.specs.inside.Kept.{handle_of_page, role_of, sort_of}
-use Rattle.cyc_store.specs.inside.Table.{row_at}
+use Rattle.cyc_store.specs.Table.{row_at}
 use Rattle.cyc_store.specs.declared.row.Role.TheVariants as role
 use Rattle.cyc_store.specs.declared.range.TheConstants.{STORE_BASE, PAGE_WORDS, UNIQUE}
 use Rattle.cyc_store.specs.declared.row.PageTable.{PageTable}

@@ -5,7 +5,7 @@ use Rattle.std.proofs.lemmas.List.{get_or_default}
 use Rattle.cyc_store.specs.Ledger.{Blocks, store_of, plain_store, blocks_of}
 use Rattle.cyc_store.specs.State.{lookup, Home, handle_of, StoreState, made_in}
 use Rattle.cyc_store.specs.Services.{Allocate, Allocated, Refused, Full, Serves}
-use Rattle.cyc_store.specs.inside.Table.{free_row, row_at}
+use Rattle.cyc_store.specs.Table.{free_row, row_at}
 use Rattle.cyc_store.specs.inside.Kept.{handle_of_page}
 use Rattle.cyc_store.specs.declared.range.TheConstants.{MOST_BLOCK_WORDS}
 use Rattle.cyc_store.specs.declared.row.PageTable.{PageTable}

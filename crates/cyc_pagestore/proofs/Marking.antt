@@ -2,7 +2,7 @@
 use Rattle.std.proofs.Common.{◌≡◌, ℕ, ◌+◌, ◌<◌, ◌≤◌, Bool, sym, ◌∙◌, inl, inr, arith}
 use Rattle.std.specs.Prelude.{◌⊎◌}
 use Rattle.std.proofs.lemmas.Bool.{cases_lt}
-use Rattle.cyc_store.specs.inside.Table.{marked_between}
+use Rattle.cyc_store.specs.Table.{marked_between}
 use Rattle.cyc_store.proofs.TableLemmas.{cases_between, between-in, between-out}
 use Rattle.cyc_rawpages.specs.inside.Pool.{between}
 

@@ -6,7 +6,7 @@ use Rattle.std.proofs.lemmas.List.{get_or_default}
 use Rattle.cyc_store.specs.Ledger.{Blocks, store_of, plain_store, blocks_of, Stored, Unwinds}
 use Rattle.cyc_store.specs.State.{lookup, without, Sort, Heap, Lexical, Dynamic, Uniques, Home, handle_of, StoreState, homes, holder, demand, lexical_count, opened}
 use Rattle.cyc_store.specs.Services.{Call, OpenDynamic, Opened, OpenLexical, OpenedLexical, Done, Serves}
-use Rattle.cyc_store.specs.inside.Table.{free_row, row_at, given_rows, given_free}
+use Rattle.cyc_store.specs.Table.{free_row, row_at, given_rows, given_free}
 use Rattle.cyc_store.specs.inside.Kept.{handle_of_page, lexical_handles, role_of_sort, role_of, sort_of}
 use Rattle.cyc_store.specs.declared.row.Role.{Role}
 use Rattle.cyc_store.specs.declared.row.Role.TheVariants as role

@@ -12,7 +12,7 @@ use Rattle.cyc_store.specs.Ledger.{Blocks, store_of}
 use Rattle.cyc_store.specs.Pages.{IsFree}
 use Rattle.cyc_store.specs.Slots.{Layout, IsLaidOut}
 use Rattle.cyc_store.specs.State.{Home, demand}
-use Rattle.cyc_store.specs.inside.Table.{Draws, row_at}
+use Rattle.cyc_store.specs.Table.{Draws, row_at}
 use Rattle.cyc_store.specs.inside.Kept.{Table, IsChain, IsOneOf, numbers_from, IsRooted, IsTied, IsKept, table_of, no_slots}
 use Rattle.cyc_store.specs.declared.row.PageTable.{PageTable}
 use Rattle.cyc_store.specs.declared.row.Row.{Row}

@@ -9,7 +9,7 @@ use Rattle.cyc_words.proofs.Booleans.{some_there}
 use Rattle.cyc_store.specs.State.{lookup, address_of, handle_of, StoreState}
 use Rattle.cyc_store.specs.Ledger.{Blocks, store_of}
 use Rattle.cyc_store.specs.Slots.{place_of, IsSlot, IsLiveSlot}
-use Rattle.cyc_store.specs.inside.Table.{row_at}
+use Rattle.cyc_store.specs.Table.{row_at}
 use Rattle.cyc_store.specs.inside.Kept.{sort_of, handle_of_page, IsKept, table_of}
 use Rattle.cyc_store.specs.declared.row.PageTable.{PageTable}
 use Rattle.cyc_store.specs.declared.row.Role.TheVariants as role

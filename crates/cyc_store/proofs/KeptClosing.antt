@@ -9,7 +9,7 @@ use Rattle.cyc_store.specs.Services.{CloseDynamic, Done, is_dynamic, names_dynam
 use Rattle.cyc_store.specs.Ledger.{Blocks, store_of}
 use Rattle.cyc_store.specs.Pages.{given_back}
 use Rattle.cyc_store.specs.Slots.{IsLaidOut}
-use Rattle.cyc_store.specs.inside.Table.{row_at, given_rows, given_free, AreThere}
+use Rattle.cyc_store.specs.Table.{row_at, given_rows, given_free, AreThere}
 use Rattle.cyc_store.specs.inside.Kept.{role_of, role_of_sort, role_of_owner, sort_of, handle_of_page, IsRooted, lexical_handles, IsTied, IsKept, table_of, no_slots}
 use Rattle.cyc_store.specs.declared.row.PageTable.{PageTable}
 use Rattle.cyc_store.specs.declared.row.Role.TheVariants as role

@@ -12,7 +12,7 @@ use Rattle.cyc_store.specs.Services.{Free, Done, Serves}
 use Rattle.cyc_store.specs.Soundness.{IsSound}
 use Rattle.cyc_store.specs.Ledger.{Blocks, memory_of, store_of, after}
 use Rattle.cyc_store.specs.Slots.{place_of, slot_block, IsSlot, IsLiveSlot, IsDeadSlot, IsLaidOut}
-use Rattle.cyc_store.specs.inside.Table.{marked_between}
+use Rattle.cyc_store.specs.Table.{marked_between}
 use Rattle.cyc_store.specs.inside.Kept.{IsChain, IsStocked, IsTied, IsKept, table_of, no_slots}
 use Rattle.cyc_store.specs.declared.change.Change.TheVariants.{Freed}
 use Rattle.cyc_store.specs.declared.row.PageTable.{PageTable}

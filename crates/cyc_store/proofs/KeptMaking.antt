@@ -9,7 +9,7 @@ use Rattle.cyc_store.specs.Services.{Allocate, Allocated, Refused, Full, refusal
 use Rattle.cyc_store.specs.Ledger.{Blocks, store_of, plain_store, blocks_of}
 use Rattle.cyc_store.specs.Pages.{page_start, IsPaged, drawn, filled_to, mark_of}
 use Rattle.cyc_store.specs.Slots.{IsLaidOut}
-use Rattle.cyc_store.specs.inside.Table.{Draws, row_at}
+use Rattle.cyc_store.specs.Table.{Draws, row_at}
 use Rattle.cyc_store.specs.inside.Kept.{limit, handle_of_page, IsRooted, IsTied, IsKept, table_of, no_slots}
 use Rattle.cyc_store.specs.declared.row.PageTable.{PageTable}
 use Rattle.cyc_store.specs.declared.row.Row.{Row}

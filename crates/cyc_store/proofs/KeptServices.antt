@@ -12,7 +12,7 @@ use Rattle.cyc_store.specs.Soundness.{IsSound}
 use Rattle.cyc_store.specs.Ledger.{Blocks, memory_of, store_of, plain_store, blocks_of}
 use Rattle.cyc_store.specs.Pages.{IsPaged, drawn}
 use Rattle.cyc_store.specs.Slots.{IsLaidOut}
-use Rattle.cyc_store.specs.inside.Table.{IsWhole, IsSame, Draws, free_row, row_at}
+use Rattle.cyc_store.specs.Table.{IsWhole, IsSame, Draws, free_row, row_at}
 use Rattle.cyc_store.specs.inside.Kept.{numbers_from, handle_of_page, lexical_handles, IsTied, IsKept, table_of, no_slots}
 use Rattle.cyc_store.specs.declared.row.PageTable.{PageTable}
 use Rattle.cyc_store.specs.declared.row.Row.{Row}

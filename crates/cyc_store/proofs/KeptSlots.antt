@@ -10,7 +10,7 @@ use Rattle.cyc_store.specs.State.{Block, address_of, StoreState, demand, live_in
 use Rattle.cyc_store.specs.Soundness.{IsSound}
 use Rattle.cyc_store.specs.Ledger.{Blocks, store_of, plain_store, blocks_of, after}
 use Rattle.cyc_store.specs.Slots.{place_of, Layout, slot_block, slots_from, IsSlot, IsDeadSlot, IsLaidOut, HasSlot, IsSpent, with_page, Fills, Stocks}
-use Rattle.cyc_store.specs.inside.Table.{Draws, marked_between}
+use Rattle.cyc_store.specs.Table.{Draws, marked_between}
 use Rattle.cyc_store.specs.inside.Kept.{Table, IsChain, IsStocked, next_slot_of, IsTied, IsKept, table_of, no_slots}
 use Rattle.cyc_store.specs.declared.change.Change.TheVariants.{Stocked, MadeUnique}
 use Rattle.cyc_store.specs.declared.row.PageTable.{PageTable}

@@ -7,7 +7,7 @@ use Rattle.cyc_store.specs.State.{AreWords, Heap, Uniques, StoreState, start, op
 use Rattle.cyc_store.specs.Soundness.{IsSound}
 use Rattle.cyc_store.specs.Ledger.{Blocks, memory_of, store_of, plain_store, blocks_of, no_blocks}
 use Rattle.cyc_store.specs.Slots.{Layout, IsLaidOut}
-use Rattle.cyc_store.specs.inside.Table.{Draws, row_at}
+use Rattle.cyc_store.specs.Table.{Draws, row_at}
 use Rattle.cyc_store.specs.inside.Kept.{handle_of_page, numbers_from, IsStocked, IsKept, no_slots}
 use Rattle.cyc_store.specs.declared.row.PageTable.{PageTable}
 use Rattle.cyc_store.specs.declared.row.TheConstants.{NONE}

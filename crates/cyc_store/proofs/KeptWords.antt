@@ -5,7 +5,7 @@ use Rattle.std.proofs.Math.Nat.{mod-lt}
 use Rattle.std.proofs.lemmas.List.{get_or_default}
 use Rattle.cyc_store.specs.State.{homes, holder}
 use Rattle.cyc_store.specs.Ledger.{Blocks, store_of}
-use Rattle.cyc_store.specs.inside.Table.{row_at}
+use Rattle.cyc_store.specs.Table.{row_at}
 use Rattle.cyc_store.specs.inside.Kept.{IsKept, table_of}
 use Rattle.cyc_store.specs.declared.row.PageTable.{PageTable}
 use Rattle.cyc_store.specs.declared.row.Row.{Row}

@@ -7,7 +7,7 @@ use Rattle.std.proofs.lemmas.Nat.{pow_pos}
 use mathlib.Core.Path.{fun_ext}
 use Rattle.cyc_words.proofs.Numbers.{when_equal}
 use Rattle.cyc_store.specs.Slots.{IsSlot, slots_from}
-use Rattle.cyc_store.specs.inside.Table.{row_at, marked_between}
+use Rattle.cyc_store.specs.Table.{row_at, marked_between}
 use Rattle.cyc_store.specs.inside.Kept.{IsStocked, table_of}
 use Rattle.cyc_store.specs.declared.row.PageTable.{PageTable}
 use Rattle.cyc_store.specs.declared.row.ClassSlots.{ClassSlots}

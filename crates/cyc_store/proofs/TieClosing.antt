@@ -10,7 +10,7 @@ use Rattle.cyc_store.specs.State.{lookup, without, Home, handle_of}
 use Rattle.cyc_store.specs.Ledger.{Blocks}
 use Rattle.cyc_store.specs.Pages.{owner_without, given_back}
 use Rattle.cyc_store.specs.Slots.{Layout}
-use Rattle.cyc_store.specs.inside.Table.{free_row, row_at, given_rows, given_free, AreThere}
+use Rattle.cyc_store.specs.Table.{free_row, row_at, given_rows, given_free, AreThere}
 use Rattle.cyc_store.specs.inside.Kept.{Table, IsChain, IsOneOf, numbers_from, limit, role_of, sort_of, handle_of_page, IsRooted, lexical_handles, IsTied}
 use Rattle.cyc_store.specs.declared.row.Role.TheVariants as role
 use Rattle.cyc_store.specs.declared.row.Row.{Row}

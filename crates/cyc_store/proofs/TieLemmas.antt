@@ -6,7 +6,7 @@ use Rattle.std.proofs.lemmas.Bool.{cases_lt}
 use mathlib.Core.Path.{fun_ext}
 use Rattle.cyc_store.specs.Ledger.{Blocks}
 use Rattle.cyc_store.specs.Slots.{Layout}
-use Rattle.cyc_store.specs.inside.Table.{row_at, Draws}
+use Rattle.cyc_store.specs.Table.{row_at, Draws}
 use Rattle.cyc_store.specs.inside.Kept.{Table, IsChain, numbers_from, IsTied, table_of}
 use Rattle.cyc_store.specs.declared.row.PageTable.{PageTable}
 use Rattle.cyc_store.specs.declared.row.Row.{Row}

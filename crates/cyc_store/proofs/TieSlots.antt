@@ -12,7 +12,7 @@ use Rattle.cyc_store.specs.State.{lookup, Block, address_of, Home, handle_of}
 use Rattle.cyc_store.specs.Ledger.{Blocks}
 use Rattle.cyc_store.specs.Pages.{drawn}
 use Rattle.cyc_store.specs.Slots.{place_of, Layout, IsSlot, slots_from}
-use Rattle.cyc_store.specs.inside.Table.{marked_between}
+use Rattle.cyc_store.specs.Table.{marked_between}
 use Rattle.cyc_store.specs.inside.Kept.{Table, limit, role_of, role_of_owner, sort_of, handle_of_page, IsRow, IsRooted, IsStocked, IsTied}
 use Rattle.cyc_store.specs.declared.row.Role.TheVariants as role
 use Rattle.cyc_store.specs.declared.row.Row.{Row}

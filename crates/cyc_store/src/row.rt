@@ -70,10 +70,10 @@ pub struct PageTable {
 }
 
 impl PageTable {
-    ghost use Rattle.cyc_store.specs.inside.Table.{IsWhole, IsSame, Draws, given_rows, given_free, AreThere, marked_between};
+    ghost use Rattle.cyc_store.specs.Table.{IsWhole, IsSame, Draws, given_rows, given_free, AreThere, marked_between};
 
     /// A table of no pages.
-    pub(crate) fn new(alloc: Global, most: u32) -> PageTable
+    pub fn new(alloc: Global, most: u32) -> PageTable
         ensures most { result.most ≡ most }
         ensures words { result.words.items ≡ [] }
         ensures live { result.live.items ≡ [] }
@@ -90,14 +90,14 @@ impl PageTable {
     }
 
     /// Whether every page is in use.
-    pub(crate) fn is_full(&self) -> bool
+    pub fn is_full(&self) -> bool
         ensures { IsTrue result ↔ ((length self.now.rows.items ≤ self.now.free) × (self.now.most ≤ length self.now.rows.items)) }
     {
         self.rows.len() <= self.free as usize && self.most as usize <= self.rows.len()
     }
 
     /// Takes a page that is free, or one more.
-    pub(crate) fn draw(&mut self) -> Result<u32, AllocError>
+    pub fn draw(&mut self) -> Result<u32, AllocError>
         requires few { length self.old.rows.items ≤ 65536 }
         requires whole { IsWhole self.old }
         ensures draws { IfOk result (λ page. Draws self.old self.new page) }
@@ -122,7 +122,7 @@ impl PageTable {
     }
 
     /// Marks so many words from one on as those of a live unique block, or as those of none.
-    pub(crate) fn mark(&mut self, first: usize, count: usize, mark: bool)
+    pub fn mark(&mut self, first: usize, count: usize, mark: bool)
         requires { first + count ≤ length self.old.live.items }
         ensures live { (word : ℕ) → slice_index_or self.new.live.items word false ≡ marked_between (λ (other : ℕ). slice_index_or self.old.live.items other false) first count mark word }
         ensures whole { length self.new.live.items ≡ length self.old.live.items }
@@ -137,7 +137,7 @@ impl PageTable {
     }
 
     /// Frees a chain of so many pages.
-    pub(crate) fn give_back(&mut self, newest: u32, count: u32)
+    pub fn give_back(&mut self, newest: u32, count: u32)
         requires { AreThere self.old.rows.items newest count self.old.free }
         ensures rows { self.new.rows.items ≡ given_rows self.old.rows.items newest count self.old.free }
         ensures free { self.new.free ≡ given_free self.old.rows.items newest count self.old.free }

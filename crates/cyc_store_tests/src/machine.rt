@@ -4,8 +4,8 @@
 use crate::expect::{expect, expect_number, expect_text};
 use cyc_elf::read_image;
 use cyc_machine::{Event, Limits, LoadFault};
+use cyc_plainstore::PlainStore;
 use cyc_rows::rows::{decimal, hexadecimal, put_numbers, put_words};
-use cyc_store::PlainStore;
 use std::alloc::Global;
 use std::process::Abort;
 

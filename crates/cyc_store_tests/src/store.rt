@@ -3,8 +3,9 @@
 
 use crate::expect::{expect, expect_number, expect_text};
 use cyc_pagestore::PageStore;
+use cyc_plainstore::PlainStore;
 use cyc_rows::rows::decimal;
-use cyc_store::{HEAP, No, PlainStore, STORE_BASE, Store, UNIQUE};
+use cyc_store::{HEAP, No, STORE_BASE, Store, UNIQUE};
 use std::alloc::Global;
 use std::process::Abort;
 

@@ -27,9 +27,10 @@ use cyc_machine::{Cause, End, Event, Limits, LoadFault, Machine};
 use cyc_pagestore::PageStore;
 use cyc_parse::parse;
 use cyc_plain::{Plain, well_formed};
+use cyc_plainstore::PlainStore;
 use cyc_rawpages::{Chain, PageNo, Pool};
 use cyc_select::{Code, select};
-use cyc_store::{BadHandle, BadMark, No, NotABlock, PlainStore, Store};
+use cyc_store::{BadHandle, BadMark, No, NotABlock, Store};
 use cyc_syntax::{Name, Names, Span, Token, Tree};
 use cyc_system::{
     Limit, Report, RunFault, Stop, compile, compile_with, disassemble, note_of, run, run_with,

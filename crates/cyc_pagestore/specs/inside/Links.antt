@@ -1,6 +1,6 @@
 -- The rows of a table of pages with the links between them, as data, and what the table's calls do to them.
 use Rattle.std.specs.Prelude.{ℕ, zero, suc, ◌+◌, ◌==◌, if◌then◌else◌, List, [], ◌∷◌, replicate, set}
-use Rattle.cyc_store.specs.inside.Table.{free_row, row_at, given_rows, given_free}
+use Rattle.cyc_store.specs.Table.{free_row, row_at, given_rows, given_free}
 use Rattle.cyc_store.specs.inside.Kept.{numbers_from}
 use Rattle.cyc_store.specs.declared.row.Role.{Role}
 use Rattle.cyc_store.specs.declared.row.Role.TheVariants.{Rest, Slots}

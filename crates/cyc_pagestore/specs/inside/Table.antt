@@ -2,7 +2,7 @@
 use Rattle.std.specs.Prelude.{◌≡◌, ℕ, ◌+◌, ◌*◌, ◌^◌, ◌<◌, ◌≤◌, ◌⊎◌, Bool, true, false, List, [], ◌∷◌, length, replicate, set, slice_index, slice_index_or}
 use Rattle.std.specs.List.{AllByRecursion}
 use Rattle.cyc_words.specs.Distinct.{IsDistinct}
-use Rattle.cyc_store.specs.inside.Table.{free_row, row_at, given_rows, given_free, marked_between}
+use Rattle.cyc_store.specs.Table.{free_row, row_at, given_rows, given_free, marked_between}
 use Rattle.cyc_store.specs.inside.Kept.{IsChain, IsOneOf, numbers_from}
 use Rattle.cyc_store.specs.declared.row.Role.{Role}
 use Rattle.cyc_store.specs.declared.row.Role.TheVariants.{Rest, Heap, Lexical, Dynamic}

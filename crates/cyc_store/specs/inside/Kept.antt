@@ -5,7 +5,7 @@ use Rattle.std.specs.List.{AllByRecursion}
 use Rattle.cyc_words.specs.Demand.{greatest_class}
 use Rattle.cyc_store.specs.State.{lookup, address_of, Sort, Heap, Lexical, Dynamic, Uniques, Home, handle_of, is_lexical}
 use Rattle.cyc_store.specs.Ledger.{Blocks, store_of}
-use Rattle.cyc_store.specs.inside.Table.{row_at, IsWhole}
+use Rattle.cyc_store.specs.Table.{row_at, IsWhole}
 use Rattle.cyc_store.specs.declared.row.Role.{Role}
 use Rattle.cyc_store.specs.declared.row.Role.TheVariants as role
 use Rattle.cyc_store.specs.declared.row.Row.{Row}

@@ -1,6 +1,6 @@
 use Rattle.std.proofs.Common.{◌≡◌, ℕ, false, ap, sym, subst, ◌∙◌, arith}
 use Rattle.std.specs.Prelude.{slice_index_or}
-use Rattle.cyc_store.specs.inside.Table.{marked_between}
+use Rattle.cyc_store.specs.Table.{marked_between}
 use Rattle.cyc_pagestore.specs.inside.Table.{IsBacked, Marks}
 use Rattle.cyc_pagestore.proofs.Calls.{view_of, mark-keeps, mark-gives}
 use Rattle.cyc_pagestore.proofs.table.PoolTable.mark.Goals as goal

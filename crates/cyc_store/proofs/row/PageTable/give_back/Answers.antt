@@ -1,7 +1,7 @@
 use Rattle.std.proofs.Common.{◌-◌, ◌<◌, length, subst}
 use Rattle.std.specs.Prelude.{set}
 use Rattle.cyc_store.specs.declared.row.Row.{Row}
-use Rattle.cyc_store.specs.inside.Table.{free_row}
+use Rattle.cyc_store.specs.Table.{free_row}
 use Rattle.cyc_store.proofs.TableLemmas.{IsGiving, giving-there, giving-step, row_at-read}
 use Rattle.cyc_store.proofs.row.PageTable.give_back.Goals as goal
 

@@ -1,6 +1,6 @@
 use Rattle.std.proofs.Common.{◌≡◌, ℕ, false, length}
 use Rattle.std.specs.Prelude.{slice_index_or}
-use Rattle.cyc_store.specs.inside.Table.{marked_between}
+use Rattle.cyc_store.specs.Table.{marked_between}
 use Rattle.cyc_store.proofs.row.PageTable.mark.Given as goal
 
 -- the marks so far are written, and all else stays
