@@ -14,9 +14,9 @@ use Rattle.cyc_plain.specs.inside.WellFormed.{IsWellFormed}
 use Rattle.cyc_words.specs.Decision.{Decides}
 use Rattle.cyc_words.specs.Fault.{memory_fault}
 use Rattle.cyc_words.proofs.Decisions.{IsDecided, decides}
-use Rattle.cyc_frame.specs.declared.home.Home.{Home}
-use Rattle.cyc_frame.specs.inside.Homes.{AreHomes}
-use Rattle.cyc_frame.specs.inside.Idle.{AreIdle}
+use Rattle.cyc_registers.specs.declared.home.Home.{Home}
+use Rattle.cyc_registers.specs.inside.Interference.{AreHomes}
+use Rattle.cyc_registers.specs.inside.Idle.{AreIdle}
 use Rattle.cyc_frame.specs.inside.Layout.{AreFirstFrames, AreFrames, HasSmallFrames, IsAccepted, IsFrame, IsTooLarge, first_too_large, frame_at, is_too_large, loses_any}
 
 pub is_frame : (r : Routine) (saves : Bool) (homes : List Home) (idle : List Bool) → saves ≡ loses_any r.code → r.slots + LAYOUT_WORDS ≤ r.frame_count → r.frame_count ≤ MOST_FRAME_WORDS

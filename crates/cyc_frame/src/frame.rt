@@ -1,9 +1,9 @@
 //! The frames of a program's functions.
 ghost use Rattle.std.specs.Prelude.{◌≡◌};
-ghost use Rattle.cyc_frame.specs.inside.Homes.{home_of};
-ghost use Rattle.cyc_frame.specs.inside.Idle.{idle_at};
+ghost use Rattle.cyc_registers.specs.inside.Interference.{home_of};
+ghost use Rattle.cyc_registers.specs.inside.Idle.{idle_at};
 
-use crate::home::Home;
+use cyc_registers::Home;
 use std::marker::Model;
 
 /// How the words of a function's frame are used, and where its slots live. A word is named by its number from the frame's

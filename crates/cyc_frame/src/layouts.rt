@@ -3,14 +3,14 @@
 ghost use Rattle.std.specs.Prelude.{◌≡◌, ◌+◌, ◌≤◌, length, map, IfOk};
 ghost use Rattle.cyc_words.specs.Decision.{Decides};
 ghost use Rattle.cyc_plain.specs.inside.Program.{routine_of};
-ghost use Rattle.cyc_frame.specs.inside.Homes.{AreHomes};
-ghost use Rattle.cyc_frame.specs.inside.Idle.{AreIdle};
+ghost use Rattle.cyc_registers.specs.inside.Interference.{AreHomes};
+ghost use Rattle.cyc_registers.specs.inside.Idle.{AreIdle};
 ghost use Rattle.cyc_frame.specs.inside.Layout.{AreFirstFrames, AreFrames, HasSmallFrames, IsAccepted, IsFrame, IsTooLarge, first_too_large, loses, loses_any};
 
-use crate::allocation::allocate;
 use crate::frame::Frame;
 use crate::frames::Frames;
 use cyc_plain::{Function, Instruction, LAYOUT_WORDS, MOST_FRAME_WORDS, Plain};
+use cyc_registers::allocate;
 use cyc_words::{Code, Fault, Span};
 use std::alloc::{AllocError, Global};
 

@@ -11,10 +11,11 @@ use crate::instructions::{
     load, load_slot, load_word, offset_of, pop_frame, push_frame, small, store, store_slot, syscall,
 };
 use crate::operands::{is_kept, made_in, passed_from};
-use cyc_frame::{Frame, is_crossing};
+use cyc_frame::Frame;
 use cyc_isa::BranchOp;
 use cyc_machine::constants::{ARGUMENT, END_FULL, END_RETURNED, RETURN_ADDRESS, SERVICE};
 use cyc_plain::{GREATEST_VALUE, MOST_FRAME_WORDS, Operand};
+use cyc_registers::is_crossing;
 use std::alloc::AllocError;
 
 /// The registers of what a function returns, and of what a service answers.

@@ -3,7 +3,7 @@ ghost use Rattle.std.specs.Prelude.{◌≡◌, ◌+◌, ◌*◌, ◌<◌, ◌≤
 ghost use Rattle.cyc_plain.specs.inside.Program.{routine_of, routine_at, instruction_size, size};
 ghost use Rattle.cyc_plain.specs.inside.WellFormed.{IsPlain, IsInRange};
 ghost use Rattle.cyc_frame.specs.inside.Layout.{AreFrames, frame_at};
-ghost use Rattle.cyc_frame.specs.declared.home.TheConstants.{MOST_BOTH};
+ghost use Rattle.cyc_registers.specs.declared.home.TheConstants.{MOST_BOTH};
 ghost use Rattle.cyc_select.specs.inside.Selection.{saving_count, reload_count, spill_count, spills_count, pass_count, copies_count, moves_count, move_words_count, operator_count, ending_count, body_count, behind_count, is_idle, count_of, code_count, function_count};
 ghost use Rattle.cyc_select.specs.inside.Emission.{AreFew, most_lines, instruction_lines, function_starts};
 
@@ -17,10 +17,11 @@ use crate::operands::{
 };
 use crate::operators::{Parts, is_tested, plan_count, test_count};
 use crate::plan::{binary_plan, test_of, unary_plan};
-use cyc_frame::{Frame, is_crossing};
+use cyc_frame::Frame;
 use cyc_plain::{
     BinaryOperator, GREATEST_VALUE, Instruction, MOST_FRAME_WORDS, MOST_SIZE, Operand, Plain,
 };
+use cyc_registers::is_crossing;
 use std::alloc::{AllocError, Global};
 
 /// How many words a function returns.

@@ -1,7 +1,7 @@
 //! The lines that bring an operand into a register.
 ghost use Rattle.std.specs.Prelude.{◌≡◌, ◌≤◌, length, OnOk};
-ghost use Rattle.cyc_frame.specs.inside.Homes.{home_of, both_count};
-ghost use Rattle.cyc_frame.specs.declared.home.TheConstants.{MOST_BOTH};
+ghost use Rattle.cyc_registers.specs.inside.Interference.{home_of, both_count};
+ghost use Rattle.cyc_registers.specs.declared.home.TheConstants.{MOST_BOTH};
 ghost use Rattle.cyc_select.specs.inside.Selection.{ordinary, value_register, is_kept, made_in, keep_code, keep_count, give_code, give_count, bring_code, bring_all, is_taken, passed_from, move_count, reload, reloads, reload_count, word_code, load_code, operand_code, operand_register, word_count, load_count, operand_count};
 ghost use Rattle.cyc_select.specs.inside.Emission.{AddsLines, IsReached, AreReached, IsFound};
 
@@ -11,8 +11,9 @@ use crate::instructions::{
     copy, load_slot, load_upper, load_word, or_immediate, or_lower, small, store_slot,
 };
 use crate::numbers::{fits_signed, is_zero_word};
-use cyc_frame::{Frame, Home};
+use cyc_frame::Frame;
 use cyc_plain::Operand;
+use cyc_registers::Home;
 use std::alloc::AllocError;
 
 /// The home of a slot.

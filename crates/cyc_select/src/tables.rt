@@ -2,7 +2,7 @@
 ghost use Rattle.std.specs.Prelude.{◌≡◌, ◌+◌, ◌<◌, ◌≤◌, ◌==◌, length};
 ghost use Rattle.cyc_plain.specs.inside.Program.{routine_at};
 ghost use Rattle.cyc_frame.specs.inside.Layout.{frame_at};
-ghost use Rattle.cyc_frame.specs.declared.home.TheConstants.{MOST_BOTH};
+ghost use Rattle.cyc_registers.specs.declared.home.TheConstants.{MOST_BOTH};
 ghost use Rattle.cyc_select.specs.inside.Selection.{reload_count, function_line, instruction_line};
 ghost use Rattle.cyc_select.specs.inside.Emission.{AreReached, IsKnown};
 

@@ -1,9 +1,9 @@
 -- A frame as contracts see it.
 use Rattle.std.specs.Prelude.{ℕ, Bool, List}
-use Rattle.cyc_frame.specs.declared.home.Home.{Home}
+use Rattle.cyc_registers.specs.declared.home.Home.{Home}
 
 -- the word for the way back, whether it is there from the function's beginning on, the word of slot 0, where the slots' words
--- live while they are wanted, and which places of the code are idle
+-- are while they are live, and which places of the code are idle
 pub record Frame : Type 0 where
   pub return_address : ℕ
   pub saves : Bool

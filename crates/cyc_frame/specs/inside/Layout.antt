@@ -9,8 +9,8 @@ use Rattle.cyc_plain.specs.declared.instruction.Instruction.TheVariants as instr
 use Rattle.cyc_plain.specs.inside.Program.{Routine, Program, routine_at}
 use Rattle.cyc_plain.specs.declared.limits.TheConstants.{MOST_FRAME_WORDS}
 use Rattle.cyc_frame.specs.inside.Frame.{Frame}
-use Rattle.cyc_frame.specs.inside.Homes.{AreHomes}
-use Rattle.cyc_frame.specs.inside.Idle.{AreIdle}
+use Rattle.cyc_registers.specs.inside.Interference.{AreHomes}
+use Rattle.cyc_registers.specs.inside.Idle.{AreIdle}
 
 -- the word of a frame that holds a slot
 abbrev pub slot_word : Frame → ℕ → ℕ

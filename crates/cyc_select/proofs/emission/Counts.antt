@@ -2,7 +2,7 @@
 use Rattle.std.proofs.Common.{◌≡◌, ℕ, zero, suc, ◌+◌, ◌-◌, ◌*◌, ◌%◌, ◌^◌, ◌<◌, ◌≤◌, Bool, true, false, List, [], ◌∷◌, length, Option, None, Some, refl, sym, ap, ◌∙◌, arith, length-append}
 use Rattle.std.specs.Prelude.{◌==◌, ◌||◌, nat_lt, if◌then◌else◌}
 use Rattle.std.proofs.lemmas.Bool.{false≢true}
-use Rattle.cyc_frame.specs.inside.Bars.{is_crossing}
+use Rattle.cyc_registers.specs.inside.Bars.{is_crossing}
 use Rattle.cyc_isa.specs.declared.instr.Instr.{Instr}
 use Rattle.cyc_isa.specs.declared.instr.ArithmeticOp.{ArithmeticOp}
 use Rattle.cyc_isa.specs.declared.instr.ArithmeticOp.TheVariants as arithmetic

@@ -14,7 +14,7 @@ use Rattle.cyc_plain.specs.inside.Program.{Program, Routine, no_routine, routine
 use Rattle.cyc_plain.specs.inside.WellFormed.{IsCallInRange, IsMoveInRange, IsRequestInRange, IsRoutine, IsWellFormed}
 use Rattle.cyc_plain.specs.declared.instruction.Request.{Request}
 use Rattle.cyc_plain.specs.declared.limits.TheConstants.{GREATEST_VALUE, MOST_SIZE, MOST_FRAME_WORDS}
-use Rattle.cyc_frame.specs.inside.Homes.{AreHomes}
+use Rattle.cyc_registers.specs.inside.Interference.{AreHomes}
 use Rattle.cyc_frame.specs.inside.Layout.{IsFrame, AreFrames, frame_at, loses, loses_any}
 use Rattle.cyc_frame.specs.inside.Frame.{Frame}
 use Rattle.cyc_select.specs.declared.constants.TheConstants.{START_LINES}

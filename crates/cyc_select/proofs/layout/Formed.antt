@@ -7,7 +7,7 @@ use Rattle.std.proofs.lemmas.List.{get_or_past}
 use Rattle.cyc_words.specs.Word.{IsWord}
 use Rattle.cyc_words.proofs.Lists.{slice_get_below, all_append}
 use Rattle.cyc_plain.specs.declared.limits.TheConstants.{MOST_FRAME_WORDS}
-use Rattle.cyc_frame.specs.inside.Bars.{is_crossing}
+use Rattle.cyc_registers.specs.inside.Bars.{is_crossing}
 use Rattle.cyc_isa.specs.declared.instr.Instr.{Instr}
 use Rattle.cyc_machine.specs.State.{data_base}
 use Rattle.cyc_plain.specs.declared.instruction.Instruction.{Instruction}
@@ -34,8 +34,8 @@ use Rattle.cyc_plain.proofs.Placed.{holds_at, routine_in, below_of_get, goes_beh
 use Rattle.cyc_plain.proofs.Steps.{function_known}
 use Rattle.cyc_frame.specs.inside.Layout.{AreFrames, frame_at, slot_word}
 use Rattle.cyc_frame.specs.inside.Frame.{Frame}
-use Rattle.cyc_frame.specs.declared.home.Home.{Home}
-use Rattle.cyc_frame.specs.declared.home.Home.TheVariants as homes
+use Rattle.cyc_registers.specs.declared.home.Home.{Home}
+use Rattle.cyc_registers.specs.declared.home.Home.TheVariants as homes
 use Rattle.cyc_select.specs.declared.constants.TheConstants.{FIRST, SECOND, THIRD, ZERO, START_LINES, HANDLERS, REGIONS, GLOBALS}
 use Rattle.cyc_select.specs.declared.code.Line.{Line}
 use Rattle.cyc_select.specs.declared.code.Condition.TheVariants as conditions

@@ -13,7 +13,7 @@ use Rattle.cyc_plain.specs.inside.State.{Words, Configuration}
 use Rattle.cyc_plain.specs.inside.Step.{instruction_at, operand_word}
 use Rattle.cyc_plain.specs.inside.WellFormed.{IsOperand, IsOfWord, IsWellFormed}
 use Rattle.cyc_frame.specs.inside.Frame.{Frame}
-use Rattle.cyc_frame.specs.inside.Homes.{AreHomes, Wanted}
+use Rattle.cyc_registers.specs.inside.Interference.{AreHomes}
 use Rattle.cyc_frame.specs.inside.Layout.{AreFrames, frame_at}
 use Rattle.cyc_select.specs.declared.constants.TheConstants.{FRAME}
 use Rattle.cyc_select.specs.inside.Labelled.{Labelled, IsFormed}
@@ -24,6 +24,7 @@ use Rattle.cyc_select.proofs.relation.Matches.{At}
 use Rattle.cyc_select.proofs.relation.Standing.{Standing, slot_cell, slot_word_is, keeps_back}
 use Rattle.cyc_select.proofs.relation.Values.{Caches, memory_kept, itself}
 use Rattle.cyc_select.proofs.effects.Views.{Contents}
+use Rattle.cyc_registers.specs.inside.Liveness.{IsLiveAt}
 
 module _ (program : Program) (well : IsWellFormed program) (frames : List Frame) (fit : AreFrames program frames) (code : Labelled) (formed : IsFormed code) (addresses : ℕ → ℕ) (pages calls : ℕ) (few : calls ≤ 4096)
     (c : Configuration)
@@ -48,7 +49,7 @@ module _ (program : Program) (well : IsWellFormed program) (frames : List Frame)
   Uses i o = (slot : ℕ) → is_slot o slot ≡ true → reads (routine_at program c.active.function).results i slot ≡ true
 
   pub slot_held : (o : Option ℕ) (slot : ℕ) → value_register (frame_at frames c.active.function) slot ≡ o → slot < (routine_at program c.active.function).slots
-      → Wanted program (routine_at program c.active.function) slot c.active.next
+      → IsLiveAt program (routine_at program c.active.function) slot c.active.next
       → HeldIn globals_length (words_per_call * calls) o (frame_at frames c.active.function) (r FRAME) w r c.active.slots slot
   slot_held None slot none below wanted = (
     slot_cell program well frames fit addresses pages calls few c r w base back (keeps_back frames c) c.active.slots s slot below,

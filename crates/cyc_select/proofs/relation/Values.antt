@@ -1,11 +1,11 @@
--- Values in registers: a register has its slot's word wherever the slot is wanted.
+-- Values in registers: a register has its slot's word wherever the slot is live.
 use Rattle.std.proofs.Common.{◌≡◌, ◌≢◌, ℕ, zero, suc, ◌+◌, ◌-◌, ◌%◌, ◌<◌, ◌≤◌, Bool, true, false, List, [], ◌∷◌, length, Option, Some, None, refl, sym, ap, subst, ◌∙◌, arith, inl, inr}
 use Rattle.std.specs.Prelude.{◌⊎◌, ◌==◌, nat_le, nat_lt, sum_by}
 use Rattle.std.proofs.lemmas.Bool.{cases_eq, cases_lt, cases_Bool, eq-eqb, ne_eqb, le-leb, lt-ltb, leb-true, leb-false, ltb-true, ltb-false, and_parts, and_from, and_cases, false≢true}
 use Rattle.std.proofs.lemmas.List.{get_or_past}
 use Rattle.std.proofs.lemmas.List.Sums.{sum_by-cons}
 use Rattle.cyc_plain.specs.inside.Uses.{is_among, writes, leads}
-use Rattle.cyc_frame.specs.inside.Bars.{bars}
+use Rattle.cyc_registers.specs.inside.Bars.{bars}
 use Rattle.cyc_isa.specs.Effect.{memory_address}
 use Rattle.cyc_plain.specs.declared.instruction.Instruction.{Instruction}
 use Rattle.cyc_plain.specs.declared.instruction.Instruction.TheVariants as plain
@@ -14,17 +14,18 @@ use Rattle.cyc_plain.specs.inside.State.{Words, put, copied}
 use Rattle.cyc_plain.specs.inside.Step.{instruction_at}
 use Rattle.cyc_plain.proofs.SlotLaws.{put-same, put-other, copied-inside, copied-below, copied-above}
 use Rattle.cyc_frame.specs.inside.Frame.{Frame}
-use Rattle.cyc_frame.specs.inside.Homes as homing
-use Rattle.cyc_frame.specs.inside.Homes.{AreHomes, Wanted}
+use Rattle.cyc_registers.specs.inside.Interference as homing
+use Rattle.cyc_registers.specs.inside.Interference.{AreHomes}
 use Rattle.cyc_frame.specs.inside.Layout.{frame_at}
-use Rattle.cyc_frame.specs.declared.home.Home.{Home}
-use Rattle.cyc_frame.specs.declared.home.Home.TheVariants as homes
+use Rattle.cyc_registers.specs.declared.home.Home.{Home}
+use Rattle.cyc_registers.specs.declared.home.Home.TheVariants as homes
 use Rattle.cyc_select.specs.declared.constants.TheConstants.{FIRST, FRAME}
 use Rattle.cyc_select.specs.inside.Selection.{slot_offset, value_register, or_else, is_kept, made_in, reloads_from, reloads, reload_count}
 use Rattle.cyc_select.proofs.values.Blocks.{ValuesSame}
 use Rattle.cyc_select.proofs.relation.Cells.{IsCell}
 use Rattle.cyc_select.proofs.effects.Views.{Contents}
 use Rattle.cyc_select.proofs.effects.Walks.{after_r, after_w, AreSafe}
+use Rattle.cyc_registers.specs.inside.Liveness.{IsLiveAt}
 
 -- ---- homes
 
@@ -76,12 +77,12 @@ itself slot = eq-eqb slot slot refl
 pub apart_from : (a b : ℕ) → b ≢ a → (a == b) ≡ false
 apart_from a b other = ne_eqb a b (λ same. other (sym same))
 
--- ---- what is wanted
+-- ---- what is live
 
--- registers have the words of their slots, where those are wanted
+-- registers have the words of their slots, where those are live
 abbrev pub Caches : Program → List Frame → (function index : ℕ) → (r slots : Words) → Type 0
 Caches program frames function index r slots =
-    (slot k : ℕ) → value_register (frame_at frames function) slot ≡ Some k → Wanted program (routine_at program function) slot index → r k ≡ slots slot
+    (slot k : ℕ) → value_register (frame_at frames function) slot ≡ Some k → IsLiveAt program (routine_at program function) slot index → r k ≡ slots slot
 
 module _ (program : Program) (frames : List Frame) (function : ℕ) (right : AreHomes program (routine_at program function) (frame_at frames function).homes) where
   abbrev frame : Frame
@@ -90,10 +91,10 @@ module _ (program : Program) (frames : List Frame) (function : ℕ) (right : Are
   abbrev IsAt : (index : ℕ) → Instruction → Type 0
   IsAt index i = instruction_at program (record { function = function; index = index }) ≡ Some i
 
-  -- what is wanted behind an instruction that does not write it is wanted before it
-  pub wanted_before : (index next slot : ℕ) (i : Instruction) → IsAt index i → leads i index next ≡ true → writes program i slot ≡ false
-      → Wanted program (routine_at program function) slot next → Wanted program (routine_at program function) slot index
-  wanted_before index next slot i at led unwritten (steps, wanted) = (suc steps, (i, at, unwritten, next, led, wanted))
+  -- what is live behind an instruction that does not write it is live before it
+  pub live_earlier : (index next slot : ℕ) (i : Instruction) → IsAt index i → leads i index next ≡ true → writes program i slot ≡ false
+      → IsLiveAt program (routine_at program function) slot next → IsLiveAt program (routine_at program function) slot index
+  live_earlier index next slot i at led unwritten (steps, wanted) = (suc steps, (i, at, unwritten, next, led, wanted))
 
   -- behind an instruction that changes no slot which has a register
   pub caches_past : (index next : ℕ) (r r' slots slots' : Words) (i : Instruction) → IsAt index i → leads i index next ≡ true
@@ -102,7 +103,7 @@ module _ (program : Program) (frames : List Frame) (function : ℕ) (right : Are
       → ValuesSame r' r → Caches program frames function index r slots → Caches program frames function next r' slots'
   caches_past index next r r' slots slots' i at led unwritten same values caches slot k has wanted =
       values k (right.low slot k has) (right.high slot k has)
-      ∙ (caches slot k has (wanted_before index next slot i at led (unwritten slot k has) wanted) ∙ sym (same slot k has))
+      ∙ (caches slot k has (live_earlier index next slot i at led (unwritten slot k has) wanted) ∙ sym (same slot k has))
 
   -- behind one that gives a slot a word
   pub made_caches : (index destination word : ℕ) (r r' slots : Words) (i : Instruction) → IsAt index i
@@ -115,7 +116,7 @@ module _ (program : Program) (frames : List Frame) (function : ℕ) (right : Are
         result k (ap (value_register (frame_at frames function)) (sym same) ∙ has) ∙ sym (ap (put slots destination word) same ∙ put-same slots destination word)
     | inr other ↦
         others k (right.low slot k has) (right.high slot k has) (λ shared. other (right.made index (index + 1) slot destination k i at gets led shared has wanted))
-        ∙ (caches slot k has (wanted_before index (index + 1) slot i at led (unwritten slot other) wanted) ∙ sym (put-other slots destination slot word other))
+        ∙ (caches slot k has (live_earlier index (index + 1) slot i at led (unwritten slot other) wanted) ∙ sym (put-other slots destination slot word other))
   ]
 
   -- behind one that moves several words, one by one
@@ -144,7 +145,7 @@ module _ (program : Program) (frames : List Frame) (function : ℕ) (right : Are
       go false outside =
           others k (right.low slot k has) (right.high slot k has)
           (λ i below there. absurd (false≢true (sym outside ∙ ap (is_among destination count) (only i below there) ∙ among destination count (destination + i) (omega arith) (omega (arith, below)))))
-          ∙ (caches slot k has (wanted_before index (index + 1) slot (plain.MoveWords destination source count) at (next_led index) outside wanted)
+          ∙ (caches slot k has (live_earlier index (index + 1) slot (plain.MoveWords destination source count) at (next_led index) outside wanted)
           ∙ sym (elim (not_among destination count slot outside) [
             | inl below ↦ copied-below slots slots source count destination slot below
             | inr above ↦ copied-above slots slots source count destination slot above
@@ -268,7 +269,7 @@ module _ (globals stack : ℕ) (frame : Frame) (base : ℕ) (w : Contents) where
           ∙ ap (λ (n : ℕ). w.words (memory_address base (slot_offset frame n))) (let e : slot ≡ slot + 0 = omega arith in e))))
       in_rest rest (suc j) k both = rest.result j k both ∙ there_behind slot j
 
--- where what is wanted is in memory too, or in a register alone, registers have it once they are read again; no other register is written
+-- where what is live is in memory too, or in a register alone, registers have it once they are read again; no other register is written
 pub record Reloaded (globals stack : ℕ) (program : Program) (frames : List Frame) (function index : ℕ) (q : Words) (w : Contents) (slots : Words) : Type 0 where
   pub safe : AreSafe globals stack (reloads (frame_at frames function)) q w
   pub memory : after_w (reloads (frame_at frames function)) q w ≡ w
@@ -278,7 +279,7 @@ pub record Reloaded (globals stack : ℕ) (program : Program) (frames : List Fra
 pub reloaded : (globals stack : ℕ) (program : Program) (frames : List Frame) (function : ℕ) (right : AreHomes program (routine_at program function) (frame_at frames function).homes) (index : ℕ) (q : Words) (w : Contents) (slots : Words)
     → ((slot : ℕ) → slot < (routine_at program function).slots → IsCell globals stack (memory_address (q FRAME) (slot_offset (frame_at frames function) slot)))
     → ((slot : ℕ) → slot < (routine_at program function).slots → is_kept (frame_at frames function) slot ≡ true → w.words (memory_address (q FRAME) (slot_offset (frame_at frames function) slot)) ≡ slots slot)
-    → ((slot k : ℕ) → value_register (frame_at frames function) slot ≡ Some k → Wanted program (routine_at program function) slot index → is_kept (frame_at frames function) slot ≡ false → q k ≡ slots slot)
+    → ((slot k : ℕ) → value_register (frame_at frames function) slot ≡ Some k → IsLiveAt program (routine_at program function) slot index → is_kept (frame_at frames function) slot ≡ false → q k ≡ slots slot)
     → Reloaded globals stack program frames function index q w slots
 reloaded globals stack program frames function right index q w slots cells holds own =
     let frame : Frame = frame_at frames function in

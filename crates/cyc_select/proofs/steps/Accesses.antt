@@ -5,7 +5,7 @@ use Rattle.std.proofs.lemmas.Bool.{and_from, eqb-true, or_left, or_right, or_par
 use Rattle.cyc_words.specs.Word.{IsWord, add_of, sign_extended}
 use Rattle.cyc_words.proofs.WordLemmas.{sign_extended_low}
 use Rattle.cyc_plain.specs.inside.Uses.{is_among, is_slot, leads, reads, writes}
-use Rattle.cyc_frame.specs.inside.Bars.{is_crossing}
+use Rattle.cyc_registers.specs.inside.Bars.{is_crossing}
 use Rattle.cyc_isa.specs.Effect.{memory_address}
 use Rattle.cyc_isa.specs.declared.instr.Instr.{Instr}
 use Rattle.cyc_isa.specs.Decoding.{register_of}
@@ -24,7 +24,7 @@ use Rattle.cyc_plain.specs.inside.WellFormed.{IsOperand, IsOfWord, IsWellFormed,
 use Rattle.cyc_plain.proofs.MemoryLaws.{memory-left}
 use Rattle.cyc_plain.proofs.SlotLaws.{put-same, put-other, copied-below, copied-above}
 use Rattle.cyc_plain.proofs.RunLaws.{zeros, zeros_at, calls_nothing}
-use Rattle.cyc_frame.specs.inside.Homes.{AreHomes}
+use Rattle.cyc_registers.specs.inside.Interference.{AreHomes}
 use Rattle.cyc_frame.specs.inside.Layout.{AreFrames, frame_at}
 use Rattle.cyc_frame.specs.inside.Frame.{Frame}
 use Rattle.cyc_select.specs.declared.constants.TheConstants.{FIRST, SECOND, ZERO, LOWEST, FRAME, HANDLERS, REGIONS, GLOBALS}

@@ -10,7 +10,7 @@ use Rattle.cyc_plain.specs.inside.Program.{Program, routine_at}
 use Rattle.cyc_plain.specs.inside.State.{Words, put, Configuration}
 use Rattle.cyc_plain.specs.inside.WellFormed.{IsWellFormed}
 use Rattle.cyc_plain.proofs.SlotLaws.{put-same, put-other}
-use Rattle.cyc_frame.specs.inside.Homes.{AreHomes, Wanted}
+use Rattle.cyc_registers.specs.inside.Interference.{AreHomes}
 use Rattle.cyc_frame.specs.inside.Layout.{AreFrames, frame_at}
 use Rattle.cyc_frame.specs.inside.Frame.{Frame}
 use Rattle.cyc_select.specs.declared.constants.TheConstants.{ZERO, FRAME, LOWEST, HANDLERS, REGIONS, GLOBALS}
@@ -21,6 +21,7 @@ use Rattle.cyc_select.proofs.effects.Walks.{after_r, after_w, after_r-append, af
 use Rattle.cyc_select.proofs.relation.Standing.{Standing, slot_address, slot_cell, standing_registers, standing_slot, standing_unkept}
 use Rattle.cyc_select.proofs.relation.Values.{made_is}
 use Rattle.cyc_machine.specs.declared.constants.TheConstants.{RETURN_ADDRESS}
+use Rattle.cyc_registers.specs.inside.Liveness.{IsLiveAt}
 
 -- the words of registers in slots, from this one on
 abbrev pub put_all : (slot : ℕ) → List ℕ → (q slots : Words) → Words
@@ -39,12 +40,12 @@ results_low (suc (suc zero)) few = ((omega arith), ((omega arith), tt))
 results_low (suc (suc (suc zero))) few = ((omega arith), ((omega arith), ((omega arith), tt)))
 results_low (suc (suc (suc (suc count)))) few = absurd (omega (arith, few))
 
--- The registers have these words. From one slot on, up to where others begin, slots get words; of those that are wanted at the
+-- The registers have these words. From one slot on, up to where others begin, slots get words; of those that are live at the
 -- next place none shares a register with one of them.
 module _ (program : Program) (well : IsWellFormed program) (frames : List Frame) (fit : AreFrames program frames) (addresses : ℕ → ℕ) (pages calls : ℕ) (few : calls ≤ 4096)
     (again : Bool) (c : Configuration) (base back : ℕ) (in_frame : Bool) (next from past : ℕ) (p : Words) (words : (n : ℕ) → n < 6 → IsWord (p n)) (inside : past ≤ (routine_at program c.active.function).slots)
     (shares : (d slot k : ℕ) → from ≤ d → d < past → value_register (frame_at frames c.active.function) d ≡ Some k → value_register (frame_at frames c.active.function) slot ≡ Some k
-    → Wanted program (routine_at program c.active.function) slot next → slot ≡ d) where
+    → IsLiveAt program (routine_at program c.active.function) slot next → slot ≡ d) where
   abbrev frame : Frame
   frame = frame_at frames c.active.function
 
@@ -178,14 +179,14 @@ module _ (program : Program) (well : IsWellFormed program) (frames : List Frame)
 
   -- ---- all of them
 
-  -- registers that nothing is read again into have the words of their slots, where those are wanted next, but for so many slots
+  -- registers that nothing is read again into have the words of their slots, where those are live next, but for so many slots
   abbrev pub CachesBut : (slot count : ℕ) (q slots : Words) → Type 0
   CachesBut slot count q slots =
-      (a k : ℕ) → value_register (frame_at frames c.active.function) a ≡ Some k → Wanted program (routine_at program c.active.function) a next → IsLast a → a < slot ⊎ slot + count ≤ a → q k ≡ slots a
+      (a k : ℕ) → value_register (frame_at frames c.active.function) a ≡ Some k → IsLiveAt program (routine_at program c.active.function) a next → IsLast a → a < slot ⊎ slot + count ≤ a → q k ≡ slots a
 
   abbrev pub CachesLast : (q slots : Words) → Type 0
   CachesLast q slots =
-      (a k : ℕ) → value_register (frame_at frames c.active.function) a ≡ Some k → Wanted program (routine_at program c.active.function) a next → IsLast a → q k ≡ slots a
+      (a k : ℕ) → value_register (frame_at frames c.active.function) a ≡ Some k → IsLiveAt program (routine_at program c.active.function) a next → IsLast a → q k ≡ slots a
 
   pub record AreBrought (slot : ℕ) (sources : List ℕ) (q : Words) (m : Contents) (slots : Words) : Type 0 where
     pub safe : AreSafe globals_length (words_per_call * calls) (bring_all again (frame_at frames c.active.function) slot sources) q m

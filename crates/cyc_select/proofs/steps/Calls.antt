@@ -21,7 +21,7 @@ use Rattle.cyc_plain.specs.inside.Step.{Choice, instruction_at, performed, execu
 use Rattle.cyc_plain.specs.inside.WellFormed.{IsWellFormed, IsCallInRange}
 use Rattle.cyc_plain.proofs.RunLaws.{zeros, limited-full, called_at}
 use Rattle.cyc_plain.proofs.SlotLaws.{put-other, copied-inside, copied-above}
-use Rattle.cyc_frame.specs.inside.Homes.{AreHomes}
+use Rattle.cyc_registers.specs.inside.Interference.{AreHomes}
 use Rattle.cyc_frame.specs.inside.Layout.{AreFrames, frame_at, slot_word}
 use Rattle.cyc_frame.specs.inside.Frame.{Frame}
 use Rattle.cyc_select.specs.declared.code.Line.{Line}
@@ -288,7 +288,7 @@ module _ (program : Program) (well : IsWellFormed program) (frames : List Frame)
       middle = copied_now.kept GLOBALS (inr (omega arith)) ∙ s.middle;
     }
 
-    -- its parameters are in their registers, where they are wanted
+    -- its parameters are in their registers, where they are live
     entered_caches : Caches program frames callee 0 r3 (copied c.active.slots arguments count choice.contents 0)
     entered_caches slot k has wanted =
         let below : slot < count = (let takes = in_range.takes in omega (arith, takes, its_right.entry slot k has wanted)) in

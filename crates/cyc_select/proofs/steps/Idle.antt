@@ -21,10 +21,10 @@ use Rattle.cyc_plain.proofs.Placed.{below_of_get}
 use Rattle.cyc_plain.proofs.RunLaws.{zeros, calls_nothing, zeros_at}
 use Rattle.cyc_plain.proofs.SlotLaws.{put-same, put-other}
 use Rattle.cyc_frame.specs.inside.Frame.{Frame}
-use Rattle.cyc_frame.specs.declared.home.Home.TheVariants as homes
-use Rattle.cyc_frame.specs.inside.Homes as homing
-use Rattle.cyc_frame.specs.inside.Homes.{AreHomes, Wanted}
-use Rattle.cyc_frame.specs.inside.Idle.{IsIdle, IsThere, IsUnused, NeverHolds, always_has_result, idle_at}
+use Rattle.cyc_registers.specs.declared.home.Home.TheVariants as homes
+use Rattle.cyc_registers.specs.inside.Interference as homing
+use Rattle.cyc_registers.specs.inside.Interference.{AreHomes}
+use Rattle.cyc_registers.specs.inside.Idle.{IsIdle, IsThere, IsUnused, NeverHolds, always_has_result, idle_at}
 use Rattle.cyc_frame.specs.inside.Layout.{AreFrames, frame_at}
 use Rattle.cyc_select.specs.inside.Labelled.{Labelled, IsFormed}
 use Rattle.cyc_select.specs.inside.Machine.{State}
@@ -33,7 +33,8 @@ use Rattle.cyc_select.proofs.effects.Walks.{now_at}
 use Rattle.cyc_select.proofs.layout.Lines.{line_next}
 use Rattle.cyc_select.proofs.relation.Matches.{Ready, Passed, steps_to, within}
 use Rattle.cyc_select.proofs.relation.Standing.{Standing, keeps_back, standing_at, standing_unkept}
-use Rattle.cyc_select.proofs.relation.Values.{Caches, caches_past, wanted_before, apart_from, itself, next_led}
+use Rattle.cyc_select.proofs.relation.Values.{Caches, caches_past, live_earlier, apart_from, itself, next_led}
+use Rattle.cyc_registers.specs.inside.Liveness.{IsLiveAt}
 
 module _ (program : Program) (well : IsWellFormed program) (frames : List Frame) (fit : AreFrames program frames) (code : Labelled) (formed : IsFormed code) (addresses : ℕ → ℕ) (pages calls : ℕ) (few : calls ≤ 4096)
     (c : Configuration) (t : State) (ready : Ready program well frames fit code formed addresses pages calls few c t) where
@@ -89,10 +90,10 @@ module _ (program : Program) (well : IsWellFormed program) (frames : List Frame)
       (standing_unkept program well frames fit addresses pages calls few c ready.r ready.w ready.base ready.back (keeps_back frames c) c.active.slots ready.standing destination word unkept)
       (λ slot k has wanted. elim (cases_eq slot destination) [
         | inl same ↦
-            absurd (unwanted (subst (λ (n : ℕ). Wanted program (routine_at program c.active.function) n (suc c.active.next)) same
-            (subst (Wanted program (routine_at program c.active.function) slot) (let e : c.active.next + 1 ≡ suc c.active.next = omega arith in e) wanted)))
+            absurd (unwanted (subst (λ (n : ℕ). IsLiveAt program (routine_at program c.active.function) n (suc c.active.next)) same
+            (subst (IsLiveAt program (routine_at program c.active.function) slot) (let e : c.active.next + 1 ≡ suc c.active.next = omega arith in e) wanted)))
         | inr other ↦
-            ready.caches slot k has (wanted_before program frames c.active.function right c.active.next (c.active.next + 1) slot i at_i led (unwritten slot other) wanted)
+            ready.caches slot k has (live_earlier program frames c.active.function right c.active.next (c.active.next + 1) slot i at_i led (unwritten slot other) wanted)
             ∙ sym (put-other c.active.slots destination slot word other)
       ])
 
@@ -124,7 +125,7 @@ module _ (program : Program) (well : IsWellFormed program) (frames : List Frame)
         | inl same ↦ ready.caches slot k has (0, (plain.Move destination (operands.Slot destination), at_i, eq-eqb destination slot (sym same)))
         | inr other ↦
             ready.caches slot k has
-            (wanted_before program frames c.active.function right c.active.next (c.active.next + 1) slot (plain.Move destination (operands.Slot destination)) at_i (next_led c.active.next) (apart_from destination slot other) wanted)
+            (live_earlier program frames c.active.function right c.active.next (c.active.next + 1) slot (plain.Move destination (operands.Slot destination)) at_i (next_led c.active.next) (apart_from destination slot other) wanted)
       ])
 
   -- a slot gets a word that its register has already
@@ -140,7 +141,7 @@ module _ (program : Program) (well : IsWellFormed program) (frames : List Frame)
             ∙ sym (ap (put c.active.slots destination (c.active.slots number)) same ∙ put-same c.active.slots destination (c.active.slots number))
         | inr other ↦
             ready.caches slot k slot_has
-            (wanted_before program frames c.active.function right c.active.next (c.active.next + 1) slot (plain.Move destination (operands.Slot number)) at_i (next_led c.active.next) (apart_from destination slot other) wanted)
+            (live_earlier program frames c.active.function right c.active.next (c.active.next + 1) slot (plain.Move destination (operands.Slot number)) at_i (next_led c.active.next) (apart_from destination slot other) wanted)
             ∙ sym (put-other c.active.slots destination slot (c.active.slots number) other)
       ])
 

@@ -14,7 +14,7 @@ use Rattle.cyc_plain.specs.inside.State.{Words, put, Configuration}
 use Rattle.cyc_plain.specs.inside.Step.{instruction_at}
 use Rattle.cyc_plain.specs.inside.WellFormed.{IsWellFormed, IsCallInRange}
 use Rattle.cyc_plain.proofs.SlotLaws.{put-same, put-other}
-use Rattle.cyc_frame.specs.inside.Homes.{AreHomes}
+use Rattle.cyc_registers.specs.inside.Interference.{AreHomes}
 use Rattle.cyc_frame.specs.inside.Layout.{AreFrames, frame_at}
 use Rattle.cyc_frame.specs.inside.Frame.{Frame}
 use Rattle.cyc_select.specs.inside.Labelled.{Labelled, IsFormed, AreAddresses}
@@ -208,7 +208,7 @@ module _ (program : Program) (well : IsWellFormed program) (frames : List Frame)
   at_slot : (slot : ℕ) → passed_from mine (frame_at frames callee) (arguments + slot) (0 + slot) ≡ passed_from mine (frame_at frames callee) (arguments + slot) slot
   at_slot slot = ap (passed_from mine (frame_at frames callee) (arguments + slot)) (let e : 0 + slot ≡ slot = omega arith in e)
 
-  -- what is passed from a register is wanted here
+  -- what is passed from a register is live here
   held_there : (slot k : ℕ) → slot < count → passed_from mine (frame_at frames callee) (arguments + slot) slot ≡ Some k
       → (6 ≤ k) × (k < 24) × (r k ≡ c.active.slots (arguments + slot)) × IsWord (c.active.slots (arguments + slot))
   held_there slot k below some =

@@ -27,7 +27,7 @@ use Rattle.cyc_plain.specs.inside.Step.{Choice, IsAllowed, MayServe, call_in, ca
 use Rattle.cyc_plain.specs.inside.WellFormed.{IsOperand, IsOfWord, IsArgument, IsArgumentOfWord, IsRequestInRange, IsWellFormed}
 use Rattle.cyc_plain.proofs.SlotLaws.{put-other}
 use Rattle.cyc_plain.proofs.RunLaws.{zeros, zeros_refused, over_within, lies_at}
-use Rattle.cyc_frame.specs.inside.Homes.{AreHomes, Wanted}
+use Rattle.cyc_registers.specs.inside.Interference.{AreHomes}
 use Rattle.cyc_frame.specs.inside.Layout.{AreFrames, frame_at}
 use Rattle.cyc_frame.specs.inside.Frame.{Frame}
 use Rattle.cyc_select.specs.declared.constants.TheConstants.{LOWEST, FRAME, HANDLERS, REGIONS, GLOBALS}
@@ -46,9 +46,10 @@ use Rattle.cyc_select.proofs.relation.Matches.{After, At, Reached, reached, with
 use Rattle.cyc_select.proofs.values.Operations.{add_small}
 use Rattle.cyc_select.proofs.relation.Standing.{Standing, slot_address, slot_cell, standing_at, standing_slot, standing_store, keeps_back}
 use Rattle.cyc_select.proofs.relation.Stores.{lexical_opened, lexical_besides, lexical_left, lexical_made, lexical_closed, marks_few, IsLaid, served_laid, served_words}
-use Rattle.cyc_select.proofs.relation.Values.{Caches, wanted_before, among, outside_among, next_led}
+use Rattle.cyc_select.proofs.relation.Values.{Caches, live_earlier, among, outside_among, next_led}
 use Rattle.cyc_select.proofs.effects.Views.{Contents, IsWritable, written, answered_r}
 use Rattle.cyc_select.proofs.effects.Walks.{Stands, stands_first, stands_behind, after_r, after_w, AreSafe, after_r-append, after_w-append, Walk, now_at, now_is, walk_few, walk_block, walk_served, walk_no_room, comes_block, lines_from, lines_rise}
+use Rattle.cyc_registers.specs.inside.Liveness.{IsLiveAt}
 
 -- ---- what is asked, and what is answered
 
@@ -451,7 +452,7 @@ module _ (program : Program) (well : IsWellFormed program) (frames : List Frame)
 
       module _ (answered_words : (n : ℕ) → IsWord (answered_r (answer c.store call chosen) ready n)) where
         shares_none : (d slot k : ℕ) → destination_of request ≤ d → d < past → value_register (frame_at frames c.active.function) d ≡ Some k → value_register (frame_at frames c.active.function) slot ≡ Some k
-            → Wanted program (routine_at program c.active.function) slot (c.active.next + 1) → slot ≡ d
+            → IsLiveAt program (routine_at program c.active.function) slot (c.active.next + 1) → slot ≡ d
         shares_none d slot k begun below has_d has wanted =
             homes_right.made c.active.next (c.active.next + 1) slot d k (plain.Ask request) at_i (answers_written request d begun below) (next_led c.active.next) has_d has wanted
 
@@ -470,11 +471,11 @@ module _ (program : Program) (well : IsWellFormed program) (frames : List Frame)
             (omega arith) (omega arith) (results_low (answer_count request) few_answers) (λ n below. refl) in_final
 
         -- what is not answered is in registers as before
-        apart_kept : (a k : ℕ) → value_register (frame_at frames c.active.function) a ≡ Some k → Wanted program (routine_at program c.active.function) a (c.active.next + 1)
+        apart_kept : (a k : ℕ) → value_register (frame_at frames c.active.function) a ≡ Some k → IsLiveAt program (routine_at program c.active.function) a (c.active.next + 1)
             → a < destination_of request ⊎ destination_of request + length (result_registers (answer_count request)) ≤ a → final k ≡ c.active.slots a
         apart_kept a k has wanted outside =
             values_kept k (homes_right.low a k has) (homes_right.high a k has)
-            ∙ caches a k has (wanted_before program frames c.active.function homes_right c.active.next (c.active.next + 1) a (plain.Ask request) at_i (next_led c.active.next) (answers_apart request a outside) wanted)
+            ∙ caches a k has (live_earlier program frames c.active.function homes_right c.active.next (c.active.next + 1) a (plain.Ask request) at_i (next_led c.active.next) (answers_apart request a outside) wanted)
 
         told_caches : Caches program frames c.active.function (c.active.next + 1) brought (told (answer c.store call chosen) (destination_of request) c.active.slots)
         told_caches a k has wanted =

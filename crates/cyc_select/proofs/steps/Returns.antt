@@ -21,7 +21,7 @@ use Rattle.cyc_plain.specs.inside.Step.{instruction_at, performed, returns}
 use Rattle.cyc_plain.specs.inside.WellFormed.{IsWellFormed}
 use Rattle.cyc_plain.proofs.RunLaws.{zeros, zeros_at, over_within, calls_nothing}
 use Rattle.cyc_plain.proofs.SlotLaws.{put-same, put-other, copied-inside, copied-above, copied-below}
-use Rattle.cyc_frame.specs.inside.Homes.{AreHomes, Wanted}
+use Rattle.cyc_registers.specs.inside.Interference.{AreHomes}
 use Rattle.cyc_frame.specs.inside.Layout.{AreFrames, frame_at}
 use Rattle.cyc_frame.specs.inside.Frame.{Frame}
 use Rattle.cyc_select.specs.declared.code.Line.{Line}
@@ -43,6 +43,7 @@ use Rattle.cyc_select.proofs.effects.Walks.{Stands, stands_front, stands_back, a
 use Rattle.cyc_select.proofs.emission.Counts.{length_results, length_registers}
 use Rattle.cyc_select.proofs.relation.Standing.{frame_size, Chain, IsNewest, keeps_back, saves_at, Standing, behind_line, lies, slot_address, slot_cell, slot_word_is, standing_registers, standing_slot, AreBased}
 use Rattle.cyc_select.proofs.relation.Matches.{After, At, Ready, Back, Reached, reached, within, result_register}
+use Rattle.cyc_registers.specs.inside.Liveness.{IsLiveAt}
 
 -- ---- what a function returns, from slots into registers
 
@@ -558,11 +559,11 @@ module _ (program : Program) (well : IsWellFormed program) (frames : List Frame)
   apart_from_all slot (inl below) = outside_among b.result (routine_at program b.callee).results slot (inl below)
   apart_from_all slot (inr above) = outside_among b.result (routine_at program b.callee).results slot (inr (omega (arith, above, many)))
 
-  behind_next : (slot : ℕ) → Wanted program (routine_at program c.active.function) slot c.active.next → Wanted program (routine_at program c.active.function) slot (suc b.index)
-  behind_next slot wanted = subst (Wanted program (routine_at program c.active.function) slot) next_is wanted
+  behind_next : (slot : ℕ) → IsLiveAt program (routine_at program c.active.function) slot c.active.next → IsLiveAt program (routine_at program c.active.function) slot (suc b.index)
+  behind_next slot wanted = subst (IsLiveAt program (routine_at program c.active.function) slot) next_is wanted
 
   shares_none : (d slot k : ℕ) → b.result ≤ d → d < past → value_register (frame_at frames c.active.function) d ≡ Some k → value_register (frame_at frames c.active.function) slot ≡ Some k
-      → Wanted program (routine_at program c.active.function) slot c.active.next → slot ≡ d
+      → IsLiveAt program (routine_at program c.active.function) slot c.active.next → slot ≡ d
   shares_none d slot k begun below has_d has wanted =
       right.made b.index (suc b.index) slot d k (plain.Call b.callee b.arguments b.count b.result) b.call (written_by d begun below) (eq-eqb (suc b.index) (suc b.index) refl) has_d has (behind_next slot wanted)
 
@@ -592,12 +593,12 @@ module _ (program : Program) (well : IsWellFormed program) (frames : List Frame)
       same_slots program well frames fit addresses pages calls few c given_r b.base saved true b.result b.first b.values b.waiting given_w
       (put_all b.result registers_of b.r b.waiting) c.active.slots slots_are brought.standing
 
-  -- what is wanted and not in memory was returned
+  -- what is live and not in memory was returned
   alone_returned : CachesBut program well frames fit addresses pages calls few true c b.base saved true c.active.next b.result past b.r low_words room_is shares_none b.result (length registers_of) b.r b.waiting
   alone_returned a k has wanted last outside =
       absurd (false≢true (sym last ∙ right.behind b.index b.callee b.arguments b.count b.result a b.call (apart_from_all a outside) (behind_next a wanted)))
 
-  returned_alone : (slot k : ℕ) → value_register (frame_at frames c.active.function) slot ≡ Some k → Wanted program (routine_at program c.active.function) slot c.active.next → is_kept (frame_at frames c.active.function) slot ≡ false
+  returned_alone : (slot k : ℕ) → value_register (frame_at frames c.active.function) slot ≡ Some k → IsLiveAt program (routine_at program c.active.function) slot c.active.next → is_kept (frame_at frames c.active.function) slot ≡ false
       → given_r k ≡ c.active.slots slot
   returned_alone slot k has wanted unkept = brought.caches alone_returned slot k has wanted unkept ∙ slots_are slot
 

@@ -5,7 +5,7 @@
 -- registers have what is in the module `constants`.
 use Rattle.std.specs.Prelude.{ℕ, zero, suc, ◌+◌, ◌-◌, ◌*◌, ◌/◌, ◌%◌, ◌^◌, ◌==◌, ◌&&◌, ◌||◌, Bool, true, false, not, nat_lt, if◌then◌else◌, List, [], ◌∷◌, ◌++◌, length, map, sum_by, take, Option, Some, None}
 use Rattle.cyc_plain.specs.declared.limits.TheConstants.{MOST_FRAME_WORDS}
-use Rattle.cyc_frame.specs.inside.Bars.{is_crossing}
+use Rattle.cyc_registers.specs.inside.Bars.{is_crossing}
 use Rattle.cyc_isa.specs.Decoding.{register_of, shift_amount_of, trap_code_of}
 use Rattle.cyc_isa.specs.declared.instr.Instr.{Instr}
 use Rattle.cyc_isa.specs.declared.instr.Instr.TheVariants as machine
@@ -37,11 +37,11 @@ use Rattle.cyc_plain.specs.declared.instruction.Request.TheVariants as requests
 use Rattle.cyc_plain.specs.inside.Requests.{first_operand, second_operand, answer_count, destination_of}
 use Rattle.cyc_plain.specs.inside.Program.{Routine, Program, routine_at}
 use Rattle.cyc_frame.specs.inside.Layout.{slot_word, frame_at}
-use Rattle.cyc_frame.specs.declared.home.Home.{Home}
-use Rattle.cyc_frame.specs.declared.home.Home.TheVariants as homes
-use Rattle.cyc_frame.specs.inside.Homes as homing
+use Rattle.cyc_registers.specs.declared.home.Home.{Home}
+use Rattle.cyc_registers.specs.declared.home.Home.TheVariants as homes
+use Rattle.cyc_registers.specs.inside.Interference as homing
 use Rattle.cyc_frame.specs.inside.Frame.{Frame}
-use Rattle.cyc_frame.specs.inside.Idle.{idle_at}
+use Rattle.cyc_registers.specs.inside.Idle.{idle_at}
 use Rattle.cyc_select.specs.declared.constants.TheConstants.{ZERO, FIRST_RESULT, SECOND_RESULT, THIRD_RESULT, FIRST, SECOND, THIRD, FRAME, FRAME_SHIFT, LOWEST, HANDLERS, REGIONS, START_LINES, GLOBALS, GLOBALS_MIDDLE, NEAR_GLOBALS}
 use Rattle.cyc_select.specs.declared.code.Line.{Line}
 use Rattle.cyc_select.specs.declared.code.Condition.TheVariants as conditions

@@ -1,6 +1,6 @@
 use Rattle.std.proofs.Common.{◌≤◌, sym, subst, arith}
 use Rattle.cyc_frame.specs.inside.Frame.{Frame}
-use Rattle.cyc_frame.specs.declared.home.TheConstants.{MOST_BOTH}
+use Rattle.cyc_registers.specs.declared.home.TheConstants.{MOST_BOTH}
 use Rattle.cyc_select.specs.inside.Selection.{reload_count}
 use Rattle.cyc_select.proofs.counting.frame_in.Goals as goal
 

@@ -1,6 +1,6 @@
 use Rattle.std.proofs.Common.{◌≡◌, ◌+◌, drop}
 use Rattle.std.specs.Prelude.{sum_by}
-use Rattle.cyc_frame.specs.inside.Homes.{both_count}
+use Rattle.cyc_registers.specs.inside.Interference.{both_count}
 use Rattle.cyc_select.specs.inside.Selection.{reload_count}
 use Rattle.cyc_select.proofs.operands.reload_count.Given as goal
 

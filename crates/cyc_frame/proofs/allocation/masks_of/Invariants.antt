@@ -1,8 +1,0 @@
-use Rattle.std.proofs.Common.{◌≤◌}
-use Rattle.cyc_frame.specs.declared.live.TheConstants.{MOST_CHOSEN}
-use Rattle.cyc_frame.specs.inside.Masks.{AreMasks}
-use Rattle.cyc_frame.proofs.allocation.masks_of.Given as goal
-
--- the masks so far, and the next number
-abbrev pub invariant-loop-is_chosen : goal.invariant-loop-is_chosen
-invariant-loop-is_chosen l = AreMasks l.masks.items l.next × (l.next ≤ MOST_CHOSEN)

@@ -1,0 +1,106 @@
+-- The places that are said to be idle are.
+use Rattle.std.proofs.Common.{◌≡◌, ◌≢◌, ℕ, zero, suc, ◌+◌, Bool, false, true, List, [], ◌∷◌, ◌++◌, length, Some, length-append, refl, sym, ap, subst, ◌∙◌, arith, inl, inr}
+use Rattle.std.specs.Prelude.{◌==◌, ◌&&◌, not, nat_lt, bit_and, slice_get}
+use Rattle.std.proofs.lemmas.Bool.{and_parts, or_cases, cases_eq, ltb-true, eqb-true, false≢true, not_from_true}
+use Rattle.cyc_plain.specs.declared.instruction.Comparison.{Comparison}
+use Rattle.cyc_plain.specs.declared.instruction.Comparison.TheVariants as comparisons
+use Rattle.cyc_plain.specs.declared.instruction.Instruction.{Instruction}
+use Rattle.cyc_plain.specs.declared.instruction.Instruction.TheVariants as instructions
+use Rattle.cyc_plain.specs.declared.instruction.Operand.{Operand}
+use Rattle.cyc_plain.specs.declared.instruction.Operand.TheVariants as operands
+use Rattle.cyc_plain.specs.inside.Program.{Routine, Program}
+use Rattle.cyc_plain.specs.inside.Uses.{At, is_slot}
+use Rattle.cyc_registers.specs.declared.home.Home.{Home}
+use Rattle.cyc_registers.specs.declared.liveness.TheConstants.{MOST_CHOSEN}
+use Rattle.cyc_registers.specs.inside.Interference.{is_kept, home_of}
+use Rattle.cyc_registers.specs.inside.Idle.{always_has_result, AreIdle, IsIdle, IsUnused, NeverHolds, idle_at}
+use Rattle.cyc_registers.specs.inside.IdlePlaces.{is_idle, is_unused, never_holds}
+use Rattle.cyc_registers.specs.inside.LivenessTable.{IsSound}
+use Rattle.cyc_registers.specs.inside.Masks.{AreMasks, mask_at}
+use Rattle.cyc_registers.proofs.Bits.{apart_bits}
+use Rattle.cyc_registers.proofs.CheckedLiveness.{live_bit}
+use Rattle.cyc_registers.specs.inside.Liveness.{IsLiveAt}
+
+pub none_idle : (program : Program) (r : Routine) (hs : List Home) → AreIdle program r hs []
+none_idle program r hs index i at is = absurd (false≢true is)
+
+-- ---- by the table
+
+is_false : (b : Bool) → not b ≡ true → b ≡ false
+is_false true is = absurd (false≢true is)
+is_false false is = refl
+
+same_slot : (operand : Operand) (slot : ℕ) → is_slot operand slot ≡ true → operand ≡ operands.Slot slot
+same_slot (operands.Slot number) slot is = ap operands.Slot (eqb-true number slot is)
+same_slot (operands.Word word) slot is = absurd (false≢true is)
+
+never : (comparison : Comparison) (left right : Operand) → never_holds comparison left right ≡ true → NeverHolds comparison left right
+never comparisons.NotEqual (operands.Word left) (operands.Word right) is = not_from_true (left == right) is
+never comparison left right is = absurd (false≢true is)
+
+module _ (program : Program) (r : Routine) (masks live : List ℕ) (kept barred : ℕ) (sound : IsSound program r masks live kept barred)
+    (are : AreMasks masks MOST_CHOSEN) (hs : List Home) (index : ℕ) where
+  unused : (slot : ℕ) → is_unused masks live hs index slot ≡ true → IsUnused program r hs index slot
+  unused slot is =
+      let without : Bool = bit_and (mask_at live (index + 1)) (mask_at masks slot) == 0 in
+      let alone : Bool = not (is_kept (home_of hs slot)) in
+      let first = and_parts (nat_lt 0 (mask_at masks slot)) (without && alone) is in
+      let second = and_parts without alone first.1 in
+      let (j, has) = are.some slot (ltb-true 0 (mask_at masks slot) first.0) in (
+        is_false (is_kept (home_of hs slot)) second.1,
+        λ wanted.
+            apart_bits (mask_at live (index + 1)) (mask_at masks slot) j
+            (eqb-true (bit_and (mask_at live (index + 1)) (mask_at masks slot)) 0 second.0) has
+            (live_bit program r masks live kept barred sound slot j are has (index + 1)
+            (subst (IsLiveAt program r slot) (let e : suc index ≡ index + 1 = omega arith in e) wanted)),
+      )
+
+  next_index : (target : ℕ) → (target == index + 1) ≡ true → target ≡ suc index
+  next_index target is = omega (arith, eqb-true target (index + 1) is)
+
+  pub idle : (i : Instruction) → is_idle masks live hs index i ≡ true → IsIdle program r hs index i
+  idle (instructions.Move destination source) is = elim (or_cases (is_unused masks live hs index destination) (is_slot source destination) is) [
+    | inl never ↦ inr (inl (unused destination never))
+    | inr same ↦ inl (same_slot source destination same)
+  ]
+  idle (instructions.Unary operator destination operand) is = unused destination is
+  idle (instructions.Binary operator destination left right) is =
+      let parts = and_parts (is_unused masks live hs index destination) (always_has_result operator) is in
+      (parts.1, unused destination parts.0)
+  idle (instructions.Jump target) is = next_index target is
+  idle (instructions.Branch comparison left right target) is = elim (or_cases (target == index + 1) (never_holds comparison left right) is) [
+    | inl next ↦ inl (next_index target next)
+    | inr other ↦ inr (never comparison left right other)
+  ]
+  idle i is = absurd (false≢true is)
+
+-- ---- one by one
+
+flag_before : (flags : List Bool) (flag : Bool) (index : ℕ) → index ≢ length flags → idle_at (flags ++ flag ∷ []) index ≡ idle_at flags index
+flag_before [] flag zero apart = absurd (apart refl)
+flag_before [] flag (suc index) apart = refl
+flag_before (f ∷ flags) flag zero apart = refl
+flag_before (f ∷ flags) flag (suc index) apart = flag_before flags flag index (λ same. apart (ap suc same))
+
+flag_last : (flags : List Bool) (flag : Bool) → idle_at (flags ++ flag ∷ []) (length flags) ≡ flag
+flag_last [] flag = refl
+flag_last (f ∷ flags) flag = flag_last flags flag
+
+-- the places of the first instructions, so many of them
+abbrev pub AreFirstIdle : Program → Routine → List Home → (count : ℕ) → List Bool → Type 0
+AreFirstIdle program r hs count flags = AreIdle program r hs flags × (length flags ≡ count)
+
+pub more_idle : (program : Program) (r : Routine) (hs : List Home) (count : ℕ) (flags : List Bool) (flag : Bool) (last : Instruction)
+    → AreFirstIdle program r hs count flags → At r count last → (flag ≡ true → IsIdle program r hs count last)
+    → AreFirstIdle program r hs (count + 1) (flags ++ flag ∷ [])
+more_idle program r hs count flags flag last (are, many) at idle = (each, omega (arith, many, length-append flags (flag ∷ [])))
+  where
+    each : AreIdle program r hs (flags ++ flag ∷ [])
+    each index i at_i is = elim (cases_eq index (length flags)) [
+      | inl same ↦
+          let here : index ≡ count = same ∙ many in
+          let its : last ≡ i = (let e : Some last ≡ Some i = sym at ∙ (ap (slice_get r.code) (sym here) ∙ at_i) in cc) in
+          subst (λ (n : ℕ). IsIdle program r hs n i) (sym here)
+          (subst (IsIdle program r hs count) its (idle (sym (ap (idle_at (flags ++ flag ∷ [])) same ∙ flag_last flags flag) ∙ is)))
+      | inr apart ↦ are index i at_i (sym (flag_before flags flag index apart) ∙ is)
+    ]

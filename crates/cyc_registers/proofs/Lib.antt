@@ -1,0 +1,7 @@
+-- a table that was checked misses no place where a slot is live
+pub mod Bits
+pub mod CheckedLiveness
+-- homes of slots are right
+pub mod InMemory
+pub mod AssignedHomes
+pub mod IdleCode

@@ -1,0 +1,10 @@
+-- what the contract of `allocate` rests on
+pub mod Bars
+pub mod Liveness
+pub mod Interference
+pub mod Idle
+-- the functions inside the crate
+pub mod Masks
+pub mod LivenessTable
+pub mod IdlePlaces
+pub mod Assignment

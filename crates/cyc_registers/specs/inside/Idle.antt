@@ -1,0 +1,58 @@
+-- Idle instructions: the run goes on behind them whatever is in the slots, and what they change nothing asks for later, or a
+-- register has it already. So a machine has nothing to do for them.
+use Rattle.std.specs.Prelude.{◌≡◌, ℕ, suc, ◌⊎◌, Bool, true, false, List, slice_index_or}
+use Rattle.cyc_plain.specs.declared.instruction.BinaryOperator.{BinaryOperator}
+use Rattle.cyc_plain.specs.declared.instruction.BinaryOperator.TheVariants as operators
+use Rattle.cyc_plain.specs.declared.instruction.Comparison.{Comparison}
+use Rattle.cyc_plain.specs.declared.instruction.Instruction.{Instruction}
+use Rattle.cyc_plain.specs.declared.instruction.Instruction.TheVariants as instructions
+use Rattle.cyc_plain.specs.declared.instruction.Operand.{Operand}
+use Rattle.cyc_plain.specs.declared.instruction.Operand.TheVariants as operands
+use Rattle.cyc_plain.specs.inside.Operators.{compares}
+use Rattle.cyc_plain.specs.inside.Program.{Routine, Program}
+use Rattle.cyc_plain.specs.inside.Uses.{At}
+use Rattle.cyc_registers.specs.declared.home.Home.{Home}
+use Rattle.cyc_registers.specs.declared.home.Home.TheVariants as homes
+use Rattle.cyc_registers.specs.inside.Interference.{HasRegister, is_kept, home_of}
+use Rattle.cyc_registers.specs.inside.Liveness.{IsLiveAt}
+
+-- it has a result whatever the words are
+abbrev pub always_has_result : BinaryOperator → Bool
+always_has_result operators.Divide = false
+always_has_result operators.Remainder = false
+always_has_result operator = true
+
+-- the comparison of two words does not hold
+abbrev pub NeverHolds : Comparison → (left right : Operand) → Type 0
+NeverHolds comparison (operands.Word left) (operands.Word right) = compares comparison left right ≡ false
+NeverHolds comparison left right = ⊥
+
+-- a slot whose word is in a register alone, and that is not live behind the instruction of this index
+abbrev pub IsUnused : Program → Routine → List Home → (index slot : ℕ) → Type 0
+IsUnused program r hs index slot = (is_kept (home_of hs slot) ≡ false) × (IsLiveAt program r slot (suc index) → ⊥)
+
+-- what is moved is in the register that the slot has alone
+abbrev pub IsThere : List Home → (slot : ℕ) → Operand → Type 0
+IsThere hs slot (operands.Slot number) =
+    (register : ℕ) × (home_of hs slot ≡ homes.Register register) × HasRegister hs number register
+IsThere hs slot (operands.Word word) = ⊥
+
+abbrev pub IsIdle : Program → Routine → List Home → (index : ℕ) → Instruction → Type 0
+IsIdle program r hs index (instructions.Move destination source) =
+    (source ≡ operands.Slot destination) ⊎ (IsUnused program r hs index destination ⊎ IsThere hs destination source)
+IsIdle program r hs index (instructions.Unary operator destination operand) = IsUnused program r hs index destination
+IsIdle program r hs index (instructions.Binary operator destination left right) =
+    (always_has_result operator ≡ true) × IsUnused program r hs index destination
+IsIdle program r hs index (instructions.Jump target) = target ≡ suc index
+IsIdle program r hs index (instructions.Branch comparison left right target) =
+    (target ≡ suc index) ⊎ NeverHolds comparison left right
+IsIdle program r hs index i = ⊥
+
+-- whether the place of this index is idle; where nothing is said of it, it is not
+abbrev pub idle_at : List Bool → (index : ℕ) → Bool
+idle_at idle index = slice_index_or idle index false
+
+-- The places that are said to be idle are. Others may be too.
+abbrev pub AreIdle : Program → Routine → List Home → (idle : List Bool) → Type 0
+AreIdle program r hs idle =
+    (index : ℕ) (i : Instruction) → At r index i → idle_at idle index ≡ true → IsIdle program r hs index i

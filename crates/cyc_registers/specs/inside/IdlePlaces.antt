@@ -1,0 +1,35 @@
+-- Which places are taken for idle, by homes and by a table of where chosen slots are live.
+use Rattle.std.specs.Prelude.{ℕ, ◌+◌, Bool, false, ◌==◌, ◌&&◌, ◌||◌, not, nat_lt, List, bit_and}
+use Rattle.cyc_plain.specs.declared.instruction.Comparison.{Comparison}
+use Rattle.cyc_plain.specs.declared.instruction.Comparison.TheVariants as comparisons
+use Rattle.cyc_plain.specs.declared.instruction.Instruction.{Instruction}
+use Rattle.cyc_plain.specs.declared.instruction.Instruction.TheVariants as instructions
+use Rattle.cyc_plain.specs.declared.instruction.Operand.{Operand}
+use Rattle.cyc_plain.specs.declared.instruction.Operand.TheVariants as operands
+use Rattle.cyc_plain.specs.inside.Uses.{is_slot}
+use Rattle.cyc_registers.specs.declared.home.Home.{Home}
+use Rattle.cyc_registers.specs.inside.Interference.{is_kept, home_of}
+use Rattle.cyc_registers.specs.inside.Idle.{always_has_result}
+use Rattle.cyc_registers.specs.inside.Masks.{mask_at}
+
+-- a word is said to be another than itself
+abbrev pub never_holds : Comparison → (left right : Operand) → Bool
+never_holds comparisons.NotEqual (operands.Word left) (operands.Word right) = left == right
+never_holds comparison left right = false
+
+-- the slot is one of those in the table, which does not have it behind the instruction of this index
+abbrev pub is_unused : (masks live : List ℕ) → List Home → (index slot : ℕ) → Bool
+is_unused masks live hs index slot =
+    nat_lt 0 (mask_at masks slot)
+    && (bit_and (mask_at live (index + 1)) (mask_at masks slot) == 0 && not (is_kept (home_of hs slot)))
+
+abbrev pub is_idle : (masks live : List ℕ) → List Home → (index : ℕ) → Instruction → Bool
+is_idle masks live hs index (instructions.Move destination source) =
+    is_unused masks live hs index destination || is_slot source destination
+is_idle masks live hs index (instructions.Unary operator destination operand) = is_unused masks live hs index destination
+is_idle masks live hs index (instructions.Binary operator destination left right) =
+    is_unused masks live hs index destination && always_has_result operator
+is_idle masks live hs index (instructions.Jump target) = target == index + 1
+is_idle masks live hs index (instructions.Branch comparison left right target) =
+    target == index + 1 || never_holds comparison left right
+is_idle masks live hs index i = false

@@ -1,0 +1,25 @@
+-- Liveness: a slot is live at a place where there is a way through the code to an instruction that reads it, with none before that
+-- writes it.
+use Rattle.std.specs.Prelude.{◌≡◌, ℕ, zero, suc, ◌⊎◌, true, false}
+use Rattle.cyc_plain.specs.declared.instruction.Instruction.{Instruction}
+use Rattle.cyc_plain.specs.declared.instruction.Instruction.TheVariants as instructions
+use Rattle.cyc_plain.specs.inside.Program.{Routine, Program}
+use Rattle.cyc_plain.specs.inside.Uses.{At, reads, writes, leads}
+
+-- an instruction so many later reads the slot, and none before writes it
+abbrev pub IsLiveWithin : Program → Routine → (slot steps index : ℕ) → Type 0
+IsLiveWithin program r slot zero index = (i : Instruction) × At r index i × (reads r.results i slot ≡ true)
+IsLiveWithin program r slot (suc steps) index =
+    (i : Instruction) × At r index i × (writes program i slot ≡ false)
+    × (next : ℕ) × (leads i index next ≡ true) × IsLiveWithin program r slot steps next
+
+abbrev pub IsLiveAt : Program → Routine → (slot index : ℕ) → Type 0
+IsLiveAt program r slot index = (steps : ℕ) × IsLiveWithin program r slot steps index
+
+-- it is live where a clause of the function begins, to which an exception may come from any call
+abbrev pub IsLiveInClause : Program → Routine → (slot : ℕ) → Type 0
+IsLiveInClause program r slot =
+    (index first handler : ℕ) × At r index (instructions.Try first handler) × IsLiveAt program r slot handler
+
+abbrev pub IsLiveLater : Program → Routine → (slot index : ℕ) → Type 0
+IsLiveLater program r slot index = IsLiveAt program r slot index ⊎ IsLiveInClause program r slot

@@ -1,0 +1,58 @@
+-- A table of which chosen slots are live at each place, as it is checked, instruction by instruction: whatever made the table,
+-- where the check holds everywhere it misses nothing. `kept` has those that are to be in memory too, and `barred` those that no
+-- register may have.
+use Rattle.std.specs.Prelude.{◌≡◌, ℕ, ◌+◌, Bool, true, ◌==◌, ◌&&◌, ◌||◌, nat_lt, List, bit_and, bit_or, bit_xor}
+use Rattle.cyc_plain.specs.declared.instruction.Instruction.{Instruction}
+use Rattle.cyc_plain.specs.declared.instruction.Instruction.TheVariants as instructions
+use Rattle.cyc_plain.specs.inside.Program.{Routine, Program}
+use Rattle.cyc_plain.specs.inside.Uses.{At}
+use Rattle.cyc_registers.specs.declared.liveness.TheConstants.{ALL_NUMBERS}
+use Rattle.cyc_registers.specs.inside.Masks.{mask_at, read_mask, write_mask, bar_mask}
+
+-- what the table has where the run may stand behind an instruction
+abbrev pub behind_mask : Instruction → (index : ℕ) → List ℕ → ℕ
+behind_mask (instructions.Jump target) index live = mask_at live target
+behind_mask (instructions.Branch comparison left right target) index live =
+    bit_or (mask_at live (index + 1)) (mask_at live target)
+behind_mask (instructions.Return value) index live = 0
+behind_mask (instructions.Try first handler) index live = bit_or (mask_at live (index + 1)) (mask_at live handler)
+behind_mask (instructions.Throw tag value) index live = 0
+behind_mask (instructions.Finish value) index live = 0
+behind_mask (instructions.Uncaught tag value) index live = 0
+behind_mask instruction index live = mask_at live (index + 1)
+
+-- all but what an instruction writes
+abbrev pub unwritten_mask : Program → (masks : List ℕ) → Instruction → ℕ
+unwritten_mask program masks i = bit_xor ALL_NUMBERS (write_mask masks program i)
+
+-- what is to be in the table at an instruction: what it reads, and what is live behind it and not written by it
+abbrev pub needed_mask : Program → (results : ℕ) → (masks : List ℕ) → Instruction → (index : ℕ) → List ℕ → ℕ
+needed_mask program results masks i index live =
+    bit_or (read_mask masks results i) (bit_and (behind_mask i index live) (unwritten_mask program masks i))
+
+-- what is to be in memory too: registers are lost here, and this is live behind it
+abbrev pub kept_mask : Program → (masks : List ℕ) → Instruction → (index : ℕ) → List ℕ → ℕ
+kept_mask program masks (instructions.Call function arguments count result) index live =
+    bit_and (mask_at live (index + 1)) (unwritten_mask program masks (instructions.Call function arguments count result))
+kept_mask program masks (instructions.Try first handler) index live = mask_at live handler
+kept_mask program masks instruction index live = 0
+
+-- all bits of the first are bits of the second
+abbrev pub is_within : (part whole : ℕ) → Bool
+is_within part whole = bit_or part whole == whole
+
+unfoldable pub is_sound_at : Program → (results : ℕ) → (masks : List ℕ) → Instruction → (index : ℕ) → List ℕ → (kept barred : ℕ) → Bool
+is_sound_at program results masks i index live kept barred =
+    is_within (needed_mask program results masks i index live) (mask_at live index)
+    && (is_within (kept_mask program masks i index live) kept && is_within (bar_mask masks i) barred)
+
+abbrev pub IsSound : Program → Routine → (masks live : List ℕ) → (kept barred : ℕ) → Type 0
+IsSound program r masks live kept barred =
+    (index : ℕ) (i : Instruction) → At r index i → is_sound_at program r.results masks i index live kept barred ≡ true
+
+-- A slot that is taken may have a register: nothing bars it, and where the function begins it is not live, or is a parameter.
+abbrev pub may_have : (masks live : List ℕ) → (taken barred parameters slot : ℕ) → Bool
+may_have masks live taken barred parameters slot =
+    nat_lt 0 (mask_at masks slot)
+    && (nat_lt 0 (bit_and (mask_at masks slot) taken)
+    && (bit_and barred (mask_at masks slot) == 0 && (nat_lt slot parameters || bit_and (mask_at live 0) (mask_at masks slot) == 0)))

@@ -1,0 +1,44 @@
+//! Register allocation: spill costs and liveness, and by these the assignment of registers, and what is idle then.
+ghost use Rattle.std.specs.Prelude.{IfOk};
+ghost use Rattle.cyc_plain.specs.inside.Program.{routine_of};
+ghost use Rattle.cyc_registers.specs.inside.Interference.{AreHomes};
+ghost use Rattle.cyc_registers.specs.inside.Idle.{AreIdle};
+
+use crate::assignment::{homes_in, in_memory, masks_of};
+use crate::home::Home;
+use crate::idle::idle_places;
+use crate::liveness::{is_sound, liveness_of};
+use crate::spill_costs::spill_costs_of;
+use cyc_plain::{Function, Plain};
+use std::alloc::{AllocError, Global};
+
+/// Where the words of a function's slots live, and where nothing is to be done.
+#[derive(Drop)]
+pub struct Allocation {
+    /// The home of each slot.
+    pub homes: Vec<Home>,
+    /// Whether each place of the code is idle. Those behind the last are not.
+    pub idle: Vec<bool>,
+}
+
+/// A home for each slot of a function, and the places that are idle by them. Those slots that cost most in memory get registers,
+/// in order, while there are some.
+#[tactic(auto, using(crate::proofs::IdleCode::none_idle))]
+pub fn allocate(alloc: Global, plain: &Plain, function: &Function) -> Result<Allocation, AllocError>
+    ensures homes { IfOk result (λ given. AreHomes plain.now (routine_of function.now) given.homes.items) }
+    ensures idle { IfOk result (λ given. AreIdle plain.now (routine_of function.now) given.homes.items given.idle.items) }
+{
+    let costs = spill_costs_of(alloc, function)?;
+    let masks = masks_of(alloc, &costs.chosen(alloc)?)?;
+    let lives = liveness_of(alloc, plain, function, &masks, &costs.backward)?;
+    if !is_sound(plain, function, &masks, &lives) {
+        return Ok(Allocation {
+            homes: in_memory(alloc, plain, function)?,
+            idle: Vec::new(alloc),
+        });
+    }
+    let taken = costs.taken(&masks, &lives);
+    let homes = homes_in(alloc, plain, function, &masks, &lives, taken)?;
+    let idle = idle_places(alloc, plain, function, &masks, &lives, &homes)?;
+    Ok(Allocation { homes, idle })
+}

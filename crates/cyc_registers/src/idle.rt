@@ -1,0 +1,112 @@
+//! Places where nothing is to be done.
+ghost use Rattle.std.specs.Prelude.{◌≡◌, ◌<◌, length, not, IfOk};
+ghost use Rattle.cyc_plain.specs.inside.Program.{routine_of};
+ghost use Rattle.cyc_plain.specs.inside.Uses.{is_slot};
+ghost use Rattle.cyc_registers.specs.inside.Interference as right;
+ghost use Rattle.cyc_registers.specs.inside.Idle.{AreIdle, always_has_result};
+ghost use Rattle.cyc_registers.specs.inside.IdlePlaces as checks;
+ghost use Rattle.cyc_registers.specs.inside.LivenessTable.{IsSound};
+ghost use Rattle.cyc_registers.specs.inside.Masks.{AreMasks};
+
+use crate::home::Home;
+use crate::liveness::{Lives, MOST_CHOSEN};
+use crate::masks::mask_at;
+use cyc_plain::{BinaryOperator, Comparison, Function, Instruction, Operand, Plain};
+use std::alloc::{AllocError, Global};
+
+/// Whether an operator has a result whatever the words are.
+fn always_has_result(operator: BinaryOperator) -> bool
+    ensures { result ≡ always_has_result operator }
+{
+    !matches!(operator, BinaryOperator::Divide | BinaryOperator::Remainder)
+}
+
+/// Whether a branch says of a word that it is another than itself. So it is never taken.
+fn never_holds(comparison: Comparison, left: Operand, right: Operand) -> bool
+    ensures { result ≡ checks.never_holds comparison left right }
+{
+    match (comparison, left, right) {
+        (Comparison::NotEqual, Operand::Word { word }, Operand::Word { word: other }) => word
+            == other,
+        _ => false,
+    }
+}
+
+fn is_slot(operand: Operand, slot: usize) -> bool
+    ensures { result ≡ is_slot operand slot }
+{
+    match operand {
+        Operand::Slot { number } => number == slot,
+        Operand::Word { .. } => false,
+    }
+}
+
+/// Whether a slot lives in a register alone.
+fn is_unkept(homes: &[Home], slot: usize) -> bool
+    ensures { result ≡ not (right.is_kept (right.home_of homes.now slot)) }
+{
+    matches!(homes.get(slot), Some(Home::Register { .. }))
+}
+
+/// Whether a slot whose word is in a register alone is not live behind this place.
+fn is_unused(masks: &[u32], live: &[u32], homes: &[Home], index: usize, slot: usize) -> bool
+    requires { index < length live.now }
+    ensures { result ≡ checks.is_unused masks.now live.now homes.now index slot }
+{
+    let mask = mask_at(masks, slot);
+    0 < mask && (mask_at(live, index + 1) & mask == 0 && is_unkept(homes, slot))
+}
+
+fn is_idle(
+    masks: &[u32],
+    live: &[u32],
+    homes: &[Home],
+    index: usize,
+    instruction: Instruction,
+) -> bool
+    requires { index < length live.now }
+    ensures { result ≡ checks.is_idle masks.now live.now homes.now index instruction }
+{
+    match instruction {
+        Instruction::Move {
+            destination,
+            source,
+        } => is_unused(masks, live, homes, index, destination) || is_slot(source, destination),
+        Instruction::Unary { destination, .. } => is_unused(masks, live, homes, index, destination),
+        Instruction::Binary {
+            operator,
+            destination,
+            ..
+        } => is_unused(masks, live, homes, index, destination) && always_has_result(operator),
+        Instruction::Jump { target } => target == index + 1,
+        Instruction::Branch {
+            comparison,
+            left,
+            right,
+            target,
+        } => target == index + 1 || never_holds(comparison, left, right),
+        _ => false,
+    }
+}
+
+/// Which places of a function's code are idle.
+#[tactic(auto, using(crate::proofs::IdleCode::none_idle))]
+pub(crate) fn idle_places(
+    alloc: Global,
+    plain: &Plain,
+    function: &Function,
+    masks: &[u32],
+    lives: &Lives,
+    homes: &[Home],
+) -> Result<Vec<bool>, AllocError>
+    requires numbered { AreMasks masks.now MOST_CHOSEN }
+    requires sound { IsSound plain.now (routine_of function.now) masks.now lives.now.live.items lives.now.kept lives.now.barred }
+    requires table { length lives.now.live.items ≡ length function.now.code.items }
+    ensures { IfOk result (λ idle. AreIdle plain.now (routine_of function.now) homes.now idle.items) }
+{
+    let mut idle = Vec::with_capacity(alloc, function.code.len())?;
+    for index in 0..function.code.len() {
+        idle.push(is_idle(masks, &lives.live, homes, index, function.code[index]))?;
+    }
+    Ok(idle)
+}

@@ -1,0 +1,15 @@
+//! Register allocation: which slots of a function live in registers, by where they are live and what they cost in memory.
+#![tactic(auto)]
+
+mod allocation;
+mod assignment;
+mod home;
+mod idle;
+mod liveness;
+mod masks;
+mod moves;
+mod spill_costs;
+
+pub use allocation::{Allocation, allocate};
+pub use home::{FIRST_REGISTER, Home, MOST_BOTH, REGISTERS_END};
+pub use moves::is_crossing;

@@ -1,0 +1,181 @@
+//! What an instruction does with the chosen slots, all of them at once: bit j of a mask is for the slot that was chosen as
+//! number j, and `masks` has the bit of each slot.
+ghost use Rattle.std.specs.Prelude.{◌≡◌, ◌+◌};
+ghost use Rattle.cyc_plain.specs.inside.Program.{routine_at};
+ghost use Rattle.cyc_registers.specs.inside.Masks as masks_of;
+
+use crate::moves::is_crossing;
+use cyc_plain::{Instruction, Operand, Plain, RECORD_WORDS, Request};
+
+/// The mask of a slot, or of a place in the code. Where there is none, 0.
+pub(crate) fn mask_at(masks: &[u32], place: usize) -> u32
+    ensures { result ≡ masks_of.mask_at masks.now place }
+{
+    match masks.get(place) {
+        Some(mask) => *mask,
+        None => 0,
+    }
+}
+
+fn operand_mask(masks: &[u32], operand: Operand) -> u32
+    ensures { result ≡ masks_of.operand_mask masks.now operand }
+{
+    match operand {
+        Operand::Slot { number } => mask_at(masks, number),
+        Operand::Word { .. } => 0,
+    }
+}
+
+/// The mask of the slot so many behind the first.
+#[tactic(auto, using(crate::proofs::Bits::no_mask))]
+fn mask_behind(masks: &[u32], first: usize, offset: usize) -> u32
+    ensures { result ≡ masks_of.mask_at masks.now (first + offset) }
+{
+    if first > masks.len() || offset >= masks.len() - first {
+        return 0;
+    }
+    mask_at(masks, first + offset)
+}
+
+#[tactic(auto, using(crate::proofs::Bits::range_more))]
+fn range_mask(masks: &[u32], first: usize, count: usize) -> u32
+    ensures { result ≡ masks_of.range_mask masks.now first count }
+{
+    let mut mask = 0;
+    for offset in 0..count {
+        mask = mask | mask_behind(masks, first, offset);
+    }
+    mask
+}
+
+/// How many words the function of this number returns.
+#[tactic(auto, using(crate::proofs::Bits::no_results))]
+fn results_of(plain: &Plain, function: usize) -> usize
+    ensures { result ≡ (routine_at plain.now function).results }
+{
+    if function < plain.functions().len() {
+        plain.function(function).results
+    } else {
+        0
+    }
+}
+
+fn request_read_mask(masks: &[u32], request: Request) -> u32
+    ensures { result ≡ masks_of.request_read_mask masks.now request }
+{
+    match request {
+        Request::CloseTo { mark } => operand_mask(masks, mark),
+        Request::CloseDynamic { handle } => operand_mask(masks, handle),
+        Request::Allocate { handle, words, .. } => operand_mask(masks, handle)
+            | operand_mask(masks, words),
+        Request::Free { address } => operand_mask(masks, address),
+        _ => 0,
+    }
+}
+
+/// What an instruction reads, in a function that returns so many words.
+pub(crate) fn read_mask(masks: &[u32], results: usize, instruction: Instruction) -> u32
+    ensures { result ≡ masks_of.read_mask masks.now results instruction }
+{
+    match instruction {
+        Instruction::Move { source, .. } => operand_mask(masks, source),
+        Instruction::MoveWords { source, count, .. } => range_mask(masks, source, count),
+        Instruction::Unary { operand, .. } => operand_mask(masks, operand),
+        Instruction::Binary { left, right, .. } => operand_mask(masks, left)
+            | operand_mask(masks, right),
+        Instruction::Branch { left, right, .. } => operand_mask(masks, left)
+            | operand_mask(masks, right),
+        Instruction::Call {
+            arguments,
+            count,
+            ..
+        } => range_mask(masks, arguments, count),
+        Instruction::Return { value } => range_mask(masks, value, results),
+        Instruction::WriteByte { source } => operand_mask(masks, source),
+        Instruction::StoreGlobal { source, .. } => operand_mask(masks, source),
+        Instruction::Load { address, .. } => operand_mask(masks, address),
+        Instruction::Store {
+            address,
+            source,
+            ..
+        } => operand_mask(masks, address) | operand_mask(masks, source),
+        Instruction::LoadByte { address, .. } => operand_mask(masks, address),
+        Instruction::StoreByte {
+            address,
+            source,
+            ..
+        } => operand_mask(masks, address) | operand_mask(masks, source),
+        Instruction::Ask { request } => request_read_mask(masks, request),
+        Instruction::Leave { first } => range_mask(masks, first, RECORD_WORDS),
+        Instruction::Throw { tag, value } => operand_mask(masks, tag) | operand_mask(masks, value),
+        Instruction::Finish { value } => range_mask(masks, value, results),
+        Instruction::Uncaught { value, .. } => operand_mask(masks, value),
+        _ => 0,
+    }
+}
+
+fn request_write_mask(masks: &[u32], request: Request) -> u32
+    ensures { result ≡ masks_of.request_write_mask masks.now request }
+{
+    match request {
+        Request::OpenLexical { destination } => range_mask(masks, destination, 2),
+        Request::OpenDynamic { destination } => mask_at(masks, destination),
+        Request::Allocate { destination, .. } => mask_at(masks, destination),
+        _ => 0,
+    }
+}
+
+/// What it writes of the slots that it does not bar.
+pub(crate) fn write_mask(masks: &[u32], plain: &Plain, instruction: Instruction) -> u32
+    ensures { result ≡ masks_of.write_mask masks.now plain.now instruction }
+{
+    match instruction {
+        Instruction::Move { destination, .. } => mask_at(masks, destination),
+        Instruction::MoveWords {
+            destination,
+            count,
+            ..
+        } => range_mask(masks, destination, count),
+        Instruction::Unary { destination, .. } => mask_at(masks, destination),
+        Instruction::Binary { destination, .. } => mask_at(masks, destination),
+        Instruction::Call {
+            function,
+            result,
+            ..
+        } => range_mask(masks, result, results_of(plain, function)),
+        Instruction::ReadByte { destination } => mask_at(masks, destination),
+        Instruction::AddressOf { destination, .. } => mask_at(masks, destination),
+        Instruction::LoadGlobal { destination, .. } => mask_at(masks, destination),
+        Instruction::Load { destination, .. } => mask_at(masks, destination),
+        Instruction::LoadByte { destination, .. } => mask_at(masks, destination),
+        Instruction::Ask { request } => request_write_mask(masks, request),
+        Instruction::CountLexical { destination } => mask_at(masks, destination),
+        _ => 0,
+    }
+}
+
+/// What it bars from registers.
+pub(crate) fn bar_mask(masks: &[u32], instruction: Instruction) -> u32
+    ensures { result ≡ masks_of.bar_mask masks.now instruction }
+{
+    match instruction {
+        Instruction::MoveWords {
+            destination,
+            source,
+            count,
+        } => {
+            if is_crossing(destination, source, count) {
+                range_mask(masks, destination, count) | range_mask(masks, source, count)
+            } else {
+                0
+            }
+        }
+        Instruction::AddressOf { slot, count, .. } => range_mask(masks, slot, count),
+        Instruction::Try { first, .. } | Instruction::Leave { first } => range_mask(
+            masks,
+            first,
+            RECORD_WORDS,
+        ),
+        _ => 0,
+    }
+}

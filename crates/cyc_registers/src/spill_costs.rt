@@ -1,0 +1,373 @@
+//! Spill costs: what each slot costs where it stays in memory, and so which are worth a register. Nothing is promised of the choice:
+//! homes are right whatever is chosen.
+use crate::home::MOST_BOTH;
+use crate::liveness::{Lives, MOST_CHOSEN, MOST_REGISTERS};
+use crate::masks::mask_at;
+use cyc_plain::{Function, Instruction, Operand, Request};
+use std::alloc::{AllocError, Global};
+
+/// How often the least gain is doubled at most, until no more slots have it than are looked at.
+const MOST_DOUBLINGS: u32 = 64;
+
+/// How often the code reads and writes a slot, by a guess of how often each place is executed.
+#[derive(Clone, Copy)]
+struct SpillCost {
+    reads: u64,
+    writes: u64,
+}
+
+/// What registers for the slots of a function would gain.
+#[derive(Drop)]
+pub(crate) struct SpillCosts {
+    slots: Vec<SpillCost>,
+    calls: u64,
+    /// The places from which the code jumps backward, in order.
+    pub(crate) backward: Vec<usize>,
+}
+
+/// A place in the code.
+#[derive(Clone, Copy)]
+struct Place {
+    /// Where the code jumps backward to it, the place behind the last such jump, else 0.
+    end: usize,
+    /// How many loops end before it.
+    closing: u64,
+    is_reached: bool,
+}
+
+/// Where an instruction leads, but for the next one and to clauses.
+fn target_of(instruction: Instruction) -> Option<usize> {
+    match instruction {
+        Instruction::Jump { target } => Some(target),
+        Instruction::Branch { target, .. } => Some(target),
+        _ => None,
+    }
+}
+
+/// Whether the code may go on behind an instruction.
+fn goes_on(instruction: Instruction) -> bool {
+    match instruction {
+        Instruction::Jump { .. }
+        | Instruction::Return { .. }
+        | Instruction::Throw { .. }
+        | Instruction::Finish { .. }
+        | Instruction::Uncaught { .. } => false,
+        _ => true,
+    }
+}
+
+fn weight_in(depth: u64) -> u64 {
+    match depth {
+        0 => 1,
+        1 => 10,
+        2 => 100,
+        3 => 1_000,
+        4 => 10_000,
+        _ => 100_000,
+    }
+}
+
+fn request_operands(request: Request) -> (Option<Operand>, Option<Operand>) {
+    match request {
+        Request::CloseTo { mark } => (Some(mark), None),
+        Request::CloseDynamic { handle } => (Some(handle), None),
+        Request::Allocate { handle, words, .. } => (Some(handle), Some(words)),
+        Request::Free { address } => (Some(address), None),
+        _ => (None, None),
+    }
+}
+
+/// The operands of an instruction, which it may have from registers.
+fn operands_of(instruction: Instruction) -> (Option<Operand>, Option<Operand>) {
+    match instruction {
+        Instruction::Move { source, .. } => (Some(source), None),
+        Instruction::Unary { operand, .. } => (Some(operand), None),
+        Instruction::Binary { left, right, .. } => (Some(left), Some(right)),
+        Instruction::Branch { left, right, .. } => (Some(left), Some(right)),
+        Instruction::WriteByte { source } => (Some(source), None),
+        Instruction::StoreGlobal { source, .. } => (Some(source), None),
+        Instruction::Load { address, .. } => (Some(address), None),
+        Instruction::Store {
+            address,
+            source,
+            ..
+        } => (Some(address), Some(source)),
+        Instruction::LoadByte { address, .. } => (Some(address), None),
+        Instruction::StoreByte {
+            address,
+            source,
+            ..
+        } => (Some(address), Some(source)),
+        Instruction::Ask { request } => request_operands(request),
+        Instruction::Throw { tag, value } => (Some(tag), Some(value)),
+        Instruction::Return { value } => (Some(Operand::Slot { number: value }), None),
+        Instruction::Finish { value } => (Some(Operand::Slot { number: value }), None),
+        Instruction::Uncaught { value, .. } => (Some(value), None),
+        _ => (None, None),
+    }
+}
+
+fn destination_of(instruction: Instruction) -> Option<usize> {
+    match instruction {
+        Instruction::Move { destination, .. } => Some(destination),
+        Instruction::Unary { destination, .. } => Some(destination),
+        Instruction::Binary { destination, .. } => Some(destination),
+        Instruction::ReadByte { destination } => Some(destination),
+        Instruction::AddressOf { destination, .. } => Some(destination),
+        Instruction::LoadGlobal { destination, .. } => Some(destination),
+        Instruction::Load { destination, .. } => Some(destination),
+        Instruction::LoadByte { destination, .. } => Some(destination),
+        Instruction::CountLexical { destination } => Some(destination),
+        _ => None,
+    }
+}
+
+fn mark(places: &mut Vec<Place>, index: usize) {
+    if let Some(place) = places.get_mut(index) {
+        place.is_reached = true;
+    }
+}
+
+fn mark_behind(places: &mut Vec<Place>, instruction: Instruction, index: usize) {
+    if goes_on(instruction) {
+        mark(places, index.saturating_add(1));
+    }
+    if let Some(target) = target_of(instruction) {
+        mark(places, target);
+    }
+    if let Instruction::Try { handler, .. } = instruction {
+        mark(places, handler);
+    }
+}
+
+fn close(places: &mut Vec<Place>, end: usize) {
+    if let Some(place) = places.get_mut(end) {
+        place.closing = place.closing.saturating_add(1);
+    }
+}
+
+impl SpillCosts {
+    fn read(&mut self, slot: usize, weight: u64) {
+        if let Some(gain) = self.slots.get_mut(slot) {
+            gain.reads = gain.reads.saturating_add(weight);
+        }
+    }
+
+    fn read_operand(&mut self, operand: Option<Operand>, weight: u64) {
+        if let Some(Operand::Slot { number }) = operand {
+            self.read(number, weight);
+        }
+    }
+
+    fn write(&mut self, slot: usize, weight: u64) {
+        if let Some(gain) = self.slots.get_mut(slot) {
+            gain.writes = gain.writes.saturating_add(weight);
+        }
+    }
+
+    /// An instruction that is executed so often.
+    fn add(&mut self, instruction: Instruction, weight: u64) {
+        let (first, second) = operands_of(instruction);
+        self.read_operand(first, weight);
+        self.read_operand(second, weight);
+        if let Some(slot) = destination_of(instruction) {
+            self.write(slot, weight);
+        }
+        match instruction {
+            Instruction::MoveWords {
+                destination,
+                source,
+                count,
+            } => {
+                for word in 0..count {
+                    self.read(source.saturating_add(word), weight);
+                    self.write(destination.saturating_add(word), weight);
+                }
+            }
+            Instruction::Call { .. } => self.calls = self.calls.saturating_add(weight),
+            _ => {}
+        }
+    }
+
+    /// The places of a function's code, with where its loops begin and end.
+    fn places(&mut self, alloc: Global, code: &[Instruction]) -> Result<Vec<Place>, AllocError> {
+        let place = Place {
+            end: 0,
+            closing: 0,
+            is_reached: false,
+        };
+        let mut places = vec![in alloc; place; code.len()]?;
+        for index in 0..code.len() {
+            if let Some(target) = target_of(code[index]) {
+                if target <= index {
+                    self.backward.push(index)?;
+                    if let Some(place) = places.get_mut(target) {
+                        place.end = index + 1;
+                    }
+                }
+            }
+        }
+        Ok(places)
+    }
+
+    /// What each slot costs: a place counts ten times for each loop round it, and nothing where no way leads. To where the
+    /// code jumps backward, a way is taken for granted.
+    fn weigh(&mut self, code: &[Instruction], places: &mut Vec<Place>) {
+        mark(places, 0);
+        let mut depth: u64 = 0;
+        for index in 0..code.len() {
+            let place = match places.get(index) {
+                Some(place) => *place,
+                None => return,
+            };
+            depth = depth.saturating_sub(place.closing);
+            if place.end > 0 {
+                depth = depth.saturating_add(1);
+                close(places, place.end);
+            }
+            if place.is_reached || place.end > 0 {
+                mark_behind(places, code[index], index);
+                self.add(code[index], weight_in(depth));
+            }
+        }
+    }
+
+    /// What a register alone would save at most.
+    fn most_at(&self, slot: usize) -> u64 {
+        match self.slots.get(slot) {
+            Some(gain) => gain.reads.saturating_add(gain.writes),
+            None => 0,
+        }
+    }
+
+    /// What a register beside memory would save, which is read again behind each call.
+    fn beside_at(&self, slot: usize) -> u64 {
+        match self.slots.get(slot) {
+            Some(gain) => gain.reads.saturating_sub(self.calls),
+            None => 0,
+        }
+    }
+
+    fn count_from(&self, least: u64) -> u32 {
+        let mut count: u32 = 0;
+        for slot in 0..self.slots.len() {
+            if self.most_at(slot) >= least {
+                count = count.saturating_add(1);
+            }
+        }
+        count
+    }
+
+    /// The least gain that no more slots have than are looked at.
+    fn least(&self) -> u64 {
+        let mut least: u64 = 1;
+        for _ in 0..MOST_DOUBLINGS {
+            if self.count_from(least) <= MOST_CHOSEN {
+                break;
+            }
+            least = least.saturating_mul(2);
+        }
+        least
+    }
+
+    /// The slots that are looked at: those that gain most.
+    pub(crate) fn chosen(&self, alloc: Global) -> Result<Vec<bool>, AllocError> {
+        let least = self.least();
+        let mut chosen = vec![in alloc; false; self.slots.len()]?;
+        let mut left = MOST_CHOSEN.saturating_sub(self.count_from(least));
+        for slot in 0..self.slots.len() {
+            let most = self.most_at(slot);
+            let is_next = least > 1 && left > 0 && most >= least / 2 && most < least;
+            if is_next {
+                left = left.saturating_sub(1);
+            }
+            if let Some(is_chosen) = chosen.get_mut(slot) {
+                *is_chosen = is_next || most >= least;
+            }
+        }
+        Ok(chosen)
+    }
+
+    /// What a register for this slot would save, where so many slots have both already.
+    fn gain_at(&self, slot: usize, mask: u32, lives: &Lives, both: usize) -> u64 {
+        if mask & lives.barred != 0 {
+            0
+        } else if mask & lives.kept == 0 {
+            self.most_at(slot)
+        } else if both < MOST_BOTH {
+            self.beside_at(slot)
+        } else {
+            0
+        }
+    }
+
+    /// The mask of the slot, not taken yet, that would gain most. Where none would gain anything, 0.
+    fn best(&self, masks: &[u32], lives: &Lives, taken: u32, both: usize) -> u32 {
+        let mut best: u32 = 0;
+        let mut most: u64 = 0;
+        for slot in 0..self.slots.len() {
+            let mask = mask_at(masks, slot);
+            if mask != 0 && mask & taken == 0 {
+                let gain = self.gain_at(slot, mask, lives, both);
+                if gain > most {
+                    best = mask;
+                    most = gain;
+                }
+            }
+        }
+        best
+    }
+
+    /// The masks of all chosen slots that gain something, if there are registers for them.
+    fn all(&self, masks: &[u32], lives: &Lives) -> Option<u32> {
+        let mut taken: u32 = 0;
+        for slot in 0..self.slots.len() {
+            let mask = mask_at(masks, slot);
+            if mask != 0 && self.gain_at(slot, mask, lives, 0) > 0 {
+                taken = taken | mask;
+            }
+        }
+        let both = (taken & lives.kept).count_ones() as usize;
+        if taken.count_ones() as usize <= MOST_REGISTERS && both <= MOST_BOTH {
+            Some(taken)
+        } else {
+            None
+        }
+    }
+
+    /// The masks of those of the chosen slots that gain most.
+    pub(crate) fn taken(&self, masks: &[u32], lives: &Lives) -> u32 {
+        if let Some(taken) = self.all(masks, lives) {
+            return taken;
+        }
+        let mut taken: u32 = 0;
+        let mut both: usize = 0;
+        for _ in 0..MOST_REGISTERS {
+            let mask = self.best(masks, lives, taken, both);
+            if mask == 0 {
+                break;
+            }
+            if mask & lives.kept != 0 {
+                both = both.saturating_add(1);
+            }
+            taken = taken | mask;
+        }
+        taken
+    }
+}
+
+/// What registers for the slots of a function would gain.
+pub(crate) fn spill_costs_of(alloc: Global, function: &Function) -> Result<SpillCosts, AllocError> {
+    let none = SpillCost {
+        reads: 0,
+        writes: 0,
+    };
+    let mut costs = SpillCosts {
+        slots: vec![in alloc; none; function.slots]?,
+        calls: 0,
+        backward: Vec::new(alloc),
+    };
+    let mut places = costs.places(alloc, &function.code)?;
+    costs.weigh(&function.code, &mut places);
+    Ok(costs)
+}
