@@ -13,6 +13,7 @@ import suite  # first: it says where the references and the generators are
 import image_makers
 import in_trees
 import instruction_makers
+import lemmas
 import machine
 import wrong
 
@@ -166,6 +167,7 @@ NUMBERS = [
     Number(GUARANTEES, r"random programs of them: ([\w,]+) results", results_of_instructions),
     Number(SOUNDNESS, r"has (\w+) programs that the rules accept", lambda: programs_of_sound("accepted")),
     Number(SOUNDNESS, r"has (\w+) that the rules refuse", lambda: programs_of_sound("refused")),
+    Number(FIGURES, r"of proofs, ([\w,]+) have more than one statement", lambda: len(lemmas.ambiguous())),
     Number(FIGURES, r"runs the (\w+) programs of `bench/unseen`", lambda: files_in("bench/unseen", "")),
     Number(FIGURES, r"for the (\w+) that are programs of this language too", lambda: files_in("bench/unseen", ".cyc")),
 ]

@@ -29,6 +29,7 @@ import gate_table
 import images
 import in_trees
 import interactive
+import lemmas
 import needs
 import reference
 import run
@@ -853,6 +854,7 @@ DRIFTS = [
     ("docs/ARCHITECTURE.md", "| `cyc_lex` |", "| `cyc_lexer` |"),
     ("docs/FIGURES.md", "\n| `cyc_words` | 5", "\n| `cyc_words` | 6"),
     ("docs/FIGURES.md", "\n| `cyc_tracer` | 2", "\n| `cyc_tracer` | 3"),
+    ("docs/FIGURES.md", "in the files of proofs, ", "in the files of proofs, 1"),
     ("docs/WRONG_BODIES.md", "\n| reader forgets its end |", "\n| reader forgets |"),
     ("docs/GUARANTEES.md", "random programs of them: 1", "random programs of them: 2"),
     ("docs/GUARANTEES.md", " small images, one of them", " images, one of them"),
@@ -886,6 +888,28 @@ def are_drifts_found():
         print("a crate that stands on another for nothing is not found, or one that needs it is")
         right = False
     return right
+
+
+# Files of proofs with their lemmas, and the names of which these have two statements: not of one that is laid out otherwise, private
+# somewhere or a comment, nor of what a definition or an answer is called.
+PROOFS = {
+    "one/proofs/First.antt": "pub same : A\n    → B\nsame = it\n\npub other : A\n\n-- third : A\nabbrev fourth : A\n",
+    "two/proofs/topic/Second.antt": "same : A → B\nother : B\nthird : B\nfourth : B\nlast : A\n",
+    "two/proofs/function/Answers.antt": "last : B\n",
+}
+
+
+def are_lemmas_told_apart(folder):
+    """Whether just the names are found that have different statements in different files."""
+    root = os.path.join(folder, "crates_with_proofs")
+    for path, text in PROOFS.items():
+        os.makedirs(os.path.dirname(os.path.join(root, path)), exist_ok=True)
+        with open(os.path.join(root, path), "w", encoding="utf-8") as file:
+            file.write(text)
+    found = lemmas.ambiguous(root)
+    if list(found) != ["other"]:
+        print(f"the names of lemmas with more than one statement are {list(found)}")
+    return list(found) == ["other"]
 
 
 # Lines that a session shows, and lines that are printed, with whether these are those.
@@ -1219,6 +1243,7 @@ def main():
         right += [are_lanes_right(), are_groups_right(folder), are_proofs_taken(folder), is_right_body_wanted(folder)]
         right += [is_library_made(folder), is_first_run_kept(), is_refusal_kept(folder), is_judge_right()]
         right += [are_pairs_right(folder), are_dialogs_judged(folder), are_drifts_found(), are_sessions_tried(folder), is_gate_published()]
+        right.append(are_lemmas_told_apart(folder))
         right.append(is_reading_watched(folder))
         right += needs.tried(folder, os.path.join(folder, "stand_in"))
         right.append(reference.with_room(lambda: is_shrinker_right(folder)))
