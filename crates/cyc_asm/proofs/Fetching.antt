@@ -32,13 +32,13 @@ decodes_to : (i : Instr) → IsEncodable i → instruction_of (word_of i) ≡ So
 unfolding instruction_of
 decodes_to i fits = decode_of-word_of i fits
 
-aligned : (address : ℕ) → address % 4 ≡ 0 → is_aligned address ≡ true
-aligned address multiple = eq-eqb (address % 4) 0 multiple
+aligned_address : (address : ℕ) → address % 4 ≡ 0 → is_aligned address ≡ true
+aligned_address address multiple = eq-eqb (address % 4) 0 multiple
 
 pub fetches : (words : List ℕ) (c : Configuration) (at next : ℕ) (in_slot : Bool) (i : Instr) → IsAt words at i → at % 4 ≡ 0
     → action_of (world_at words c at next in_slot).machine ≡ executes (world_at words c at next in_slot).machine i
 fetches words c at next in_slot i here multiple =
-    action_of-instruction (world_at words c at next in_slot).machine (word_of i) i (aligned at multiple) here.word (decodes_to i here.encodable)
+    action_of-instruction (world_at words c at next in_slot).machine (word_of i) i (aligned_address at multiple) here.word (decodes_to i here.encodable)
 
 -- where the instruction is determined, there is one next world
 pub goes_to : (words : List ℕ) (c c' : Configuration) (at next next' : ℕ) (in_slot in_slot' : Bool) (i : Instr) → IsAt words at i → at % 4 ≡ 0 → c'.output ≡ c.output → c'.input ≡ c.input

@@ -140,10 +140,10 @@ near_above code from to near in_from in_to up =
     let second : most_before code from ≤ most_before code to + MAX_REACH = leb-true (most_before code from) (most_before code to + MAX_REACH) (and_right (nat_le (most_before code to) (most_before code from + MAX_REACH)) (nat_le (most_before code from) (most_before code to + MAX_REACH)) near) in
     omega (arith, most, second)
 
-range_more : (from count : ℕ) → range_with_len from (suc count) ≡ range_with_len from count ++ (from + count) ∷ []
-range_more from zero = ap (λ (n : ℕ). n ∷ []) (let e : from ≡ from + zero = omega arith in e)
-range_more from (suc count) =
-    ap (λ (rest : List ℕ). from ∷ rest) (range_more (from + 1) count)
+range_with_more : (from count : ℕ) → range_with_len from (suc count) ≡ range_with_len from count ++ (from + count) ∷ []
+range_with_more from zero = ap (λ (n : ℕ). n ∷ []) (let e : from ≡ from + zero = omega arith in e)
+range_with_more from (suc count) =
+    ap (λ (rest : List ℕ). from ∷ rest) (range_with_more (from + 1) count)
     ∙ ap (λ (n : ℕ). from ∷ (range_with_len (from + 1) count ++ n ∷ [])) (let e : from + 1 + count ≡ from + suc count = omega arith in e)
 
 -- the lines' own words are all words, in order
@@ -152,7 +152,7 @@ own_words code zero = refl
 own_words code (suc count) =
     let p : ℕ = position code.lines count in
     let w : ℕ = width_at code.lines count in
-    ap (flat_map (own (addresses_in code.lines))) (range_more 0 count)
+    ap (flat_map (own (addresses_in code.lines))) (range_with_more 0 count)
     ∙ flat_map-append (own (addresses_in code.lines)) (range_with_len 0 count) (_ ∷ [])
     ∙ ap (λ (front : List ℕ). front ++ (own (addresses_in code.lines) (0 + count) ++ [])) (own_words code count)
     ∙ ap (λ (n : ℕ). stretch text_base p ++ (own (addresses_in code.lines) n ++ [])) (let e : 0 + count ≡ count = omega arith in e)

@@ -90,11 +90,11 @@ found_in [] rest j w at = cc
 found_in (x ∷ ws) rest zero w at = at
 found_in (x ∷ ws) rest (suc j) w at = found_in ws rest j w at
 
-found_behind : (front ws rest : List ℕ) (j w : ℕ) → slice_get ws j ≡ Some w → slice_index_or (text_of ((front ++ ws) ++ rest)) (length front + j) None ≡ Some w
-found_behind [] ws rest j w at = ap (λ (n : ℕ). slice_index_or (text_of (ws ++ rest)) n None) (let e : zero + j ≡ j = omega arith in e) ∙ found_in ws rest j w at
-found_behind (x ∷ front) ws rest j w at =
+found_behind_words : (front ws rest : List ℕ) (j w : ℕ) → slice_get ws j ≡ Some w → slice_index_or (text_of ((front ++ ws) ++ rest)) (length front + j) None ≡ Some w
+found_behind_words [] ws rest j w at = ap (λ (n : ℕ). slice_index_or (text_of (ws ++ rest)) n None) (let e : zero + j ≡ j = omega arith in e) ∙ found_in ws rest j w at
+found_behind_words (x ∷ front) ws rest j w at =
     ap (λ (n : ℕ). slice_index_or (text_of (((x ∷ front) ++ ws) ++ rest)) n None) (let e : suc (length front) + j ≡ suc (length front + j) = omega arith in e)
-    ∙ found_behind front ws rest j w at
+    ∙ found_behind_words front ws rest j w at
 
 -- ---- targets
 
@@ -183,7 +183,7 @@ module _ (code : Labelled) (formed : IsFormed code) (fits : Fits code.lines) whe
         ap (λ b. cond b (slice_index_or (text_of words) (word_number text_base address) None) None) (le-leb text_base address above)
         ∙ ap (λ (n : ℕ). slice_index_or (text_of words) n None) index
         ∙ ap (λ (ws : List ℕ). slice_index_or (text_of ws) (length (words_before code.lines number) + j) None) there
-        ∙ found_behind (words_before code.lines number) (words_of_line code.lines number line) rest j w has
+        ∙ found_behind_words (words_before code.lines number) (words_of_line code.lines number line) rest j w has
 
     -- a label's address is in the text range
     low : (label : ℕ) → label ≤ length code.lines → position code.lines label ≤ TEXT_WORDS

@@ -93,8 +93,8 @@ find code addresses address (suc count) within = elim (find code addresses addre
 not_above : (x y : ℤ) → int_lt y x ≡ not (int_le x y)
 not_above x y = grind (arith, ints)
 
-not_below : (x y : ℤ) → int_le x y ≡ not (int_lt y x)
-not_below x y = grind (arith, ints)
+int_not_below : (x y : ℤ) → int_le x y ≡ not (int_lt y x)
+int_not_below x y = grind (arith, ints)
 
 cond-not : (b : Bool) (x y : ℕ) → cond (not b) x y ≡ cond b y x
 cond-not true x y = refl
@@ -109,8 +109,8 @@ holds-inverse : (words : ℕ → ℕ) (condition : Condition) → holds_of words
 holds-inverse words (conditions.Registers Equal left right) = refl
 holds-inverse words (conditions.Registers NotEqual left right) = sym (not_not (nat_eq (words left.number) (words right.number)))
 holds-inverse words (conditions.Sign signs.LessOrEqual source) = not_above (signed (words source.number)) (pos 0)
-holds-inverse words (conditions.Sign signs.Greater source) = not_below (signed (words source.number)) (pos 0)
-holds-inverse words (conditions.Sign signs.Less source) = not_below (pos 0) (signed (words source.number))
+holds-inverse words (conditions.Sign signs.Greater source) = int_not_below (signed (words source.number)) (pos 0)
+holds-inverse words (conditions.Sign signs.Less source) = int_not_below (pos 0) (signed (words source.number))
 holds-inverse words (conditions.Sign signs.GreaterOrEqual source) = not_above (pos 0) (signed (words source.number))
 
 -- a branch leaves its slot to be executed, and then goes where it is taken to

@@ -46,13 +46,13 @@ abbrev Found : List Routine → Option Span → Type 0
 Found routines None = (k : ℕ) → k < length routines → count_at routines k ≤ MOST_FRAME_WORDS
 Found routines (Some place) = (k : ℕ) × IsFirst routines k × ((slice_index_or routines k no_routine).name ≡ place)
 
-found_behind : (r : Routine) (routines : List Routine) → r.frame_count ≤ MOST_FRAME_WORDS → (o : Option Span) → Found routines o → Found (r ∷ routines) o
-found_behind r routines small None all = go
+found_behind_small : (r : Routine) (routines : List Routine) → r.frame_count ≤ MOST_FRAME_WORDS → (o : Option Span) → Found routines o → Found (r ∷ routines) o
+found_behind_small r routines small None all = go
   where
     go : (k : ℕ) → k < length (r ∷ routines) → count_at (r ∷ routines) k ≤ MOST_FRAME_WORDS
     go zero below = small
     go (suc k) below = all k (omega arith)
-found_behind r routines small (Some place) (k, (below, large, first), name) = (suc k, ((omega arith), large, go), name)
+found_behind_small r routines small (Some place) (k, (below, large, first), name) = (suc k, ((omega arith), large, go), name)
   where
     go : (j : ℕ) → j < suc k → count_at (r ∷ routines) j ≤ MOST_FRAME_WORDS
     go zero before = small
@@ -67,7 +67,7 @@ found (r ∷ routines) = elim (cases_lt MOST_FRAME_WORDS r.frame_count) [
       subst (Found (r ∷ routines)) (sym here) (0, ((omega arith), large, (λ j before. absurd (omega arith))), refl)
   | inr small ↦
       let behind : first_too_large (r ∷ routines) ≡ first_too_large routines = ap (λ (b : Bool). if b then Some r.name else first_too_large routines) (not_large small) in
-      subst (Found (r ∷ routines)) (sym behind) (found_behind r routines small (first_too_large routines) (found routines))
+      subst (Found (r ∷ routines)) (sym behind) (found_behind_small r routines small (first_too_large routines) (found routines))
 ]
   where
     not_large : r.frame_count ≤ MOST_FRAME_WORDS → is_too_large r ≡ false
@@ -161,8 +161,8 @@ more_frames program count frames frame r are is framed homes idle = record {
 
 -- ---- answers
 
-is_decided : (program : Program) → IsDecided (IsAccepted program) (IsTooLarge program) (IsTooLarge program)
-is_decided program =
+layout_is_decided : (program : Program) → IsDecided (IsAccepted program) (IsTooLarge program) (IsTooLarge program)
+layout_is_decided program =
     record {
       one = λ a b first second. first.0 ∙ sym second.0;
       same = one_first program;
@@ -175,7 +175,7 @@ Answers program result = Decides (IsAccepted program) AreFrames (IsTooLarge prog
 
 refused : (program : Program) (fault : Fault) → (fault ≡ memory_fault) ⊎ IsTooLarge program fault → Answers program (Err fault)
 refused program fault why =
-    decides (IsAccepted program) AreFrames (IsTooLarge program) (IsTooLarge program) (is_decided program) (Err fault) tt why
+    decides (IsAccepted program) AreFrames (IsTooLarge program) (IsTooLarge program) (layout_is_decided program) (Err fault) tt why
 
 module _ (program : Program) (functions : List Function) (are : map routine_of functions ≡ program.functions) where
   pub too_large : (place : Span) (fault : Fault) → first_too_large (map routine_of functions) ≡ Some place
@@ -189,5 +189,5 @@ module _ (program : Program) (functions : List Function) (are : map routine_of f
   pub framed : (frames : List Frame) → AreFirstFrames program (length program.functions) frames
       → first_too_large (map routine_of functions) ≡ None → Answers program (Ok frames)
   framed frames made none =
-      decides (IsAccepted program) AreFrames (IsTooLarge program) (IsTooLarge program) (is_decided program) (Ok frames)
+      decides (IsAccepted program) AreFrames (IsTooLarge program) (IsTooLarge program) (layout_is_decided program) (Ok frames)
       (program, (refl, small_frames none), record { as_many = made.as_many; each = made.each; homes = made.homes; idle = made.idle }) tt

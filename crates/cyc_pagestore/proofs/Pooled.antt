@@ -41,8 +41,8 @@ fill-set fills page mark filled there is = fun_ext (λ q. elim (cases_eq q page)
 ])
 
 -- to write what is there changes nothing
-same-at : {A : Type 0} (f : ℕ → A) (at : ℕ) → f ≡ with_at f at (f at)
-same-at f at = fun_ext (λ q. elim (cases_eq q at) [
+with_itself_at : {A : Type 0} (f : ℕ → A) (at : ℕ) → f ≡ with_at f at (f at)
+with_itself_at f at = fun_ext (λ q. elim (cases_eq q at) [
   | inl same ↦ ap f same ∙ sym (at-same f at (f at) q same)
   | inr other ↦ sym (at-other f at (f at) q other)
 ])
@@ -280,7 +280,7 @@ module _ (p : PoolState) (pages : ℕ) (spots : List Spot) (next : ℕ) (l : Lin
         serial = read-set p.serials page (slice_index p.serials root) 0 (subst (λ n. page < n) (sym is.whole.serials) there) j;
         chain = (read-set (set p.chains root (chain_at p.chains root ++ page ∷ [])) page [] [] (subst (λ n. page < n) (sym (length-set p.chains root (chain_at p.chains root ++ page ∷ []) ∙ is.chains)) there)
             ∙ ap (λ f. with_at f page []) (read-set p.chains root (chain_at p.chains root ++ page ∷ []) [] (subst (λ n. root < n) (sym is.chains) below))) j;
-        role = (spots-set (λ (s : Spot). s.role) spots root (record { role = (spot_at spots root).role; newest = page }) (in_spots root below) ∙ sym (same-at b.role root)) j;
+        role = (spots-set (λ (s : Spot). s.role) spots root (record { role = (spot_at spots root).role; newest = page }) (in_spots root below) ∙ sym (with_itself_at b.role root)) j;
         newest = spots-set (λ (s : Spot). s.newest) spots root (record { role = (spot_at spots root).role; newest = page }) (in_spots root below) j;
       }
 

@@ -26,9 +26,9 @@ use Rattle.cyc_pagestore.specs.inside.Links.{removed, first_of}
 use Rattle.cyc_pagestore.proofs.Rows.{relinked-length}
 use Rattle.cyc_pagestore.proofs.Taking.{stored-few, words-count, same-size, v, u, v-kept, draws, room}
 
-given-length : (rows : List Row) (page count free : ℕ) → length (given_rows rows page count free) ≡ length rows
-given-length rows page zero free = refl
-given-length rows page (suc count) free = given-length (set rows page (free_row free)) (row_at rows page).next count page ∙ length-set rows page (free_row free)
+given_rows-length : (rows : List Row) (page count free : ℕ) → length (given_rows rows page count free) ≡ length rows
+given_rows-length rows page zero free = refl
+given_rows-length rows page (suc count) free = given_rows-length (set rows page (free_row free)) (row_at rows page).next count page ∙ length-set rows page (free_row free)
 
 -- the role of a region's first page
 sort-root : (sort : Sort) → IsRoot (role_of_sort sort)
@@ -185,7 +185,7 @@ module _ (x : TableState) (lexicals : List ℕ) (classes : List ClassSlots) (b :
     closes-most = ap (λ (z : TableState). z.most) closes
 
     pub rows-given : length y.rows ≡ length x.rows
-    rows-given = ap (λ (z : TableState). length z.rows) closes ∙ given-length x.rows (row_of x root).newest (row_of x root).count x.free
+    rows-given = ap (λ (z : TableState). length z.rows) closes ∙ given_rows-length x.rows (row_of x root).newest (row_of x root).count x.free
 
     pub closed-stored : (c : Blocks) → c ≡ record b { regions = without handle_of b.regions (handle_of_page root) } → (left : List ℕ) → left ≡ lexical_handles (without handle_of b.regions (handle_of_page root))
         → IsStored y left classes c

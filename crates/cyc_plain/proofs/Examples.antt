@@ -68,38 +68,38 @@ not_ended_before = refl
 negative : status_of (after 3 1 (program (Move 0 (Word 0xffffffff) ∷ Move 1 (Slot 0) ∷ Return 1 ∷ [])) []) ≡ Ended (Returned (negsuc 0))
 negative = refl
 
-negate_wraps : of_one unary.Negate 0x80000000 ≡ Ended (Returned (negsuc 2147483647))
-negate_wraps = refl
+plain_negate_wraps : of_one unary.Negate 0x80000000 ≡ Ended (Returned (negsuc 2147483647))
+plain_negate_wraps = refl
 
-complement : of_one unary.Complement 0 ≡ Ended (Returned (negsuc 0))
-complement = refl
+plain_complement : of_one unary.Complement 0 ≡ Ended (Returned (negsuc 0))
+plain_complement = refl
 
-not_of_zero : of_one unary.Not 0 ≡ Ended (Returned (pos 1))
-not_of_zero = refl
+plain_not_of_zero : of_one unary.Not 0 ≡ Ended (Returned (pos 1))
+plain_not_of_zero = refl
 
-not_of_five : of_one unary.Not 5 ≡ Ended (Returned (pos 0))
-not_of_five = refl
+plain_not_of_five : of_one unary.Not 5 ≡ Ended (Returned (pos 0))
+plain_not_of_five = refl
 
-sum_wraps : of_two binary.Add 2147483647 1 ≡ Ended (Returned (negsuc 2147483647))
-sum_wraps = refl
+plain_sum_wraps : of_two binary.Add 2147483647 1 ≡ Ended (Returned (negsuc 2147483647))
+plain_sum_wraps = refl
 
-difference_wraps : of_two binary.Subtract 0x80000000 1 ≡ Ended (Returned (pos 2147483647))
-difference_wraps = refl
+plain_difference_wraps : of_two binary.Subtract 0x80000000 1 ≡ Ended (Returned (pos 2147483647))
+plain_difference_wraps = refl
 
-product_wraps : of_two binary.Multiply 65536 65537 ≡ Ended (Returned (pos 65536))
-product_wraps = refl
+plain_product_wraps : of_two binary.Multiply 65536 65537 ≡ Ended (Returned (pos 65536))
+plain_product_wraps = refl
 
 quotient_toward_zero : of_two binary.Divide 0xfffffff9 2 ≡ Ended (Returned (negsuc 2))
 unfolding div_of
 quotient_toward_zero = refl
 
-quotient_wraps : of_two binary.Divide 0x80000000 0xffffffff ≡ Ended (Returned (negsuc 2147483647))
+plain_quotient_wraps : of_two binary.Divide 0x80000000 0xffffffff ≡ Ended (Returned (negsuc 2147483647))
 unfolding div_of
-quotient_wraps = refl
+plain_quotient_wraps = refl
 
-remainder_of_negative : of_two binary.Remainder 0xfffffff9 2 ≡ Ended (Returned (negsuc 0))
+plain_remainder_of_negative : of_two binary.Remainder 0xfffffff9 2 ≡ Ended (Returned (negsuc 0))
 unfolding rem_of
-remainder_of_negative = refl
+plain_remainder_of_negative = refl
 
 division_by_zero_is_stuck : of_two binary.Divide 1 0 ≡ Failed
 division_by_zero_is_stuck = refl
@@ -107,32 +107,32 @@ division_by_zero_is_stuck = refl
 bits : of_two binary.Xor 12 10 ≡ Ended (Returned (pos 6))
 bits = refl
 
-shift_left_by_33 : of_two binary.ShiftLeft 3 33 ≡ Ended (Returned (pos 6))
-shift_left_by_33 = refl
+plain_shift_left_by_33 : of_two binary.ShiftLeft 3 33 ≡ Ended (Returned (pos 6))
+plain_shift_left_by_33 = refl
 
-shift_right_of_negative : of_two binary.ShiftRight 0xfffffff8 1 ≡ Ended (Returned (negsuc 3))
+plain_shift_right_of_negative : of_two binary.ShiftRight 0xfffffff8 1 ≡ Ended (Returned (negsuc 3))
 unfolding sar_of
-shift_right_of_negative = refl
+plain_shift_right_of_negative = refl
 
-equal : of_two binary.Equal 5 5 ≡ Ended (Returned (pos 1))
-equal = refl
+plain_equal : of_two binary.Equal 5 5 ≡ Ended (Returned (pos 1))
+plain_equal = refl
 
-not_equal : of_two binary.NotEqual 5 5 ≡ Ended (Returned (pos 0))
-not_equal = refl
+plain_not_equal : of_two binary.NotEqual 5 5 ≡ Ended (Returned (pos 0))
+plain_not_equal = refl
 
 less_is_signed : of_two binary.Less 0xffffffff 0 ≡ Ended (Returned (pos 1))
 unfolding slt_of
 less_is_signed = refl
 
-less_or_equal : of_two binary.LessOrEqual 7 7 ≡ Ended (Returned (pos 1))
-less_or_equal = refl
+plain_less_or_equal : of_two binary.LessOrEqual 7 7 ≡ Ended (Returned (pos 1))
+plain_less_or_equal = refl
 
 greater_is_signed : of_two binary.Greater 0xffffffff 0 ≡ Ended (Returned (pos 0))
 unfolding slt_of
 greater_is_signed = refl
 
-greater_or_equal : of_two binary.GreaterOrEqual 0x80000000 0x7fffffff ≡ Ended (Returned (pos 0))
-greater_or_equal = refl
+plain_greater_or_equal : of_two binary.GreaterOrEqual 0x80000000 0x7fffffff ≡ Ended (Returned (pos 0))
+plain_greater_or_equal = refl
 
 -- ---- branches
 
@@ -147,8 +147,8 @@ sum_down = program (
 sums_up : status_of (after 25 1 sum_down []) ≡ Ended (Returned (pos 15))
 sums_up = refl
 
-loops_for_ever : status_of (after 100 1 (program (Jump 0 ∷ [])) []) ≡ simulation.Running
-loops_for_ever = refl
+plain_loops_for_ever : status_of (after 100 1 (program (Jump 0 ∷ [])) []) ≡ simulation.Running
+plain_loops_for_ever = refl
 
 jumps_if_nonzero : status_of (after 3 1 (program (Move 0 (Word 2) ∷ Branch comparisons.NotEqual (Slot 0) (Word 0) 3 ∷ Return 1 ∷ Return 0 ∷ [])) []) ≡ Ended (Returned (pos 2))
 jumps_if_nonzero = refl
@@ -197,31 +197,31 @@ abbrev echo : Program
 echo = program (
     ReadByte 0 ∷ Move 1 (Word 0) ∷ Binary binary.Less 2 (Slot 0) (Slot 1) ∷ Branch comparisons.NotEqual (Slot 2) (Word 0) 6 ∷ WriteByte (Slot 0) ∷ Jump 0 ∷ Return 1 ∷ [])
 
-echo_prints : output_of (after 20 1 echo (104 ∷ 105 ∷ [])) ≡ 104 ∷ 105 ∷ []
+plain_echo_prints : output_of (after 20 1 echo (104 ∷ 105 ∷ [])) ≡ 104 ∷ 105 ∷ []
 unfolding slt_of
-echo_prints = refl
+plain_echo_prints = refl
 
-echo_ends : status_of (after 20 1 echo (104 ∷ 105 ∷ [])) ≡ Ended (Returned (pos 0))
+plain_echo_ends : status_of (after 20 1 echo (104 ∷ 105 ∷ [])) ≡ Ended (Returned (pos 0))
 unfolding slt_of
-echo_ends = refl
+plain_echo_ends = refl
 
 end_of_input : status_of (after 2 1 (program (ReadByte 0 ∷ Return 0 ∷ [])) []) ≡ Ended (Returned (negsuc 0))
 end_of_input = refl
 
-one_byte_is_read : input_of (after 1 1 (program (ReadByte 0 ∷ Return 0 ∷ [])) (7 ∷ 8 ∷ [])) ≡ 8 ∷ []
-one_byte_is_read = refl
+plain_one_byte_is_read : input_of (after 1 1 (program (ReadByte 0 ∷ Return 0 ∷ [])) (7 ∷ 8 ∷ [])) ≡ 8 ∷ []
+plain_one_byte_is_read = refl
 
-low_byte_is_printed : output_of (after 2 1 (program (Move 0 (Word 321) ∷ WriteByte (Slot 0) ∷ Return 0 ∷ [])) []) ≡ 65 ∷ []
-low_byte_is_printed = refl
+plain_low_byte_is_printed : output_of (after 2 1 (program (Move 0 (Word 321) ∷ WriteByte (Slot 0) ∷ Return 0 ∷ [])) []) ≡ 65 ∷ []
+plain_low_byte_is_printed = refl
 
 global_is_counted_up : status_of (after 6 1 (program (LoadGlobal 0 0 ∷ Move 1 (Word 1) ∷ Binary binary.Add 0 (Slot 0) (Slot 1) ∷ StoreGlobal 0 (Slot 0) ∷ LoadGlobal 2 0 ∷ Return 2 ∷ [])) []) ≡ Ended (Returned (pos 4))
 global_is_counted_up = refl
 
-uncaught : status_of (after 2 1 (program (Move 0 (Word 0) ∷ instructions.Uncaught 4 (Slot 0) ∷ [])) []) ≡ Ended (Uncaught 4 (pos 0))
-uncaught = refl
+plain_uncaught : status_of (after 2 1 (program (Move 0 (Word 0) ∷ instructions.Uncaught 4 (Slot 0) ∷ [])) []) ≡ Ended (Uncaught 4 (pos 0))
+plain_uncaught = refl
 
-places : places_of (program (Move 0 (Word 0) ∷ Return 0 ∷ [])) ≡ record { function = 0; index = 0 } ∷ record { function = 0; index = 1 } ∷ []
-places = refl
+plain_places : places_of (program (Move 0 (Word 0) ∷ Return 0 ∷ [])) ≡ record { function = 0; index = 0 } ∷ record { function = 0; index = 1 } ∷ []
+plain_places = refl
 
 -- ---- comparisons of a branch, and operands that are words
 

@@ -56,12 +56,12 @@ record IsPinned (code : List Instruction) (slot : ℕ) : Type 0 where
   from : first ≤ slot
   below : slot < first + count
 
-pinned_by : (code : List Instruction) (slot : ℕ) → is_pinned code slot ≡ true → IsPinned code slot
-pinned_by [] slot pinned = absurd (let e : false ≡ true = pinned in cc)
-pinned_by (i ∷ code) slot pinned = elim (or_either (pins i slot) (is_pinned code slot) pinned) [
+pinned_is_pinned : (code : List Instruction) (slot : ℕ) → is_pinned code slot ≡ true → IsPinned code slot
+pinned_is_pinned [] slot pinned = absurd (let e : false ≡ true = pinned in cc)
+pinned_is_pinned (i ∷ code) slot pinned = elim (or_either (pins i slot) (is_pinned code slot) pinned) [
   | inl here ↦ by_first i here
   | inr there ↦
-      let p = pinned_by code slot there in
+      let p = pinned_is_pinned code slot there in
       record { index = suc p.index; destination = p.destination; first = p.first; count = p.count; at = p.at; from = p.from; below = p.below }
 ]
   where
@@ -71,8 +71,8 @@ pinned_by (i ∷ code) slot pinned = elim (or_either (pins i slot) (is_pinned co
         record { index = 0; destination = destination; first = first; count = count; at = refl; from = leb-true first slot low; below = ltb-true slot (first + count) high }
     by_first i is = absurd (let e : false ≡ true = is in cc)
 
-pins_same : (destination first count slot : ℕ) → first ≤ slot → slot < first + count → pins (instructions.AddressOf destination first count) slot ≡ true
-pins_same destination first count slot from below = and_from (nat_le first slot) (nat_lt slot (first + count)) (le-leb first slot from) (lt-ltb slot (first + count) below)
+address_of_pins : (destination first count slot : ℕ) → first ≤ slot → slot < first + count → pins (instructions.AddressOf destination first count) slot ≡ true
+address_of_pins destination first count slot from below = and_from (nat_le first slot) (nat_lt slot (first + count)) (le-leb first slot from) (lt-ltb slot (first + count) below)
 
 -- the slots that an instruction of the code names
 pub pinned-at : (code : List Instruction) (index destination first count slot : ℕ) → slice_get code index ≡ Some (instructions.AddressOf destination first count)
@@ -80,14 +80,14 @@ pub pinned-at : (code : List Instruction) (index destination first count slot : 
 pinned-at [] index destination first count slot at from below = absurd (let e : None ≡ Some (instructions.AddressOf destination first count) = at in cc)
 pinned-at (i ∷ code) zero destination first count slot at from below =
     let same : i ≡ instructions.AddressOf destination first count = let e : Some i ≡ Some (instructions.AddressOf destination first count) = at in cc in
-    or_left (pins i slot) (is_pinned code slot) (ap (λ (j : Instruction). pins j slot) same ∙ pins_same destination first count slot from below)
+    or_left (pins i slot) (is_pinned code slot) (ap (λ (j : Instruction). pins j slot) same ∙ address_of_pins destination first count slot from below)
 pinned-at (i ∷ code) (suc index) destination first count slot at from below =
     or_right (pins i slot) (is_pinned code slot) (pinned-at code index destination first count slot at from below)
 
 -- it is a slot of the function
 pub pinned-inside : (program : Program) → IsWellFormed program → (function slot : ℕ) → is_pinned (routine_at program function).code slot ≡ true → slot < (routine_at program function).slots
 pinned-inside program well function slot pinned =
-    let p = pinned_by (routine_at program function).code slot pinned in
+    let p = pinned_is_pinned (routine_at program function).code slot pinned in
     let known = function_known program (record { function = function; index = p.index }) (instructions.AddressOf p.destination p.first p.count) p.at in
     let routine = routine_in program function well known in
     let range : IsInRange program (routine_at program function) (instructions.AddressOf p.destination p.first p.count) =

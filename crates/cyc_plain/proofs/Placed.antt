@@ -43,8 +43,8 @@ pub routine_in : (program : Program) (function : ℕ) → IsWellFormed program �
 routine_in program function well below =
     well.functions function no_routine below
 
-some_last : (r : Routine) → IsSomeAnd (slice_get r.code (length r.code - 1)) (λ i. leaves i ≡ true) → (i : Instruction) → slice_get r.code (length r.code - 1) ≡ Some i → leaves i ≡ true
-some_last r last i at = subst (λ (o : Option Instruction). IsSomeAnd o (λ j. leaves j ≡ true)) at last
+last_is_some : (r : Routine) → IsSomeAnd (slice_get r.code (length r.code - 1)) (λ i. leaves i ≡ true) → (i : Instruction) → slice_get r.code (length r.code - 1) ≡ Some i → leaves i ≡ true
+last_is_some r last i at = subst (λ (o : Option Instruction). IsSomeAnd o (λ j. leaves j ≡ true)) at last
 
 -- a function has code
 pub has_code : (program : Program) (r : Routine) → IsRoutine program r → 0 < length r.code
@@ -62,7 +62,7 @@ goes_behind program r place i routine at stays =
       | inr end ↦
           let inside = below_of_get r.code place i at in
           let last : length r.code - 1 ≡ place = omega arith in
-          let left : leaves i ≡ true = some_last r routine.last i (ap (slice_get r.code) last ∙ at) in
+          let left : leaves i ≡ true = last_is_some r routine.last i (ap (slice_get r.code) last ∙ at) in
           absurd (let e : false ≡ true = sym stays ∙ left in cc)
     ]
 
@@ -88,9 +88,9 @@ IsPlaced program (Running c) =
 IsPlaced program (Ended ending output input) = Unit {0}
 IsPlaced program (Stuck output input) = Unit {0}
 
-returned : (program : Program) (c : Configuration) (value results : ℕ) (frames : List Frame) → AllByRecursion (IsWaiting program) frames → IsPlaced program (returns c value results frames)
-returned program c value results [] waiting = tt
-returned program c value results (f ∷ frames) (first, rest) = (first.0, first.1, rest)
+return_is_placed : (program : Program) (c : Configuration) (value results : ℕ) (frames : List Frame) → AllByRecursion (IsWaiting program) frames → IsPlaced program (returns c value results frames)
+return_is_placed program c value results [] waiting = tt
+return_is_placed program c value results (f ∷ frames) (first, rest) = (first.0, first.1, rest)
 
 -- a store changes no place
 waiting_written : (program : Program) (frames : List Frame) (address word : ℕ) → AllByRecursion (IsWaiting program) frames → AllByRecursion (IsWaiting program) (with_waiting program frames address word)
@@ -184,7 +184,7 @@ module _ (program : Program) (well : IsWellFormed program) (choice : Choice) (c 
       landed tag value a (f ∷ frames) (throws c tag value f.caller frames) a.handlers known all rest (thrown tag value f.caller frames rest.0.0.0 rest.0.1 rest.1)
 
   finished : (value results : ℕ) (handlers : List Handler) → IsPlaced program (finishes c value results handlers)
-  finished value results [] = returned program c value results c.frames waiting
+  finished value results [] = return_is_placed program c value results c.frames waiting
   finished value results (h ∷ handlers) = tt
 
   performs : (i : Instruction) → slice_get here.code c.active.next ≡ Some i → IsInRange program here i → IsPlaced program (performed program choice c i)
@@ -206,7 +206,7 @@ module _ (program : Program) (well : IsWellFormed program) (choice : Choice) (c 
       (chosen (compares comparison (operand_word c.active.slots left) (operand_word c.active.slots right)) target (inside, reached) (behind (instructions.Branch comparison left right target) at refl), handling, waiting)
   performs (instructions.Call function arguments count result) at range =
       ((range.function_in_range, has_code program (routine_at program function) (routine_in program function well range.function_in_range)), tt, ((behind _ at refl, handling), waiting))
-  performs (instructions.Return value) at range = returned program c value here.results c.frames waiting
+  performs (instructions.Return value) at range = return_is_placed program c value here.results c.frames waiting
   performs (instructions.ReadByte destination) at range = (behind _ at refl, handling, waiting)
   performs (instructions.WriteByte source) at range = (behind _ at refl, handling, waiting)
   performs (instructions.AddressOf destination slot count) at range = (behind _ at refl, handling, waiting)
@@ -246,8 +246,8 @@ placed_start program base store input well = ((well.main, has_code program (rout
 
 -- ---- getting stuck
 
-not_failed : (c : Configuration) → simulation.Running ≡ simulation.Failed → ⊥
-not_failed c e = cc
+running_not_failed : (c : Configuration) → simulation.Running ≡ simulation.Failed → ⊥
+running_not_failed c e = cc
 
 -- why a run cannot go on
 abbrev Stops : Program → State → Type 0
@@ -257,18 +257,18 @@ divides : (program : Program) (c : Configuration) (operator : BinaryOperator) (d
     → instruction_at program (place_of (Running c)) ≡ Some (instructions.Binary operator destination left right)
     → status_of (if b then Stuck c.output c.input else gives c destination (binary_result operator (operand_word c.active.slots left) (operand_word c.active.slots right))) ≡ simulation.Failed → Stops program (Running c)
 divides program c operator destination left right true is at failed = inl (operator, destination, left, right, at, is)
-divides program c operator destination left right false is at failed = absurd (not_failed c failed)
+divides program c operator destination left right false is at failed = absurd (running_not_failed c failed)
 
 -- a load or a store, by what is found at the address
 access_stops : (program : Program) (c : Configuration) (i : Instruction) (address : ℕ) (found : Option ℕ) (after : Option ℕ → State) → memory_at program c address ≡ found → instruction_at program (place_of (Running c)) ≡ Some i
     → AsksAt c address i → ((word : ℕ) → status_of (after (Some word)) ≡ simulation.Running) → status_of (after found) ≡ simulation.Failed → Stops program (Running c)
 access_stops program c i address None after is at asks goes failed = inr (inl (i, address, at, asks, is))
-access_stops program c i address (Some word) after is at asks goes failed = absurd (not_failed c (sym (goes word) ∙ failed))
+access_stops program c i address (Some word) after is at asks goes failed = absurd (running_not_failed c (sym (goes word) ∙ failed))
 
 -- a call of the store
 asks_stop : (program : Program) (choice : Choice) (c : Configuration) (destination : ℕ) (call : Call) (o : Option Refusal) → refusal c.store call ≡ o → asked program (Running c) ≡ Some call
     → status_of (asks choice.serving c destination call o) ≡ simulation.Failed → Stops program (Running c)
-asks_stop program choice c destination call None is called failed = absurd (not_failed c failed)
+asks_stop program choice c destination call None is called failed = absurd (running_not_failed c failed)
 asks_stop program choice c destination call (Some services.BadMark) is called failed =
     inr (inr (inl (call, services.BadMark, called, is, λ e. let other : services.BadMark ≡ services.Full = e in cc)))
 asks_stop program choice c destination call (Some services.BadHandle) is called failed =
@@ -282,12 +282,12 @@ asks_stop program choice c destination call (Some services.Full) is called faile
 
 returns_not : (c : Configuration) (value results : ℕ) (frames : List Frame) → status_of (returns c value results frames) ≡ simulation.Failed → ⊥
 returns_not c value results [] failed = let e : status_of (returns c value results []) ≡ simulation.Failed = failed in cc
-returns_not c value results (f ∷ frames) failed = not_failed c failed
+returns_not c value results (f ∷ frames) failed = running_not_failed c failed
 
 tries_not : (choice : Choice) (c : Configuration) (first handler : ℕ) (handlers : List Handler) → status_of (tries choice c first handler handlers) ≡ simulation.Failed → ⊥
-tries_not choice c first handler [] failed = not_failed c failed
-tries_not choice c first handler (Open index other contents ∷ handlers) failed = not_failed c failed
-tries_not choice c first handler (Caught ∷ handlers) failed = not_failed c failed
+tries_not choice c first handler [] failed = running_not_failed c failed
+tries_not choice c first handler (Open index other contents ∷ handlers) failed = running_not_failed c failed
+tries_not choice c first handler (Caught ∷ handlers) failed = running_not_failed c failed
 
 fails : (program : Program) (choice : Choice) (c : Configuration) (i : Instruction) → instruction_at program (place_of (Running c)) ≡ Some i → IsInRange program (routine_at program c.active.function) i → status_of (performed program choice c i) ≡ simulation.Failed → Stops program (Running c)
 fails program choice c (instructions.Binary operator destination left right) at range failed = divides program c operator destination left right (has_no_result operator (operand_word c.active.slots right)) refl at failed
@@ -300,18 +300,18 @@ fails program choice c (instructions.Try first handler) at range failed = absurd
 fails program choice c (instructions.Leave first) at range failed = inr (inr (inr (instructions.Leave first, at, refl)))
 fails program choice c (instructions.Throw tag value) at range failed = inr (inr (inr (instructions.Throw tag value, at, refl)))
 fails program choice c (instructions.Finish value) at range failed = inr (inr (inr (instructions.Finish value, at, refl)))
-fails program choice c (instructions.Move destination source) at range failed = absurd (not_failed c failed)
-fails program choice c (instructions.Unary operator destination operand) at range failed = absurd (not_failed c failed)
-fails program choice c (instructions.Jump target) at range failed = absurd (not_failed c failed)
-fails program choice c (instructions.Branch comparison left right target) at range failed = absurd (not_failed c failed)
-fails program choice c (instructions.Call function arguments count result) at range failed = absurd (not_failed c failed)
-fails program choice c (instructions.ReadByte destination) at range failed = absurd (not_failed c failed)
-fails program choice c (instructions.WriteByte source) at range failed = absurd (not_failed c failed)
-fails program choice c (instructions.AddressOf destination slot count) at range failed = absurd (not_failed c failed)
-fails program choice c (instructions.LoadGlobal destination global) at range failed = absurd (not_failed c failed)
-fails program choice c (instructions.StoreGlobal global source) at range failed = absurd (not_failed c failed)
-fails program choice c (instructions.CountLexical destination) at range failed = absurd (not_failed c failed)
-fails program choice c (instructions.MoveWords destination source count) at range failed = absurd (not_failed c failed)
+fails program choice c (instructions.Move destination source) at range failed = absurd (running_not_failed c failed)
+fails program choice c (instructions.Unary operator destination operand) at range failed = absurd (running_not_failed c failed)
+fails program choice c (instructions.Jump target) at range failed = absurd (running_not_failed c failed)
+fails program choice c (instructions.Branch comparison left right target) at range failed = absurd (running_not_failed c failed)
+fails program choice c (instructions.Call function arguments count result) at range failed = absurd (running_not_failed c failed)
+fails program choice c (instructions.ReadByte destination) at range failed = absurd (running_not_failed c failed)
+fails program choice c (instructions.WriteByte source) at range failed = absurd (running_not_failed c failed)
+fails program choice c (instructions.AddressOf destination slot count) at range failed = absurd (running_not_failed c failed)
+fails program choice c (instructions.LoadGlobal destination global) at range failed = absurd (running_not_failed c failed)
+fails program choice c (instructions.StoreGlobal global source) at range failed = absurd (running_not_failed c failed)
+fails program choice c (instructions.CountLexical destination) at range failed = absurd (running_not_failed c failed)
+fails program choice c (instructions.MoveWords destination source count) at range failed = absurd (running_not_failed c failed)
 fails program choice c (instructions.Load destination address offset) at range failed =
     access_stops program c (instructions.Load destination address offset) (add_of (operand_word c.active.slots address) offset) (memory_at program c (add_of (operand_word c.active.slots address) offset)) (loads c destination) refl at refl (λ word. refl) failed
 fails program choice c (instructions.Store address offset source) at range failed =

@@ -64,26 +64,26 @@ GoesOn c s = IsPrefix c.output (output_of s) × Shrinks c.input (input_of s)
 same : (c : Configuration) → IsPrefix c.output c.output × Shrinks c.input c.input
 same c = (IsPrefix-refl c.output, ([], refl))
 
-one_read : (input : List ℕ) → Shrinks input (drop 1 input)
-one_read [] = ([], refl)
-one_read (b ∷ input) = (b ∷ [], refl)
+one_read_shrinks : (input : List ℕ) → Shrinks input (drop 1 input)
+one_read_shrinks [] = ([], refl)
+one_read_shrinks (b ∷ input) = (b ∷ [], refl)
 
-returned : (c : Configuration) (value results : ℕ) (frames : List Frame) → GoesOn c (returns c value results frames)
-returned c value results [] = same c
-returned c value results (f ∷ frames) = same c
+returning_goes_on : (c : Configuration) (value results : ℕ) (frames : List Frame) → GoesOn c (returns c value results frames)
+returning_goes_on c value results [] = same c
+returning_goes_on c value results (f ∷ frames) = same c
 
-loaded : (c : Configuration) (destination : ℕ) (found : Option ℕ) → GoesOn c (loads c destination found)
-loaded c destination None = same c
-loaded c destination (Some word) = same c
+loading_goes_on : (c : Configuration) (destination : ℕ) (found : Option ℕ) → GoesOn c (loads c destination found)
+loading_goes_on c destination None = same c
+loading_goes_on c destination (Some word) = same c
 
-written : (program : Program) (c : Configuration) (address word : ℕ) (range : Range) → GoesOn c (Running (advanced (with_word program c address word range)))
-written program c address word OfGlobals = go (global_at program address)
+writing_goes_on : (program : Program) (c : Configuration) (address word : ℕ) (range : Range) → GoesOn c (Running (advanced (with_word program c address word range)))
+writing_goes_on program c address word OfGlobals = go (global_at program address)
   where
     go : (number : Option ℕ) → GoesOn c (Running (advanced (with_global c number word)))
     go (Some number) = same c
     go None = same c
-written program c address word OfStore = same c
-written program c address word OfSlots = go (slot_at program c.active address)
+writing_goes_on program c address word OfStore = same c
+writing_goes_on program c address word OfSlots = go (slot_at program c.active address)
   where
     go : (slot : Option ℕ) → GoesOn c (Running (advanced (with_slot program c slot address word)))
     go (Some number) = same c
@@ -91,7 +91,7 @@ written program c address word OfSlots = go (slot_at program c.active address)
 
 saved : (program : Program) (c : Configuration) (address word : ℕ) (found : Option ℕ) → GoesOn c (saves program c address word found)
 saved program c address word None = same c
-saved program c address word (Some old) = written program c address word (range_of address)
+saved program c address word (Some old) = writing_goes_on program c address word (range_of address)
 
 loaded_byte : (c : Configuration) (destination address : ℕ) (found : Option ℕ) → GoesOn c (loads_byte c destination address found)
 loaded_byte c destination address None = same c
@@ -99,7 +99,7 @@ loaded_byte c destination address (Some word) = same c
 
 saved_byte : (program : Program) (c : Configuration) (address byte : ℕ) (found : Option ℕ) → GoesOn c (saves_byte program c address byte found)
 saved_byte program c address byte None = same c
-saved_byte program c address byte (Some old) = written program c (word_of address) (with_byte old (address % 4) byte) (range_of (word_of address))
+saved_byte program c address byte (Some old) = writing_goes_on program c (word_of address) (with_byte old (address % 4) byte) (range_of (word_of address))
 
 served : (serving : services.Choice) (c : Configuration) (destination : ℕ) (call : Call) (o : Option Refusal) → GoesOn c (asks serving c destination call o)
 served serving c destination call None = same c
@@ -114,14 +114,14 @@ tried choice c first handler [] = same c
 tried choice c first handler (Open index other contents ∷ handlers) = same c
 tried choice c first handler (Caught ∷ handlers) = same c
 
-closed : (c : Configuration) (first : ℕ) (handlers : List Handler) → GoesOn c (closes c first handlers)
-closed c first [] = same c
-closed c first (Caught ∷ handlers) = same c
-closed c first (Open index other contents ∷ handlers) =
+closing_goes_on : (c : Configuration) (first : ℕ) (handlers : List Handler) → GoesOn c (closes c first handlers)
+closing_goes_on c first [] = same c
+closing_goes_on c first (Caught ∷ handlers) = same c
+closing_goes_on c first (Open index other contents ∷ handlers) =
     if_either (GoesOn c) (other == first)
     (if is_intact c.active.slots first contents then Running (advanced (record c { active = record c.active { handlers = handlers } })) else Stuck c.output c.input) (closes c first handlers)
     (if_either (GoesOn c) (is_intact c.active.slots first contents) (Running (advanced (record c { active = record c.active { handlers = handlers } }))) (Stuck c.output c.input) (same c) (same c))
-    (closed c first handlers)
+    (closing_goes_on c first handlers)
 
 landed : (c : Configuration) (tag value : ℕ) (a : Activation) (frames : List Frame) (beyond : State) (handlers : List Handler) → GoesOn c beyond → GoesOn c (lands c tag value a frames beyond handlers)
 landed c tag value a frames beyond [] goes = goes
@@ -136,7 +136,7 @@ thrown c tag value a [] = landed c tag value a [] (Ended (Uncaught tag (signed v
 thrown c tag value a (f ∷ frames) = landed c tag value a (f ∷ frames) (throws c tag value f.caller frames) a.handlers (thrown c tag value f.caller frames)
 
 finished : (c : Configuration) (value results : ℕ) (handlers : List Handler) → GoesOn c (finishes c value results handlers)
-finished c value results [] = returned c value results c.frames
+finished c value results [] = returning_goes_on c value results c.frames
 finished c value results (h ∷ handlers) = same c
 
 performs : (program : Program) (choice : Choice) (c : Configuration) (i : Instruction) → GoesOn c (performed program choice c i)
@@ -147,13 +147,13 @@ performs program choice c (instructions.Binary operator destination left right) 
 performs program choice c (instructions.Jump target) = same c
 performs program choice c (instructions.Branch comparison left right target) = same c
 performs program choice c (instructions.Call function arguments count result) = same c
-performs program choice c (instructions.Return value) = returned c value (routine_at program c.active.function).results c.frames
-performs program choice c (instructions.ReadByte destination) = (IsPrefix-refl c.output, one_read c.input)
+performs program choice c (instructions.Return value) = returning_goes_on c value (routine_at program c.active.function).results c.frames
+performs program choice c (instructions.ReadByte destination) = (IsPrefix-refl c.output, one_read_shrinks c.input)
 performs program choice c (instructions.WriteByte source) = (IsPrefix-append c.output _, ([], refl))
 performs program choice c (instructions.LoadGlobal destination global) = same c
 performs program choice c (instructions.CountLexical destination) = same c
 performs program choice c (instructions.StoreGlobal global source) = same c
-performs program choice c (instructions.Load destination address offset) = loaded c destination _
+performs program choice c (instructions.Load destination address offset) = loading_goes_on c destination _
 performs program choice c (instructions.Store address offset source) =
     saved program c (add_of (operand_word c.active.slots address) offset) (operand_word c.active.slots source) (memory_at program c (add_of (operand_word c.active.slots address) offset))
 performs program choice c (instructions.LoadByte destination address offset) = loaded_byte c destination (add_of (operand_word c.active.slots address) offset) (memory_at program c (word_of (add_of (operand_word c.active.slots address) offset)))
@@ -162,7 +162,7 @@ performs program choice c (instructions.AddressOf destination slot count) = same
 performs program choice c (instructions.Ask request) =
     served choice.serving c (destination_of request) (call_in c.active.slots request) (refusal c.store (call_in c.active.slots request))
 performs program choice c (instructions.Try first handler) = tried choice c first handler c.active.handlers
-performs program choice c (instructions.Leave first) = closed c first c.active.handlers
+performs program choice c (instructions.Leave first) = closing_goes_on c first c.active.handlers
 performs program choice c (instructions.Throw tag value) = thrown c (operand_word c.active.slots tag) (operand_word c.active.slots value) c.active c.frames
 performs program choice c (instructions.Finish value) = finished c value (routine_at program c.active.function).results c.active.handlers
 performs program choice c (instructions.Uncaught tag value) = same c
@@ -174,15 +174,15 @@ executes program choice c None = same c
 abbrev StateGoesOn : State → State → Type 0
 StateGoesOn old new = IsPrefix (output_of old) (output_of new) × Shrinks (input_of old) (input_of new)
 
-steps : (program : Program) (choice : Choice) (s : State) → StateGoesOn s (step program choice s)
-steps program choice (Running c) = executes program choice c (instruction_at program (place_of (Running c)))
-steps program choice (Ended ending output input) = (IsPrefix-refl output, ([], refl))
-steps program choice (Stuck output input) = (IsPrefix-refl output, ([], refl))
+each_step_goes_on : (program : Program) (choice : Choice) (s : State) → StateGoesOn s (step program choice s)
+each_step_goes_on program choice (Running c) = executes program choice c (instruction_at program (place_of (Running c)))
+each_step_goes_on program choice (Ended ending output input) = (IsPrefix-refl output, ([], refl))
+each_step_goes_on program choice (Stuck output input) = (IsPrefix-refl output, ([], refl))
 
 limited_steps : (program : Program) (pages calls : ℕ) (old new : State) → Step program pages calls old new → StateGoesOn old new
 limited_steps program pages calls old new (choice, allowed, is) =
     subst (StateGoesOn old) (sym is)
-    (limited_either (StateGoesOn old) pages calls old (step program choice old) (λ within. steps program choice old) (IsPrefix-refl (output_of old), ([], refl)))
+    (limited_either (StateGoesOn old) pages calls old (step program choice old) (λ within. each_step_goes_on program choice old) (IsPrefix-refl (output_of old), ([], refl)))
 
 -- ---- a run that is over
 

@@ -119,15 +119,15 @@ home_last [] h = refl
 home_last (x ∷ hs) h = home_last hs h
 
 -- a home with a register counts as one
-counted : (h : Home) (k : ℕ) → register_of h ≡ Some k → register_count h ≡ 1
-counted homes.Memory k is = absurd (let e : None ≡ Some k = is in cc)
-counted (homes.Both register) k is = refl
-counted (homes.Register register) k is = refl
+one_counted : (h : Home) (k : ℕ) → register_of h ≡ Some k → register_count h ≡ 1
+one_counted homes.Memory k is = absurd (let e : None ≡ Some k = is in cc)
+one_counted (homes.Both register) k is = refl
+one_counted (homes.Register register) k is = refl
 
-count_small : (h : Home) → (register_count h ≡ 0) ⊎ ((k : ℕ) × (register_of h ≡ Some k))
-count_small homes.Memory = inl refl
-count_small (homes.Both register) = inr (register, refl)
-count_small (homes.Register register) = inr (register, refl)
+none_or_one : (h : Home) → (register_count h ≡ 0) ⊎ ((k : ℕ) × (register_of h ≡ Some k))
+none_or_one homes.Memory = inl refl
+none_or_one (homes.Both register) = inr (register, refl)
+none_or_one (homes.Register register) = inr (register, refl)
 
 module _ (program : Program) (r : Routine) where
   pub no_homes : AreFirstHomes program r 0 0 0 []
@@ -149,7 +149,7 @@ module _ (program : Program) (r : Routine) where
       | inl same ↦
           let its : register_of h ≡ Some k = sym (ap register_of (ap (home_of (hs ++ h ∷ [])) same ∙ home_last hs h)) ∙ has in
           let next = home.register k its in
-          inl (same, next.0, next.1, counted h k its)
+          inl (same, next.0, next.1, one_counted h k its)
       | inr apart ↦ inr (apart, sym (ap register_of (home_before hs h slot apart)) ∙ has)
     ]
 
@@ -172,9 +172,9 @@ module _ (program : Program) (r : Routine) where
     ]
 
     most_more : given + register_count h ≤ MOST_REGISTERS
-    most_more = elim (count_small h) [
+    most_more = elim (none_or_one h) [
       | inl none ↦ omega (arith, none, are.most)
-      | inr (k, its) ↦ omega (arith, (home.register k its).1, counted h k its)
+      | inr (k, its) ↦ omega (arith, (home.register k its).1, one_counted h k its)
     ]
 
     pub more_homes : both + both_count h ≤ MOST_BOTH

@@ -34,9 +34,9 @@ same_slot : (operand : Operand) (slot : ℕ) → is_slot operand slot ≡ true �
 same_slot (operands.Slot number) slot is = ap operands.Slot (eqb-true number slot is)
 same_slot (operands.Word word) slot is = absurd (false≢true is)
 
-never : (comparison : Comparison) (left right : Operand) → never_holds comparison left right ≡ true → NeverHolds comparison left right
-never comparisons.NotEqual (operands.Word left) (operands.Word right) is = not_from_true (left == right) is
-never comparison left right is = absurd (false≢true is)
+never_holds_right : (comparison : Comparison) (left right : Operand) → never_holds comparison left right ≡ true → NeverHolds comparison left right
+never_holds_right comparisons.NotEqual (operands.Word left) (operands.Word right) is = not_from_true (left == right) is
+never_holds_right comparison left right is = absurd (false≢true is)
 
 module _ (program : Program) (r : Routine) (masks live : List ℕ) (kept barred : ℕ) (sound : IsSound program r masks live kept barred)
     (are : AreMasks masks MOST_CHOSEN) (hs : List Home) (index : ℕ) where
@@ -70,7 +70,7 @@ module _ (program : Program) (r : Routine) (masks live : List ℕ) (kept barred 
   idle (instructions.Jump target) is = next_index target is
   idle (instructions.Branch comparison left right target) is = elim (or_cases (target == index + 1) (never_holds comparison left right) is) [
     | inl next ↦ inl (next_index target next)
-    | inr other ↦ inr (never comparison left right other)
+    | inr other ↦ inr (never_holds_right comparison left right other)
   ]
   idle i is = absurd (false≢true is)
 

@@ -45,8 +45,8 @@ far_load = refl
 far_store : length (store_at frame StoreByte (Slot 1) 32768 (Slot 2)) ≡ 5
 far_store = refl
 
-three_words : lines_of (MoveWords 0 3 3 ∷ []) ≡ 6
-three_words = refl
+three_words_moved : lines_of (MoveWords 0 3 3 ∷ []) ≡ 6
+three_words_moved = refl
 
 -- a region for a block of two words, from its handle and its mark in the slots 0 and 1 to its end
 block_in_a_region : lines_of (Ask (OpenLexical 0) ∷ Ask (Allocate 2 (Slot 0) (Word 2)) ∷ Ask (CloseTo (Slot 1)) ∷ []) ≡ 14

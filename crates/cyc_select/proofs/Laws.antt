@@ -19,9 +19,9 @@ use Rattle.cyc_select.specs.inside.Labelled.{Labelled, is_ordinary}
 use Rattle.cyc_select.specs.inside.Machine as labelled
 use Rattle.cyc_select.specs.inside.Machine.{Configuration, State, Running, Stopped, world_of, settled, closed, Performs, PerformsOrdinary, Executes, ExecutesAt, Step, machine, seen_of, status_of}
 
-one_read : (input : List ℕ) → (read : List ℕ) × (input ≡ read ++ drop 1 input)
-one_read [] = ([], refl)
-one_read (b ∷ input) = (b ∷ [], refl)
+one_read_is_front : (input : List ℕ) → (read : List ℕ) × (input ≡ read ++ drop 1 input)
+one_read_is_front [] = ([], refl)
+one_read_is_front (b ∷ input) = (b ∷ [], refl)
 
 abbrev Grows : Configuration → State → Type 0
 Grows c new = ComesTo (showing c.output c.input) (seen_of new)
@@ -37,7 +37,7 @@ settled_seen w line (phases.Over end) = closed_seen w (ending_of end)
 
 told_grows : (w : World) (event : Event) (s : machines.State) → ComesTo (showing w.output w.input) (showing (told w event s).output (told w event s).input)
 told_grows w Ran s = ComesTo-refl (showing w.output w.input)
-told_grows w WantsByte s = (IsPrefix-refl w.output, one_read w.input)
+told_grows w WantsByte s = (IsPrefix-refl w.output, one_read_is_front w.input)
 told_grows w (Puts byte) s = (IsPrefix-append w.output (byte ∷ []), ([], refl))
 told_grows w (Ended end) s = ComesTo-refl (showing w.output w.input)
 told_grows w NoMemory s = ComesTo-refl (showing w.output w.input)
@@ -64,19 +64,19 @@ step_grows code addresses (Running c) new step = line_grows code addresses c (sl
 step_grows code addresses (labelled.Ended ending output input) new is = subst (λ (s : State). ComesTo (showing output input) (seen_of s)) (sym is) (ComesTo-refl (showing output input))
 step_grows code addresses (Stopped output input) new is = subst (λ (s : State). ComesTo (showing output input) (seen_of s)) (sym is) (ComesTo-refl (showing output input))
 
-ended_stays : (code : Labelled) (addresses : ℕ → ℕ) (old new : State) (ending : Ending) → status_of old ≡ simulation.Ended ending → Step code addresses old new → new ≡ old
-ended_stays code addresses (Running c) new ending ended step = absurd (let e : simulation.Running ≡ simulation.Ended ending = ended in cc)
-ended_stays code addresses (labelled.Ended other output input) new ending ended is = is
-ended_stays code addresses (Stopped output input) new ending ended step = absurd (let e : simulation.Failed ≡ simulation.Ended ending = ended in cc)
+ended_code_stays : (code : Labelled) (addresses : ℕ → ℕ) (old new : State) (ending : Ending) → status_of old ≡ simulation.Ended ending → Step code addresses old new → new ≡ old
+ended_code_stays code addresses (Running c) new ending ended step = absurd (let e : simulation.Running ≡ simulation.Ended ending = ended in cc)
+ended_code_stays code addresses (labelled.Ended other output input) new ending ended is = is
+ended_code_stays code addresses (Stopped output input) new ending ended step = absurd (let e : simulation.Failed ≡ simulation.Ended ending = ended in cc)
 
-ended_rests : (code : Labelled) (addresses : ℕ → ℕ) (s : State) (ending : Ending) → status_of s ≡ simulation.Ended ending → Step code addresses s s
-ended_rests code addresses (Running c) ending ended = absurd (let e : simulation.Running ≡ simulation.Ended ending = ended in cc)
-ended_rests code addresses (labelled.Ended other output input) ending ended = refl
-ended_rests code addresses (Stopped output input) ending ended = absurd (let e : simulation.Failed ≡ simulation.Ended ending = ended in cc)
+ended_code_rests : (code : Labelled) (addresses : ℕ → ℕ) (s : State) (ending : Ending) → status_of s ≡ simulation.Ended ending → Step code addresses s s
+ended_code_rests code addresses (Running c) ending ended = absurd (let e : simulation.Running ≡ simulation.Ended ending = ended in cc)
+ended_code_rests code addresses (labelled.Ended other output input) ending ended = refl
+ended_code_rests code addresses (Stopped output input) ending ended = absurd (let e : simulation.Failed ≡ simulation.Ended ending = ended in cc)
 
 pub lawful : (code : Labelled) (addresses : ℕ → ℕ) → IsLawful (machine code addresses)
 lawful code addresses = record {
   grows = step_grows code addresses;
-  stays = ended_stays code addresses;
-  rests = ended_rests code addresses;
+  stays = ended_code_stays code addresses;
+  rests = ended_code_rests code addresses;
 }

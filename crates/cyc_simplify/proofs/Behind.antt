@@ -28,20 +28,20 @@ range first count = record { first = first; count = count }
 
 -- ---- slots that are written
 
-not_among : (first count slot : ℕ) → leaves_slot (range first count) slot ≡ true → is_among first count slot ≡ false
-not_among first count slot leaves = not-true (is_among first count slot) leaves
+left_is_not_among : (first count slot : ℕ) → leaves_slot (range first count) slot ≡ true → is_among first count slot ≡ false
+left_is_not_among first count slot leaves = not-true (is_among first count slot) leaves
 
 pub nothing_left : (old : Words) (w : Written) → IsLeft old old w
 nothing_left old w = λ slot leaves. refl
 
-apart_from : (destination slot : ℕ) → leaves_slot (range destination 1) slot ≡ true → slot ≢ destination
-apart_from destination slot leaves same =
+left_slot_differs : (destination slot : ℕ) → leaves_slot (range destination 1) slot ≡ true → slot ≢ destination
+left_slot_differs destination slot leaves same =
     let inside : is_among destination 1 slot ≡ true =
     and_from _ _ (le-leb destination slot (omega (arith, same))) (lt-ltb slot (destination + 1) (omega (arith, same))) in
-    false≢true (sym (not_among destination 1 slot leaves) ∙ inside)
+    false≢true (sym (left_is_not_among destination 1 slot leaves) ∙ inside)
 
 pub put_left : (old : Words) (destination word : ℕ) → IsLeft old (put old destination word) (range destination 1)
-put_left old destination word = λ slot leaves. put-other old destination slot word (apart_from destination slot leaves)
+put_left old destination word = λ slot leaves. put-other old destination slot word (left_slot_differs destination slot leaves)
 
 -- a slot that gets its own word
 pub put_itself : (old : Words) (destination word : ℕ) → word ≡ old destination → (w : Written) → IsLeft old (put old destination word) w
@@ -52,7 +52,7 @@ put_itself old destination word is w = λ slot leaves. go slot
 
 pub copied_left : (from old : Words) (source count destination : ℕ) → IsLeft old (copied from source count old destination) (range destination count)
 copied_left from old source count destination = λ slot leaves.
-    cond-false (is_among destination count slot) (from (source + (slot - destination))) (old slot) (not_among destination count slot leaves)
+    cond-false (is_among destination count slot) (from (source + (slot - destination))) (old slot) (left_is_not_among destination count slot leaves)
 
 -- two slots, one behind the other
 two_left : (old : Words) (destination one other : ℕ) → IsLeft old (put (put old destination one) (suc destination) other) (range destination 2)
@@ -64,7 +64,7 @@ two_left old destination one other = λ slot leaves.
     outside slot leaves number low high same =
         let inside : is_among destination 2 slot ≡ true =
         and_from _ _ (le-leb destination slot (omega (arith, same, low))) (lt-ltb slot (destination + 2) (omega (arith, same, high))) in
-        false≢true (sym (not_among destination 2 slot leaves) ∙ inside)
+        false≢true (sym (left_is_not_among destination 2 slot leaves) ∙ inside)
 
 -- what the store answers comes to the slots for its answer
 pub told_left : (store : StoreState) (old read : Words) (request : Request) (choice : services.Choice)

@@ -113,10 +113,10 @@ more_pins ranges count pinned b are is = record {
   ];
 }
 
-beyond : (pinned : List Bool) (slot : ℕ) → length pinned ≤ slot → slice_index_or pinned slot true ≡ true
-beyond [] slot above = refl
-beyond (b ∷ pinned) zero above = absurd (omega arith)
-beyond (b ∷ pinned) (suc slot) above = beyond pinned slot (omega arith)
+beyond_is_pinned : (pinned : List Bool) (slot : ℕ) → length pinned ≤ slot → slice_index_or pinned slot true ≡ true
+beyond_is_pinned [] slot above = refl
+beyond_is_pinned (b ∷ pinned) zero above = absurd (omega arith)
+beyond_is_pinned (b ∷ pinned) (suc slot) above = beyond_is_pinned pinned slot (omega arith)
 
 not_pinned : (b : Bool) → (b ≡ true → ⊥) → b ≡ false
 not_pinned true never = absurd (never refl)
@@ -131,7 +131,7 @@ are_pins r ranges pinned are first = record {
     is_pinned_there : (slot : ℕ) → is_pinned r.code slot ≡ true → slice_index_or pinned slot true ≡ true
     is_pinned_there slot is = elim (cases_lt slot r.slots) [
       | inl below ↦ first.each slot below ∙ are slot is
-      | inr above ↦ beyond pinned slot (omega (arith, above, first.as_many))
+      | inr above ↦ beyond_is_pinned pinned slot (omega (arith, above, first.as_many))
     ]
 
     not_free : (slot : ℕ) → is_free pinned slot ≡ true → slice_index_or pinned slot true ≡ true → ⊥

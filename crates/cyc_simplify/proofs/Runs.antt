@@ -45,24 +45,24 @@ each_replaced program simplified are k = elim (cases_lt k (length program.functi
 
 -- ---- what has its address taken
 
-pins_same : (facts : List Fact) (i : Instruction) (slot : ℕ) → pins (simplified_instruction facts i) slot ≡ pins i slot
-pins_same facts (instructions.Move destination source) slot = go (is_known facts (facts_are.Equal destination (simplified_operand facts source)))
+simplified_pins_same : (facts : List Fact) (i : Instruction) (slot : ℕ) → pins (simplified_instruction facts i) slot ≡ pins i slot
+simplified_pins_same facts (instructions.Move destination source) slot = go (is_known facts (facts_are.Equal destination (simplified_operand facts source)))
   where
     go : (b : Bool) → pins (simplified_move b destination (simplified_operand facts source)) slot ≡ false
     go true = refl
     go false = refl
-pins_same facts (instructions.Binary operator destination left right) slot = go (holder_in facts operator (simplified_operand facts left) (simplified_operand facts right))
+simplified_pins_same facts (instructions.Binary operator destination left right) slot = go (holder_in facts operator (simplified_operand facts left) (simplified_operand facts right))
   where
     go : (o : Option ℕ) → pins (simplified_binary o operator destination (simplified_operand facts left) (simplified_operand facts right)) slot ≡ false
     go (Some found) = refl
     go None = refl
-pins_same facts (instructions.Branch comparison left right target) slot = go (decision_in facts comparison (simplified_operand facts left) (simplified_operand facts right))
+simplified_pins_same facts (instructions.Branch comparison left right target) slot = go (decision_in facts comparison (simplified_operand facts left) (simplified_operand facts right))
   where
     go : (o : Option Bool) → pins (simplified_branch o comparison (simplified_operand facts left) (simplified_operand facts right) target) slot ≡ false
     go (Some true) = refl
     go (Some false) = refl
     go None = refl
-pins_same facts i slot = refl
+simplified_pins_same facts i slot = refl
 
 pinned_alike : (slot : ℕ) (code others : List Instruction) → length others ≡ length code
     → ((index : ℕ) (i : Instruction) → slice_get code index ≡ Some i → (j : Instruction) × (slice_get others index ≡ Some j) × (pins j slot ≡ pins i slot))
@@ -81,7 +81,7 @@ module _ (program simplified : Program) (are : AreReplaced program simplified) w
   pinned_same function slot =
       let r = each_replaced program simplified are function in
       pinned_alike slot (routine_at program function).code (routine_at simplified function).code r.as_many
-      (λ index i at. (simplified_instruction (r.table index) i, r.each index i at, pins_same (r.table index) i slot))
+      (λ index i at. (simplified_instruction (r.table index) i, r.each index i at, simplified_pins_same (r.table index) i slot))
 
   -- ---- memory
 

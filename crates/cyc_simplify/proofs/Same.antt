@@ -32,8 +32,8 @@ not_twice false = refl
 below_or_not : (a b : ℕ) → nat_le b a ≡ not (nat_lt a b)
 below_or_not a b = grind arith
 
-not_below : (a b : ℕ) → nat_lt a b ≡ not (nat_le b a)
-not_below a b = grind arith
+nat_not_below : (a b : ℕ) → nat_lt a b ≡ not (nat_le b a)
+nat_not_below a b = grind arith
 
 -- where a comparison does not hold its negation does, and the other way round
 pub negated_compares : (comparison : Comparison) (a b : ℕ) → compares (negated comparison) a b ≡ not (compares comparison a b)
@@ -44,7 +44,7 @@ negated_compares comparisons.LessOrEqual a b = negated_other (signed a) (signed 
 negated_compares comparisons.Greater a b = negated_order (signed b) (signed a)
 negated_compares comparisons.GreaterOrEqual a b = negated_other (signed b) (signed a)
 negated_compares comparisons.LessUnsigned a b = below_or_not a b
-negated_compares comparisons.GreaterOrEqualUnsigned a b = not_below a b
+negated_compares comparisons.GreaterOrEqualUnsigned a b = nat_not_below a b
 
 order_same : (x y : ℤ) → x ≡ y → int_le x y ≡ true
 order_same x y same = grind (arith, same)
@@ -55,17 +55,17 @@ order_below x y below = grind (arith, below)
 order_apart : (x y : ℤ) → int_lt x y ≡ true → x ≡ y → ⊥
 order_apart x y below same = grind (arith, below, same)
 
-not_equal : (a b : ℕ) → (a ≡ b → ⊥) → not (a == b) ≡ true
-not_equal a b apart = not_from_false (a == b) (false_from_ne_true (a == b) (λ e. apart (eqb-true a b e)))
+words_not_equal : (a b : ℕ) → (a ≡ b → ⊥) → not (a == b) ≡ true
+words_not_equal a b apart = not_from_false (a == b) (false_from_ne_true (a == b) (λ e. apart (eqb-true a b e)))
 
 pub implied : (known asked : Comparison) (a b : ℕ) → implies known asked ≡ true → compares known a b ≡ true → compares asked a b ≡ true
 implied comparisons.Equal comparisons.LessOrEqual a b is holds = order_same (signed a) (signed b) (ap signed (eqb-true a b holds))
 implied comparisons.Equal comparisons.GreaterOrEqual a b is holds = order_same (signed b) (signed a) (ap signed (sym (eqb-true a b holds)))
 implied comparisons.Equal comparisons.GreaterOrEqualUnsigned a b is holds =
     let same : a ≡ b = eqb-true a b holds in grind (arith, same)
-implied comparisons.Less comparisons.NotEqual a b is holds = not_equal a b (λ same. order_apart (signed a) (signed b) holds (ap signed same))
+implied comparisons.Less comparisons.NotEqual a b is holds = words_not_equal a b (λ same. order_apart (signed a) (signed b) holds (ap signed same))
 implied comparisons.Less comparisons.LessOrEqual a b is holds = order_below (signed a) (signed b) holds
-implied comparisons.Greater comparisons.NotEqual a b is holds = not_equal a b (λ same. order_apart (signed b) (signed a) holds (ap signed (sym same)))
+implied comparisons.Greater comparisons.NotEqual a b is holds = words_not_equal a b (λ same. order_apart (signed b) (signed a) holds (ap signed (sym same)))
 implied comparisons.Greater comparisons.GreaterOrEqual a b is holds = order_below (signed b) (signed a) holds
 implied comparisons.LessUnsigned comparisons.NotEqual a b is holds = grind (arith, holds)
 implied known asked a b is holds = ap (λ (c : Comparison). compares c a b) (sym (same_comparison known asked is)) ∙ holds

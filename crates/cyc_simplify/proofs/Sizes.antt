@@ -31,8 +31,8 @@ use Rattle.cyc_simplify.proofs.Runs.{each_replaced, follows}
 
 -- ---- lists
 
-all_from : {X : Type 0} (P : X → Type 0) (xs : List X) → ((k : ℕ) (x : X) → slice_get xs k ≡ Some x → P x) → All P xs
-all_from P xs each = λ k d below. each k (get_or xs k d) (slice_get-get_or xs k d below)
+all_by_index : {X : Type 0} (P : X → Type 0) (xs : List X) → ((k : ℕ) (x : X) → slice_get xs k ≡ Some x → P x) → All P xs
+all_by_index P xs each = λ k d below. each k (get_or xs k d) (slice_get-get_or xs k d below)
 
 -- a sum of no larger numbers
 sum_at_most : {X : Type 0} (f : X → ℕ) (xs ys : List X) → length ys ≡ length xs
@@ -228,7 +228,7 @@ module _ (program simplified : Program) (are : AreReplaced program simplified) (
 
   -- what holds of each that is put in holds of all
   all_put : (P Q : Instruction → Type 0) → ((facts : List Fact) → are_suited replaced.pinned facts ≡ true → (i : Instruction) → P i → Q (simplified_instruction facts i)) → All P r.code → All Q s.code
-  all_put P Q each all = all_from Q s.code (λ index j at.
+  all_put P Q each all = all_by_index Q s.code (λ index j at.
       let put = put_at index j at in
       subst Q (sym put.is) (each (replaced.table index) put.all put.instruction (holds_at P r.code index put.instruction all put.at)))
 
@@ -385,7 +385,7 @@ module _ (program simplified : Program) (are : AreReplaced program simplified) w
 
   -- what holds of each function, put in, holds of all
   all_functions : (P Q : Routine → Type 0) → ((r s : Routine) → IsReplaced program r s → P r → Q s) → All P program.functions → All Q simplified.functions
-  all_functions P Q each all = all_from Q simplified.functions (λ k s at.
+  all_functions P Q each all = all_by_index Q simplified.functions (λ k s at.
       let within : k < length program.functions = (let b = below_of_get simplified.functions k s at in let l = are.as_many in omega (arith, b, l)) in
       subst Q (here_at simplified.functions k s at) (each (routine_at program k) (routine_at simplified k) (are.each k within) (all k no_routine within)))
 

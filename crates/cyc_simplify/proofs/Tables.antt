@@ -115,11 +115,11 @@ keeps_any (facts_are.Equal slot operand) = and_from _ _ (leaves_any slot) (leave
 keeps_any (facts_are.Computed slot operator left right) = and_from _ _ (leaves_any slot) (and_from _ _ (leaves_any_operand left) (leaves_any_operand right))
 keeps_any (facts_are.Holds comparison left right) = and_from _ _ (leaves_any_operand left) (leaves_any_operand right)
 
-all_kept : (facts : List Fact) → kept (record { first = 0; count = 0 }) facts ≡ facts
-all_kept [] = refl
-all_kept (fact ∷ facts) =
+nothing_lost : (facts : List Fact) → kept (record { first = 0; count = 0 }) facts ≡ facts
+nothing_lost [] = refl
+nothing_lost (fact ∷ facts) =
     let w : Written = record { first = 0; count = 0 } in
-    cond-true (keeps w fact) (fact ∷ kept w facts) (kept w facts) (keeps_any fact) ∙ ap (λ (others : List Fact). fact ∷ others) (all_kept facts)
+    cond-true (keeps w fact) (fact ∷ kept w facts) (kept w facts) (keeps_any fact) ∙ ap (λ (others : List Fact). fact ∷ others) (nothing_lost facts)
 
 -- ---- suited facts
 
@@ -278,7 +278,7 @@ module _ (program : Program) (r s : Routine) (pinned : List Bool) (entry : ℕ �
         elim (or_cases (suc index == next) (target == next) led) [
           | inl behind ↦ to_next j stands on behind keeps makes
           | inr there ↦
-              to_target target (table index) (made pinned j index target) may there (subst (AreTrueIn slots) (all_kept (table index)) keeps)
+              to_target target (table index) (made pinned j index target) may there (subst (AreTrueIn slots) (nothing_lost (table index)) keeps)
               (subst (λ (n : ℕ). IsTrueIfAny slots (made pinned j index n)) (sym (eqb-true target next there)) makes)
         ]
 
@@ -296,7 +296,7 @@ module _ (program : Program) (r s : Routine) (pinned : List Bool) (entry : ℕ �
     edge : (j : Instruction) → StandsFor index j → leads_well program pinned entry (table index) j index ≡ true → leads j index next ≡ true
         → AreTrueIn slots (kept (written program j) (table index)) → IsTrueIfAny slots (made pinned j index next) → AreTrueIn slots (table next)
     edge (instructions.Jump target) stands well led keeps makes =
-        to_target target (table index) None well led (subst (AreTrueIn slots) (all_kept (table index)) keeps) tt
+        to_target target (table index) None well led (subst (AreTrueIn slots) (nothing_lost (table index)) keeps) tt
     edge (instructions.Branch comparison left right target) stands well led keeps makes = by_branch comparison left right target stands well led keeps makes
     edge (instructions.Try first handler) stands well led keeps makes = by_try first handler stands well led keeps
     edge (instructions.Return value) stands well led keeps makes = absurd (false≢true led)

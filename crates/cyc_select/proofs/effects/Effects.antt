@@ -57,8 +57,8 @@ no_cause false false true d f ea eb ec ed ef = absurd (let e : true ≡ false = 
 no_cause false false false true f ea eb ec ed ef = absurd (let e : true ≡ false = ed in cc)
 no_cause false false false false true ea eb ec ed ef = absurd (let e : true ≡ false = ef in cc)
 
-divides : (a b : ℕ) → b ≢ 0 → (a ≡ 2 ^ 31 → b ≡ 2 ^ 32 - 1 → ⊥) → (b == 0 || (a == 2 ^ 31 && b == 2 ^ 32 - 1)) ≡ false
-divides a b nonzero least = or_from (b == 0) (a == 2 ^ 31 && b == 2 ^ 32 - 1) (ne_eqb b 0 nonzero) (elim (cases_eq a (2 ^ 31)) [
+division_has_result : (a b : ℕ) → b ≢ 0 → (a ≡ 2 ^ 31 → b ≡ 2 ^ 32 - 1 → ⊥) → (b == 0 || (a == 2 ^ 31 && b == 2 ^ 32 - 1)) ≡ false
+division_has_result a b nonzero least = or_from (b == 0) (a == 2 ^ 31 && b == 2 ^ 32 - 1) (ne_eqb b 0 nonzero) (elim (cases_eq a (2 ^ 31)) [
   | inl same ↦ and_right (a == 2 ^ 31) (b == 2 ^ 32 - 1) (ne_eqb b (2 ^ 32 - 1) (least same))
   | inr other ↦ and_left (a == 2 ^ 31) (b == 2 ^ 32 - 1) (ne_eqb a (2 ^ 31) other)
 ])
@@ -139,7 +139,7 @@ module _ (globals stack : ℕ) (c : Configuration) (r : Words) (w : Contents) (v
       let a = view.reg left.number left.in_range in
       let b = view.reg right.number right.in_range in
       let fine = executes-performs (machine_of c) (MultiplyDivide Divide left right)
-      (no_cause _ false false false false (divides (word_in c left.number) (word_in c right.number) (λ e. nonzero (sym b ∙ e)) (λ e f. least (sym a ∙ e) (sym b ∙ f))) refl refl refl refl) in
+      (no_cause _ false false false false (division_has_result (word_in c left.number) (word_in c right.number) (λ e. nonzero (sym b ∙ e)) (λ e f. least (sym a ∙ e) (sym b ∙ f))) refl refl refl refl) in
       performs_to c (MultiplyDivide Divide left right) (after (machine_of c) (MultiplyDivide Divide left right)) next fine refl goes
   performed (Arithmetic op destination left right) next safe goes = performs_to c (Arithmetic op destination left right) (after (machine_of c) (Arithmetic op destination left right)) next refl refl goes
   performed (Branch op left right offset) next safe goes = absurd safe
@@ -275,8 +275,8 @@ Served c service next =
     (event : Event) × (s : machines.State) × Serves service (machine_of c) event s
     × (next ≡ settled (told (world_of c) event s) (c.line + 1) (told (world_of c) event s).machine.phase)
 
-serves : (c : Configuration) (code : TrapCode) (service : Service) (number : ℕ) (next : State) → word_in c 2 ≡ number → service_of (core_of c) number ≡ Some service → Performs c (Exception Syscall code) next → Served c service next
-serves c code service number next is_number asks (event, s, acts, is) =
+service_serves : (c : Configuration) (code : TrapCode) (service : Service) (number : ℕ) (next : State) → word_in c 2 ≡ number → service_of (core_of c) number ≡ Some service → Performs c (Exception Syscall code) next → Served c service next
+service_serves c code service number next is_number asks (event, s, acts, is) =
     (event, s, subst (λ (a : Action). Acts a (machine_of c) event s) (called c code service (ap (service_of (core_of c)) is_number ∙ asks)) acts, is)
 
 -- from an event and a state to the state that is seen
@@ -301,7 +301,7 @@ given_byte c = record c {
 
 pub gets_byte : (c : Configuration) (code : TrapCode) (next : State) → word_in c 2 ≡ 1 → Performs c (Exception Syscall code) next → next ≡ Running (given_byte c)
 gets_byte c code next number goes =
-    let (event, s, (same_event, same), is) = serves c code GetByte 1 next number refl goes in
+    let (event, s, (same_event, same), is) = service_serves c code GetByte 1 next number refl goes in
     seen c next event WantsByte s (record (machine_of c) { phase = phases.Waiting }) same_event same is
 
 abbrev pub printed_byte : Configuration → Configuration
@@ -309,27 +309,27 @@ printed_byte c = record c { output = c.output ++ word_in c 4 % 256 ∷ []; line 
 
 pub puts_byte : (c : Configuration) (code : TrapCode) (next : State) → word_in c 2 ≡ 2 → Performs c (Exception Syscall code) next → next ≡ Running (printed_byte c)
 puts_byte c code next number goes =
-    let (event, s, (same_event, same), is) = serves c code PutByte 2 next number refl goes in
+    let (event, s, (same_event, same), is) = service_serves c code PutByte 2 next number refl goes in
     seen c next event (Puts (word_in c 4 % 256)) s (record (machine_of c) { core = machines.advanced (core_of c) }) same_event same is
 
 pub ends_returned : (c : Configuration) (code : TrapCode) (next : State) → word_in c 2 ≡ 3 → Performs c (Exception Syscall code) next
     → next ≡ labelled.Ended (ending.Returned (signed (word_in c 4))) c.output c.input
 ends_returned c code next number goes =
-    let (event, s, (same_event, same), is) = serves c code EndReturned 3 next number refl goes in
+    let (event, s, (same_event, same), is) = service_serves c code EndReturned 3 next number refl goes in
     let end = ends.Returned (signed (word_in c 4)) in
     seen c next event (Ended end) s (over (machine_of c) end) same_event same is
 
 pub ends_uncaught : (c : Configuration) (code : TrapCode) (next : State) → word_in c 2 ≡ 4 → Performs c (Exception Syscall code) next
     → next ≡ labelled.Ended (ending.Uncaught (word_in c 4) (signed (word_in c 5))) c.output c.input
 ends_uncaught c code next number goes =
-    let (event, s, (same_event, same), is) = serves c code EndUncaught 4 next number refl goes in
+    let (event, s, (same_event, same), is) = service_serves c code EndUncaught 4 next number refl goes in
     let end = ends.Uncaught (word_in c 4) (signed (word_in c 5)) in
     seen c next event (Ended end) s (over (machine_of c) end) same_event same is
 
 pub ends_full : (c : Configuration) (code : TrapCode) (next : State) → word_in c 2 ≡ 11 → Performs c (Exception Syscall code) next
     → next ≡ labelled.Ended ending.Full c.output c.input
 ends_full c code next number goes =
-    let (event, s, (same_event, same), is) = serves c code EndFull 11 next number refl goes in
+    let (event, s, (same_event, same), is) = service_serves c code EndFull 11 next number refl goes in
     seen c next event (Ended ends.Full) s (over (machine_of c) ends.Full) same_event same is
 
 -- ---- calls of the store
@@ -364,21 +364,21 @@ behind_answer c a store =
     settled (told (world_of c) (told_by a) (answered (with_store (machine_of c) store) a)) (c.line + 1)
     (told (world_of c) (told_by a) (answered (with_store (machine_of c) store) a)).machine.phase
 
-goes_on : (c : Configuration) (old : StoreState) (call : Call) (choice : services.Choice) (store : StoreState)
+asked_goes_on : (c : Configuration) (old : StoreState) (call : Call) (choice : services.Choice) (store : StoreState)
     → behind_answer c (services.answer old call choice) store ≡ Running (given_answer c (services.answer old call choice) store)
-goes_on c old services.OpenLexical choice store = refl
-goes_on c old (services.CloseTo mark) choice store = refl
-goes_on c old services.OpenDynamic choice store = refl
-goes_on c old (services.CloseDynamic handle) choice store = refl
-goes_on c old (services.Allocate handle words) choice store = refl
-goes_on c old (services.Free address) choice store = refl
+asked_goes_on c old services.OpenLexical choice store = refl
+asked_goes_on c old (services.CloseTo mark) choice store = refl
+asked_goes_on c old services.OpenDynamic choice store = refl
+asked_goes_on c old (services.CloseDynamic handle) choice store = refl
+asked_goes_on c old (services.Allocate handle words) choice store = refl
+asked_goes_on c old (services.Free address) choice store = refl
 
 pub store_serves : (c : Configuration) (code : TrapCode) (next : State) (request : Request) → word_in c 2 ≡ service_number request → refusal c.store (asked_call request c) ≡ None → Performs c (Exception Syscall code) next
     → (choice : services.Choice) × services.IsAllowed c.store (asked_call request c) choice
     × (next ≡ Running (given_answer c (services.answer c.store (asked_call request c) choice) (services.served c.store (asked_call request c) choice)))
 store_serves c code next request number free goes =
     let call : Call = asked_call request c in
-    let (event, s, (answer, store, serving, same_event, same), is) = serves c code (Asks (asked_call request c)) (service_number request) next number (service_is c request) goes in
+    let (event, s, (answer, store, serving, same_event, same), is) = service_serves c code (Asks (asked_call request c)) (service_number request) next number (service_is c request) goes in
     let (choice, allowed, answer_is, store_is) = subst (λ (o : Option services.Refusal). services.ServesBy c.store (asked_call request c) o answer store) free serving in
     let given : Answer = services.answer c.store (asked_call request c) choice in
     let left : machines.State = answered (with_store (machine_of c) (services.served c.store (asked_call request c) choice)) (services.answer c.store (asked_call request c) choice) in
@@ -389,12 +389,12 @@ store_serves c code next request number free goes =
       choice,
       allowed,
       seen c next event (told_by (services.answer c.store (asked_call request c) choice)) s left (same_event ∙ ap told_by answer_is) left_is is
-          ∙ goes_on c c.store (asked_call request c) choice (services.served c.store (asked_call request c) choice),
+          ∙ asked_goes_on c c.store (asked_call request c) choice (services.served c.store (asked_call request c) choice),
     )
 
 pub store_is_full : (c : Configuration) (code : TrapCode) (next : State) (request : Request) → word_in c 2 ≡ service_number request → refusal c.store (asked_call request c) ≡ Some services.Full → Performs c (Exception Syscall code) next
     → next ≡ labelled.Ended ending.Full c.output c.input
 store_is_full c code next request number full goes =
-    let (event, s, (answer, store, serving, same_event, same), is) = serves c code (Asks (asked_call request c)) (service_number request) next number (service_is c request) goes in
+    let (event, s, (answer, store, serving, same_event, same), is) = service_serves c code (Asks (asked_call request c)) (service_number request) next number (service_is c request) goes in
     let (answer_is, store_is) = subst (λ (o : Option services.Refusal). services.ServesBy c.store (asked_call request c) o answer store) full serving in
     seen c next event (Ended ends.Full) s (over (with_store (machine_of c) store) ends.Full) (same_event ∙ ap told_by answer_is) (same ∙ ap (λ (a : Answer). answered (with_store (machine_of c) store) a) answer_is) is

@@ -68,9 +68,9 @@ pub load_small : (o : Operand) → load_count o ≤ 2
 load_small (operands.Slot number) = omega arith
 load_small (operands.Word word) = word_small word
 
-if_small : (b : Bool) (n : ℕ) → n ≤ 2 → (if b then 0 else n) ≤ 2
-if_small true n small = omega arith
-if_small false n small = small
+if_at_most_two : (b : Bool) (n : ℕ) → n ≤ 2 → (if b then 0 else n) ≤ 2
+if_at_most_two true n small = omega arith
+if_at_most_two false n small = small
 
 operation_small : (o : Operation) → operation_count o ≤ 2
 operation_small (operations.Arithmetic op) = omega arith
@@ -91,7 +91,7 @@ module _ (frame : Frame) where
 
   pub operand_small : (o : Operand) → operand_count frame o ≤ 2
   operand_small (operands.Slot number) = fetch_small (value_register frame number)
-  operand_small (operands.Word word) = if_small (is_zero_word (operands.Word word)) (word_count word) (word_small word)
+  operand_small (operands.Word word) = if_at_most_two (is_zero_word (operands.Word word)) (word_count word) (word_small word)
 
   either_few : (b : Bool) → (if b then 1 else 0) ≤ 1
   either_few true = omega arith

@@ -30,12 +30,12 @@ no_frame = record { return_address = 0; saves = false; first_slot = 0; homes = [
 
 -- ---- an instruction has few lines for each unit of its size
 
-if_small : (b : Bool) → (if b then 4 else 0) ≤ 4
-if_small true = omega arith
-if_small false = omega arith
+if_at_most_four : (b : Bool) → (if b then 4 else 0) ≤ 4
+if_at_most_four true = omega arith
+if_at_most_four false = omega arith
 
 ending_small : (program : Program) (function : ℕ) → ending_count program function ≤ 4
-ending_small program function = if_small _
+ending_small program function = if_at_most_four _
 
 saving_small : (frame : Frame) → saving_count frame ≤ 1
 saving_small frame = go frame.saves
@@ -110,8 +110,8 @@ body_small program frames function fit few (plain.Throw tag value) = omega (arit
 body_small program frames function fit few (plain.Finish v) = omega (arith, few function, ending_small program function, saving_small (frame_at frames function))
 body_small program frames function fit few (plain.Uncaught tag value) = omega (arith, word_small tag, load_small value)
 
-count_small : (program : Program) (frames : List Frame) (function : ℕ) → ReadsFew frames function → AreFew program → (index : ℕ) (i : Instruction) → count_of program frames function index i + (if loses i then 1 else 0) ≤ instruction_size i
-count_small program frames function fit few index i = omega (arith, body_small program frames function fit few i, go (is_idle (frame_at frames function) index i))
+function_count_small : (program : Program) (frames : List Frame) (function : ℕ) → ReadsFew frames function → AreFew program → (index : ℕ) (i : Instruction) → count_of program frames function index i + (if loses i then 1 else 0) ≤ instruction_size i
+function_count_small program frames function fit few index i = omega (arith, body_small program frames function fit few i, go (is_idle (frame_at frames function) index i))
   where
     go : (b : Bool) → (if b then 0 else body_count program frames function i) ≤ body_count program frames function i
     go true = omega arith
@@ -131,7 +131,7 @@ body_fits program frames function fit few i = omega (arith, body_small program f
 code_small : (program : Program) (frames : List Frame) (function : ℕ) → ReadsFew frames function → AreFew program → (index : ℕ) (code : List Instruction) → code_count program frames function index code + losing code ≤ sum_by instruction_size code
 code_small program frames function fit few index [] = omega arith
 code_small program frames function fit few index (i ∷ code) =
-    omega (arith, sum_by-cons instruction_size i code, count_small program frames function fit few index i, code_small program frames function fit few (suc index) code, losing_next i code)
+    omega (arith, sum_by-cons instruction_size i code, function_count_small program frames function fit few index i, code_small program frames function fit few (suc index) code, losing_next i code)
 
 -- with the line that keeps the way back
 pub routine_small : (program : Program) (frames : List Frame) (function : ℕ) → ReadsFew frames function → AreFew program → (code : List Instruction) → (frame_at frames function).saves ≡ loses_any code
@@ -147,24 +147,24 @@ count_take program frames function first [] (suc k) = omega arith
 count_take program frames function first (i ∷ code) zero = omega arith
 count_take program frames function first (i ∷ code) (suc k) = omega (arith, count_take program frames function (suc first) code k)
 
-functions_small : (program : Program) (frames : List Frame) (first : ℕ) → ((k : ℕ) → ReadsFew frames k) → AreFew program → (routines : List Routine) → AreSaved frames first routines
+functions_count_small : (program : Program) (frames : List Frame) (first : ℕ) → ((k : ℕ) → ReadsFew frames k) → AreFew program → (routines : List Routine) → AreSaved frames first routines
     → (k : ℕ) → functions_count program frames first (take k routines) ≤ sum_by size (take k routines)
-functions_small program frames first fit few [] saved zero = omega arith
-functions_small program frames first fit few [] saved (suc k) = omega arith
-functions_small program frames first fit few (r ∷ routines) saved zero = omega arith
-functions_small program frames first fit few (r ∷ routines) saved (suc k) =
+functions_count_small program frames first fit few [] saved zero = omega arith
+functions_count_small program frames first fit few [] saved (suc k) = omega arith
+functions_count_small program frames first fit few (r ∷ routines) saved zero = omega arith
+functions_count_small program frames first fit few (r ∷ routines) saved (suc k) =
     omega (
       arith,
       sum_by-cons size r (take k routines),
       routine_small program frames first (fit first) few r.code (saved_first frames first r routines saved),
-      functions_small program frames (suc first) fit few routines (saved_next frames first r routines saved) k,
+      functions_count_small program frames (suc first) fit few routines (saved_next frames first r routines saved) k,
     )
 
 -- a function begins where it still fits
 pub start_fits : (program : Program) (frames : List Frame) → AreFrames program frames → ((k : ℕ) → ReadsFew frames k) → AreFew program → (k : ℕ) → k < length program.functions
     → function_line program frames k + size (routine_at program k) ≤ START_LINES + sum_by size program.functions
 start_fits program frames are fit few k below =
-    omega (arith, functions_small program frames 0 fit few program.functions (are_saved program frames are) k, sum_by-drop_more size program.functions k no_routine below, sum_by-take-drop size program.functions k)
+    omega (arith, functions_count_small program frames 0 fit few program.functions (are_saved program frames are) k, sum_by-drop_more size program.functions k no_routine below, sum_by-take-drop size program.functions k)
 
 -- and so do its instructions
 pub line_fits : (program : Program) (frames : List Frame) → AreFrames program frames → ((k : ℕ) → ReadsFew frames k) → AreFew program → (k : ℕ) → k < length program.functions → (index : ℕ)
@@ -309,17 +309,17 @@ code_next program frames function code k d same below =
 
 -- ---- one function behind the other
 
-count_next : (program : Program) (frames : List Frame) (first : ℕ) (routines : List Routine) (k n : ℕ) → n ≡ first + k → k < length routines
+routines_count_next : (program : Program) (frames : List Frame) (first : ℕ) (routines : List Routine) (k n : ℕ) → n ≡ first + k → k < length routines
     → functions_count program frames first (take (suc k) routines) ≡ functions_count program frames first (take k routines) + function_count program frames n (slice_index_or routines k no_routine)
-count_next program frames first [] k n here below = absurd (omega arith)
-count_next program frames first (r ∷ routines) zero n here below =
+routines_count_next program frames first [] k n here below = absurd (omega arith)
+routines_count_next program frames first (r ∷ routines) zero n here below =
     let same : n ≡ first = omega arith in
     omega (arith, ap (λ (m : ℕ). function_count program frames m r) same)
-count_next program frames first (r ∷ routines) (suc k) n here below =
-    omega (arith, count_next program frames (suc first) routines k n (omega arith) (omega arith))
+routines_count_next program frames first (r ∷ routines) (suc k) n here below =
+    omega (arith, routines_count_next program frames (suc first) routines k n (omega arith) (omega arith))
 
 pub start_next : (program : Program) (frames : List Frame) (k : ℕ) → k < length program.functions → function_line program frames k + function_count program frames k (routine_at program k) ≡ function_line program frames (suc k)
-start_next program frames k below = omega (arith, count_next program frames 0 program.functions k k (omega arith) below)
+start_next program frames k below = omega (arith, routines_count_next program frames 0 program.functions k k (omega arith) below)
 
 pub functions_next : (program : Program) (frames : List Frame) (k : ℕ) → k < length program.functions
     → function_lines program frames k (function_line program frames k) (drop k program.functions)

@@ -60,10 +60,10 @@ use Rattle.cyc_select.proofs.effects.Walks.{Stands, stands_front}
 
 -- ---- lists
 
-all_from : {X : Type 0} (P : X → Type 0) (xs : List X) → AllByRecursion P xs → All P xs
-all_from P [] all k d below = absurd (omega arith)
-all_from P (x ∷ xs) (one, rest) zero d below = one
-all_from P (x ∷ xs) (one, rest) (suc k) d below = all_from P xs rest k d (omega arith)
+all_by_recursion : {X : Type 0} (P : X → Type 0) (xs : List X) → AllByRecursion P xs → All P xs
+all_by_recursion P [] all k d below = absurd (omega arith)
+all_by_recursion P (x ∷ xs) (one, rest) zero d below = one
+all_by_recursion P (x ∷ xs) (one, rest) (suc k) d below = all_by_recursion P xs rest k d (omega arith)
 
 -- what stands lies within the code
 pub within_code : (code : Labelled) (n : ℕ) (ls : List Line) → 0 < length ls → Stands code n ls → n + length ls ≤ length code.lines
@@ -703,7 +703,7 @@ module _ (program : Program) (well : IsWellFormed program) (words : HasWords pro
 
   pub formed : IsFormed (select_of program frames)
   formed =
-      all_from (IsFormedLine (length (select_of program frames).lines)) (start_lines program frames ++ function_lines program frames 0 START_LINES program.functions)
+      all_by_recursion (IsFormedLine (length (select_of program frames).lines)) (start_lines program frames ++ function_lines program frames 0 START_LINES program.functions)
       (all_append (IsFormedLine (length (select_of program frames).lines)) (start_lines program frames) (function_lines program frames 0 START_LINES program.functions)
       ((refl, (omega arith)), ((refl, (omega arith)), ((refl, tt), ((refl, tt), ((refl, (omega arith)), (function_known_line program.main well.main, tt))))))
       (functions_all program frames (IsFormedLine (length (select_of program frames).lines)) 0 START_LINES program.functions

@@ -8,16 +8,16 @@ use Rattle.cyc_frame.specs.inside.Layout.{frame_at}
 use Rattle.cyc_select.specs.inside.Selection.{saving_count, count_of, code_count, function_line, instruction_line}
 
 -- the lines of code up to an instruction, and with it
-count_next : (program : Program) (frames : List Frame) (function first : ℕ) (code : List Instruction) (k : ℕ) (i : Instruction) → slice_get code k ≡ Some i
+lines_count_next : (program : Program) (frames : List Frame) (function first : ℕ) (code : List Instruction) (k : ℕ) (i : Instruction) → slice_get code k ≡ Some i
     → code_count program frames function first (take (suc k) code) ≡ code_count program frames function first (take k code) + count_of program frames function (first + k) i
-count_next program frames function first [] k i at = absurd (let e : None ≡ Some i = at in cc)
-count_next program frames function first (x ∷ code) zero i at =
+lines_count_next program frames function first [] k i at = absurd (let e : None ≡ Some i = at in cc)
+lines_count_next program frames function first (x ∷ code) zero i at =
     let same : x ≡ i = (let e : Some x ≡ Some i = at in cc) in
     let here : first ≡ first + 0 = omega arith in
     omega (arith, ap (count_of program frames function first) same, ap (λ (n : ℕ). count_of program frames function n i) here)
-count_next program frames function first (x ∷ code) (suc k) i at =
+lines_count_next program frames function first (x ∷ code) (suc k) i at =
     let here : suc first + k ≡ first + suc k = omega arith in
-    omega (arith, count_next program frames function (suc first) code k i at, ap (λ (n : ℕ). count_of program frames function n i) here)
+    omega (arith, lines_count_next program frames function (suc first) code k i at, ap (λ (n : ℕ). count_of program frames function n i) here)
 
 -- the next instruction's lines stand behind
 pub line_next : (program : Program) (frames : List Frame) (function index : ℕ) (i : Instruction) → instruction_at program (record { function = function; index = index }) ≡ Some i
@@ -25,7 +25,7 @@ pub line_next : (program : Program) (frames : List Frame) (function index : ℕ)
 line_next program frames function index i at =
     let one : index + 1 ≡ suc index = omega arith in
     let here : 0 + index ≡ index = omega arith in
-    let e = count_next program frames function 0 (routine_at program function).code index i at in
+    let e = lines_count_next program frames function 0 (routine_at program function).code index i at in
     omega (
       arith,
       ap (instruction_line program frames function) one,

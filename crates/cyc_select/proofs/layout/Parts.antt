@@ -27,48 +27,48 @@ range_append a (suc n) m =
     let long : suc n + m ≡ suc (n + m) = omega arith in
     ap (λ (l : List ℕ). a ∷ l) (ap (λ (x : ℕ). range_with_len (a + 1) n ++ range_with_len x m) there ∙ range_append (a + 1) n m) ∙ ap (range_with_len a) (sym long)
 
-leaves_none : (program : Program) (frames : List Frame) (function : ℕ) (i : Instruction) → leaves i ≡ true → behind_count program frames function i ≡ 0
-leaves_none program frames function (plain.Call callee arguments count result) last = absurd (let e : false ≡ true = last in cc)
-leaves_none program frames function (plain.Move destination source) last = refl
-leaves_none program frames function (plain.Unary operator destination operand) last = refl
-leaves_none program frames function (plain.Binary operator destination left right) last = refl
-leaves_none program frames function (plain.Jump target) last = refl
-leaves_none program frames function (plain.Branch comparison left right target) last = refl
-leaves_none program frames function (plain.Return value) last = refl
-leaves_none program frames function (plain.ReadByte destination) last = refl
-leaves_none program frames function (plain.WriteByte source) last = refl
-leaves_none program frames function (plain.AddressOf destination slot count) last = refl
-leaves_none program frames function (plain.LoadGlobal destination global) last = refl
-leaves_none program frames function (plain.StoreGlobal global source) last = refl
-leaves_none program frames function (plain.MoveWords destination source count) last = refl
-leaves_none program frames function (plain.Load destination address offset) last = refl
-leaves_none program frames function (plain.Store address offset source) last = refl
-leaves_none program frames function (plain.LoadByte destination address offset) last = refl
-leaves_none program frames function (plain.StoreByte address offset source) last = refl
-leaves_none program frames function (plain.Ask request) last = refl
-leaves_none program frames function (plain.CountLexical destination) last = refl
-leaves_none program frames function (plain.Try first handler) last = refl
-leaves_none program frames function (plain.Leave first) last = refl
-leaves_none program frames function (plain.Throw tag value) last = refl
-leaves_none program frames function (plain.Finish value) last = refl
-leaves_none program frames function (plain.Uncaught tag value) last = refl
+leaving_counts_none : (program : Program) (frames : List Frame) (function : ℕ) (i : Instruction) → leaves i ≡ true → behind_count program frames function i ≡ 0
+leaving_counts_none program frames function (plain.Call callee arguments count result) last = absurd (let e : false ≡ true = last in cc)
+leaving_counts_none program frames function (plain.Move destination source) last = refl
+leaving_counts_none program frames function (plain.Unary operator destination operand) last = refl
+leaving_counts_none program frames function (plain.Binary operator destination left right) last = refl
+leaving_counts_none program frames function (plain.Jump target) last = refl
+leaving_counts_none program frames function (plain.Branch comparison left right target) last = refl
+leaving_counts_none program frames function (plain.Return value) last = refl
+leaving_counts_none program frames function (plain.ReadByte destination) last = refl
+leaving_counts_none program frames function (plain.WriteByte source) last = refl
+leaving_counts_none program frames function (plain.AddressOf destination slot count) last = refl
+leaving_counts_none program frames function (plain.LoadGlobal destination global) last = refl
+leaving_counts_none program frames function (plain.StoreGlobal global source) last = refl
+leaving_counts_none program frames function (plain.MoveWords destination source count) last = refl
+leaving_counts_none program frames function (plain.Load destination address offset) last = refl
+leaving_counts_none program frames function (plain.Store address offset source) last = refl
+leaving_counts_none program frames function (plain.LoadByte destination address offset) last = refl
+leaving_counts_none program frames function (plain.StoreByte address offset source) last = refl
+leaving_counts_none program frames function (plain.Ask request) last = refl
+leaving_counts_none program frames function (plain.CountLexical destination) last = refl
+leaving_counts_none program frames function (plain.Try first handler) last = refl
+leaving_counts_none program frames function (plain.Leave first) last = refl
+leaving_counts_none program frames function (plain.Throw tag value) last = refl
+leaving_counts_none program frames function (plain.Finish value) last = refl
+leaving_counts_none program frames function (plain.Uncaught tag value) last = refl
 
-some_last : (r : Routine) (i : Instruction) → IsSomeAnd (slice_get r.code (length r.code - 1)) (λ j. leaves j ≡ true) → slice_get r.code (length r.code - 1) ≡ Some i → leaves i ≡ true
-some_last r i last at = subst (λ (o : Option Instruction). IsSomeAnd o (λ j. leaves j ≡ true)) at last
+some_last_leaves : (r : Routine) (i : Instruction) → IsSomeAnd (slice_get r.code (length r.code - 1)) (λ j. leaves j ≡ true) → slice_get r.code (length r.code - 1) ≡ Some i → leaves i ≡ true
+some_last_leaves r i last at = subst (λ (o : Option Instruction). IsSomeAnd o (λ j. leaves j ≡ true)) at last
 
 take_all : {X : Type 0} (xs : List X) → take (length xs) xs ≡ xs
 take_all [] = refl
 take_all (x ∷ xs) = ap (λ (l : List _). x ∷ l) (take_all xs)
 
-functions_next : (program : Program) (frames : List Frame) (first : ℕ) (routines : List Routine) (k : ℕ) → k < length routines
+functions_parts_next : (program : Program) (frames : List Frame) (first : ℕ) (routines : List Routine) (k : ℕ) → k < length routines
     → functions_count program frames first (take (suc k) routines) ≡ functions_count program frames first (take k routines) + function_count program frames (first + k) (slice_index_or routines k no_routine)
-functions_next program frames first [] k below = absurd (omega arith)
-functions_next program frames first (r ∷ routines) zero below =
+functions_parts_next program frames first [] k below = absurd (omega arith)
+functions_parts_next program frames first (r ∷ routines) zero below =
     let same : first ≡ first + 0 = omega arith in
     let e : function_count program frames first r ≡ function_count program frames (first + 0) r = ap (λ (f : ℕ). function_count program frames f r) same in
     omega (arith, e)
-functions_next program frames first (r ∷ routines) (suc k) below =
-    let rest = functions_next program frames (suc first) routines k (omega arith) in
+functions_parts_next program frames first (r ∷ routines) (suc k) below =
+    let rest = functions_parts_next program frames (suc first) routines k (omega arith) in
     let same : suc first + k ≡ first + suc k = omega arith in
     omega (arith, rest, ap (λ (f : ℕ). function_count program frames f (slice_index_or routines k no_routine)) same)
 
@@ -92,7 +92,7 @@ module _ (program : Program) (well : IsWellFormed program) (frames : List Frame)
       let routine = routine_in program function well known in
       let (i, at) = slice_get_below (routine_at program function).code k (omega (arith, is)) in
       let last : length (routine_at program function).code - 1 ≡ k = omega (arith, is) in
-      ap (behind_of program frames function) at ∙ leaves_none program frames function i (some_last (routine_at program function) i routine.last (ap (slice_get (routine_at program function).code) last ∙ at))
+      ap (behind_of program frames function) at ∙ leaving_counts_none program frames function i (some_last_leaves (routine_at program function) i routine.last (ap (slice_get (routine_at program function).code) last ∙ at))
 
   own_from : (function : ℕ) → function < length program.functions → (k n : ℕ) → k + n ≡ length (routine_at program function).code
       → flat_map (own_of program frames) (map (place_in function) (range_with_len k n)) ≡ range_with_len (first_of function k) (end_of function - first_of function k)
@@ -145,7 +145,7 @@ module _ (program : Program) (well : IsWellFormed program) (frames : List Frame)
       let known : first < length program.functions = omega (arith, long) in
       let here : first + 0 ≡ first = omega arith in
       let is : r ≡ routine_at program first = same 0 (omega arith) ∙ ap (routine_at program) here in
-      let one : functions_count program frames 0 (take (suc first) program.functions) ≡ functions_count program frames 0 (take first program.functions) + function_count program frames (0 + first) (routine_at program first) = functions_next program frames 0 program.functions first known in
+      let one : functions_count program frames 0 (take (suc first) program.functions) ≡ functions_count program frames 0 (take first program.functions) + function_count program frames (0 + first) (routine_at program first) = functions_parts_next program frames 0 program.functions first known in
       let zero_first : 0 + first ≡ first = omega arith in
       let next : function_line program frames (suc first) ≡ function_line program frames first + function_count program frames first r = omega (arith, one, ap (λ (f : ℕ). function_count program frames f (routine_at program first)) zero_first, ap (function_count program frames first) is) in
       flat_map-append (own_of program frames) (map (place_in first) (range_with_len 0 (length r.code))) (places_from (suc first) routines)

@@ -42,33 +42,33 @@ nothing_or : (b : Bool) (n : ℕ) → is_some (if b then slice_index_or nothing 
 nothing_or true n = refl
 nothing_or false n = refl
 
-no_text : (a : ℕ) → is_some (text_at nothing a) ≡ false
-no_text a = nothing_or (nat_le text_base a) (word_number text_base a)
+nothing_is_text : (a : ℕ) → is_some (text_at nothing a) ≡ false
+nothing_is_text a = nothing_or (nat_le text_base a) (word_number text_base a)
 
-within : (base count a : ℕ) → base ≤ a → a < base + 4 * count → is_within base count a ≡ true
-within base count a from below = and_from (nat_le base a) (nat_lt a (base + 4 * count)) (le-leb base a from) (lt-ltb a (base + 4 * count) below)
+between_is_within : (base count a : ℕ) → base ≤ a → a < base + 4 * count → is_within base count a ≡ true
+between_is_within base count a from below = and_from (nat_le base a) (nat_lt a (base + 4 * count)) (le-leb base a from) (lt-ltb a (base + 4 * count) below)
 
 outside : (base count a : ℕ) → base + 4 * count ≤ a → is_within base count a ≡ false
 outside base count a past = and_right (nat_le base a) (nat_lt a (base + 4 * count)) (le-ltb a (base + 4 * count) past)
 
-before : (base count a : ℕ) → a < base → is_within base count a ≡ false
-before base count a below = and_left (nat_le base a) (nat_lt a (base + 4 * count)) (lt-leb base a below)
+before_is_outside : (base count a : ℕ) → a < base → is_within base count a ≡ false
+before_is_outside base count a below = and_left (nat_le base a) (nat_lt a (base + 4 * count)) (lt-leb base a below)
 
 pub place_of-data : (globals stack : List ℕ) (store : StoreState) (a : ℕ) → IsData (length globals) a → place_of (memory globals stack store) a ≡ InGlobals (word_number data_base a)
 place_of-data globals stack store a (aligned, from, below) =
-    cond-false _ _ _ (no_text a) ∙ cond-true _ _ _ (within data_base (length globals) a from below)
+    cond-false _ _ _ (nothing_is_text a) ∙ cond-true _ _ _ (between_is_within data_base (length globals) a from below)
 
 pub place_of-stack : (globals stack : List ℕ) (store : StoreState) (a : ℕ) → length globals ≤ 1048576 → length stack ≤ 1048576 → IsStack (length stack) a → place_of (memory globals stack store) a ≡ InStack (word_number (stack_base stack) a)
 place_of-stack globals stack store a few_globals few_stack (aligned, from, below) =
-    cond-false _ _ _ (no_text a)
-    ∙ (cond-false _ _ _ (outside data_base (length globals) a (omega arith)) ∙ cond-true _ _ _ (within (stack_base stack) (length stack) a from (omega arith)))
+    cond-false _ _ _ (nothing_is_text a)
+    ∙ (cond-false _ _ _ (outside data_base (length globals) a (omega arith)) ∙ cond-true _ _ _ (between_is_within (stack_base stack) (length stack) a from (omega arith)))
 
 pub place_of-live : (globals stack : List ℕ) (store : StoreState) (a word : ℕ) → length globals ≤ 1048576 → length stack ≤ 1048576 → IsLive store a word → place_of (memory globals stack store) a ≡ InStore a
 place_of-live globals stack store a word few_globals few_stack live =
-    cond-false _ _ _ (no_text a)
+    cond-false _ _ _ (nothing_is_text a)
     ∙ (cond-false _ _ _ (outside data_base (length globals) a (omega (arith, live.low)))
-    ∙ (cond-false _ _ _ (before (stack_base stack) (length stack) a (omega (arith, live.high, live.few)))
-    ∙ cond-true _ _ _ (within store_base (words_per_page * store.pages) a live.low live.high)))
+    ∙ (cond-false _ _ _ (before_is_outside (stack_base stack) (length stack) a (omega (arith, live.high, live.few)))
+    ∙ cond-true _ _ _ (between_is_within store_base (words_per_page * store.pages) a live.low live.high)))
 
 -- the words of the data range and of the stack do not depend on the store
 pub cell-store : (globals stack : List ℕ) (store other : StoreState) (a : ℕ) → length globals ≤ 1048576 → length stack ≤ 1048576 → IsCell (length globals) (length stack) a

@@ -107,11 +107,11 @@ module _ (code : Labelled) (formed : IsFormed code) (addresses : ℕ → ℕ) (g
 
 -- ---- slots that have an address live in memory
 
-pinned_by : (code : List Instruction) (slot : ℕ) → is_pinned code slot ≡ true → (index : ℕ) × (i : Instruction) × (slice_get code index ≡ Some i) × (pins i slot ≡ true)
-pinned_by [] slot pinned = absurd (let e : false ≡ true = pinned in cc)
-pinned_by (i ∷ code) slot pinned = elim (or_cases (pins i slot) (is_pinned code slot) pinned) [
+pinned_by_instruction : (code : List Instruction) (slot : ℕ) → is_pinned code slot ≡ true → (index : ℕ) × (i : Instruction) × (slice_get code index ≡ Some i) × (pins i slot ≡ true)
+pinned_by_instruction [] slot pinned = absurd (let e : false ≡ true = pinned in cc)
+pinned_by_instruction (i ∷ code) slot pinned = elim (or_cases (pins i slot) (is_pinned code slot) pinned) [
   | inl here ↦ (0, i, refl, here)
-  | inr later ↦ let (index, j, at, there) = pinned_by code slot later in (suc index, j, at, there)
+  | inr later ↦ let (index, j, at, there) = pinned_by_instruction code slot later in (suc index, j, at, there)
 ]
 
 pins_bar : (i : Instruction) (slot : ℕ) → pins i slot ≡ true → bars i slot ≡ true
@@ -121,12 +121,12 @@ pins_bar i slot is = absurd (let e : false ≡ true = is in cc)
 module _ (program : Program) (frames : List Frame) (function : ℕ) (right : AreHomes program (routine_at program function) (frame_at frames function).homes) where
   pub pinned_kept : (slot : ℕ) → is_pinned (routine_at program function).code slot ≡ true → is_kept (frame_at frames function) slot ≡ true
   pinned_kept slot pinned =
-      let (index, i, at, is) = pinned_by (routine_at program function).code slot pinned in
+      let (index, i, at, is) = pinned_by_instruction (routine_at program function).code slot pinned in
       barred_kept program frames function right index slot i at (pins_bar i slot is)
 
   pub unpinned : (slot k : ℕ) → is_pinned (routine_at program function).code slot ≡ true → value_register (frame_at frames function) slot ≡ Some k → ⊥
   unpinned slot k pinned has =
-      let (index, i, at, is) = pinned_by (routine_at program function).code slot pinned in
+      let (index, i, at, is) = pinned_by_instruction (routine_at program function).code slot pinned in
       let e : true ≡ false = sym (pins_bar i slot is) ∙ unbarred program frames function right index slot k i at has in
       cc
 

@@ -104,9 +104,9 @@ globals_hold globals n = elim (cases_lt n (length globals)) [
       ∙ (zeros_are (globals_length - length globals) (n - length globals) ∙ sym (get_or_past globals n 0 past))
 ]
 
-globals_long : (globals : List ℕ) → length globals ≤ globals_length → length (globals_of globals) ≡ globals_length
+globals_of_long : (globals : List ℕ) → length globals ≤ globals_length → length (globals_of globals) ≡ globals_length
 unfolding globals_of
-globals_long globals few =
+globals_of_long globals few =
     length-append globals (replicate (globals_length - length globals) 0)
     ∙ (ap (λ (n : ℕ). length globals + n) (length-replicate (globals_length - length globals) 0) ∙ (let e : length globals + (globals_length - length globals) ≡ globals_length = omega (arith, few) in e))
 
@@ -166,7 +166,7 @@ module _ (program : Program) (well : IsWellFormed program) (words : HasWords pro
   few_globals = subst (λ (l : List ℕ). length l ≤ globals_length) (sym same_globals) well.globals
 
   long_globals : length (globals_of code.globals) ≡ globals_length
-  long_globals = globals_long code.globals few_globals
+  long_globals = globals_of_long code.globals few_globals
 
   long_stack : length (replicate (words_per_call * calls) (zero)) ≡ words_per_call * calls
   long_stack = length-replicate (words_per_call * calls) 0

@@ -21,14 +21,14 @@ use Rattle.cyc_select.proofs.relation.Values.{made_is}
 use Rattle.cyc_select.proofs.effects.Walks.{after_r, after_w, after_r-append, after_w-append, AreSafe}
 
 -- an earlier parameter does not come by the register that an argument is passed from
-or_false : (a b : Bool) → (a || b) ≡ false → (a ≡ false) × (b ≡ false)
-or_false true b is = absurd (let e : true ≡ false = is in cc)
-or_false false b is = (refl, is)
+neither_parts : (a b : Bool) → (a || b) ≡ false → (a ≡ false) × (b ≡ false)
+neither_parts true b is = absurd (let e : true ≡ false = is in cc)
+neither_parts false b is = (refl, is)
 
 not_taken : (callee : Frame) (slot j k : ℕ) → j < slot → is_taken callee slot k ≡ false → made_in callee j ≢ k
 not_taken callee zero j k below free same = omega (arith, below)
 not_taken callee (suc slot) j k below free same =
-    let (before, last) = or_false (is_taken callee slot k) (made_in callee slot == k) free in
+    let (before, last) = neither_parts (is_taken callee slot k) (made_in callee slot == k) free in
     elim (cases_eq j slot) [
       | inl here ↦ eqb-false (made_in callee slot) k last (ap (made_in callee) (sym here) ∙ same)
       | inr apart ↦ not_taken callee slot j k (omega (arith, below, apart)) before same

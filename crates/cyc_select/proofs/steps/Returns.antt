@@ -365,9 +365,9 @@ module _ (program : Program) (well : IsWellFormed program) (frames : List Frame)
 -- ---- behind a call
 
 -- one word more is copied
-slots_next : (from to : Words) (source count destination slot number word : ℕ) → slot ≡ destination + count → word ≡ from (source + count)
+copied_slots_next : (from to : Words) (source count destination slot number word : ℕ) → slot ≡ destination + count → word ≡ from (source + count)
     → put (copied from source count to destination) slot word number ≡ copied from source (suc count) to destination number
-slots_next from to source count destination slot number word is_slot is_word = elim (cases_eq number slot) [
+copied_slots_next from to source count destination slot number word is_slot is_word = elim (cases_eq number slot) [
   | inl same ↦
       let there : number ≡ destination + count = same ∙ is_slot in
       ap (put (copied from source count to destination) slot word) same
@@ -449,7 +449,7 @@ module _ (program : Program) (well : IsWellFormed program) (frames : List Frame)
       let in_m1 : StandsWith m1 (put (copied values first k waiting result) slot (q (source % 32))) =
       subst (λ (a : ℕ). StandsWith (written m a (q (source % 32))) (put (copied values first k waiting result) slot (q (source % 32)))) (sym there) put_one in
       let next = same_slots m1 (put (copied values first k waiting result) slot (q (source % 32))) (copied values first (suc k) waiting result)
-      (λ number. slots_next values waiting first k result slot number (q (source % 32)) is_slot one) in_m1 in
+      (λ number. copied_slots_next values waiting first k result slot number (q (source % 32)) is_slot one) in_m1 in
       let rest = are_stored (suc slot) (suc k) sources m1 (omega (arith, is_slot)) (omega (arith, fits)) others next in
       record {
         safe = (slot_cell program well frames fit addresses pages calls few c q m base back in_frame (copied values first k waiting result) s slot below, rest.safe);
@@ -476,7 +476,7 @@ module _ (program : Program) (well : IsWellFormed program) (frames : List Frame)
       same number ∙ ap (λ (n : ℕ). copied values first n waiting result number) (let e : k ≡ k + 0 = omega arith in e)
   puts_copied slot k (source ∷ sources) slots is_slot (one, others) same number =
       puts_copied (suc slot) (suc k) sources (put slots slot (q (source % 32))) (omega (arith, is_slot)) others
-      (λ n. put_pointwise slots (copied values first k waiting result) slot (q (source % 32)) same n ∙ slots_next values waiting first k result slot n (q (source % 32)) is_slot one)
+      (λ n. put_pointwise slots (copied values first k waiting result) slot (q (source % 32)) same n ∙ copied_slots_next values waiting first k result slot n (q (source % 32)) is_slot one)
       number
       ∙ ap (λ (n : ℕ). copied values first n waiting result number) (let e : suc k + length sources ≡ k + suc (length sources) = omega arith in e)
 

@@ -40,8 +40,8 @@ half_is word h is_word is =
     let parts = half_parts word h is in
     ap sign_extended parts.0 ∙ fits_is word is_word parts.1
 
-half_fits : (word h : ℕ) → half_of word ≡ Some h → h < 2 ^ 16
-half_fits word h is = omega (arith, (half_parts word h is).0)
+half_below : (word h : ℕ) → half_of word ≡ Some h → h < 2 ^ 16
+half_below word h is = omega (arith, (half_parts word h is).0)
 
 low_either : (word h : ℕ) (b : Bool) → nat_lt word (2 ^ 16) ≡ b → (if b then Some word else None) ≡ Some h → (h ≡ word) × (h < 2 ^ 16)
 low_either word h true below is =
@@ -111,15 +111,15 @@ module _ (slots : Words) where
 
 pub signed_fits : (o : Operand) (h : ℕ) → signed_half o ≡ Some h → h < 2 ^ 16
 signed_fits (operands.Slot number) h is = absurd (let e : None ≡ Some h = is in cc)
-signed_fits (operands.Word word) h is = half_fits word h is
+signed_fits (operands.Word word) h is = half_below word h is
 
 pub negated_fits : (o : Operand) (h : ℕ) → negated_half o ≡ Some h → h < 2 ^ 16
 negated_fits (operands.Slot number) h is = absurd (let e : None ≡ Some h = is in cc)
-negated_fits (operands.Word word) h is = half_fits (sub_of 0 word) h is
+negated_fits (operands.Word word) h is = half_below (sub_of 0 word) h is
 
 pub next_fits : (o : Operand) (h : ℕ) → next_half o ≡ Some h → h < 2 ^ 16
 next_fits (operands.Slot number) h is = absurd (let e : None ≡ Some h = is in cc)
-next_fits (operands.Word word) h is = half_fits (add_of word 1) h is
+next_fits (operands.Word word) h is = half_below (add_of word 1) h is
 
 pub low_fits : (o : Operand) (h : ℕ) → low_half o ≡ Some h → h < 2 ^ 16
 low_fits (operands.Slot number) h is = absurd (let e : None ≡ Some h = is in cc)
