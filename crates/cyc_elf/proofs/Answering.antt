@@ -5,25 +5,35 @@ use Rattle.std.proofs.lemmas.List.{get_or-map, length-map}
 use Rattle.cyc_elf.specs.declared.fault.ElfFault.{ElfFault}
 use Rattle.cyc_elf.specs.declared.fault.ElfFault.TheVariants as faults
 use Rattle.cyc_elf.specs.declared.file_header.FileHeader.{FileHeader}
-use Rattle.cyc_elf.specs.declared.image.Segment.{Segment}
 use Rattle.cyc_elf.specs.declared.program_header.ProgramHeader as raw
 use Rattle.cyc_elf.specs.declared.table.Walk as table
 use Rattle.cyc_elf.specs.Header.{ProgramHeader, headers_from, entry, table_offset, header_count}
-use Rattle.cyc_elf.specs.Image.{SegmentContents, ImageContents, segment_contents, IsWellFormed}
+use Rattle.cyc_elf.specs.Image.{ImageContents, IsWellFormed}
 use Rattle.cyc_elf.specs.Reading.{first_fault, file_rules, covers, segment_of, reading, Answers}
-use Rattle.cyc_elf.specs.inside.Parts.{Walk, fields_of, walk_of, walk, are_apart}
+use Rattle.cyc_elf.specs.Outline.{fields_of, Outlines}
+use Rattle.cyc_elf.specs.inside.Parts.{Walk, walk_of, walk, are_apart}
 use Rattle.cyc_elf.proofs.Rules.{table_of, is_entry, reading-shared, reading-table_fault, reading-entry, reading-image}
 use Rattle.cyc_elf.proofs.Sound.{stored_all, is_well_formed}
 
 -- a fault that is answered, memory's too
-pub Answers-fault : (f : ElfFault) (read : Result ImageContents ElfFault) → read ≡ Err f → Answers (Err f) read
-Answers-fault faults.Truncated read e = e
-Answers-fault faults.NotElf32Big read e = e
-Answers-fault faults.NotMipsExec read e = e
-Answers-fault faults.BadSegment read e = e
-Answers-fault faults.Interp read e = e
-Answers-fault faults.BadEntry read e = e
-Answers-fault faults.Memory read e = tt
+pub Outlines-fault : (file : List ℕ) (f : ElfFault) (read : Result ImageContents ElfFault) → read ≡ Err f → Outlines file (Err f) read
+Outlines-fault file faults.Truncated read e = e
+Outlines-fault file faults.NotElf32Big read e = e
+Outlines-fault file faults.NotMipsExec read e = e
+Outlines-fault file faults.BadSegment read e = e
+Outlines-fault file faults.Interp read e = e
+Outlines-fault file faults.BadEntry read e = e
+Outlines-fault file faults.Memory read e = tt
+
+-- who copies the bytes passes it on
+pub Answers-outlined : (file : List ℕ) (f : ElfFault) (read : Result ImageContents ElfFault) → Outlines file (Err f) read → Answers (Err f) read
+Answers-outlined file faults.Truncated read e = e
+Answers-outlined file faults.NotElf32Big read e = e
+Answers-outlined file faults.NotMipsExec read e = e
+Answers-outlined file faults.BadSegment read e = e
+Answers-outlined file faults.Interp read e = e
+Answers-outlined file faults.BadEntry read e = e
+Answers-outlined file faults.Memory read e = tt
 
 -- what the file header and the walk over the table say
 pub record Found (file : List ℕ) (h : FileHeader) (w : table.Walk) : Type 0 where
@@ -69,30 +79,30 @@ faulty {file} x f apart e = reading-table_fault file x f.fine apart (sym (fault_
 pub astray : {file : List ℕ} {h : FileHeader} {w : table.Walk} → Found file h w → are_apart [] (table_of file).loads ≡ true → w.fault ≡ None → is_entry (table_of file).loads (entry file) ≡ false → reading file ≡ Err faults.BadEntry
 astray {file} f apart none e = reading-entry file f.fine apart (sym (fault_found f) ∙ none) e
 
-pub stored : {file : List ℕ} {h : FileHeader} {w : table.Walk} (ls : List raw.ProgramHeader) → Found file h w → ls ≡ w.loads.items → All (λ g. g.offset + g.file_size ≤ length file) ls
-stored {file} ls f same =
+pub stored : {file : List ℕ} {h : FileHeader} {w : table.Walk} → Found file h w → All (λ g. g.offset + g.file_size ≤ length file) w.loads.items
+stored {file} {h} {w} f =
+    let ls = w.loads.items in
     let kept : All (λ g. g.offset + g.file_size ≤ length file) (map fields_of ls)
-    = subst (All (λ g. g.offset + g.file_size ≤ length file)) (sym (ap (map fields_of) same ∙ loads_found f)) (stored_all file) in
+    = subst (All (λ g. g.offset + g.file_size ≤ length file)) (sym (loads_found f)) (stored_all file) in
     λ k d lt.
     subst (λ (g : ProgramHeader). g.offset + g.file_size ≤ length file) (get_or-map fields_of ls k d (fields_of d) lt) (kept k (fields_of d) (omega (arith, length-map ls fields_of)))
 
--- the image as the code makes it
-abbrev made : FileHeader → table.Walk → List Segment → ImageContents
-made h w segments = record { entry = h.entry; segments = map segment_contents segments; note = w.note }
+-- the image that the headers describe, as the code keeps them
+abbrev described : List ℕ → FileHeader → table.Walk → ImageContents
+described file h w = record { entry = h.entry; segments = map (segment_of file) (map fields_of w.loads.items); note = w.note }
 
-made_is : {file : List ℕ} {h : FileHeader} {w : table.Walk} (ls : List raw.ProgramHeader) (segments : List Segment) → Found file h w → ls ≡ w.loads.items → map segment_contents segments ≡ map (segment_of file) (map fields_of ls)
-    → made h w segments ≡ record { entry = entry file; segments = map (segment_of file) (table_of file).loads; note = (table_of file).note }
-made_is {file} {h} {w} ls segments f same e =
-    ap (λ (ss : List SegmentContents). record { entry = h.entry; segments = ss; note = w.note }) (e ∙ ap (map (segment_of file)) (ap (map fields_of) same ∙ loads_found f))
+described_is : {file : List ℕ} {h : FileHeader} {w : table.Walk} → Found file h w
+    → described file h w ≡ record { entry = entry file; segments = map (segment_of file) (table_of file).loads; note = (table_of file).note }
+described_is {file} {h} {w} f =
+    ap (λ (hs : List ProgramHeader). record { entry = h.entry; segments = map (segment_of file) hs; note = w.note }) (loads_found f)
     ∙ ap (λ (g : FileHeader). record { entry = g.entry; segments = map (segment_of file) (table_of file).loads; note = w.note }) (sym f.fields)
     ∙ ap (λ (n : Option (ℕ × ℕ)). record { entry = entry file; segments = map (segment_of file) (table_of file).loads; note = n }) (note_found f)
 
-pub image : {file : List ℕ} {h : FileHeader} {w : table.Walk} (ls : List raw.ProgramHeader) (segments : List Segment) → Found file h w → are_apart [] (table_of file).loads ≡ true → w.fault ≡ None → is_entry (table_of file).loads (entry file) ≡ true
-    → ls ≡ w.loads.items → map segment_contents segments ≡ map (segment_of file) (map fields_of ls) → reading file ≡ Ok (made h w segments)
-image {file} ls segments f apart none right same e =
-    reading-image file f.fine apart (sym (fault_found f) ∙ none) right ∙ ap (λ (i : ImageContents). Ok i) (sym (made_is ls segments f same e))
+pub outline : {file : List ℕ} {h : FileHeader} {w : table.Walk} → Found file h w → are_apart [] (table_of file).loads ≡ true → w.fault ≡ None → is_entry (table_of file).loads (entry file) ≡ true
+    → reading file ≡ Ok (described file h w)
+outline {file} f apart none right =
+    reading-image file f.fine apart (sym (fault_found f) ∙ none) right ∙ ap (λ (i : ImageContents). Ok i) (sym (described_is f))
 
-pub well_formed : {file : List ℕ} {h : FileHeader} {w : table.Walk} (ls : List raw.ProgramHeader) (segments : List Segment) → Found file h w → are_apart [] (table_of file).loads ≡ true → is_entry (table_of file).loads (entry file) ≡ true
-    → ls ≡ w.loads.items → map segment_contents segments ≡ map (segment_of file) (map fields_of ls) → IsWellFormed (made h w segments)
-well_formed {file} ls segments f apart right same e =
-    subst IsWellFormed (sym (made_is ls segments f same e)) (is_well_formed file apart right)
+pub well_formed : {file : List ℕ} {h : FileHeader} {w : table.Walk} → Found file h w → are_apart [] (table_of file).loads ≡ true → is_entry (table_of file).loads (entry file) ≡ true
+    → IsWellFormed (described file h w)
+well_formed {file} f apart right = subst IsWellFormed (sym (described_is f)) (is_well_formed file apart right)

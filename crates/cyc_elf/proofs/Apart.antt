@@ -9,7 +9,8 @@ use Rattle.std.proofs.lemmas.List.Sorted.{sum_by-IsPermutation}
 use Rattle.cyc_elf.specs.declared.program_header.ProgramHeader as raw
 use Rattle.cyc_elf.specs.Header.{ProgramHeader}
 use Rattle.cyc_elf.specs.Reading.{covers, overlap}
-use Rattle.cyc_elf.specs.inside.Parts.{fields_of, are_apart, in_order}
+use Rattle.cyc_elf.specs.Outline.{fields_of}
+use Rattle.cyc_elf.specs.inside.Parts.{are_apart, in_order}
 
 -- ---- how many headers cover an address
 

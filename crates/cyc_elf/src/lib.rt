@@ -11,6 +11,7 @@ mod fields;
 mod file_header;
 mod image;
 mod note;
+mod outline;
 mod program_header;
 mod reading;
 mod table;
@@ -18,5 +19,7 @@ mod writing;
 
 pub use fault::ElfFault;
 pub use image::{Image, Segment};
-pub use reading::read_image;
+pub use outline::Outline;
+pub use program_header::ProgramHeader;
+pub use reading::{read_image, read_outline};
 pub use writing::write_image;

@@ -37,11 +37,11 @@ pub struct ProgramHeader {
 }
 
 impl ProgramHeader {
-    ghost use Rattle.cyc_elf.specs.inside.Parts.{fields_of};
+    ghost use Rattle.cyc_elf.specs.Outline.{fields_of};
 
     /// The program header at a place in the file.
     #[tactic(auto, unfolding(crate::specs::Header::program_header_at))]
-    pub fn at(file: &[u8], place: usize) -> ProgramHeader
+    pub(crate) fn at(file: &[u8], place: usize) -> ProgramHeader
         requires { place + program_header_size ≤ length file.now }
         ensures { fields_of result ≡ program_header_at file.now place }
     {
@@ -56,7 +56,7 @@ impl ProgramHeader {
     }
 
     /// The header of a segment whose bytes begin at an offset in the file.
-    pub fn of(segment: &Segment, offset: u32) -> ProgramHeader
+    pub(crate) fn of(segment: &Segment, offset: u32) -> ProgramHeader
         requires { length segment.now.bytes.items ≤ segment.now.size }
         ensures { fields_of result ≡ header_of offset (segment_contents segment.now) }
     {
@@ -73,7 +73,7 @@ impl ProgramHeader {
     }
 
     /// The header of a note whose bytes begin at an offset in the file.
-    pub fn of_note(offset: u32) -> ProgramHeader
+    pub(crate) fn of_note(offset: u32) -> ProgramHeader
         ensures { fields_of result ≡ note_header offset }
     {
         let size = NOTE_SIZE as u32;
@@ -88,21 +88,21 @@ impl ProgramHeader {
     }
 
     /// Whether the header describes a segment.
-    pub fn is_load(&self) -> bool
+    pub(crate) fn is_load(&self) -> bool
         ensures { result ≡ is_load (fields_of self.now) }
     {
         self.kind == LOAD
     }
 
     /// The address behind the segment.
-    pub fn end(&self) -> u64
+    pub(crate) fn end(&self) -> u64
         ensures { result ≡ self.now.vaddr + self.now.memory_size }
     {
         u64::from(self.vaddr) + u64::from(self.memory_size)
     }
 
     /// Whether an address is one of the segment's.
-    pub fn covers(&self, address: u32) -> bool
+    pub(crate) fn covers(&self, address: u32) -> bool
         ensures { result ≡ covers (fields_of self.now) address }
     {
         self.vaddr <= address && u64::from(address) < self.end()
@@ -111,7 +111,7 @@ impl ProgramHeader {
     /// Whether the header describes a note that carries limits. A note of another owner does not, nor one whose bytes do not lie in
     /// the file.
     #[tactic(auto, unfolding(crate::specs::Note::is_note))]
-    pub fn is_note(&self, file: &[u8]) -> bool
+    pub(crate) fn is_note(&self, file: &[u8]) -> bool
         ensures { result ≡ is_note file.now (fields_of self.now) }
     {
         let (start, size) = (self.offset as usize, self.file_size as usize);
@@ -136,7 +136,7 @@ impl ProgramHeader {
 
     /// The first rule that the header breaks on its own, where a note came before it or did not.
     #[tactic(auto, unfolding(crate::specs::Reading::own_rules, crate::specs::Note::is_note))]
-    pub fn own_fault(&self, file: &[u8], noted: bool) -> Option<ElfFault>
+    pub(crate) fn own_fault(&self, file: &[u8], noted: bool) -> Option<ElfFault>
         ensures { result ≡ first_fault (own_rules file.now noted (fields_of self.now)) }
     {
         if self.kind == INTERPRETER {

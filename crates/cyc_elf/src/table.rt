@@ -5,7 +5,8 @@ ghost use Rattle.std.specs.List.Sorted.{IsPermutation, IsNonDecreasingBy};
 ghost use Rattle.cyc_elf.specs.Header.{program_header_size, headers_from};
 ghost use Rattle.cyc_elf.specs.Image.{segment_contents};
 ghost use Rattle.cyc_elf.specs.Note.{note_size, is_note};
-ghost use Rattle.cyc_elf.specs.inside.Parts.{fields_of, noted, walk, walk_of, in_order, are_apart};
+ghost use Rattle.cyc_elf.specs.Outline.{fields_of};
+ghost use Rattle.cyc_elf.specs.inside.Parts.{noted, walk, walk_of, in_order, are_apart};
 ghost use Rattle.cyc_elf.specs.Reading.{segment_of};
 
 use crate::fault::ElfFault;

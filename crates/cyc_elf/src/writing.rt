@@ -4,7 +4,8 @@ ghost use Rattle.std.specs.Prelude.{◌≡◌, ◌+◌, ◌-◌, ◌^◌, ◌<�
 ghost use Rattle.std.specs.List.{flat_map};
 ghost use Rattle.cyc_elf.specs.Image.{IsWellFormed, contents_of, segment_contents, padded};
 ghost use Rattle.cyc_elf.specs.Layout.{halves, words, file_header, program_header, headers_of, stored, bytes_end, note_headers, note_bytes, notes, note_count, layout, FitsFields};
-ghost use Rattle.cyc_elf.specs.inside.Parts.{fields_of, IsInWords};
+ghost use Rattle.cyc_elf.specs.Outline.{fields_of};
+ghost use Rattle.cyc_elf.specs.inside.Parts.{IsInWords};
 ghost use Rattle.cyc_elf.specs.Reading.{reading};
 
 use crate::file_header::{EXECUTABLE, FILE_HEADER_SIZE, IDENT, MIPS, PROGRAM_HEADER_SIZE, VERSION};

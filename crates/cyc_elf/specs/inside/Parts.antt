@@ -3,22 +3,11 @@
 use Rattle.std.specs.Prelude.{ℕ, ◌+◌, ◌^◌, ◌<◌, Bool, true, not, ◌&&◌, nat_le, ◌==◌, if◌then◌else◌, Option, Some, None, is_some, List, [], ◌∷◌, ◌++◌, map}
 use Rattle.std.specs.List.{list_any}
 use Rattle.cyc_elf.specs.declared.fault.ElfFault.{ElfFault}
-use Rattle.cyc_elf.specs.declared.program_header.ProgramHeader as raw
 use Rattle.cyc_elf.specs.declared.table.Walk as table
 use Rattle.cyc_elf.specs.Header.{ProgramHeader}
 use Rattle.cyc_elf.specs.Note.{is_note, limits_at}
+use Rattle.cyc_elf.specs.Outline.{fields_of}
 use Rattle.cyc_elf.specs.Reading.{first_fault, own_rules, is_load, overlap}
-
--- a program header as the code keeps it
-abbrev pub fields_of : raw.ProgramHeader → ProgramHeader
-fields_of h = record {
-  kind = h.kind;
-  offset = h.offset;
-  vaddr = h.vaddr;
-  file_size = h.file_size;
-  memory_size = h.memory_size;
-  flags = h.flags;
-}
 
 -- the loadable program headers and the limits of the first note before the first header that breaks a rule on its own, and its fault
 pub record Walk : Type 0 where

@@ -1,5 +1,6 @@
 use Rattle.std.proofs.Common.{ap, ◌∙◌, map}
-use Rattle.cyc_elf.specs.inside.Parts.{fields_of, in_order}
+use Rattle.cyc_elf.specs.Outline.{fields_of}
+use Rattle.cyc_elf.specs.inside.Parts.{in_order}
 use Rattle.cyc_elf.proofs.Apart.{in_order-are_apart}
 use Rattle.cyc_elf.proofs.table.are_apart.Goals as goal
 

@@ -1,5 +1,6 @@
 use Rattle.std.proofs.Common.{◌≡◌, map, drop}
-use Rattle.cyc_elf.specs.inside.Parts.{fields_of, in_order}
+use Rattle.cyc_elf.specs.Outline.{fields_of}
+use Rattle.cyc_elf.specs.inside.Parts.{in_order}
 use Rattle.cyc_elf.proofs.table.in_order.Given as goal
 
 abbrev pub invariant-loop-h : goal.invariant-loop-h

@@ -1,6 +1,6 @@
 use Rattle.std.proofs.Common.{◌≡◌, map, take}
 use Rattle.cyc_elf.specs.Image.{segment_contents}
-use Rattle.cyc_elf.specs.inside.Parts.{fields_of}
+use Rattle.cyc_elf.specs.Outline.{fields_of}
 use Rattle.cyc_elf.specs.Reading.{segment_of}
 use Rattle.cyc_elf.proofs.table.segments_of.Given as goal
 

@@ -1,7 +1,7 @@
 use Rattle.std.proofs.Common.{◌≡◌, ◌++◌, ◌∷◌, [], cond, is_some, None, map, sym, ap, ◌∙◌, arith}
 use Rattle.std.proofs.lemmas.List.{map_push}
 use Rattle.cyc_elf.specs.Reading.{first_fault, own_rules, is_load}
-use Rattle.cyc_elf.specs.inside.Parts.{fields_of}
+use Rattle.cyc_elf.specs.Outline.{fields_of}
 use Rattle.cyc_elf.proofs.Rules.{described}
 use Rattle.cyc_elf.proofs.Sound.{kept_note}
 use Rattle.cyc_elf.proofs.Walks.{goes_on, ends, is_done}

@@ -1,6 +1,7 @@
 use Rattle.std.proofs.Common.{◌≡◌, ◌+◌, ◌-◌, ◌*◌, None, map}
 use Rattle.cyc_elf.specs.Header.{headers_from}
-use Rattle.cyc_elf.specs.inside.Parts.{fields_of, walk}
+use Rattle.cyc_elf.specs.Outline.{fields_of}
+use Rattle.cyc_elf.specs.inside.Parts.{walk}
 use Rattle.cyc_elf.proofs.Walks.{with_front}
 use Rattle.cyc_elf.proofs.table.walk_table.Given as goal
 

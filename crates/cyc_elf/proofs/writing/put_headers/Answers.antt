@@ -1,7 +1,7 @@
 use Rattle.std.proofs.Common.{◌≡◌, ◌+◌, ◌<◌, ◌^◌, ◌∷◌, length, map, drop, rules, sym, ap, subst, ◌∙◌, arith}
 use Rattle.cyc_elf.specs.Image.{segment_contents, padded}
 use Rattle.cyc_elf.specs.Layout.{bytes_end}
-use Rattle.cyc_elf.specs.inside.Parts.{fields_of}
+use Rattle.cyc_elf.specs.Outline.{fields_of}
 use Rattle.cyc_elf.proofs.Writes.{IsAt, headers_left, headers_left-at, bytes_end-at, goes_on, offset_fits}
 use Rattle.cyc_elf.proofs.writing.put_headers.Goals as goal
 

@@ -1,0 +1,37 @@
+//! What the headers of a file say of the image that it is.
+
+ghost use Rattle.std.specs.Prelude.{◌≡◌, ◌+◌, ◌≤◌, All, IfOk, length};
+ghost use Rattle.cyc_elf.specs.Image.{contents_of};
+ghost use Rattle.cyc_elf.specs.Outline.{outlined};
+
+use crate::image::Image;
+use crate::program_header::ProgramHeader;
+use crate::table::segments_of;
+use std::alloc::{AllocError, Global};
+
+/// An image whose segments' bytes still stand in the file, where the program headers say. It costs no more memory than the table of
+/// program headers, however many bytes these name.
+#[derive(Drop)]
+pub struct Outline {
+    /// The address of the first instruction.
+    pub entry: u32,
+    /// The loadable program headers, in their order.
+    pub loads: Vec<ProgramHeader>,
+    /// The pages and the calls of a run, as in an `Image`.
+    pub note: Option<(u32, u32)>,
+}
+
+impl Outline {
+    /// The image, with the bytes of each segment copied out of the file.
+    pub fn image(&self, alloc: Global, file: &[u8]) -> Result<Image, AllocError>
+        requires { All (λ h. h.offset + h.file_size ≤ length file.now) self.now.loads.items }
+        ensures { IfOk result (λ image. contents_of image ≡ outlined file.now self.now) }
+    {
+        let segments = segments_of(alloc, file, &self.loads)?;
+        Ok(Image {
+            entry: self.entry,
+            segments,
+            note: self.note,
+        })
+    }
+}
