@@ -12,7 +12,7 @@ import sys
 import tempfile
 
 import suite
-from refused import EXAMPLES, RUNNER, TEXTS
+from refused import EXAMPLES, TEXTS
 
 # The limits that an image carries.
 LIMITS = "16", "64"
@@ -63,7 +63,7 @@ class Called:
 
 def main():
     parser = suite.command_line(__doc__)
-    parser.add_argument("--runner", default=RUNNER)
+    parser.add_argument("--runner", default=suite.RUNNER)
     options = parser.parse_args()
     found = texts()
     program = suite.program_of(options, len(found))

@@ -6,7 +6,8 @@
 The profiles are ints, pointers, heap, exceptions, unique and regions, each of which has what those before it have, chars,
 which has ints and chars alone, and bytes, which has all. Each program is made so that it is mostly accepted and ends soon.
 One that is accepted is run on two inputs, with just as many calls and pages as it needs and fewer, and with a small budget
-of steps, which has to give a prefix of the whole output. One of chars and bytes becomes C too (tests/references/in_c.py),
+of steps, which has to give a prefix of the whole output. Each of these runs but the last is made over both stores too
+(`crates/cyc_runner`, `--runner`), which have to come to the same end after the same count of instructions. One of chars and bytes becomes C too (tests/references/in_c.py),
 which gcc builds; it is run in the same ways and has to answer the same. One of its functions is filled up with locals until
 its frame has 256 words, which changes nothing, and 257, which is refused. Beside it stand texts that were refused, and the
 program with one thing changed: what is checked of each is the code and its place.
@@ -32,6 +33,8 @@ from language import runs
 
 # A program whose evaluation takes more calls and passes of loops than this is not used.
 STEPS_AT_MOST = 10_000
+# More instructions than a run takes of a program that is used.
+STEPS_OF_IMAGES = "10000000"
 # How many texts that differ from a program in one thing are checked beside it.
 BROKEN_TEXTS = 4
 # Of how many kinds of differences a text is shown, and the seconds in which it is made smaller.
@@ -124,8 +127,8 @@ class Useless(Exception):
 class Tried:
     """A program's answers, of which the first that is otherwise than wanted is kept."""
 
-    def __init__(self, program, folder):
-        self.program = program
+    def __init__(self, program, folder, runner=None):
+        self.program, self.runner = program, runner
         self.source, self.image, self.built = (os.path.join(folder, name) for name in ("main.cyc", "main.elf", "main"))
         # the first difference, its kind, the text that shows it, and what asks the same of another text
         self.fault, self.kind, self.text, self.again = None, None, None, None
@@ -166,6 +169,21 @@ class Tried:
     def run(self, given, options, expected):
         got = self.answer("run", self.image, *options, given=given)
         self.want(f"run {' '.join(options)} on {given}", expected, got, lambda text: self.run_again(text, given, options))
+
+    def over_stores(self, given, options):
+        """A run over both stores: each has its output, its end and its count of instructions from `cyc_runner`."""
+        limits = dict(zip(options[::2], options[1::2]))
+        words = [limits["--pages"], limits["--calls"], STEPS_OF_IMAGES, self.image]
+        return tuple(suite.answer([self.runner, store, *words], given) for store in suite.STORES)
+
+    def run_over_stores(self, given, options):
+        if self.runner:
+            one, other = self.over_stores(given, options)
+            self.want(f"over both stores, run {' '.join(options)} on {given}", one, other, lambda text: self.stores_again(text, given, options))
+
+    def stores_again(self, text, given, options):
+        self.run_again(text, given, options)
+        return self.over_stores(given, options)
 
     def run_again(self, text, given, options):
         expected = self.evaluated(text, given, options)[1]
@@ -241,6 +259,7 @@ def try_program(tried, wanted, only_check):
     tried.compile(wanted.text)
     for given, options, expected in wanted.runs:
         tried.run(given, options, expected)
+        tried.run_over_stores(given, options)
     given, _, expected = wanted.runs[0]
     tried.run_some(given, wanted.steps, expected)
     if wanted.profile in makers.BESIDE_C:
@@ -270,12 +289,12 @@ def programs_of(options):
         yield from ((profile, number) for number in range(count))
 
 
-def try_all(options, program):
+def try_all(options, program, runner):
     """The numbers of programs that pass and that fail."""
     passed, failed, shortest = 0, 0, {}
     with tempfile.TemporaryDirectory(prefix="cyclone-random-") as folder:
         for profile, number in programs_of(options):
-            wanted, tried = Wanted(profile, options.seed, number), Tried(program, folder)
+            wanted, tried = Wanted(profile, options.seed, number), Tried(program, folder, runner)
             if options.texts:
                 write(wanted, os.path.join(options.texts, f"{profile}.{number:04}"))
             try_program(tried, wanted, options.check)
@@ -307,12 +326,13 @@ def main():
     parser.add_argument("--seed", type=int, default=1)
     parser.add_argument("--check", action="store_true")
     parser.add_argument("--texts")
+    parser.add_argument("--runner", metavar="PATH")
     options = parser.parse_args()
     program = suite.program_of(options, len(list(programs_of(options))))
     suite.need([] if options.check else ["gcc"], len(list(programs_of(options))))
     if options.texts:
         os.makedirs(options.texts, exist_ok=True)
-    suite.end(*reference.with_room(lambda: try_all(options, program)))
+    suite.end(*reference.with_room(lambda: try_all(options, program, suite.runner_of(options, len(list(programs_of(options)))))))
 
 
 if __name__ == "__main__":

@@ -46,8 +46,6 @@ LISTED_AT_MOST = 5_000
 # So many images are tried by a process in turn.
 SHARE = 25
 EXAMPLES = os.path.join(suite.ROOT, "examples")
-RUNNER = os.path.join(suite.ROOT, "crates", "cyc_runner", "out", "cyc_runner")
-STORES = ("plain", "paged")
 # What instructions are held against, beside the reference.
 QEMU = "qemu-mips"
 BESIDE = (QEMU, objdump.OBJDUMP)
@@ -150,8 +148,8 @@ class Tried:
         if not self.runner:
             return None
         words = [str(number) for number in (*self.limits, self.made.steps)] + [self.path]
-        answers = [asked([self.runner, store, *words], self.made.given) for store in STORES]
-        for store, (output, line, status) in zip(STORES, answers):
+        answers = [asked([self.runner, store, *words], self.made.given) for store in suite.STORES]
+        for store, (output, line, status) in zip(suite.STORES, answers):
             if status != 0 or not output.startswith(self.printed):
                 return f"{store} {' '.join(words[:-1])}: {line!r} with status {status}"
         return None if self.end == "open" or answers[0] == answers[1] else suite.difference("plain and paged", *answers)
@@ -267,10 +265,7 @@ def main():
     beside = [command for command in BESIDE if command not in options.left_out]
     if "instructions" in parts:
         suite.need(beside, options.count)
-    runner = options.runner or (RUNNER if options.program == parser.get_default("program") else None)
-    if runner and not os.access(runner, os.X_OK):
-        print(f"there is no program {runner}: `rt run` in its crate proves and builds it")
-        suite.end(0, options.count)
+    runner = suite.runner_of(options, options.count)
     tried, failed = 0, 0
     with concurrent.futures.ProcessPoolExecutor() as workers:
         for part in parts:

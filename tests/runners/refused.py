@@ -18,7 +18,6 @@ import run
 import suite
 
 HERE = os.path.dirname(os.path.abspath(__file__))
-RUNNER = os.path.join(suite.ROOT, "crates", "cyc_runner", "out", "cyc_runner")
 EXAMPLES = os.path.join(suite.ROOT, "examples")
 SOURCE = """\
 int most = 3;
@@ -180,7 +179,7 @@ class Refusals:
 
 def main():
     parser = suite.command_line(__doc__)
-    parser.add_argument("--runner", default=RUNNER)
+    parser.add_argument("--runner", default=suite.RUNNER)
     parser.add_argument("--examples", action="store_true")
     options = parser.parse_args()
     program = suite.program_of(options, 16)

@@ -24,8 +24,6 @@ import suite
 
 CASES = os.path.join(suite.TESTS, "cases")
 WHOLE = os.path.join(suite.TESTS, "whole")
-RUNNER = os.path.join(suite.ROOT, "crates", "cyc_runner", "out", "cyc_runner")
-STORES = ("plain", "paged")
 # What a run is given where it has no such option, and the image carries no limits.
 LIMITS = {"--pages": "1024", "--calls": "4096", "--steps": str(2**64 - 1)}
 # The file that holds the text of a line `? LINE | TEXT`.
@@ -400,7 +398,7 @@ def faults_of_stores(step, folder, runner):
     words = words_of_run(step)
     if words is None or not os.path.isfile(os.path.join(folder, words[-1])):
         return []
-    over = [subprocess.run([runner, store, *words], cwd=folder, input=step.input, capture_output=True, timeout=suite.SECONDS) for store in STORES]
+    over = [subprocess.run([runner, store, *words], cwd=folder, input=step.input, capture_output=True, timeout=suite.SECONDS) for store in suite.STORES]
     answers = [(done.returncode, done.stdout, done.stderr) for done in over]
     return [] if answers[0] == answers[1] else [suite.difference("plain and paged", *answers)]
 
@@ -454,11 +452,7 @@ def main():
         cases = short
     program = suite.program_of(options, len(cases))
     suite.need(tools_of(cases), len(cases))
-    runner = options.runner or (RUNNER if options.program == parser.get_default("program") else None)
-    runner = runner and os.path.abspath(runner)
-    if runner and not os.access(runner, os.X_OK):
-        print(f"there is no program {runner}: `rt run` in its crate proves and builds it")
-        suite.end(0, len(cases))
+    runner = suite.runner_of(options, len(cases))
     suite.try_each(cases, lambda case: f"{case.place}: {case.name}", lambda case: faults_of(case, program, runner=runner))
 
 

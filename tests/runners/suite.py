@@ -12,6 +12,9 @@ ROOT = os.path.dirname(TESTS)
 # Who imports this finds the references, the generators and the tools too.
 sys.path += [os.path.join(TESTS, "references"), os.path.join(TESTS, "generators"), os.path.join(ROOT, "tools")]
 PROGRAM = os.path.join(ROOT, "crates", "cyclone", "out", "cyclone")
+# What runs an image over each of the two stores.
+RUNNER = os.path.join(ROOT, "crates", "cyc_runner", "out", "cyc_runner")
+STORES = ("plain", "paged")
 SECONDS = 60
 # The stack of each program that is run, in MB of 2^20 bytes: half of what a shell gives.
 STACK = 4
@@ -104,6 +107,17 @@ def program_of(options, count):
         end(0, count)
     limit_stack(options.stack)
     return program
+
+
+def runner_of(options, count):
+    """The path of what runs images over both stores: that of `--runner`, or of the program that is built where that is the one tried. Of
+    another program there is none but by its name. Where what is named is not there, the test ends, and all `count` failed."""
+    named = options.runner or (RUNNER if os.path.abspath(options.program) == PROGRAM else None)
+    runner = named and os.path.abspath(named)
+    if runner and not os.access(runner, os.X_OK):
+        print(f"there is no program {runner}: `make cases` builds it")
+        end(0, count)
+    return runner
 
 
 def try_each(things, name_of, faults_of):

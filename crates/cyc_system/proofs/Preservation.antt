@@ -159,6 +159,24 @@ keeps_up p image limits store input alike n count w enough run =
     let (v, first, rest) = Run-split here (count - here) started w (subst (λ (k : ℕ). Run k started w) all run) in
     stays_ahead (limited p limits input n) (count - here) v w rest (alike.ahead n v first)
 
+-- ---- two stores
+
+pub ends_alike : (p : Program) (image : ImageContents) → DoesTheSame p image
+    → (limits : Bounds) (one other : StoreState) (input : List ℕ) → AreAllowed limits.pages limits.calls → IsNew limits.pages one → IsNew limits.pages other
+    → AllByRecursion (λ b. b < 256) input
+    → (m : ℕ) (v : World) (end : End) → Run m (start_world image limits one input) v → end_of v ≡ Some end
+    → (n : ℕ) × ((w : World) → Run n (start_world image limits other input) w
+    → ((last : End) × (end_of w ≡ Some last) × (ending_of last ≡ ending_of end)) × (seen_in w ≡ seen_in v))
+ends_alike p image does limits one other input allowed new new' bytes m v end run over =
+    let (k, (seen, ends)) = (are_alike p image does limits one input allowed new bytes).behind m v run in
+    let (ending, shown, ended) = ends end over in (
+      (k + 1) * text_words image,
+      λ w run'.
+          let (comes, ends') = (are_alike p image does limits other input allowed new' bytes).ahead k w run' in
+          let ((last, over', shown'), seen') = ends' ending ended in
+          ((last, over', shown' ∙ sym shown), seen' ∙ sym seen),
+    )
+
 -- ---- the output alone
 
 prints_enough : (s : meaning.State) (w : World) → IsAhead s w → PrintsEnough s w

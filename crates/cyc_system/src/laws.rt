@@ -8,7 +8,9 @@ ghost use Rattle.cyc_elf.specs.Note.{AreLimits};
 ghost use Rattle.cyc_elf.specs.Reading.{reading};
 ghost use Rattle.cyc_store.specs.State.{StoreState, IsNew};
 ghost use Rattle.cyc_machine.specs.Bounds.{Bounds, AreAllowed};
-ghost use Rattle.cyc_machine.specs.Run.{World, Run};
+ghost use Rattle.cyc_machine.specs.Run.{World, Run, end_of, ending_of};
+ghost use Rattle.cyc_machine.specs.WorldMachine.{seen_of as seen_in};
+ghost use Rattle.cyc_machine.specs.declared.event.End.{End};
 ghost use Rattle.cyc_machine.specs.Start.{start_world};
 ghost use Rattle.cyc_words.specs.Seen.{showing};
 ghost use Rattle.cyc_words.specs.declared.fault.Fault.{Fault};
@@ -93,6 +95,17 @@ pub fn images_print_alike()
     ensures { (p : Program) (image : ImageContents) → DoesTheSame p image
         → (limits : Bounds) (store : StoreState) (input : List ℕ) → AreAllowed limits.pages limits.calls → IsNew limits.pages store
         → AllByRecursion (λ b. b < 256) input → PrintAlike p image limits store input }
+{}
+
+/// What such an image comes to is the same over every store that keeps the laws: where a run over one has ended, every run over another ends
+/// alike within so many instructions, with the same output and as much of the input left. Of the number of instructions that says nothing.
+pub fn images_end_alike_over_every_store()
+    ensures { (p : Program) (image : ImageContents) → DoesTheSame p image
+        → (limits : Bounds) (one other : StoreState) (input : List ℕ) → AreAllowed limits.pages limits.calls → IsNew limits.pages one → IsNew limits.pages other
+        → AllByRecursion (λ b. b < 256) input
+        → (m : ℕ) (v : World) (end : End) → Run m (start_world image limits one input) v → end_of v ≡ Some end
+        → (n : ℕ) × ((w : World) → Run n (start_world image limits other input) w
+        → ((last : End) × (end_of w ≡ Some last) × (ending_of last ≡ ending_of end)) × (seen_in w ≡ seen_in v)) }
 {}
 
 /// Where an image asks for a byte behind the end of its input for the first time, its program does too: with a byte more, whichever, the
