@@ -6,8 +6,10 @@ program does not print what the other one of its pair prints.
 
 Each pair of bench/pairs/ is NAME.cyc and NAME.c, with the input NAME.in if they read one. `cyclone compile` makes an image of the
 one, and mips-linux-gnu-gcc two of the other, without optimisation (-O0) and with its first level (-O1), for the same machine: its
-services are in start.s, and machine.h declares them. All three have to print the same and to return the same. The machine counts:
-the least budget with which a run ends is the number of its instructions.
+services are in start.s, and machine.h declares them. A fourth is what mips-linux-gnu-g++ makes of the program in C with its first level
+where pointers are those of checked.h, which tests of each access what this language does: that is the same work, by a good optimiser. All
+four have to print the same and to return the same. The machine counts: the least budget with which a run ends is the number of its
+instructions. The pairs stand in groups by their style, each with its geometric means.
 """
 import argparse
 import concurrent.futures
@@ -21,12 +23,23 @@ import tempfile
 HERE = os.path.dirname(os.path.abspath(__file__))
 PROGRAM = os.path.join(HERE, "..", "crates", "cyclone", "out", "cyclone")
 PAIRS = os.path.join(HERE, "pairs")
-GCC = "mips-linux-gnu-gcc"
+GCC, GXX = "mips-linux-gnu-gcc", "mips-linux-gnu-g++"
 LEVELS = ("-O0", "-O1")
+CHECKED = "checked -O1"
+GROUPS = {
+    "ints, calls, exceptions": "arithmetic collatz divisors errors fibonacci loop throws",
+    "arrays of ints": "bytecode factorials heapsort matrices queens quicksort sieve",
+    "chars": "checks echo fields letters numerals search strings tokens words",
+    "structs behind pointers": "events hashes inserted list merged search_tree tree unique vectors",
+    "small functions in loops": "edits fractions grids rotations stacks",
+    "tables of tables": "boards roads",
+}
 # Only instructions that the machine has: no traps on division by 0, no branch that skips its slot, no other registers than the table's.
 FLAGS = "-w -fwrapv -mips2 -mabi=32 -msoft-float -mno-abicalls -fno-pic -G0 -mno-check-zero-division -mno-branch-likely".split()
 FLAGS += "-ffreestanding -fno-builtin -nostdlib -static -Wl,--build-id=none".split()
-LINKED = [os.path.join(PAIRS, "start.s"), "-Wl,-T," + os.path.join(PAIRS, "layout.ld"), "-I", PAIRS]
+LINKED = ["-x", "none", os.path.join(PAIRS, "start.s"), "-Wl,-T," + os.path.join(PAIRS, "layout.ld")]
+# As C++ a program has what the language asks of each access.
+AS_CHECKED = ["-x", "c++", "-O1", "-fno-exceptions", "-fno-rtti", "-I", PAIRS]
 MOST = 1_000_000_000
 SHOWN = 40
 
@@ -75,18 +88,19 @@ def difference(in_c, here):
 
 
 def counts_of(name, options):
-    """The instructions of a pair: those of the program in this language, and those of the one in C, level by level."""
+    """The instructions of a pair: those of the program in this language, and those of the one in C, level by level, and with all tests."""
     source, given = os.path.join(options.pairs, name), b""
     if os.path.exists(source + ".in"):
         with open(source + ".in", "rb") as file:
             given = file.read()
     with tempfile.TemporaryDirectory() as folder:
-        images = [os.path.join(folder, which + ".elf") for which in ("ours",) + LEVELS]
+        images = [os.path.join(folder, which + ".elf") for which in ("ours", *LEVELS, "checked")]
         compiled([options.program, "compile", source + ".cyc", "-o", images[0]])
         for level, image in zip(LEVELS, images[1:]):
-            compiled([options.gcc, level] + FLAGS + [source + ".c", "-o", image] + LINKED)
+            compiled([options.gcc, level, "-I", PAIRS] + FLAGS + [source + ".c", "-o", image] + LINKED)
+        compiled([options.gxx] + FLAGS + AS_CHECKED + [source + ".c", "-o", images[-1]] + LINKED)
         ends = [run(options.program, image, given, MOST) for image in images]
-        for level, end in zip(LEVELS, ends[1:]):
+        for level, end in zip((*LEVELS, CHECKED), ends[1:]):
             if not end[1].startswith("returned "):
                 raise Fault(f"with {level} it ends with: {end[1]}")
             if end != ends[0]:
@@ -99,16 +113,32 @@ def mean(ratios):
     return math.exp(sum(math.log(ratio) for ratio in ratios) / len(ratios))
 
 
+def row_of_means(what, ratios):
+    """The line of some programs' geometric means."""
+    means = " | ".join(f"{mean(column):.3f}" for column in zip(*ratios))
+    return f"| {what}: geometric mean | | | | | {means} |"
+
+
 def table(counts):
-    """The lines of the table, for the counts by name."""
+    """The lines of the table, for the counts by name, group by group."""
     ratios = {name: [ours / theirs for theirs in others] for name, (ours, *others) in counts.items()}
-    means = [mean(column) for column in zip(*ratios.values())]
-    yield "| Program | `cyclone compile` | `gcc -O0` | `gcc -O1` | To `-O0` | To `-O1` |"
-    yield "|---|---|---|---|---|---|"
-    for name in counts:
-        numbers = [f"{count:,}" for count in counts[name]] + [f"{ratio:.2f}" for ratio in ratios[name]]
-        yield f"| `{name}` | {' | '.join(numbers)} |"
-    yield f"| geometric mean | | | | {' | '.join(f'{one:.3f}' for one in means)} |"
+    yield f"| Program | `cyclone compile` | `gcc -O0` | `gcc -O1` | {CHECKED} | To `-O0` | To `-O1` | To {CHECKED} |"
+    yield "|---|---|---|---|---|---|---|---|"
+    for group, names in grouped(counts):
+        for name in names:
+            numbers = [f"{count:,}" for count in counts[name]] + [f"{ratio:.2f}" for ratio in ratios[name]]
+            yield f"| `{name}` | {' | '.join(numbers)} |"
+        yield row_of_means(group, [ratios[name] for name in names])
+    yield row_of_means("all", list(ratios.values()))
+
+
+def grouped(names):
+    """The groups, each with those of its pairs that are among these names; what is in none is a group by itself."""
+    known = {name for group in GROUPS.values() for name in group.split()}
+    for group, members in (*GROUPS.items(), ("others", " ".join(name for name in names if name not in known))):
+        here = [name for name in members.split() if name in names]
+        if here:
+            yield group, here
 
 
 def read_options():
@@ -116,6 +146,7 @@ def read_options():
     reader.add_argument("names", nargs="*", metavar="NAME", help="a pair; all where none is named")
     reader.add_argument("--program", default=PROGRAM, help="the compiler and the machine")
     reader.add_argument("--gcc", default=GCC, help="the compiler of C")
+    reader.add_argument("--gxx", default=GXX, help="the compiler of C++")
     reader.add_argument("--pairs", default=PAIRS, help="the folder of the pairs")
     return reader.parse_args()
 
@@ -124,8 +155,9 @@ def main():
     options = read_options()
     if not os.access(options.program, os.X_OK):
         sys.exit(f"there is no program {options.program}: `make build` proves and builds it")
-    if not shutil.which(options.gcc):
-        sys.exit(f"there is no command {options.gcc}: Debian has it in gcc-mips-linux-gnu")
+    for command, package in ((options.gcc, "gcc-mips-linux-gnu"), (options.gxx, "g++-mips-linux-gnu")):
+        if not shutil.which(command):
+            sys.exit(f"there is no command {command}: Debian has it in {package}")
     names = options.names or sorted(file[:-4] for file in os.listdir(options.pairs) if file.endswith(".cyc"))
     counts, faults = {}, []
     # The counts are exact, however many runs go on side by side.

@@ -2,6 +2,7 @@
    bits. An instruction is two ints, an operation and its operand: 0 ends, 1 pushes a constant, 2 loads a variable, 3 stores one, 4 adds,
    5 subtracts, 6 multiplies, 7 has bits in common, 8 jumps where the top is not 0. */
 #include "machine.h"
+#include "checked.h"
 
 void print(int number) {
   if (number > 9) print(number / 10);
@@ -9,13 +10,13 @@ void print(int number) {
 }
 
 /* Writes an instruction, and gives the place behind it. */
-int put(int *code, int at, int operation, int operand) {
+int put(A(int) code, int at, int operation, int operand) {
   code[at] = operation;
   code[at + 1] = operand;
   return at + 2;
 }
 
-void assemble(int *code) {
+void assemble(A(int) code) {
   int at = 0;
   at = put(code, at, 1, 1500);
   at = put(code, at, 3, 0);
@@ -37,7 +38,7 @@ void assemble(int *code) {
   put(code, at, 0, 0);
 }
 
-void run(int *code, int *stack, int *variables) {
+void run(A(int) code, A(int) stack, A(int) variables) {
   int at = 0;
   int top = 0;
   while (code[at] != 0) {
@@ -69,7 +70,9 @@ void run(int *code, int *stack, int *variables) {
   }
 }
 
-int code[64], stack[16], variables[2];
+ARRAY(int, code, 64);
+ARRAY(int, stack, 16);
+ARRAY(int, variables, 2);
 
 int main(void) {
   assemble(code);

@@ -1,5 +1,6 @@
 /* Calls that may fail: they give 0, or 1 where something is wrong, and each caller asks. */
 #include "machine.h"
+#include "checked.h"
 
 int refused_number;
 
@@ -8,7 +9,7 @@ void print(int number) {
   putchar('0' + number % 10);
 }
 
-int checked(int number, int *result) {
+int checked(int number, P(int) result) {
   if (number % 7 == 0) {
     refused_number = number;
     return 1;
@@ -17,7 +18,7 @@ int checked(int number, int *result) {
   return 0;
 }
 
-int both(int number, int *result) {
+int both(int number, P(int) result) {
   int first, second;
   if (checked(number, &first)) return 1;
   if (checked(number + 1, &second)) return 1;

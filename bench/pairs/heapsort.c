@@ -1,8 +1,9 @@
 /* A heap of 500 numbers in an array, each at most the one at half its place: all are put in, and taken out again, greatest first. The
    array and the count are globals. */
 #include "machine.h"
+#include "checked.h"
 
-int heap[501];
+ARRAY(int, heap, 501);
 int count;
 int state = 1;
 

@@ -1,12 +1,13 @@
 /* Lists in a pool: each turn makes one of 100 nodes, turns it round, and adds up its values; then all nodes are given back at once. */
 #include "machine.h"
+#include "checked.h"
 
 struct Node {
   int value;
-  struct Node *next;
+  P(struct Node) next;
 };
 
-struct Node pool[100];
+ARRAY(struct Node, pool, 100);
 int used;
 
 void print(int number) {
@@ -14,10 +15,10 @@ void print(int number) {
   putchar('0' + number % 10);
 }
 
-struct Node *made(int length) {
-  struct Node *list = 0;
+P(struct Node) made(int length) {
+  P(struct Node) list = 0;
   while (length > 0) {
-    struct Node *node = &pool[used++];
+    P(struct Node) node = &pool[used++];
     node->value = length;
     node->next = list;
     list = node;
@@ -26,10 +27,10 @@ struct Node *made(int length) {
   return list;
 }
 
-struct Node *reversed(struct Node *list) {
-  struct Node *done = 0;
+P(struct Node) reversed(P(struct Node) list) {
+  P(struct Node) done = 0;
   while (list) {
-    struct Node *rest = list->next;
+    P(struct Node) rest = list->next;
     list->next = done;
     done = list;
     list = rest;
@@ -38,7 +39,7 @@ struct Node *reversed(struct Node *list) {
 }
 
 /* Each value by its place, so that the order counts. */
-int sum(struct Node *list) {
+int sum(P(struct Node) list) {
   int total = 0;
   int place = 0;
   while (list) {

@@ -1,5 +1,9 @@
 /* What the programs in C have of a library: the machine's services, and jumps out of calls. start.s has them. */
 
+#ifdef __cplusplus
+extern "C" {
+#endif
+
 /* The next byte of the input, or -1 where none is left. */
 int getchar(void);
 
@@ -16,3 +20,7 @@ typedef int jump_place[11];
 int setjmp(jump_place place) __attribute__((returns_twice));
 
 void longjmp(jump_place place, int value) __attribute__((noreturn));
+
+#ifdef __cplusplus
+}
+#endif

@@ -1,12 +1,13 @@
 /* The product of two matrices of 16 rows, whose elements stand row by row in an array, and of that with the second, ten times. */
 #include "machine.h"
+#include "checked.h"
 
 void print(int number) {
   if (number > 9) print(number / 10);
   putchar('0' + number % 10);
 }
 
-void multiply(int *left, int *right, int *product, int size) {
+void multiply(A(int) left, A(int) right, A(int) product, int size) {
   for (int row = 0; row < size; row++)
     for (int column = 0; column < size; column++) {
       int sum = 0;
@@ -15,7 +16,9 @@ void multiply(int *left, int *right, int *product, int size) {
     }
 }
 
-int left[256], right[256], product[256];
+ARRAY(int, left, 256);
+ARRAY(int, right, 256);
+ARRAY(int, product, 256);
 
 int main(void) {
   for (int index = 0; index < 256; index++) left[index] = index % 7;

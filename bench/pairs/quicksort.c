@@ -1,12 +1,13 @@
 /* Sorts 1,000 numbers from a generator, each part by the element in its middle, and prints every hundredth. */
 #include "machine.h"
+#include "checked.h"
 
 void print(int number) {
   if (number > 9) print(number / 10);
   putchar('0' + number % 10);
 }
 
-void sort(int *numbers, int low, int high) {
+void sort(A(int) numbers, int low, int high) {
   int left = low;
   int right = high;
   int middle = numbers[(low + high) / 2];
@@ -25,7 +26,7 @@ void sort(int *numbers, int low, int high) {
   if (left < high) sort(numbers, left, high);
 }
 
-int numbers[1000];
+ARRAY(int, numbers, 1000);
 
 int main(void) {
   int state = 1;

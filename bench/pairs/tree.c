@@ -1,14 +1,15 @@
 /* A binary search tree of 500 numbers from a generator: it is made, its height is taken, and it is looked up in for all numbers below
    1,024. */
 #include "machine.h"
+#include "checked.h"
 
 struct Tree {
   int value;
-  struct Tree *smaller;
-  struct Tree *larger;
+  P(struct Tree) smaller;
+  P(struct Tree) larger;
 };
 
-struct Tree pool[500];
+ARRAY(struct Tree, pool, 500);
 int used;
 
 void print(int number) {
@@ -16,8 +17,8 @@ void print(int number) {
   putchar('0' + number % 10);
 }
 
-struct Tree *leaf(int value) {
-  struct Tree *tree = &pool[used++];
+P(struct Tree) leaf(int value) {
+  P(struct Tree) tree = &pool[used++];
   tree->value = value;
   tree->smaller = 0;
   tree->larger = 0;
@@ -25,14 +26,14 @@ struct Tree *leaf(int value) {
 }
 
 /* The tree with one number more; one that is there already changes nothing. */
-struct Tree *inserted(struct Tree *tree, int value) {
+P(struct Tree) inserted(P(struct Tree) tree, int value) {
   if (!tree) return leaf(value);
   if (value < tree->value) tree->smaller = inserted(tree->smaller, value);
   else if (value > tree->value) tree->larger = inserted(tree->larger, value);
   return tree;
 }
 
-int height(struct Tree *tree) {
+int height(P(struct Tree) tree) {
   if (!tree) return 0;
   int left = height(tree->smaller);
   int right = height(tree->larger);
@@ -40,7 +41,7 @@ int height(struct Tree *tree) {
   return left + 1;
 }
 
-int has(struct Tree *tree, int value) {
+int has(P(struct Tree) tree, int value) {
   while (tree) {
     if (value == tree->value) return 1;
     if (value < tree->value) tree = tree->smaller;
@@ -50,7 +51,7 @@ int has(struct Tree *tree, int value) {
 }
 
 int main(void) {
-  struct Tree *tree = 0;
+  P(struct Tree) tree = 0;
   int state = 1;
   for (int turn = 0; turn < 500; turn++) {
     state = state * 1103515245 + 12345;

@@ -1,42 +1,43 @@
 /* A stack of nodes from a list of free ones: each turn makes 60 of them, and frees them one by one. */
 #include "machine.h"
+#include "checked.h"
 
 struct Node {
   int value;
-  struct Node *below;
+  P(struct Node) below;
 };
 
-struct Node pool[60];
+ARRAY(struct Node, pool, 60);
 int used;
-struct Node *unused;
-struct Node *top;
+P(struct Node) unused;
+P(struct Node) top;
 
 void print(int number) {
   if (number > 9) print(number / 10);
   putchar('0' + number % 10);
 }
 
-struct Node *allocate(void) {
-  struct Node *node = unused;
+P(struct Node) allocate(void) {
+  P(struct Node) node = unused;
   if (!node) return &pool[used++];
   unused = node->below;
   return node;
 }
 
-void release(struct Node *node) {
+void release(P(struct Node) node) {
   node->below = unused;
   unused = node;
 }
 
 void push(int value) {
-  struct Node *node = allocate();
+  P(struct Node) node = allocate();
   node->value = value;
   node->below = top;
   top = node;
 }
 
 int pop(void) {
-  struct Node *node = top;
+  P(struct Node) node = top;
   top = node->below;
   int value = node->value;
   release(node);
