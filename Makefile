@@ -1,9 +1,10 @@
 # `make` lists the targets, and proves nothing.
-.PHONY: help build demo try quick cases bench test install uninstall dist
+.PHONY: help build demo try quick cases fuzz bench test install uninstall dist
 
 PREFIX = /usr/local
 PROGRAM = crates/cyclone/out/cyclone
 UNPROVED = out/unproved/cyclone
+MINUTES = 20
 SOURCE = examples/hello.cyc
 ARCHIVE = out/hengvuol.tar.gz
 BIN = $(DESTDIR)$(PREFIX)/bin
@@ -25,6 +26,7 @@ help:
 	@echo 'make cases    builds it, and runs the command-line suite, the table of codes, the examples, random programs and images, and'
 	@echo '              refuses its allocations in turn. It and make quick end where a command is missing that they need, and name its'
 	@echo '              Debian package; sh tests/install.sh installs all, as make test does first'
+	@echo 'make fuzz     builds it, and changes texts and images at random for MINUTES=20, led by the code of the program that they come to'
 	@echo 'make bench    builds it, and prints figures of its speed and its stack beside qemu-mips, tcc and gcc, and of its code by pairs of'
 	@echo '              equal programs here and in C, in bench/pairs (Debian packages qemu-user, tcc, gcc and gcc-mips-linux-gnu)'
 	@echo 'make test     the gate: every proof, wrong body and test from nothing, and what `make cases` runs; hours. The last line'
@@ -65,6 +67,9 @@ cases:
 	@python3 tests/runners/refused.py
 	@python3 tests/runners/differential.py
 	@python3 tests/runners/images.py
+
+fuzz: build
+	@python3 tests/runners/fuzzed.py --minutes "$(MINUTES)"
 
 bench: build
 	@python3 bench/machine.py
