@@ -10,10 +10,10 @@ import random
 import re
 
 import suite  # first: it says where the references and the generators are
+import house
 import image_makers
 import in_trees
 import instruction_makers
-import lemmas
 import machine
 import wrong
 
@@ -93,12 +93,24 @@ def rows_of_wrong_bodies():
         yield case.name.replace("_", " "), f"`{case.crate}`", case.tests.replace("|", "\\|")
 
 
+def rows_of_decisions():
+    """Each part of the decisions, with what is decided there in its own words: those that stand in bold."""
+    for part in re.split(r"^##+ ", content("docs/DECISIONS.md"), flags=re.M)[1:]:
+        name, _, rest = part.partition("\n")
+        leads = [" ".join(lead.split()).rstrip(".") for lead in re.findall(r"^- \*\*((?:.|\n)+?)\*\*", rest, re.M)]
+        if leads:
+            yield name, "; ".join(leads)
+
+
 # A table by its first line, and its rows.
 Table = collections.namedtuple("Table", "document head rows")
 TABLES = [
     Table("README.md", "| Crate | Proved | Contract |", rows_of_promises),
     Table("docs/ARCHITECTURE.md", "| Crate | What it is | Definitions (`specs/`) | Contract |", rows_of_architecture),
     Table("docs/FIGURES.md", "| Crate | Code | Definitions | Proofs | Wrong bodies |", rows_of_sizes),
+    Table("docs/FIGURES.md", "| What a change meets | How many |", house.rows),
+    Table("docs/DECISIONS.md", "| About | What is decided |", rows_of_decisions),
+    Table("CONTRIBUTING.md", "| Change | One that is there | Files in `crates/` |", house.rows_of_changes),
     Table("docs/WRONG_BODIES.md", "| Wrong body | Crate | What it would break |", rows_of_wrong_bodies),
 ]
 
@@ -167,7 +179,6 @@ NUMBERS = [
     Number(GUARANTEES, r"random programs of them: ([\w,]+) results", results_of_instructions),
     Number(SOUNDNESS, r"has (\w+) programs that the rules accept", lambda: programs_of_sound("accepted")),
     Number(SOUNDNESS, r"has (\w+) that the rules refuse", lambda: programs_of_sound("refused")),
-    Number(FIGURES, r"of proofs, ([\w,]+) have more than one statement", lambda: len(lemmas.ambiguous())),
     Number(FIGURES, r"runs the (\w+) programs of `bench/unseen`", lambda: files_in("bench/unseen", "")),
     Number(FIGURES, r"for the (\w+) that are programs of this language too", lambda: files_in("bench/unseen", ".cyc")),
 ]

@@ -5,7 +5,7 @@
 
 A lemma is what stands at the left margin of a file in `proofs` with its statement behind a colon, but for the answers and the invariants of
 functions, whose names the prover gives, and for definitions. Two statements are the same where they are the same words. With crates named,
-those names are listed that a lemma of theirs has. How many names there are stands in docs/FIGURES.md (`facts.py`).
+those names are listed that a lemma of theirs has. How many names there are stands in docs/FIGURES.md (`house.py`).
 """
 import collections
 import os

@@ -1,0 +1,200 @@
+"""How much of the repository a change meets: what stands more than once, what is long, what nobody needs, and what has no words.
+
+`facts.py` has these numbers for the documents. A lemma is a name with a type in `proofs/`; what it speaks of is told by the imports of
+its file.
+"""
+import collections
+import functools
+import os
+import re
+
+import lemmas as of_proofs
+import suite
+
+LONG_FILE, LONG_IMPORT = 600, 300
+CRATES = os.path.join(suite.ROOT, "crates")
+# A name with its type, at the left end or in a module that has parameters; what follows is set further in.
+SIGNATURE = re.compile(r"^( {0,2})(pub )?([A-Za-z_][\w'-]*) : (.*(?:\n(?:\1 +\S.*|\s*))*)", re.M)
+WORD = re.compile(r"[^\W\d][\w'-]*")
+IMPORT = re.compile(r"^(?:ghost )?use (.+)$", re.M)
+ITEM = re.compile(r"^ *pub (?:const |unsafe )?(?:fn|struct|enum|trait|type|const) \w+")
+
+Lemma = collections.namedtuple("Lemma", ("crate", "path", "name", "statement"))
+
+
+@functools.cache
+def sources(folder="", ending=""):
+    """The files of all crates in a folder of theirs, by path, without what is built."""
+    found = {}
+    for where, folders, names in os.walk(CRATES):
+        folders[:] = sorted(name for name in folders if name != "out")
+        inside = os.path.relpath(where, CRATES).split(os.sep)[1:]
+        for name in sorted(names):
+            if name.endswith((".rt", ".antt")) and name.endswith(ending) and (not folder or inside[:1] == [folder]):
+                path = os.path.join(where, name)
+                with open(path, encoding="utf-8") as file:
+                    found[os.path.relpath(path, suite.ROOT)] = file.read()
+    return found
+
+
+def without_comments(text):
+    return re.sub(r"--.*", "", text)
+
+
+@functools.cache
+def lemmas():
+    """All lemmas, with their statements in one line each."""
+    found = []
+    for path, text in sources("proofs", ".antt").items():
+        if path.endswith("Answers.antt"):
+            continue
+        for match in SIGNATURE.finditer(without_comments(text)):
+            lines = match[4].split("\n")
+            # The equations of what was just declared, and whatever comes behind an empty line, are no part of it.
+            kept = [lines[0]]
+            for line in lines[1:]:
+                if not line.strip() or re.match(rf" *{re.escape(match[3])}\b.* = ", line):
+                    break
+                kept.append(line)
+            found.append(Lemma(path.split(os.sep)[1], path, match[3], " ".join(" ".join(kept).split())))
+    return found
+
+
+def imported(text):
+    """The names that a file imports, each with the root of where it is from: `std`, or a crate."""
+    found = {}
+    for line in IMPORT.findall(text):
+        root = line.removeprefix("Rattle.").split(".")[0]
+        names = line[line.index("{") + 1:line.rindex("}")].split(",") if "{" in line else [line.split(" as ")[-1]]
+        found.update((name.split(" as ")[-1].strip(), root) for name in names)
+    return found
+
+
+def of_std(lemma):
+    """Whether a lemma's statement has names from nowhere but std, and what it binds itself."""
+    names = imports_of(lemma.path)
+    bound = set(re.findall(r"[({]([\w' -]+) :", lemma.statement))
+    bound = {word for group in bound for word in group.split()}
+    spoken = [word for word in WORD.findall(lemma.statement) if word not in bound and len(word) > 1]
+    return all(names.get(word, "std" if word in ("Type", "let", "in") else "") == "std" for word in spoken)
+
+
+@functools.cache
+def imports_of(path):
+    return imported(sources()[path])
+
+
+def lemmas_of_std():
+    """Lemmas of std alone that do not stand in the lowest crate."""
+    return [lemma for lemma in lemmas() if lemma.crate != "cyc_words" and of_std(lemma)]
+
+
+@functools.cache
+def asked_for():
+    """What files ask of others by name: module and name, as imports of definitions and hints beside functions have it."""
+    found = set()
+    for text in sources().values():
+        for module, names in re.findall(r"^(?:ghost |pub )*use Rattle\.([\w.]+)\.\{(.*)\}$", text, re.M):
+            found.update((module, name.split(" as ")[0].strip()) for name in names.split(","))
+        for module in re.findall(r"^(?:ghost |pub )*use Rattle\.([\w.]+) as \w+$", text, re.M):
+            alias = re.search(rf"use Rattle\.{re.escape(module)} as (\w+)$", text, re.M)[1]
+            found.update((module, name) for name in re.findall(rf"\b{alias}\.([A-Za-z_][\w'-]*)", text))
+    for path, text in sources("src", ".rt").items():
+        crate = path.split(os.sep)[1]
+        for names in re.findall(r"(?:crate|cyc_\w+)::proofs::([\w:'-]+)", text):
+            *module, name = names.split("::")
+            found.add((".".join([crate, "proofs", *module]), name))
+    return found
+
+
+def blocks(text):
+    """The parts of a file, each with the name that it declares or defines."""
+    name, lines = "", []
+    for line in without_comments(text).split("\n"):
+        head = re.match(r"^ *(?:pub )?([A-Za-z_][\w'-]*)(?= :| .*(?<![<>=]) = | =$)", line)
+        if head and head[1] != name:
+            yield name, "\n".join(lines)
+            name, lines = head[1], []
+        lines.append(line)
+    yield name, "\n".join(lines)
+
+
+# Files that are read for themselves: programs that are worked through, and what laws rest on by name.
+READ_ALONE = re.compile(r"Examples|Programs\.antt|Texts\.antt|/laws/|KeyFields|LaterRegions|ReadsFirst|/Answers\.antt")
+
+
+def lemmas_that_nothing_names():
+    """Lemmas that neither their own file nor another one asks for, beside what is worked through for a reader."""
+    found = []
+    for path, text in sources("proofs", ".antt").items():
+        if READ_ALONE.search(path):
+            continue
+        module = path.removesuffix(".antt").removeprefix("crates/").replace("/", ".")
+        own = [lemma.name for lemma in lemmas() if lemma.path == path]
+        parts = [(name, set(WORD.findall(part))) for name, part in blocks(text)]
+        found += [f"{path} {name}" for name in own
+                  if (module, name) not in asked_for() and not any(name in words for other, words in parts if other != name)]
+    return found
+
+
+def items_without_words():
+    """Public items with no comment for who reads the documents: `path:line`."""
+    found = []
+    for path, text in sources("src", ".rt").items():
+        lines = text.split("\n")
+        for number, line in enumerate(lines):
+            above = number - 1
+            while above >= 0 and lines[above].lstrip().startswith("#["):
+                above -= 1
+            if ITEM.match(line) and not lines[above].lstrip().startswith("///"):
+                found.append(f"{path}:{number + 1}")
+    return found
+
+
+def hints():
+    """What is said to the prover beside a function."""
+    return sum(len(re.findall(r"#\[tactic\([^\]]*\b(?:using|unfolding)\(", text)) for text in sources("src", ".rt").values())
+
+
+def long_files():
+    return [path for path, text in sources().items() if text.count("\n") > LONG_FILE]
+
+
+def long_imports():
+    return sum(len(line) > LONG_IMPORT for text in sources().values() for line in text.split("\n")
+               if re.match(r"(ghost )?use ", line))
+
+
+def files_with(word):
+    """The files of all crates that a form of the language stands in, by the name of its variant."""
+    return sum(bool(re.search(rf"\b{word}\b", text)) for text in sources().values())
+
+
+# What is added to the language, with one that is there and the name of its variant.
+FORMS = (
+    ("a construct that a typing rule gives a meaning", "`char(e)`", "LowByteOf"),
+    ("an operator", "`~`", "Complement"),
+    ("a node of its own", "`numelts(e)`", "NumberOfElements"),
+)
+
+
+def rows_of_changes():
+    for what, form, variant in FORMS:
+        yield what, f"{form}: `{variant}`", f"{files_with(variant):,}"
+
+
+def rows():
+    yield f"files above {LONG_FILE} lines", f"{len(long_files()):,}"
+    yield f"imports above {LONG_IMPORT} characters", f"{long_imports():,}"
+    yield "lemmas of the library alone, outside `cyc_words`", f"{len(lemmas_of_std()):,}"
+    yield "names of lemmas that have more than one statement (`tests/runners/lemmas.py`)", f"{len(of_proofs.ambiguous()):,}"
+    yield "lemmas that nothing names", f"{len(lemmas_that_nothing_names()):,}"
+    yield "public items without a comment", f"{len(items_without_words()):,}"
+    yield "hints to the prover beside functions", f"{hints():,}"
+    for what, form, variant in FORMS:
+        yield f"files of crates that name {form}, {what}", f"{files_with(variant):,}"
+
+
+if __name__ == "__main__":
+    for what, count in rows():
+        print(f"{count:>8}  {what}")
