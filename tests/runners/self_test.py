@@ -854,7 +854,7 @@ DRIFTS = [
     ("docs/ARCHITECTURE.md", "| `cyc_lex` |", "| `cyc_lexer` |"),
     ("docs/FIGURES.md", "\n| `cyc_words` | 5", "\n| `cyc_words` | 6"),
     ("docs/FIGURES.md", "\n| `cyc_tracer` | 2", "\n| `cyc_tracer` | 3"),
-    ("docs/FIGURES.md", "in the files of proofs, ", "in the files of proofs, 1"),
+    ("docs/FIGURES.md", "\n| files above 600 lines | ", "\n| files above 600 lines | 1"),
     ("docs/WRONG_BODIES.md", "\n| reader forgets its end |", "\n| reader forgets |"),
     ("docs/GUARANTEES.md", "random programs of them: 1", "random programs of them: 2"),
     ("docs/GUARANTEES.md", " small images, one of them", " images, one of them"),
@@ -1013,8 +1013,10 @@ PAIRS_GCC = """#!/bin/sh
 for word; do case "$word" in *.c) source=$word;; *.elf) image=$word;; esac; done
 sed -n "s/^$1 //p" "$source" > "$image"
 """
+PAIRS_GXX = PAIRS_GCC.replace("$1", "checked")
 
-# The programs here, with -O0 and with -O1, of pairs that are equal, and of others. Each line of an image ends at a `|`.
+# The programs here, with -O0, with -O1, and with all tests if that is another one, of pairs that are equal, and of others. Each line of an
+# image ends at a `|`.
 EQUAL_PAIRS = {
     "one": ("9|returned 7|a|b|", "3|returned 7|a|b|", "1|returned 7|a|b|"),
     "two": ("1001|returned 0|c|", "3003|returned 0|c|", "1001|returned 0|c|"),
@@ -1025,6 +1027,7 @@ UNEQUAL_PAIRS = {
     "other_value_with_o0": ("8|returned 7|a|", "4|returned 8|a|", "2|returned 7|a|"),
     "no_output_here": ("8|returned 7|", "4|returned 7|a|", "2|returned 7|a|"),
     "uncaught_here": ("8|uncaught 1 0|a|", "4|returned 7|a|", "2|returned 7|a|"),
+    "other_value_when_checked": ("8|returned 7|a|", "4|returned 7|a|", "2|returned 7|a|", "2|returned 8|a|"),
     "traps": ("8|trap break|a|", "4|trap break|a|", "2|trap break|a|"),
     "has_no_end": ("2000000000|returned 7|", "2000000000|returned 7|", "2000000000|returned 7|"),
 }
@@ -1032,11 +1035,12 @@ UNEQUAL_PAIRS = {
 # 9 / 3 is 3 and 1,001 / 3,003 a third, so their geometric mean is 1; that of 9 / 1 and 1,001 / 1,001 is the root of 9.
 PAIRS_TABLE = """\
 instructions that equal programs execute, compiled here and by gcc
-| Program | `cyclone compile` | `gcc -O0` | `gcc -O1` | To `-O0` | To `-O1` |
-|---|---|---|---|---|---|
-| `one` | 9 | 3 | 1 | 3.00 | 9.00 |
-| `two` | 1,001 | 3,003 | 1,001 | 0.33 | 1.00 |
-| geometric mean | | | | 1.000 | 3.000 |
+| Program | `cyclone compile` | `gcc -O0` | `gcc -O1` | checked -O1 | To `-O0` | To `-O1` | To checked -O1 |
+|---|---|---|---|---|---|---|---|
+| `one` | 9 | 3 | 1 | 1 | 3.00 | 9.00 | 9.00 |
+| `two` | 1,001 | 3,003 | 1,001 | 1,001 | 0.33 | 1.00 | 1.00 |
+| others: geometric mean | | | | | 1.000 | 3.000 | 3.000 |
+| all: geometric mean | | | | | 1.000 | 3.000 | 3.000 |
 """
 
 
@@ -1046,7 +1050,7 @@ def write_pair(folder, name, images):
     with open(os.path.join(folder, name + ".cyc"), "w", encoding="ascii") as file:
         file.write(here)
     with open(os.path.join(folder, name + ".c"), "w", encoding="ascii") as file:
-        for level, image in zip(("-O0", "-O1"), in_c):
+        for level, image in zip(("-O0", "-O1", "checked"), [*in_c, in_c[1]]):
             file.writelines(f"{level} {line}" for line in image.splitlines(keepends=True))
 
 
@@ -1055,7 +1059,7 @@ def are_pairs_right(folder):
     pairs = os.path.join(folder, "pairs")
     os.mkdir(pairs)
     words = [sys.executable, os.path.join(BENCH, "pairs.py"), "--pairs", pairs]
-    for option, script in (("program", PAIRS_PROGRAM), ("gcc", PAIRS_GCC)):
+    for option, script in (("program", PAIRS_PROGRAM), ("gcc", PAIRS_GCC), ("gxx", PAIRS_GXX)):
         path = os.path.join(folder, option)
         with open(path, "w", encoding="ascii") as file:
             file.write(script)

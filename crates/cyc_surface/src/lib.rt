@@ -3,7 +3,7 @@
 //! That this is proved is the test.
 #![tactic(auto)]
 
-ghost use Rattle.std.specs.Prelude.{◌≡◌, ◌≢◌, ◌<◌, ◌≤◌, [], ◌∷◌, length};
+ghost use Rattle.std.specs.Prelude.{◌≡◌, ◌≢◌, ◌+◌, ◌<◌, ◌≤◌, [], ◌∷◌, All, length};
 ghost use Rattle.cyc_syntax.specs.TokenRule.{AreTokensOf, max_bytes, max_tokens};
 ghost use Rattle.cyc_types.specs.TypedTreeView.{view_program};
 ghost use Rattle.cyc_types.specs.Weight.{program_weight};
@@ -17,13 +17,13 @@ ghost use Rattle.cyc_rawpages.specs.inside.Pool.{IsHead};
 
 use cyc_asm::assemble;
 use cyc_check::check;
-use cyc_elf::{ElfFault, Image, Segment, read_image, write_image};
+use cyc_elf::{ElfFault, Image, Outline, Segment, read_image, read_outline, write_image};
 use cyc_flow::{Flowed, flow};
 use cyc_frame::{Frames, layout};
 use cyc_isa::{Instr, decode, encode, reads, write_text, writes};
 use cyc_lex::lex;
 use cyc_lower::lower;
-use cyc_machine::{Cause, End, Event, Limits, LoadFault, Machine};
+use cyc_machine::{Cause, End, Event, Limits, LoadFault, Machine, has_place};
 use cyc_pagestore::PageStore;
 use cyc_parse::parse;
 use cyc_plain::{Plain, well_formed};
@@ -218,6 +218,16 @@ pub fn read(alloc: Global, file: &[u8]) -> Result<Image, ElfFault> {
     read_image(alloc, file)
 }
 
+pub fn outline(alloc: Global, file: &[u8]) -> Result<Outline, ElfFault> {
+    read_outline(alloc, file)
+}
+
+pub fn copied(alloc: Global, outline: &Outline, file: &[u8]) -> Result<Image, AllocError>
+    requires { All (λ h. h.offset + h.file_size ≤ length file.now) outline.now.loads.items }
+{
+    outline.image(alloc, file)
+}
+
 // Pools and stores.
 
 pub fn new_pool(alloc: Global) -> Result<Pool, AllocError> {
@@ -314,6 +324,10 @@ pub fn save<S: Store>(store: &mut S, address: u32, word: u32) -> bool {
 pub fn limits(pages: u32, calls: u32) -> Option<(u32, u32)> {
     let limits = Limits::new(pages, calls)?;
     Some((limits.pages(), limits.calls()))
+}
+
+pub fn is_placed(outline: &Outline) -> bool {
+    has_place(outline)
 }
 
 pub fn loaded<S: Store + Drop>(

@@ -4,7 +4,7 @@ ghost use Rattle.std.specs.Prelude.{IfOk};
 ghost use Rattle.cyc_elf.specs.Reading.{reading};
 ghost use Rattle.cyc_system.specs.Notes.{AreAllowedIfAny, Notes};
 
-use cyc_elf::{ElfFault, read_image};
+use cyc_elf::{ElfFault, read_outline};
 use std::alloc::Global;
 
 /// The pages and the calls that an image carries for its runs, or `None` where it carries none; or the fault of the first rule of the
@@ -15,6 +15,6 @@ pub fn note_of(alloc: Global, image: &[u8]) -> Result<Option<(u32, u32)>, ElfFau
     // A run may have them.
     ensures allowed { IfOk result (λ note. AreAllowedIfAny note) }
 {
-    let image = read_image(alloc, image)?;
-    Ok(image.note)
+    let outline = read_outline(alloc, image)?;
+    Ok(outline.note)
 }
