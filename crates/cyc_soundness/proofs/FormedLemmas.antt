@@ -1,5 +1,5 @@
--- What declares no type with a region that is not there yet stands in the class that a theorem speaks of.
-use Rattle.std.proofs.Common.{ℕ, suc, ◌+◌, true, List, [], ◌∷◌, Option, Some, None, refl}
+-- What declares no type with a region that is not there yet, and no field that is a key, stands in the class: so all programs of texts do.
+use Rattle.std.proofs.Common.{ℕ, suc, ◌+◌, List, [], ◌∷◌, Option, Some, None}
 use Rattle.cyc_syntax.specs.Trees.{Declaration}
 use Rattle.cyc_types.specs.Types.{Ty, ValueType, Void, Null, Value}
 use Rattle.cyc_types.specs.TypedTrees.{Local, Global, Expression, Number, NullPointer, HeapRegion, Counter, Copy, Move, Peek, Load, AddressOf, AddressOfCell, NumberOfElements, FreeUnique, FreeKey, Call, Unary, Binary, Assign, Store, New, Dereference, Target, Member, Element, Placement, OnHeap, AsUnique, ByHandle, Initial, Plain, Fields, Array, Converted, Convert, Arguments, NoArguments, MoreArguments, Operations, NoOperations, ThenCompute, ThenTest, ThenPointer, ThenPointerPeek, Side, VariableSide, CellSide, Statement, Block, Empty, Evaluate, Swap, If, While, Return, Break, Continue, Throw, Try, Items, NoItems, MoreItems, Execute, Declare, DeclareRegion, OpenRegion, DeclareAlias, DeclareKey, Clauses, NoClauses, Default, Case, StructType, GlobalVariable, Function, Program, Lvalue}
@@ -9,14 +9,10 @@ use Rattle.cyc_types.specs.typing.Programs.{IsTypedProgram}
 use Rattle.cyc_types.specs.flow.Programs.{IsAllowedProgram}
 use Rattle.cyc_types.proofs.typing.ProgramLemmas.{program_well}
 use Rattle.cyc_types.proofs.typing.FormedPrograms.{program_formed}
-use Rattle.cyc_soundness.specs.inside.Lives.{Reading, ByScope}
-use Rattle.cyc_soundness.proofs.Touched.{asked}
-use Rattle.cyc_soundness.specs.inside.Classes.{InExpression, InPlace, InPlacement, InInitial, InConverted, InArguments, InOperations, InValue, InThrown, InSide, InStatement, InItems, InClauses, InFunctions, InGlobals, InFields, InStructs, FreesObjects, SparesAssigned, may_end}
+use Rattle.cyc_soundness.proofs.flow.Touched.{asked}
+use Rattle.cyc_soundness.specs.inside.Classes.{InExpression, InPlace, InPlacement, InInitial, InConverted, InArguments, InOperations, InValue, InThrown, InSide, InStatement, InItems, InClauses, InFunctions, InGlobals, InFields, InStructs, IsInClass, SparesAssigned, may_end}
 use Rattle.cyc_soundness.specs.Sound.{IsSound}
-use Rattle.cyc_soundness.proofs.Whole.{freeing_sound}
-
-abbrev reading : Reading
-reading = ByScope true true
+use Rattle.cyc_soundness.proofs.Whole.{class_sound}
 
 assigned_kept : (l : Lvalue) (t : ValueType) → SparesAssigned [] l t
 assigned_kept (Local p n) Void = tt
@@ -25,7 +21,7 @@ assigned_kept (Local p n) (Value t) = tt
 assigned_kept (Global n) t = tt
 
 mutual
-  expression_kept : (a : Expression) → InExpression reading [] a
+  expression_kept : (a : Expression) → InExpression [] a
   expression_kept (Number n) = tt
   expression_kept NullPointer = tt
   expression_kept HeapRegion = tt
@@ -34,12 +30,11 @@ mutual
   expression_kept (Move p n t) = tt
   expression_kept (Peek p n t) = tt
   expression_kept (Load d) = place_kept d
-  expression_kept (AddressOf (Local p n) t) = tt
-  expression_kept (AddressOf (Global n) t) = tt
+  expression_kept (AddressOf l t) = tt
   expression_kept (AddressOfCell d t) = place_kept d
   expression_kept (NumberOfElements a) = expression_kept a
-  expression_kept (FreeUnique a) = (refl, expression_kept a)
-  expression_kept (FreeKey a) = (refl, expression_kept a)
+  expression_kept (FreeUnique a) = expression_kept a
+  expression_kept (FreeKey a) = expression_kept a
   expression_kept (Call f cs t) = arguments_kept cs
   expression_kept (Unary o a) = expression_kept a
   expression_kept (Binary a os t) = (expression_kept a, operations_kept os)
@@ -47,49 +42,49 @@ mutual
   expression_kept (Store d c t) = (place_kept d, converted_kept c)
   expression_kept (New w i t) = (placement_kept w, initial_kept i)
 
-  place_kept : (d : Dereference) → InPlace reading [] d
+  place_kept : (d : Dereference) → InPlace [] d
   place_kept (Target k a t) = expression_kept a
   place_kept (Member k a s f t) = expression_kept a
   place_kept (Element a i t) = (expression_kept a, expression_kept i)
 
-  placement_kept : (w : Placement) → InPlacement reading [] w
+  placement_kept : (w : Placement) → InPlacement [] w
   placement_kept OnHeap = tt
   placement_kept AsUnique = tt
   placement_kept (ByHandle a) = expression_kept a
 
-  initial_kept : (i : Initial) → InInitial reading [] i
+  initial_kept : (i : Initial) → InInitial [] i
   initial_kept (Plain k a) = expression_kept a
   initial_kept (Fields cs) = arguments_kept cs
   initial_kept (Array p l n k a) = (expression_kept n, expression_kept a)
 
-  converted_kept : (c : Converted) → InConverted reading [] c
+  converted_kept : (c : Converted) → InConverted [] c
   converted_kept (Convert from to a) = expression_kept a
 
-  arguments_kept : (cs : Arguments) → InArguments reading [] cs
+  arguments_kept : (cs : Arguments) → InArguments [] cs
   arguments_kept NoArguments = tt
   arguments_kept (MoreArguments c cs) = (converted_kept c, arguments_kept cs)
 
-  operations_kept : (os : Operations) → InOperations reading [] os
+  operations_kept : (os : Operations) → InOperations [] os
   operations_kept NoOperations = tt
   operations_kept (ThenCompute o a os) = (expression_kept a, operations_kept os)
   operations_kept (ThenTest o a os) = (expression_kept a, operations_kept os)
   operations_kept (ThenPointer o a os) = (expression_kept a, operations_kept os)
   operations_kept (ThenPointerPeek n o a os) = (expression_kept a, operations_kept os)
 
-value_kept : (v : Option Converted) → InValue reading [] v
+value_kept : (v : Option Converted) → InValue [] v
 value_kept None = tt
 value_kept (Some c) = converted_kept c
 
-thrown_kept : (v : Option Expression) → InThrown reading [] v
+thrown_kept : (v : Option Expression) → InThrown [] v
 thrown_kept None = tt
 thrown_kept (Some a) = expression_kept a
 
-side_kept : (x : Side) → InSide reading [] x
+side_kept : (x : Side) → InSide [] x
 side_kept (VariableSide l t) = tt
 side_kept (CellSide d) = place_kept d
 
 mutual
-  statement_kept : (n : ℕ) (s : Statement) → IsFormedStatement n s → InStatement reading [] n s
+  statement_kept : (n : ℕ) (s : Statement) → IsFormedStatement n s → InStatement [] n s
   statement_kept n (Block r js) formed = items_kept (suc n) js formed
   statement_kept n Empty formed = tt
   statement_kept n (Evaluate a) formed = expression_kept a
@@ -103,40 +98,40 @@ mutual
   statement_kept n (Throw tag v) formed = thrown_kept v
   statement_kept n (Try s cs) (f, g) = (statement_kept n s f, clauses_kept (n + declared_regions s) cs g)
 
-  items_kept : (n : ℕ) (js : Items) → AreFormedItems n js → InItems reading [] n js
+  items_kept : (n : ℕ) (js : Items) → AreFormedItems n js → InItems [] n js
   items_kept n NoItems formed = tt
   items_kept n (MoreItems (Execute s) js) (f, g) = (statement_kept n s f, asked (may_end s) (items_kept (n + declared_regions s) js g))
   items_kept n (MoreItems (Declare l t v) js) (f, g) = (f, value_kept v, items_kept n js g)
-  items_kept n (MoreItems (DeclareRegion r l) js) formed = (tt, items_kept (suc n) js formed)
-  items_kept n (MoreItems (OpenRegion r l p k) js) formed = (refl, tt, items_kept n js formed)
-  items_kept n (MoreItems (DeclareAlias r l t p s) js) formed = (refl, tt, items_kept (suc n) js formed)
-  items_kept n (MoreItems (DeclareKey r l) js) formed = (refl, items_kept (suc n) js formed)
+  items_kept n (MoreItems (DeclareRegion r l) js) formed = items_kept (suc n) js formed
+  items_kept n (MoreItems (OpenRegion r l p k) js) formed = (tt, items_kept n js formed)
+  items_kept n (MoreItems (DeclareAlias r l t p s) js) formed = (tt, items_kept (suc n) js formed)
+  items_kept n (MoreItems (DeclareKey r l) js) formed = items_kept (suc n) js formed
 
-  clauses_kept : (n : ℕ) (cs : Clauses) → AreFormedClauses n cs → InClauses reading [] n cs
+  clauses_kept : (n : ℕ) (cs : Clauses) → AreFormedClauses n cs → InClauses [] n cs
   clauses_kept n NoClauses formed = tt
   clauses_kept n (Default r js) formed = items_kept (suc n) js formed
   clauses_kept n (Case tag x r js cs) (f, g) =
       (items_kept (suc n) js f, clauses_kept (n + suc (item_regions js)) cs g)
 
-functions_kept : (hs : List Function) → AreFormedFunctions hs → InFunctions reading hs
+functions_kept : (hs : List Function) → AreFormedFunctions hs → InFunctions hs
 functions_kept [] formed = tt
 functions_kept (h ∷ hs) (f, g) = (items_kept (suc h.variables) h.body f, functions_kept hs g)
 
-globals_kept : (vs : List GlobalVariable) → AreFormedGlobals vs → InGlobals reading vs
+globals_kept : (vs : List GlobalVariable) → AreFormedGlobals vs → InGlobals vs
 globals_kept [] formed = tt
 globals_kept (v ∷ vs) (f, g) = (f, globals_kept vs g)
 
-fields_kept : (n : ℕ) (ts : List Ty) → AreFormedFields n ts → InFields reading n ts
+fields_kept : (n : ℕ) (ts : List Ty) → AreFormedFields n ts → InFields n ts
 fields_kept n [] formed = tt
 fields_kept n (t ∷ ts) (f, no_key, g) = (f, no_key, fields_kept n ts g)
 
-structs_kept : (ss : List StructType) → AreFormedStructs ss → InStructs reading ss
+structs_kept : (ss : List StructType) → AreFormedStructs ss → InStructs ss
 structs_kept [] formed = tt
 structs_kept (s ∷ ss) (f, g) = (fields_kept s.parameters s.fields f, structs_kept ss g)
 
-formed_kept : (p : Program) → IsFormedProgram p → FreesObjects p
+formed_kept : (p : Program) → IsFormedProgram p → IsInClass p
 formed_kept p formed = (functions_kept p.functions formed.functions, globals_kept p.globals formed.globals, structs_kept p.structs formed.structs)
 
 -- and so no run of it is dead or wrong, where the rules derive it from a tree
 pub typed_sound : (texts : List (List ℕ)) (tree : List Declaration) (p : Program) → IsTypedProgram texts tree p → IsAllowedProgram p → IsSound p
-typed_sound texts tree p typed allowed = freeing_sound p (program_well texts tree p typed) allowed (formed_kept p (program_formed texts tree p typed))
+typed_sound texts tree p typed allowed = class_sound p (program_well texts tree p typed) allowed (formed_kept p (program_formed texts tree p typed))

@@ -27,30 +27,30 @@ use Rattle.cyc_meaning.specs.Places.{step_given_place}
 use Rattle.cyc_meaning.specs.Step.{called, step, stepped, step_given}
 use Rattle.cyc_meaning.specs.Run.{start, steps, run}
 use Rattle.cyc_meaning.proofs.Nested.{nests_step, nests_start}
-use Rattle.cyc_soundness.proofs.RegionLemmas.{contains_none}
-use Rattle.cyc_soundness.specs.inside.Lives.{Life, RunTy, RunValue, at, heap_life, lives_of, as_heap, Reading, AsHeap, ByScope}
+use Rattle.cyc_soundness.proofs.types.RegionLemmas.{contains_none}
+use Rattle.cyc_soundness.specs.inside.Lives.{Life, RunTy, RunValue, at, heap_life, lives_of, as_heap}
 use Rattle.cyc_soundness.specs.inside.Lives as lives
 use Rattle.cyc_soundness.specs.inside.Worlds.{Nobody, thing_of, ClaimsPart, IsKeyless, ObjectType, Typing, Outlasts, heap as for_ever, global_type, HasType, IsResult, AreOperands, IsObject, IsTyped, Thing, Holder, At, Claims, AreOwned, Settled, Gone, Away}
-use Rattle.cyc_soundness.specs.inside.Frames.{InScope, Instance, read, read_value, IsThereBy, IsBound, AreVariables, LiveIn, Holds, Exits, StandBy, lives_among, KnowsProgram}
-use Rattle.cyc_soundness.specs.inside.Classes.{IsDeclarable, InFunctions, InGlobals, InFields, InStructs, IsOfTheHeap, IsOfScopes, FreesNoObject, FreesObjects, HasLoans, Source, IsInClass, frees_of}
+use Rattle.cyc_soundness.specs.inside.Frames.{InScope, Instance, read, read_value, IsThereBy, IsBound, AreVariables, LiveIn, Holds, Exits, AreNamed, lives_among, KnowsProgram}
+use Rattle.cyc_soundness.specs.inside.Classes.{IsDeclarable, InFunctions, InGlobals, InFields, InStructs, IsInClass}
 use Rattle.cyc_soundness.specs.inside.Stacks.{IsAccepted, operands_in, Comes, AreGiven, Val, PlaceOf, regions_at_call, IsStack, IsFocus, IsWell}
 use Rattle.cyc_soundness.specs.Sound.{IsSound}
-use Rattle.cyc_soundness.proofs.Numbers.{some_same}
-use Rattle.cyc_soundness.proofs.TypeLemmas.{kind_meant}
-use Rattle.cyc_soundness.proofs.StackLemmas.{AreAccepted, none_among}
-use Rattle.cyc_soundness.proofs.Cells.{running}
-use Rattle.cyc_soundness.proofs.Objects.{begin_array, repeat_on, write_on}
-use Rattle.cyc_soundness.proofs.Swapping.{swapped_on, swapping_on}
-use Rattle.cyc_soundness.proofs.Places.{locate, place_given}
-use Rattle.cyc_soundness.proofs.Evaluation.{of_map, evaluate}
-use Rattle.cyc_soundness.proofs.Supply.{given, declares_full}
-use Rattle.cyc_soundness.proofs.Execution.{execute}
-use Rattle.cyc_soundness.proofs.Calls.{call, enter, bind, catch}
-use Rattle.cyc_soundness.proofs.Unwinding.{proceed, breaks, continues, returns_on, throws_on}
+use Rattle.cyc_soundness.proofs.states.Numbers.{some_same}
+use Rattle.cyc_soundness.proofs.types.TypeLemmas.{kind_meant}
+use Rattle.cyc_soundness.proofs.states.StackLemmas.{AreAccepted, none_among}
+use Rattle.cyc_soundness.proofs.states.Cells.{running}
+use Rattle.cyc_soundness.proofs.steps.Objects.{begin_array, repeat_on, write_on}
+use Rattle.cyc_soundness.proofs.steps.Swapping.{swapped_on, swapping_on}
+use Rattle.cyc_soundness.proofs.steps.Places.{locate, place_given}
+use Rattle.cyc_soundness.proofs.steps.Evaluation.{of_map, evaluate}
+use Rattle.cyc_soundness.proofs.steps.Supply.{given, declares_full}
+use Rattle.cyc_soundness.proofs.steps.Execution.{execute}
+use Rattle.cyc_soundness.proofs.steps.Calls.{call, enter, bind, catch}
+use Rattle.cyc_soundness.proofs.steps.Unwinding.{proceed, breaks, continues, returns_on, throws_on}
 
 -- ---- a step
 
-module _ (p : Source) (accepted : AreAccepted p) (e : Environment) (w : World) (g : Typing) (x : Exits) (bs : List InScope) (objects : IsTyped g w.regions w.objects) (globals : KnowsProgram g p) (bound : IsBound e.locals e.counters bs) (variables : AreVariables g bs) where
+module _ (p : Program) (accepted : AreAccepted p) (e : Environment) (w : World) (g : Typing) (x : Exits) (bs : List InScope) (objects : IsTyped g w.regions w.objects) (globals : KnowsProgram g p) (bound : IsBound e.locals e.counters bs) (variables : AreVariables g bs) where
   given_on : (v : values.Operand) (k : List Entry) (r : RunValue) (f : flow.State) → IsNested k e w → LiveIn k bs → Holds g f bs → IsResult g r v → Comes g r v k → IsStack p g x bs (Val r f) k → IsWell p (step_given v k e w)
   given_on v (Needs a ∷ k) r f nests live holds is comes (ts, cs, next, waits, are, stack) = given p g x bs e w objects globals bound variables v k nests live holds is comes waits are stack
   given_on v (Discard ∷ k) r f nests live holds is comes stack = running p g x bs e w objects globals bound variables Proceeding k live (f, holds, stack)
@@ -61,7 +61,7 @@ module _ (p : Source) (accepted : AreAccepted p) (e : Environment) (w : World) (
   place_on place (NeedsPlace a ∷ k) peek t l f nests live holds has part (next, waits, keeps, stack) = place_given p g x bs e w objects globals bound variables place k nests.0 live holds has part waits keeps stack
   place_on place k peek t l f nests live holds has part stack = absurd stack
 
-  step_well : (focus : Focus) (k : List Entry) → IsNested k e w → LiveIn k bs → IsFocus p g x bs focus k → IsWell p (stepped p.program focus k e w)
+  step_well : (focus : Focus) (k : List Entry) → IsNested k e w → LiveIn k bs → IsFocus p g x bs focus k → IsWell p (stepped p focus k e w)
   step_well (Evaluating a) k nests live (c, t, f, h, stands, holds, evaluates, stack) =
       evaluate p g x bs e w objects globals bound variables a k c t f h evaluates.waiting nests.0 live stands holds evaluates.typed evaluates.flows evaluates.kept stack
   step_well (Given v) k nests live (r, f, holds, is, comes, stack) = given_on v k r f nests live holds is comes stack
@@ -93,18 +93,18 @@ module _ (p : Source) (accepted : AreAccepted p) (e : Environment) (w : World) (
   step_well (Catching tag value cs) k nests live (c, start', f, h, stands, holds, catches, stack) =
       catch p accepted g x bs e w objects globals bound variables tag value cs k c start' f h catches.before catches.behind live stands holds catches.typed catches.flows catches.breaks catches.kept stack
 
-pub well_step : (p : Source) (s : State) → AreAccepted p → Nests s → IsWell p s → IsWell p (step p.program s)
+pub well_step : (p : Program) (s : State) → AreAccepted p → Nests s → IsWell p s → IsWell p (step p s)
 well_step p (Running focus k e w) accepted nests well =
     step_well p accepted e w well.typing well.exits well.locals well.objects well.globals well.bound well.variables focus k nests well.live well.stands
 well_step p (Ended ending output input) accepted nests well = tt
 well_step p (Dead output input) accepted nests well = absurd well
 well_step p (Wrong output input) accepted nests well = absurd well
 
-pub well_steps : (p : Source) (n : ℕ) (s : State) → AreAccepted p → Nests s → IsWell p s → IsWell p (steps p.program n s)
+pub well_steps : (p : Program) (n : ℕ) (s : State) → AreAccepted p → Nests s → IsWell p s → IsWell p (steps p n s)
 well_steps p zero s accepted nests well = well
-well_steps p (suc n) s accepted nests well = well_steps p n (step p.program s) accepted (nests_step p.program s nests) (well_step p s accepted nests well)
+well_steps p (suc n) s accepted nests well = well_steps p n (step p s) accepted (nests_step p s nests) (well_step p s accepted nests well)
 
-well_alive : (p : Source) (s : State) → IsWell p s → (status_of s ≢ IsDead) × (status_of s ≢ IsWrong)
+well_alive : (p : Program) (s : State) → IsWell p s → (status_of s ≢ IsDead) × (status_of s ≢ IsWrong)
 well_alive p (Running focus k e w) well = (λ d. (let z : GoesOn ≡ IsDead = d in absurd (cc)), λ d. (let z : GoesOn ≡ IsWrong = d in absurd (cc)))
 well_alive p (Ended ending output input) well = (λ d. (let z : HasEnded ending ≡ IsDead = d in absurd (cc)), λ d. (let z : HasEnded ending ≡ IsWrong = d in absurd (cc)))
 well_alive p (Dead output input) well = absurd well
@@ -115,7 +115,7 @@ well_alive p (Wrong output input) well = absurd well
 ends_are : (o : Option Ty) (place : Place) (f : flow.State) → AllKept (end_demanded o place f) → (t : Ty) → o ≡ Some t → is_reached f ≡ false
 ends_are o place f kept t same = let demands = subst (λ z. AllKept (end_demanded z place f)) same kept in not-true (is_reached f) demands.0
 
-accepted_among : (p : Source) (hs : List Function) → AreWellTypedFunctions p.program hs → Derives (rule_functions hs) tt → InFunctions p.reading hs → (n : ℕ) (h : Function) → slice_get hs n ≡ Some h → (end : flow.State) × IsAccepted p h end
+accepted_among : (p : Program) (hs : List Function) → AreWellTypedFunctions p hs → Derives (rule_functions hs) tt → InFunctions hs → (n : ℕ) (h : Function) → slice_get hs n ≡ Some h → (end : flow.State) × IsAccepted p h end
 accepted_among p [] well flows kept n h found = absurd (let z : None ≡ Some h = found in cc)
 accepted_among p (f ∷ hs) (one, well) (u, (k, d, (demands, same)), flows) (in_one, kept) zero h found =
     let f_is : f ≡ h = (let z : Some f ≡ Some h = found in cc) in
@@ -129,128 +129,124 @@ accepted_among p (f ∷ hs) (one, well) (u, d, flows) (in_one, kept) (suc n) h f
 abbrev ones : List GlobalVariable → List ℕ
 ones vs = map (λ (v : GlobalVariable). 1) vs
 
-abbrev global_of : (frees : Bool) → GlobalVariable → ObjectType
-global_of frees v = global_type (at (as_heap frees) v.of_type)
+abbrev global_of : GlobalVariable → ObjectType
+global_of v = global_type (at as_heap v.of_type)
 
 -- the cells of a struct, for as many lives as it has parameters
-abbrev cells_of : (frees : Bool) → List Life → StructType → Option (List RunTy)
-cells_of frees ls s = if length ls == s.parameters then Some (map (at (lives_among frees ls)) s.fields) else None
+abbrev cells_of : List Life → StructType → Option (List RunTy)
+cells_of ls s = if length ls == s.parameters then Some (map (at (lives_among ls)) s.fields) else None
 
-abbrev found_cells : (frees : Bool) → List Life → Option StructType → Option (List RunTy)
-found_cells frees ls None = None
-found_cells frees ls (Some s) = cells_of frees ls s
+abbrev found_cells : List Life → Option StructType → Option (List RunTy)
+found_cells ls None = None
+found_cells ls (Some s) = cells_of ls s
 
-abbrev globals_typed : (frees : Bool) → List StructType → List GlobalVariable → Typing
-globals_typed frees ss vs = record { objects = map (global_of frees) vs; filled = ones vs; fields = λ n ls. found_cells frees ls (slice_get ss n); kept = []; own = λ a. Nobody; here = λ n. Gone; pending = Settled; depth = 0; loans = 0 }
+abbrev globals_typed : List StructType → List GlobalVariable → Typing
+globals_typed ss vs = record { objects = map global_of vs; filled = ones vs; fields = λ n ls. found_cells ls (slice_get ss n); kept = []; own = λ a. Nobody; here = λ n. Gone; pending = Settled; depth = 0; loans = 0 }
 
-null_typed : (frees : Bool) (g : Typing) (k : PointerKind) (t : Ty) (r : Region) → is_non_null (types.Pointer k t r) ≡ false → HasType g (at (as_heap frees) (types.Pointer k t r)) values.Null
-null_typed frees g marks.Nullable t r is = tt
-null_typed frees g marks.NonNull t r is = absurd (let z : true ≡ false = is in cc)
-null_typed frees g marks.Fat t r is = tt
+null_typed : (g : Typing) (k : PointerKind) (t : Ty) (r : Region) → is_non_null (types.Pointer k t r) ≡ false → HasType g (at as_heap (types.Pointer k t r)) values.Null
+null_typed g marks.Nullable t r is = tt
+null_typed g marks.NonNull t r is = absurd (let z : true ≡ false = is in cc)
+null_typed g marks.Fat t r is = tt
 
-value_typed : (frees : Bool) (g : Typing) (v : GlobalVariable) → IsWellTypedGlobal v → HasType g (at (as_heap frees) v.of_type) (constant_value v.value)
-value_typed frees g v (inl (int, (word, is))) =
-    subst (λ z. HasType g (at (as_heap frees) v.of_type) (constant_value z)) (sym is) (subst (λ t. HasType g (at (as_heap frees) t) (values.Int word)) (sym int) tt)
-value_typed frees g v (inr (inl (char, (word, is, small)))) =
-    subst (λ z. HasType g (at (as_heap frees) v.of_type) (constant_value z)) (sym is) (subst (λ t. HasType g (at (as_heap frees) t) (values.Int word)) (sym char) tt)
-value_typed frees g v (inr (inr (k, t, r, pointer, null, is))) =
-    subst (λ z. HasType g (at (as_heap frees) v.of_type) (constant_value z)) (sym is)
-    (subst (λ u. HasType g (at (as_heap frees) u) values.Null) (sym pointer) (null_typed frees g k t r (subst (λ u. is_non_null u ≡ false) pointer null)))
+value_typed : (g : Typing) (v : GlobalVariable) → IsWellTypedGlobal v → HasType g (at as_heap v.of_type) (constant_value v.value)
+value_typed g v (inl (int, (word, is))) =
+    subst (λ z. HasType g (at as_heap v.of_type) (constant_value z)) (sym is) (subst (λ t. HasType g (at as_heap t) (values.Int word)) (sym int) tt)
+value_typed g v (inr (inl (char, (word, is, small)))) =
+    subst (λ z. HasType g (at as_heap v.of_type) (constant_value z)) (sym is) (subst (λ t. HasType g (at as_heap t) (values.Int word)) (sym char) tt)
+value_typed g v (inr (inr (k, t, r, pointer, null, is))) =
+    subst (λ z. HasType g (at as_heap v.of_type) (constant_value z)) (sym is)
+    (subst (λ u. HasType g (at as_heap u) values.Null) (sym pointer) (null_typed g k t r (subst (λ u. is_non_null u ≡ false) pointer null)))
 
 -- the key of the heap is none
-key_keyless : (frees : Bool) (r : Region) → IsKeyless (at (as_heap frees) (types.Key r))
-key_keyless frees regions.Heap = tt
-key_keyless true regions.Unique = tt
-key_keyless false regions.Unique = tt
-key_keyless frees (regions.Variable n) = tt
+key_keyless : (r : Region) → IsKeyless (at as_heap (types.Key r))
+key_keyless regions.Heap = tt
+key_keyless regions.Unique = tt
+key_keyless (regions.Variable n) = tt
 
-global_keyless : (m : Reading) (t : Ty) → IsKeyless (at (as_heap (frees_of m)) t)
-global_keyless m types.Int = tt
-global_keyless m types.Char = tt
-global_keyless m (types.Pointer k t r) = tt
-global_keyless m (types.Handle r) = tt
-global_keyless m (types.Key r) = key_keyless (frees_of m) r
-global_keyless m (types.Struct n rs) = tt
+global_keyless : (t : Ty) → IsKeyless (at as_heap t)
+global_keyless types.Int = tt
+global_keyless types.Char = tt
+global_keyless (types.Pointer k t r) = tt
+global_keyless (types.Handle r) = tt
+global_keyless (types.Key r) = key_keyless r
+global_keyless (types.Struct n rs) = tt
 
-global_is : (m : Reading) (g : Typing) (v : GlobalVariable) → IsWellTypedGlobal v → IsObject g 1 (global_of (frees_of m) v) (global_object v)
-global_is m g v has = record { owner = refl; known = tt; keyless = λ shown. (global_keyless m v.of_type, tt); cells = ((sym (kind_meant (as_heap (frees_of m)) v.of_type), value_typed (frees_of m) g v has), tt) }
+global_is : (g : Typing) (v : GlobalVariable) → IsWellTypedGlobal v → IsObject g 1 (global_of v) (global_object v)
+global_is g v has = record { owner = refl; known = tt; keyless = λ shown. (global_keyless v.of_type, tt); cells = ((sym (kind_meant as_heap v.of_type), value_typed g v has), tt) }
 
 -- what globals hold first is no thing
-value_claims : (own : Thing → Holder) (h : Holder) (frees : Bool) (v : GlobalVariable) → IsWellTypedGlobal v → Claims own h (at (as_heap frees) v.of_type) (constant_value v.value)
-value_claims own h frees v (inl (int, (word, is))) = subst (λ t. Claims own h (at (as_heap frees) t) (constant_value v.value)) (sym int) (tt, tt)
-value_claims own h frees v (inr (inl (char, (word, is, small)))) = subst (λ t. Claims own h (at (as_heap frees) t) (constant_value v.value)) (sym char) (tt, tt)
-value_claims own h frees v (inr (inr (k, t, r, pointer, null, is))) =
-    subst (λ z. Claims own h (at (as_heap frees) v.of_type) (constant_value z)) (sym is) (subst (λ u. Claims own h (at (as_heap frees) u) values.Null) (sym pointer) (tt, tt))
+value_claims : (own : Thing → Holder) (h : Holder) (v : GlobalVariable) → IsWellTypedGlobal v → Claims own h (at as_heap v.of_type) (constant_value v.value)
+value_claims own h v (inl (int, (word, is))) = subst (λ t. Claims own h (at as_heap t) (constant_value v.value)) (sym int) (tt, tt)
+value_claims own h v (inr (inl (char, (word, is, small)))) = subst (λ t. Claims own h (at as_heap t) (constant_value v.value)) (sym char) (tt, tt)
+value_claims own h v (inr (inr (k, t, r, pointer, null, is))) =
+    subst (λ z. Claims own h (at as_heap v.of_type) (constant_value z)) (sym is) (subst (λ u. Claims own h (at as_heap u) values.Null) (sym pointer) (tt, tt))
 
 abbrev content_of : Option Cell → Option values.Value
 content_of (Some c) = c.content
 content_of None = None
 
-global_owned : (own : Thing → Holder) (h : Holder) (frees : Bool) (v : GlobalVariable) → IsWellTypedGlobal v → (i : ℕ) (u : RunTy) (c : Cell) (z : values.Value) → slice_get (global_of frees v).cells i ≡ Some u → slice_get (global_object v).cells i ≡ Some c → c.content ≡ Some z
+global_owned : (own : Thing → Holder) (h : Holder) (v : GlobalVariable) → IsWellTypedGlobal v → (i : ℕ) (u : RunTy) (c : Cell) (z : values.Value) → slice_get (global_of v).cells i ≡ Some u → slice_get (global_object v).cells i ≡ Some c → c.content ≡ Some z
     → Claims own h u z
-global_owned own h frees v has zero u c z found at' content =
-    let type_is : at (as_heap frees) v.of_type ≡ u = some_same (at (as_heap frees) v.of_type) u found in
+global_owned own h v has zero u c z found at' content =
+    let type_is : at as_heap v.of_type ≡ u = some_same (at as_heap v.of_type) u found in
     let value_is : constant_value v.value ≡ z = some_same (constant_value v.value) z (ap content_of at' ∙ content) in
-    subst (λ t. Claims own h t z) type_is (subst (λ y. Claims own h (at (as_heap frees) v.of_type) y) value_is (value_claims own h frees v has))
-global_owned own h frees v has (suc i) u c z found at' content = absurd (let k : None ≡ Some u = found in cc)
+    subst (λ t. Claims own h t z) type_is (subst (λ y. Claims own h (at as_heap v.of_type) y) value_is (value_claims own h v has))
+global_owned own h v has (suc i) u c z found at' content = absurd (let k : None ≡ Some u = found in cc)
 
-globals_owned : (g : Typing) (frees : Bool) (vs : List GlobalVariable) → AreWellTypedGlobals vs → (n : ℕ) (t : ObjectType) (x : Object) → slice_get (map (global_of frees) vs) n ≡ Some t → slice_get (map global_object vs) n ≡ Some x → (object : ℕ) → AreOwned g object t x.cells
-globals_owned g frees [] have n t x found stands object i u c z kept cell at' content = absurd (let k : None ≡ Some t = found in cc)
-globals_owned g frees (v ∷ vs) (has, have) zero t x found stands object i u c z kept cell at' content =
-    let type_is : global_of frees v ≡ t = some_same (global_of frees v) t found in
+globals_owned : (g : Typing) (vs : List GlobalVariable) → AreWellTypedGlobals vs → (n : ℕ) (t : ObjectType) (x : Object) → slice_get (map global_of vs) n ≡ Some t → slice_get (map global_object vs) n ≡ Some x → (object : ℕ) → AreOwned g object t x.cells
+globals_owned g [] have n t x found stands object i u c z kept cell at' content = absurd (let k : None ≡ Some t = found in cc)
+globals_owned g (v ∷ vs) (has, have) zero t x found stands object i u c z kept cell at' content =
+    let type_is : global_of v ≡ t = some_same (global_of v) t found in
     let object_is : global_object v ≡ x = some_same (global_object v) x stands in
-    global_owned g.own (At object i) frees v has i u c z (ap (λ (y : ObjectType). slice_get y.cells i) type_is ∙ cell) (ap (λ (y : Object). slice_get y.cells i) object_is ∙ at') content
-globals_owned g frees (v ∷ vs) (has, have) (suc n) t x found stands object i u c z kept cell at' content = globals_owned g frees vs have n t x found stands object i u c z kept cell at' content
+    global_owned g.own (At object i) v has i u c z (ap (λ (y : ObjectType). slice_get y.cells i) type_is ∙ cell) (ap (λ (y : Object). slice_get y.cells i) object_is ∙ at') content
+globals_owned g (v ∷ vs) (has, have) (suc n) t x found stands object i u c z kept cell at' content = globals_owned g vs have n t x found stands object i u c z kept cell at' content
 
 mapped_length : {A B C : Type 0} (f : A → B) (h : A → C) (xs : List A) → length (map f xs) ≡ length (map h xs)
 mapped_length f h [] = refl
 mapped_length f h (x ∷ xs) = ap suc (mapped_length f h xs)
 
-globals_each : (m : Reading) (g : Typing) (vs : List GlobalVariable) → AreWellTypedGlobals vs → InGlobals m vs → (n : ℕ) (t : ObjectType) → slice_get (map (global_of (frees_of m)) vs) n ≡ Some t
+globals_each : (g : Typing) (vs : List GlobalVariable) → AreWellTypedGlobals vs → InGlobals vs → (n : ℕ) (t : ObjectType) → slice_get (map global_of vs) n ≡ Some t
     → (x : Object) × (filled : ℕ) × (slice_get (map global_object vs) n ≡ Some x) × (slice_get (ones vs) n ≡ Some filled) × IsObject g filled t x
-globals_each m g [] have kept n t found = absurd (let z : None ≡ Some t = found in cc)
-globals_each m g (v ∷ vs) (has, have) (known, kept) zero t found =
-    let t_is : global_of (frees_of m) v ≡ t = some_same (global_of (frees_of m) v) t found in
-    (global_object v, 1, refl, refl, subst (λ z. IsObject g 1 z (global_object v)) t_is (global_is m g v has))
-globals_each m g (v ∷ vs) (has, have) (known, kept) (suc n) t found = globals_each m g vs have kept n t found
+globals_each g [] have kept n t found = absurd (let z : None ≡ Some t = found in cc)
+globals_each g (v ∷ vs) (has, have) (known, kept) zero t found =
+    let t_is : global_of v ≡ t = some_same (global_of v) t found in
+    (global_object v, 1, refl, refl, subst (λ z. IsObject g 1 z (global_object v)) t_is (global_is g v has))
+globals_each g (v ∷ vs) (has, have) (known, kept) (suc n) t found = globals_each g vs have kept n t found
 
-all_globals : (m : Reading) (vs : List GlobalVariable) → InGlobals m vs → (n : ℕ) (t : Ty) → slice_get (map (λ (v : GlobalVariable). v.of_type) vs) n ≡ Some t
-    → (slice_get (map (global_of (frees_of m)) vs) n ≡ Some (global_type (at (as_heap (frees_of m)) t))) × (slice_get (ones vs) n ≡ Some 1) × IsDeclarable m 0 t
-all_globals m [] kept n t found = absurd (let z : None ≡ Some t = found in cc)
-all_globals m (v ∷ vs) (one, kept) zero t found =
+all_globals : (vs : List GlobalVariable) → InGlobals vs → (n : ℕ) (t : Ty) → slice_get (map (λ (v : GlobalVariable). v.of_type) vs) n ≡ Some t
+    → (slice_get (map global_of vs) n ≡ Some (global_type (at as_heap t))) × (slice_get (ones vs) n ≡ Some 1) × IsDeclarable 0 t
+all_globals [] kept n t found = absurd (let z : None ≡ Some t = found in cc)
+all_globals (v ∷ vs) (one, kept) zero t found =
     let same : v.of_type ≡ t = some_same v.of_type t found in
-    (ap (λ u. Some (global_type (at (as_heap (frees_of m)) u))) same, refl, subst (λ u. IsDeclarable m 0 u) same one)
-all_globals m (v ∷ vs) (one, kept) (suc n) t found = all_globals m vs kept n t found
+    (ap (λ u. Some (global_type (at as_heap u))) same, refl, subst (λ u. IsDeclarable 0 u) same one)
+all_globals (v ∷ vs) (one, kept) (suc n) t found = all_globals vs kept n t found
 
-all_fields : (m : Reading) (n : ℕ) (ts : List Ty) → InFields m n ts → (field : ℕ) (t : Ty) → slice_get ts field ≡ Some t → IsDeclarable m n t
-all_fields m n [] kept field t found = absurd (let z : None ≡ Some t = found in cc)
-all_fields m n (u ∷ ts) (one, usual, kept) zero t found = subst (λ z. IsDeclarable m n z) (some_same u t found) one
-all_fields m n (u ∷ ts) (one, usual, kept) (suc field) t found = all_fields m n ts kept field t found
+all_fields : (n : ℕ) (ts : List Ty) → InFields n ts → (field : ℕ) (t : Ty) → slice_get ts field ≡ Some t → IsDeclarable n t
+all_fields n [] kept field t found = absurd (let z : None ≡ Some t = found in cc)
+all_fields n (u ∷ ts) (one, usual, kept) zero t found = subst (λ z. IsDeclarable n z) (some_same u t found) one
+all_fields n (u ∷ ts) (one, usual, kept) (suc field) t found = all_fields n ts kept field t found
 
--- where things are lent, none is a key
-all_usual : (m : Reading) (n : ℕ) (ts : List Ty) → HasLoans m → InFields m n ts → (field : ℕ) (t : Ty) → slice_get ts field ≡ Some t → is_key t ≡ false
-all_usual AsHeap n ts loans kept field t found = absurd loans
-all_usual (ByScope false frees) n ts loans kept field t found = absurd (let z : false ≡ true = loans in cc)
-all_usual (ByScope true frees) n [] loans kept field t found = absurd (let z : None ≡ Some t = found in cc)
-all_usual (ByScope true frees) n (u ∷ ts) loans (one, usual, kept) zero t found = subst (λ z. is_key z ≡ false) (some_same u t found) usual
-all_usual (ByScope true frees) n (u ∷ ts) loans (one, usual, kept) (suc field) t found = all_usual (ByScope true frees) n ts loans kept field t found
+-- none is a key
+all_usual : (n : ℕ) (ts : List Ty) → InFields n ts → (field : ℕ) (t : Ty) → slice_get ts field ≡ Some t → is_key t ≡ false
+all_usual n [] kept field t found = absurd (let z : None ≡ Some t = found in cc)
+all_usual n (u ∷ ts) (one, usual, kept) zero t found = subst (λ z. is_key z ≡ false) (some_same u t found) usual
+all_usual n (u ∷ ts) (one, usual, kept) (suc field) t found = all_usual n ts kept field t found
 
-all_structs : (m : Reading) (ss : List StructType) → InStructs m ss → (n : ℕ) (s : StructType) → slice_get ss n ≡ Some s → InFields m s.parameters s.fields
-all_structs m [] kept n s found = absurd (let z : None ≡ Some s = found in cc)
-all_structs m (r ∷ ss) (one, kept) zero s found = subst (λ (z : StructType). InFields m z.parameters z.fields) (some_same r s found) one
-all_structs m (r ∷ ss) (one, kept) (suc n) s found = all_structs m ss kept n s found
+all_structs : (ss : List StructType) → InStructs ss → (n : ℕ) (s : StructType) → slice_get ss n ≡ Some s → InFields s.parameters s.fields
+all_structs [] kept n s found = absurd (let z : None ≡ Some s = found in cc)
+all_structs (r ∷ ss) (one, kept) zero s found = subst (λ (z : StructType). InFields z.parameters z.fields) (some_same r s found) one
+all_structs (r ∷ ss) (one, kept) (suc n) s found = all_structs ss kept n s found
 
-counted_cells : (frees : Bool) (ls : List Life) (s : StructType) → length ls ≡ s.parameters → cells_of frees ls s ≡ Some (map (at (lives_among frees ls)) s.fields)
-counted_cells frees ls s count = ap (λ (b : Bool). if b then Some (map (at (lives_among frees ls)) s.fields) else None) (eq-eqb (length ls) s.parameters count)
+counted_cells : (ls : List Life) (s : StructType) → length ls ≡ s.parameters → cells_of ls s ≡ Some (map (at (lives_among ls)) s.fields)
+counted_cells ls s count = ap (λ (b : Bool). if b then Some (map (at (lives_among ls)) s.fields) else None) (eq-eqb (length ls) s.parameters count)
 
-cells_counted : (frees : Bool) (ls : List Life) (s : StructType) (ts : List RunTy) → cells_of frees ls s ≡ Some ts → length ls ≡ s.parameters
-cells_counted frees ls s ts is = go (length ls == s.parameters) refl is
+cells_counted : (ls : List Life) (s : StructType) (ts : List RunTy) → cells_of ls s ≡ Some ts → length ls ≡ s.parameters
+cells_counted ls s ts is = go (length ls == s.parameters) refl is
   where
-    go : (b : Bool) → (length ls == s.parameters) ≡ b → (if b then Some (map (at (lives_among frees ls)) s.fields) else None) ≡ Some ts → length ls ≡ s.parameters
+    go : (b : Bool) → (length ls == s.parameters) ≡ b → (if b then Some (map (at (lives_among ls)) s.fields) else None) ≡ Some ts → length ls ≡ s.parameters
     go true same is = eqb-true (length ls) s.parameters same
     go false other is = absurd (let z : None ≡ Some ts = is in cc)
 
--- at the start all regions are read as the heap
 -- where there are no constraints, nothing is given of unique pointers
 plain_given : (h : Function) (a : Region) → h.constraints ≡ [] → IsGiven (regions_at_call h) a regions.Unique → ⊥
 plain_given h a none (inl (heap, plain)) = plain refl
@@ -262,9 +258,9 @@ first_given h b none (inl (heap, plain)) = let e : regions.Unique ≡ regions.He
 first_given h b none (inr (inl written)) = contains_none (regions.Unique, b) (subst (λ ps. Contains ps (regions.Unique, b)) none written)
 first_given h b none (inr (inr old)) = old
 
-stand_first : (m : Reading) (c : RegionContext) → ((a : Region) → IsGiven c a regions.Unique → ⊥) → ((b : Region) → IsGiven c regions.Unique b → ⊥) → StandBy m c (frees_of m) (λ n. heap_life) (λ n. true)
-stand_first AsHeap c plain first = (refl, λ n. (refl, refl))
-stand_first (ByScope lends frees) c plain first = (refl, record { there = λ r has. there r; agrees = agrees; plain = plain })
+-- at the start all region variables stand for the heap
+stand_first : (c : RegionContext) → ((a : Region) → IsGiven c a regions.Unique → ⊥) → ((b : Region) → IsGiven c regions.Unique b → ⊥) → AreNamed c (λ n. heap_life) (λ n. true)
+stand_first c plain first = record { there = λ r has. there r; agrees = agrees; plain = plain }
   where
     there : (r : Region) → IsThereBy (λ n. true) r
     there regions.Heap = tt
@@ -272,41 +268,40 @@ stand_first (ByScope lends frees) c plain first = (refl, record { there = λ r h
     there (regions.Variable n) = refl
 
     -- nothing is unique but what is so itself
-    agrees : (a b : Region) → IsGiven c a b → Outlasts (lives_of frees (λ n. heap_life) a) (lives_of frees (λ n. heap_life) b)
-    agrees regions.Heap b given = for_ever (lives_of frees (λ n. heap_life) b)
-    agrees (regions.Variable n) b given = for_ever (lives_of frees (λ n. heap_life) b)
+    agrees : (a b : Region) → IsGiven c a b → Outlasts (lives_of (λ n. heap_life) a) (lives_of (λ n. heap_life) b)
+    agrees regions.Heap b given = for_ever (lives_of (λ n. heap_life) b)
+    agrees (regions.Variable n) b given = for_ever (lives_of (λ n. heap_life) b)
     agrees regions.Unique b given = absurd (first b given)
 
-well_start : (p : Source) (input : List ℕ) → AreAccepted p → IsWellTypedProgram p.program → IsInClass p → IsWell p (start p.program input)
+well_start : (p : Program) (input : List ℕ) → AreAccepted p → IsWellTypedProgram p → IsInClass p → IsWell p (start p input)
 well_start p input accepted well (in_functions, in_globals, in_structs) =
-    let (h, found, same) = of_map signature_of p.program.functions p.program.main (signature_of_ints []) well.main in
-    let (end, ok) = accepted p.program.main h found in
+    let (h, found, same) = of_map signature_of p.functions p.main (signature_of_ints []) well.main in
+    let (end, ok) = accepted p.main h found in
     let none : h.parameters ≡ [] = ap (λ (s : Signature). s.parameters) same in
     let unmixed : h.constraints ≡ [] = ap (λ (s : Signature). s.constraints) same in
     let int : h.result ≡ Some types.Int = ap (λ (s : Signature). s.result) same in
-    let w = first_world p.program input in
-    let g = globals_typed (frees_of p.reading) p.program.structs p.program.globals in
-    let bs : List InScope = Instance (frees_of p.reading) (λ n. heap_life) (λ n. true) ∷ [] in
+    let w = first_world p input in
+    let g = globals_typed p.structs p.globals in
+    let bs : List InScope = Instance (λ n. heap_life) (λ n. true) ∷ [] in
     let x : Exits = record { loop = None; result = h.result; gives = read_value bs (result_type h.result); locks = []; relied = [] } in
     let objects : IsTyped g w.regions w.objects = record {
-      count = mapped_length global_object (global_of (frees_of p.reading)) p.program.globals;
-      counts = mapped_length global_object (λ (v : GlobalVariable). 1) p.program.globals;
-      each = globals_each p.reading g p.program.globals well.globals in_globals;
+      count = mapped_length global_object global_of p.globals;
+      counts = mapped_length global_object (λ (v : GlobalVariable). 1) p.globals;
+      each = globals_each g p.globals well.globals in_globals;
       heap = refl;
       kept = λ n is. none_among is;
       fresh = λ n less. refl;
       unique = λ n held. absurd held;
-      owned = λ n t x there stands. globals_owned g (frees_of p.reading) p.program.globals well.globals n t x there stands n;
+      owned = λ n t x there stands. globals_owned g p.globals well.globals n t x there stands n;
       lent = λ n t x there stands i j u c v away. let k : Gone ≡ Away j = away in absurd (cc);
     } in
     let knows : KnowsProgram g p = record {
-      globals = λ n t there. (let (object, flag, closed) = all_globals p.reading p.program.globals in_globals n t there in (object, (1, flag, (let one : 1 ≤ 1 = omega arith in one)), closed));
-      structs = λ n s ls there count. ap (found_cells (frees_of p.reading) ls) there ∙ counted_cells (frees_of p.reading) ls s count;
-      counts = λ n s ls ts there is. cells_counted (frees_of p.reading) ls s ts (sym (ap (found_cells (frees_of p.reading) ls) there) ∙ is);
-      keys = λ n is. none_among is;
+      globals = λ n t there. (let (object, flag, closed) = all_globals p.globals in_globals n t there in (object, (1, flag, (let one : 1 ≤ 1 = omega arith in one)), closed));
+      structs = λ n s ls there count. ap (found_cells ls) there ∙ counted_cells ls s count;
+      counts = λ n s ls ts there is. cells_counted ls s ts (sym (ap (found_cells ls) there) ∙ is);
       constraints = λ n h there. (let (end, ok) = accepted n h there in ok.typed.constraints);
-      plain = λ loans n s there. all_usual p.reading s.parameters s.fields loans (all_structs p.reading p.program.structs in_structs n s there);
-      fields = λ n s there. all_fields p.reading s.parameters s.fields (all_structs p.reading p.program.structs in_structs n s there);
+      plain = λ n s there. all_usual s.parameters s.fields (all_structs p.structs in_structs n s there);
+      fields = λ n s there. all_fields s.parameters s.fields (all_structs p.structs in_structs n s there);
     } in
     let count : 0 ≡ length h.parameters = sym (ap length none) in
     subst (λ o. IsWell p (called o [] (Main ∷ []) w)) (sym found)
@@ -317,8 +312,8 @@ well_start p input accepted well (in_functions, in_globals, in_structs) =
       (λ n. true),
       ok,
       (refl, refl, refl, refl, refl),
-      (frees_of p.reading, refl),
-      stand_first p.reading (regions_at_call h) (λ a given. plain_given h a unmixed given) (λ b given. first_given h b unmixed given),
+      refl,
+      stand_first (regions_at_call h) (λ a given. plain_given h a unmixed given) (λ b given. first_given h b unmixed given),
       subst (λ ts. AreOperands g (map (read bs) ts) []) (sym none) tt,
       subst (λ ts. AreGiven g.own 0 (map (read bs) ts) []) (sym none) tt,
       (refl, int, ap (λ o. read_value bs (result_type o)) int, ok.ends types.Int int, refl),
@@ -326,35 +321,7 @@ well_start p input accepted well (in_functions, in_globals, in_structs) =
 
 -- ---- the theorem
 
-sound_by : (p : Source) → IsWellTypedProgram p.program → IsAllowedProgram p.program → IsInClass p → IsSound p.program
-sound_by p well allowed kept input count =
-    let accepted : AreAccepted p = accepted_among p p.program.functions well.functions allowed kept.0 in
-    well_alive p (run p.program input count) (well_steps p count (start p.program input) accepted (nests_start p.program input) (well_start p input accepted well kept))
-
--- programs that give back unique objects
-pub freeing_sound : (p : Program) → IsWellTypedProgram p → IsAllowedProgram p → FreesObjects p → IsSound p
-freeing_sound p well allowed kept = sound_by (record { program = p; reading = ByScope true true }) well allowed kept
-
--- programs that give no object back
-pub lending_sound : (p : Program) → IsWellTypedProgram p → IsAllowedProgram p → FreesNoObject p → IsSound p
-lending_sound p well allowed kept = sound_by (record { program = p; reading = ByScope true false }) well allowed kept
-
--- programs that are read by scope
-pub scopes_sound : (p : Program) → IsWellTypedProgram p → IsAllowedProgram p → IsOfScopes p → IsSound p
-scopes_sound p well allowed kept = sound_by (record { program = p; reading = ByScope false false }) well allowed kept
-
-globals_as_heap : (vs : List GlobalVariable) → InGlobals AsHeap vs
-globals_as_heap [] = tt
-globals_as_heap (v ∷ vs) = (tt, globals_as_heap vs)
-
-fields_as_heap : (n : ℕ) (ts : List Ty) → InFields AsHeap n ts
-fields_as_heap n [] = tt
-fields_as_heap n (t ∷ ts) = (tt, tt, fields_as_heap n ts)
-
-structs_as_heap : (ss : List StructType) → InStructs AsHeap ss
-structs_as_heap [] = tt
-structs_as_heap (s ∷ ss) = (fields_as_heap s.parameters s.fields, structs_as_heap ss)
-
--- and those that are read as the heap
-pub heap_sound : (p : Program) → IsWellTypedProgram p → IsAllowedProgram p → IsOfTheHeap p → IsSound p
-heap_sound p well allowed kept = sound_by (record { program = p; reading = AsHeap }) well allowed (kept, globals_as_heap p.globals, structs_as_heap p.structs)
+pub class_sound : (p : Program) → IsWellTypedProgram p → IsAllowedProgram p → IsInClass p → IsSound p
+class_sound p well allowed kept input count =
+    let accepted : AreAccepted p = accepted_among p p.functions well.functions allowed kept.0 in
+    well_alive p (run p input count) (well_steps p count (start p input) accepted (nests_start p input) (well_start p input accepted well kept))

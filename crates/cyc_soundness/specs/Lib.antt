@@ -1,4 +1,4 @@
--- which programs a theorem speaks of
+-- what is promised of a program
 pub mod Sound
 -- What the functions of this crate promise each other and what its proofs say: no public contract of the product means it.
 pub mod inside

@@ -3,5 +3,5 @@ pub mod Lives
 pub mod Worlds
 pub mod Frames
 pub mod Stacks
--- which programs a theorem speaks of
+-- which programs the proof speaks of
 pub mod Classes

@@ -7,7 +7,7 @@ ghost use Rattle.cyc_types.specs.Types.{Ty, ValueType};
 ghost use Rattle.cyc_types.specs.TypedTrees.{Program};
 ghost use Rattle.cyc_types.specs.typing.Programs.{IsTypedProgram};
 ghost use Rattle.cyc_types.specs.typing.Tests.{kind_of};
-ghost use Rattle.cyc_types.specs.typing.WellTyped.{Context, Converts, IsWellTypedProgram};
+ghost use Rattle.cyc_types.specs.typing.WellTyped.{Context, Converts};
 ghost use Rattle.cyc_types.specs.flow.Programs.{IsAllowedProgram};
 ghost use Rattle.cyc_meaning.specs.Values.{Value, Operand};
 ghost use Rattle.cyc_meaning.specs.Conversion.{conversion};
@@ -16,14 +16,13 @@ ghost use Rattle.cyc_soundness.specs.inside.Lives.{RunTy, Lives, at, value_at};
 ghost use Rattle.cyc_soundness.specs.inside.Worlds.{Typing, AgreesWith, HasType, IsResult, Fits, Grows, Stays};
 ghost use Rattle.cyc_soundness.specs.inside.Frames.{InScope, Exits};
 ghost use Rattle.cyc_soundness.specs.inside.Stacks.{Want, IsStack};
-ghost use Rattle.cyc_soundness.specs.inside.Classes.{IsOfTheHeap, IsOfScopes, FreesNoObject, FreesObjects, Source};
 ghost use Rattle.cyc_soundness.specs.Sound.{IsSound};
 
 /// What is known of a world only grows, and what was typed stays so: a value keeps its type for good, and a control stack
 /// keeps it where no key changes hands.
 pub fn typings_stay()
     ensures values { (g h : Typing) → Grows g h → (t : RunTy) (v : Value) → HasType g t v → HasType h t v }
-    ensures stacks { (p : Source) (g h : Typing) → Stays g h → (x : Exits) (locals : List InScope) (want : Want) (stack : List Entry)
+    ensures stacks { (p : Program) (g h : Typing) → Stays g h → (x : Exits) (locals : List InScope) (want : Want) (stack : List Entry)
         → IsStack p g x locals want stack → IsStack p h x locals want stack }
 {}
 
@@ -32,33 +31,6 @@ pub fn typings_stay()
 pub fn conversions_fit()
     ensures { (g : Typing) (n : Lives) (c : Context) (s : ValueType) (t : Ty) (v : Operand) → AgreesWith c.regions n → Converts c s t
         → IsResult g (value_at n s) v → Fits g (at n t) (conversion (kind_of t) v.value) }
-{}
-
-/// No run of a program in which nothing ends that can be reached, but its calls and blocks, is ever dead or wrong, where
-/// the typing rules and the flow rules accept it.
-pub fn heap_programs_are_sound()
-    ensures { (p : Program) → IsWellTypedProgram p → IsAllowedProgram p → IsOfTheHeap p → IsSound p }
-{}
-
-/// No run of a program in which what ends does so with a scope is ever dead or wrong, where the typing rules and the flow
-/// rules accept it: a pointer may lead to a local or into a region that will close, and is not followed once that has
-/// ended.
-pub fn scoped_programs_are_sound()
-    ensures { (p : Program) → IsWellTypedProgram p → IsAllowedProgram p → IsOfScopes p → IsSound p }
-{}
-
-/// No run of a program that gives no object back is ever dead or wrong, where the typing rules and the flow rules accept it.
-/// Dynamic regions are opened by their keys, to the end of a block, and are closed for good where their keys are given back;
-/// aliases share what unique pointers lead to, to the end of a block.
-pub fn programs_that_free_no_object_are_sound()
-    ensures { (p : Program) → IsWellTypedProgram p → IsAllowedProgram p → FreesNoObject p → IsSound p }
-{}
-
-/// No run of a program that gives back unique objects is ever dead or wrong, where the typing rules and the flow rules accept
-/// it. What is given back is reached by nobody then: no other has the pointer to it, and an alias leads to it only while
-/// the pointer is lent.
-pub fn programs_that_free_objects_are_sound()
-    ensures { (p : Program) → IsWellTypedProgram p → IsAllowedProgram p → FreesObjects p → IsSound p }
 {}
 
 /// No run of a program that the typing rules derive from a tree and the flow rules accept is ever dead or wrong: nothing

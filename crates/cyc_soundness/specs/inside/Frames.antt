@@ -4,7 +4,7 @@ use Rattle.cyc_syntax.specs.Symbols.{Place}
 use Rattle.cyc_types.specs.declared.region.Region.{Region}
 use Rattle.cyc_types.specs.declared.region.Region.TheVariants as regions
 use Rattle.cyc_types.specs.Types.{Ty, ValueType, result_type}
-use Rattle.cyc_types.specs.TypedTrees.{StructType, GlobalVariable, Function}
+use Rattle.cyc_types.specs.TypedTrees.{StructType, GlobalVariable, Function, Program}
 use Rattle.cyc_types.specs.Outlives.{RegionContext, live_regions, IsGiven}
 use Rattle.cyc_types.specs.typing.Tests.{is_moved, is_key}
 use Rattle.cyc_types.specs.typing.WellTyped.{LocalInScope, Context, signature_of, AreConstraints}
@@ -13,10 +13,10 @@ use Rattle.cyc_types.specs.flow.States.{fullness, is_vacant, is_reached, Reached
 use Rattle.cyc_types.specs.flow.Statements.{Loop, Around}
 use Rattle.cyc_meaning.specs.State.{globals_number, Entry, CloseRegion, Caller}
 use Rattle.cyc_meaning.specs.inside.Nesting.{ends_of}
-use Rattle.cyc_soundness.specs.inside.Lives.{Life, OfRegion, Kept, RunTy, RunValue, Void, Lives, at, value_at, heap_life, lives_of, as_heap, Reading, AsHeap, ByScope, AllIn, AllInValue, IsKnown}
+use Rattle.cyc_soundness.specs.inside.Lives.{Life, OfRegion, Kept, RunTy, RunValue, Void, Lives, at, value_at, heap_life, lives_of, as_heap, AllIn, AllInValue, IsKnown}
 pub use Rattle.cyc_soundness.specs.inside.Worlds.{IsAmong, first, later}
 use Rattle.cyc_soundness.specs.inside.Worlds.{OfLocal, ObjectType, Typing, IsHere, IsOpenIn, IsKnownLife, IsFull, variable_type, global_type, IsEndOf, Outlasts, IsNumber}
-use Rattle.cyc_soundness.specs.inside.Classes.{is_full, Relied, frees_of, HasLoans, IsDeclarable, Source, only}
+use Rattle.cyc_soundness.specs.inside.Classes.{is_full, Relied, IsDeclarable, only}
 
 -- a local in scope, with its object and how long this is there
 pub record Bound : Type 0 where
@@ -38,8 +38,8 @@ pub data InScope : Type 0 where
   Level : (level : ℕ) → InScope
   -- what the region variable of this number stands for, and whether that is live
   Names : (number : ℕ) → Life → (is_live : Bool) → InScope
-  -- what all region variables of a call stand for, and which of that is live; and whether objects are given back
-  Instance : (frees : Bool) → (ℕ → Life) → (ℕ → Bool) → InScope
+  -- what all region variables of a call stand for, and which of that is live
+  Instance : (ℕ → Life) → (ℕ → Bool) → InScope
   -- the region in which the variables of the innermost block live
   Home : (region : ℕ) → InScope
 
@@ -51,7 +51,7 @@ life_named [] k = heap_life
 life_named (Variable b ∷ bs) k = life_named bs k
 life_named (Level l ∷ bs) k = life_named bs k
 life_named (Names number life live ∷ bs) k = if k == number then life else life_named bs k
-life_named (Instance frees these live ∷ bs) k = these k
+life_named (Instance these live ∷ bs) k = these k
 life_named (Home region ∷ bs) k = life_named bs k
 
 abbrev pub is_live_named : List InScope → ℕ → Bool
@@ -59,20 +59,12 @@ is_live_named [] k = true
 is_live_named (Variable b ∷ bs) k = is_live_named bs k
 is_live_named (Level l ∷ bs) k = is_live_named bs k
 is_live_named (Names number life live ∷ bs) k = if k == number then live else is_live_named bs k
-is_live_named (Instance frees these live ∷ bs) k = live k
+is_live_named (Instance these live ∷ bs) k = live k
 is_live_named (Home region ∷ bs) k = is_live_named bs k
-
-abbrev pub frees_in : List InScope → Bool
-frees_in [] = false
-frees_in (Variable b ∷ bs) = frees_in bs
-frees_in (Level l ∷ bs) = frees_in bs
-frees_in (Names number life live ∷ bs) = frees_in bs
-frees_in (Instance frees these live ∷ bs) = frees
-frees_in (Home region ∷ bs) = frees_in bs
 
 -- what the regions of the function stand for here
 abbrev pub lives_in : List InScope → Lives
-lives_in bs = lives_of (frees_in bs) (λ n. life_named bs n)
+lives_in bs = lives_of (λ n. life_named bs n)
 
 -- types as this run reads them here
 abbrev pub read : List InScope → Ty → RunTy
@@ -99,21 +91,20 @@ home_of (b ∷ bs) = home_of bs
 
 -- ---- locals
 
--- A pointer to a local is one into the region of its block; read as the heap, there are none.
-abbrev pub IsHomed : Reading → Lives → (region : ℕ) → Life → Type 0
-IsHomed AsHeap m region l = Unit {0}
-IsHomed (ByScope lends frees) m region l = l ≡ m (regions.Variable region)
+-- a pointer to a local is one into the region of its block
+abbrev pub IsHomed : Lives → (region : ℕ) → Life → Type 0
+IsHomed m region l = l ≡ m (regions.Variable region)
 
 -- the newest in scope, and then the rest of the locals
-abbrev pub IsNewest : Reading → Lives → List LocalInScope → InScope → (rest : List LocalInScope) → Type 0
-IsNewest r m vs (Variable b) rest =
-    (v : LocalInScope) × (vs ≡ v ∷ rest) × (v.number ≡ b.number) × (at m v.of_type ≡ b.of_type) × (is_moved v.of_type ≡ b.is_hidden) × IsHomed r m v.region b.life
-IsNewest r m vs b rest = vs ≡ rest
+abbrev pub IsNewest : Lives → List LocalInScope → InScope → (rest : List LocalInScope) → Type 0
+IsNewest m vs (Variable b) rest =
+    (v : LocalInScope) × (vs ≡ v ∷ rest) × (v.number ≡ b.number) × (at m v.of_type ≡ b.of_type) × (is_moved v.of_type ≡ b.is_hidden) × IsHomed m v.region b.life
+IsNewest m vs b rest = vs ≡ rest
 
 -- the scope of a tree, as this run has it
-abbrev pub IsScope : Reading → Lives → List LocalInScope → List InScope → Type 0
-IsScope r m vs [] = vs ≡ []
-IsScope r m vs (b ∷ bs) = (rest : List LocalInScope) × IsNewest r m vs b rest × IsScope r m rest bs
+abbrev pub IsScope : Lives → List LocalInScope → List InScope → Type 0
+IsScope m vs [] = vs ≡ []
+IsScope m vs (b ∷ bs) = (rest : List LocalInScope) × IsNewest m vs b rest × IsScope m rest bs
 
 -- the numbers of locals in scope were given out before this one
 abbrev pub IsBelow : ℕ → InScope → Type 0
@@ -138,7 +129,7 @@ IsBound locals counters (b ∷ bs) = HasMeaning locals counters b × IsBound loc
 abbrev pub IsOfVariable : Typing → InScope → Type 0
 IsOfVariable g (Variable b) = (slice_get g.objects b.object ≡ Some (local_type g.depth b)) × IsOpenIn g b.life
 IsOfVariable g (Names number life live) = IsKnownLife g life × (live ≡ true → IsOpenIn g life)
-IsOfVariable g (Instance frees these live) = (n : ℕ) → IsKnownLife g (these n) × (live n ≡ true → IsOpenIn g (these n))
+IsOfVariable g (Instance these live) = (n : ℕ) → IsKnownLife g (these n) × (live n ≡ true → IsOpenIn g (these n))
 IsOfVariable g b = Unit {0}
 
 abbrev pub AreVariables : Typing → List InScope → Type 0
@@ -155,7 +146,7 @@ IsLasting regions l = ⊥
 abbrev pub IsLiveIn : List ℕ → InScope → Type 0
 IsLiveIn regions (Variable b) = IsLasting regions b.life
 IsLiveIn regions (Names number life live) = live ≡ true → IsLasting regions life
-IsLiveIn regions (Instance frees these live) = (n : ℕ) → live n ≡ true → IsLasting regions (these n)
+IsLiveIn regions (Instance these live) = (n : ℕ) → live n ≡ true → IsLasting regions (these n)
 IsLiveIn regions b = Unit {0}
 
 abbrev pub AreLiveIn : List ℕ → List InScope → Type 0
@@ -271,76 +262,63 @@ is_loop (Some l) = true
 -- ---- what the regions of a context stand for
 
 -- what is live has not ended, and what outlives another lasts as long
-pub record AreNamed (c : RegionContext) (frees : Bool) (these : ℕ → Life) (live : ℕ → Bool) : Type 0 where
+pub record AreNamed (c : RegionContext) (these : ℕ → Life) (live : ℕ → Bool) : Type 0 where
   pub there : (r : Region) → Contains (live_regions c.live c.opened) r → IsThereBy live r
-  pub agrees : (a b : Region) → IsGiven c a b → Outlasts (lives_of frees these a) (lives_of frees these b)
+  pub agrees : (a b : Region) → IsGiven c a b → Outlasts (lives_of these a) (lives_of these b)
   -- nothing else outlives what is unique
   pub plain : (a : Region) → IsGiven c a regions.Unique → ⊥
 
--- as the program is read, region variables stand for the heap, or for what the context says of them
-abbrev pub StandBy : Reading → RegionContext → (frees : Bool) → (ℕ → Life) → (ℕ → Bool) → Type 0
-StandBy AsHeap c freed these live = (freed ≡ false) × ((n : ℕ) → (these n ≡ heap_life) × (live n ≡ true))
-StandBy (ByScope lends frees) c freed these live = (freed ≡ frees) × AreNamed c freed these live
-
-abbrev pub Stand : Reading → RegionContext → List InScope → Type 0
-Stand m c bs = StandBy m c (frees_in bs) (λ n. life_named bs n) (λ n. is_live_named bs n)
-
-abbrev pub IsHomeBy : Reading → Life → (is_live : Bool) → (home : ℕ) → Type 0
-IsHomeBy AsHeap l live home = Unit {0}
-IsHomeBy (ByScope lends frees) l live home = IsNumber l home × (live ≡ true)
+-- region variables stand for what the context says of them
+abbrev pub Stand : RegionContext → List InScope → Type 0
+Stand c bs = AreNamed c (λ n. life_named bs n) (λ n. is_live_named bs n)
 
 -- the variables of the innermost block live in the region that this one stands for
-abbrev pub IsHome : Reading → (region : ℕ) → List InScope → Type 0
-IsHome m region bs = IsHomeBy m (life_named bs region) (is_live_named bs region) (home_of bs)
+abbrev pub IsHome : (region : ℕ) → List InScope → Type 0
+IsHome region bs = IsNumber (life_named bs region) (home_of bs) × (is_live_named bs region ≡ true)
 
 abbrev pub AreKnownLocals : ℕ → List LocalInScope → Type 0
 AreKnownLocals n [] = Unit {0}
 AreKnownLocals n (v ∷ vs) = (AllIn (IsKnown n) v.of_type × (v.region < n)) × AreKnownLocals n vs
 
 -- only regions below this number are named
-pub record IsKnownBy (n : ℕ) (c : RegionContext) (vs : List LocalInScope) (result : Option Ty) : Type 0 where
+pub record AreKnown (n : ℕ) (c : RegionContext) (vs : List LocalInScope) (result : Option Ty) : Type 0 where
   pub live : (r : Region) → Contains (live_regions c.live c.opened) r → IsKnown n r
   pub pairs : (a b : Region) → Contains c.written (a, b) → IsKnown n a × IsKnown n b
   pub locals : AreKnownLocals n vs
   pub gives : AllInValue (IsKnown n) (result_type result)
 
-abbrev pub AreKnown : Reading → ℕ → RegionContext → List LocalInScope → Option Ty → Type 0
-AreKnown AsHeap n c vs result = Unit {0}
-AreKnown (ByScope lends frees) n c vs result = IsKnownBy n c vs result
-
 -- the context of a tree in a function of this program, where control may go there and this is in scope
-pub record IsContext (p : Source) (x : Exits) (bs : List InScope) (c : Context) : Type 0 where
-  pub globals : c.globals ≡ map (λ (g : GlobalVariable). g.of_type) p.program.globals
-  pub functions : c.functions ≡ map signature_of p.program.functions
-  pub structs : c.structs ≡ p.program.structs
+pub record IsContext (p : Program) (x : Exits) (bs : List InScope) (c : Context) : Type 0 where
+  pub globals : c.globals ≡ map (λ (g : GlobalVariable). g.of_type) p.globals
+  pub functions : c.functions ≡ map signature_of p.functions
+  pub structs : c.structs ≡ p.structs
   pub result : c.result ≡ x.result
   pub gives : read_value bs (result_type c.result) ≡ x.gives
   pub loop : c.in_loop ≡ true → is_loop x.loop ≡ true
-  pub scope : IsScope p.reading (lives_in bs) c.locals bs
+  pub scope : IsScope (lives_in bs) c.locals bs
   pub below : AreBelow c.next_local bs
   pub counters : (level : ℕ) → level < c.counters → IsAmong (Level level) bs
-  pub known : AreKnown p.reading c.next_region c.regions c.locals c.result
-  pub regions : Stand p.reading c.regions bs
-  pub home : IsHome p.reading c.region bs
+  pub known : AreKnown c.next_region c.regions c.locals c.result
+  pub regions : Stand c.regions bs
+  pub home : IsHome c.region bs
 
 -- ---- programs
 
 -- the region parameters of a struct stand for these
-abbrev pub lives_among : (frees : Bool) → List Life → Lives
-lives_among frees ls = lives_of frees (λ n. slice_index_or ls n heap_life)
+abbrev pub lives_among : List Life → Lives
+lives_among ls = lives_of (λ n. slice_index_or ls n heap_life)
 
 -- what is known of a program: its globals are the first objects, and its structs have the cells of their fields
-pub record KnowsProgram (g : Typing) (p : Source) : Type 0 where
-  pub globals : (number : ℕ) (t : Ty) → slice_get (map (λ (v : GlobalVariable). v.of_type) p.program.globals) number ≡ Some t
-      → (slice_get g.objects number ≡ Some (global_type (at (as_heap (frees_of p.reading)) t))) × IsFull g number × IsDeclarable p.reading 0 t
-  pub structs : (number : ℕ) (s : StructType) (ls : List Life) → slice_get p.program.structs number ≡ Some s → length ls ≡ s.parameters
-      → g.fields number ls ≡ Some (map (at (lives_among (frees_of p.reading) ls)) s.fields)
+pub record KnowsProgram (g : Typing) (p : Program) : Type 0 where
+  pub globals : (number : ℕ) (t : Ty) → slice_get (map (λ (v : GlobalVariable). v.of_type) p.globals) number ≡ Some t
+      → (slice_get g.objects number ≡ Some (global_type (at as_heap t))) × IsFull g number × IsDeclarable 0 t
+  pub structs : (number : ℕ) (s : StructType) (ls : List Life) → slice_get p.structs number ≡ Some s → length ls ≡ s.parameters
+      → g.fields number ls ≡ Some (map (at (lives_among ls)) s.fields)
   -- a struct has so many parameters
-  pub counts : (number : ℕ) (s : StructType) (ls : List Life) (ts : List RunTy) → slice_get p.program.structs number ≡ Some s → g.fields number ls ≡ Some ts → length ls ≡ s.parameters
-  -- there are dynamic regions only where things are lent, and then no field is a key
-  pub keys : (number : ℕ) → IsAmong number g.kept → HasLoans p.reading
-  pub plain : HasLoans p.reading → (number : ℕ) (s : StructType) → slice_get p.program.structs number ≡ Some s → (field : ℕ) (t : Ty) → slice_get s.fields field ≡ Some t → is_key t ≡ false
+  pub counts : (number : ℕ) (s : StructType) (ls : List Life) (ts : List RunTy) → slice_get p.structs number ≡ Some s → g.fields number ls ≡ Some ts → length ls ≡ s.parameters
+  -- no field is a key
+  pub plain : (number : ℕ) (s : StructType) → slice_get p.structs number ≡ Some s → (field : ℕ) (t : Ty) → slice_get s.fields field ≡ Some t → is_key t ≡ false
   -- no constraint names the region of unique pointers
-  pub constraints : (number : ℕ) (h : Function) → slice_get p.program.functions number ≡ Some h → AreConstraints h.variables h.constraints
+  pub constraints : (number : ℕ) (h : Function) → slice_get p.functions number ≡ Some h → AreConstraints h.variables h.constraints
   -- its fields speak of no others
-  pub fields : (number : ℕ) (s : StructType) → slice_get p.program.structs number ≡ Some s → (field : ℕ) (t : Ty) → slice_get s.fields field ≡ Some t → IsDeclarable p.reading s.parameters t
+  pub fields : (number : ℕ) (s : StructType) → slice_get p.structs number ≡ Some s → (field : ℕ) (t : Ty) → slice_get s.fields field ≡ Some t → IsDeclarable s.parameters t

@@ -1,7 +1,7 @@
 -- TYPES AS A RUN READS THEM. Trees name regions, which mean something in their function alone. States speak of lives: the region of a
 -- number, or a unique object. A type of a tree becomes one of a state by what each region of its function stands for. (One language of
 -- types in two readings is this project's own choice.)
-use Rattle.std.specs.Prelude.{◌≢◌, ℕ, Bool, true, false, List, [], map, Option, Some, None}
+use Rattle.std.specs.Prelude.{◌≢◌, ℕ, Bool, false, List, [], map, Option, Some, None}
 use Rattle.cyc_syntax.specs.declared.tree.PointerKind.{PointerKind}
 use Rattle.cyc_types.specs.declared.region.Region.{Region}
 use Rattle.cyc_types.specs.declared.region.Region.TheVariants as regions
@@ -83,28 +83,15 @@ kind_at (Struct n ls) = kinds.Int
 abbrev pub heap_life : Life
 heap_life = OfRegion 0 [] (λ a. false)
 
--- where no object is given back, a unique one is there for ever too
-abbrev pub owned_life : (frees : Bool) → Life
-owned_life false = heap_life
-owned_life true = Owned
-
 -- region variables stand for these
-abbrev pub lives_of : (frees : Bool) → (ℕ → Life) → Lives
-lives_of frees m regions.Heap = heap_life
-lives_of frees m regions.Unique = owned_life frees
-lives_of frees m (regions.Variable n) = m n
+abbrev pub lives_of : (ℕ → Life) → Lives
+lives_of m regions.Heap = heap_life
+lives_of m regions.Unique = Owned
+lives_of m (regions.Variable n) = m n
 
--- Where nothing ends while it can be reached, every region may be read as the heap.
-abbrev pub as_heap : (frees : Bool) → Lives
-as_heap frees r = lives_of frees (λ n. heap_life) r
-
--- how a theorem reads the regions of a program
-pub data Reading : Type 0 where
-  -- each as the heap: no pointer leads to what is anywhere else
-  AsHeap : Reading
-  -- Each as what it stands for where it is in scope. Where things are lent, there are keys and aliases too, and where objects are given back, unique ones have a life of their
-  -- own.
-  ByScope : (lends frees : Bool) → Reading
+-- where no region variable is named, as in the types of globals, each may stand for the heap
+abbrev pub as_heap : Lives
+as_heap r = lives_of (λ n. heap_life) r
 
 -- ---- which regions a type names
 

@@ -15,7 +15,7 @@ use Rattle.cyc_types.specs.declared.typed.PointerOperator.{PointerOperator}
 use Rattle.cyc_types.specs.declared.typed.UnaryOperator.TheVariants as unary
 use Rattle.cyc_types.specs.Types.{Ty, ValueType, result_type}
 use Rattle.cyc_types.specs.Types as types
-use Rattle.cyc_types.specs.TypedTrees.{Expression, Dereference, Initial, Convert, Arguments, Operations, ThenTest, ThenPointerPeek, Side, Statement, Items, Clauses, StructType, GlobalVariable, Function}
+use Rattle.cyc_types.specs.TypedTrees.{Expression, Dereference, Initial, Convert, Arguments, Operations, ThenTest, ThenPointerPeek, Side, Statement, Items, Clauses, StructType, GlobalVariable, Function, Program}
 use Rattle.cyc_types.specs.Outlives.{RegionContext, OutlivesIn}
 use Rattle.cyc_types.specs.Rules.{AllKept, Derives}
 use Rattle.cyc_types.specs.typing.Tests.{is_struct, is_key, is_unique, is_tested, kind_of_mark, kind_of, kind_of_value}
@@ -33,11 +33,11 @@ use Rattle.cyc_meaning.specs.Values as values
 use Rattle.cyc_meaning.specs.State.{Owner, Awaiting, ConvertTo, Operate, Chain, Apply, ApplyPointer, Decide, Store, StoreCell, Pass, Follow, FollowMember, Index, Advance, CountElements, PlaceBy, BesideHandle, MakePlain, MakeFields, MakeArray, FillElement, Initialise, Choose, Test, Return, ThrowWith, FreeObject, CloseByKey, OpenBy, AliasOf, AwaitingPlace, LoadFrom, TakeAddress, StoreTo, SwapLeft, SwapRight, Write, Entry, Needs, NeedsPlace, Discard, Rest, Join, Loop, CloseRegion, CloseLexical, EndLoan, Handler, Caller, Main, Environment, World, Focus, Evaluating, Locating, Given, GivenPlace, Executing, Proceeding, Calling, Entering, Binding, Naming, Writing, Swapping, Beginning, Repeating, Breaking, Continuing, Returning, Throwing, Catching, State, Running, Ended, Dead, Wrong}
 use Rattle.cyc_meaning.specs.Allocation.{writes_from}
 use Rattle.cyc_meaning.specs.Parts.{target_of, target_of_value}
-use Rattle.cyc_soundness.specs.inside.Lives.{Life, Owned, RunTy, RunValue, Value, Seen, Into, looked, at, value_at, heap_life, lives_of, as_heap, Reading, AllIn, IsKnown}
+use Rattle.cyc_soundness.specs.inside.Lives.{Life, Owned, RunTy, RunValue, Value, Seen, Into, looked, at, value_at, heap_life, lives_of, as_heap, AllIn, IsKnown}
 use Rattle.cyc_soundness.specs.inside.Lives as lives
 use Rattle.cyc_soundness.specs.inside.Worlds.{OfLocal, Settled, Awaits, At, IsPlain, Thing, Holder, Hand, pointer_at, thing_of, Owns, Claims, ClaimsPart, ClaimsBy, ClaimsAlone, IsHad, IsHere, ObjectType, Typing, AgreesWith, variable_type, IsFilled, IsFull, HasType, IsResult, AreOperands, IsNewOwner, IsKeyless, AreKeyless, IsTyped, Away}
-use Rattle.cyc_soundness.specs.inside.Classes.{Relied, frees_of, and_looked, IsSpared, HasLoans, InExpression, InPlace, InSide, InInitial, InArguments, InOperations, InStatement, InItems, InClauses, IsDeclarable, Source}
-use Rattle.cyc_soundness.specs.inside.Frames.{IsAmong, Bound, InScope, Variable, Level, Names, Instance, Home, frees_in, life_named, lives_in, read, read_value, IsThere, IsScope, AreBelow, IsBound, AreVariables, LiveIn, Within, IsSet, IsFullIn, Holds, Implies, LoopExit, Exits, HasResult, around, lending, relying, AreFullAt, AreBreaks, is_loop, Stand, IsHome, IsContext, lives_among, KnowsProgram}
+use Rattle.cyc_soundness.specs.inside.Classes.{Relied, and_looked, IsSpared, InExpression, InPlace, InSide, InInitial, InArguments, InOperations, InStatement, InItems, InClauses, IsDeclarable}
+use Rattle.cyc_soundness.specs.inside.Frames.{IsAmong, Bound, InScope, Variable, Level, Names, Instance, Home, life_named, lives_in, read, read_value, IsThere, IsScope, AreBelow, IsBound, AreVariables, LiveIn, Within, IsSet, IsFullIn, Holds, Implies, LoopExit, Exits, HasResult, around, lending, relying, AreFullAt, AreBreaks, is_loop, Stand, IsHome, IsContext, lives_among, KnowsProgram}
 
 -- ---- trees, with what is known before and behind them
 
@@ -47,86 +47,86 @@ seen_by a (inl well) = None
 seen_by a (inr peek) = peek_of a
 
 -- an expression, which may be a peek
-pub record Evaluates (m : Reading) (q : Relied) (c : Context) (a : Expression) (f : flow.State) (t : ValueType) (h : flow.State) : Type 0 where
+pub record Evaluates (q : Relied) (c : Context) (a : Expression) (f : flow.State) (t : ValueType) (h : flow.State) : Type 0 where
   pub waiting : List ℕ
   pub typed : WellTyped c a t ⊎ IsPeek c a t
   pub flows : Derives (rule waiting a f) h
-  pub kept : InExpression m q a
+  pub kept : InExpression q a
 
 -- one whose value is taken
-abbrev pub EvaluatesWhole : Reading → Relied → Context → Expression → flow.State → ValueType → flow.State → Type 0
-EvaluatesWhole m q c a f t h = (evaluates : Evaluates m q c a f t h) × (seen_by a evaluates.typed ≡ None)
+abbrev pub EvaluatesWhole : Relied → Context → Expression → flow.State → ValueType → flow.State → Type 0
+EvaluatesWhole q c a f t h = (evaluates : Evaluates q c a f t h) × (seen_by a evaluates.typed ≡ None)
 
-pub record Computes (m : Reading) (q : Relied) (c : Context) (left : ValueType) (os : Operations) (f : flow.State) (t : Ty) (h : flow.State) : Type 0 where
+pub record Computes (q : Relied) (c : Context) (left : ValueType) (os : Operations) (f : flow.State) (t : Ty) (h : flow.State) : Type 0 where
   pub waiting : List ℕ
   pub typed : IsChain c left os t
   pub flows : Derives (rule_operations waiting os f) h
-  pub kept : InOperations m q os
+  pub kept : InOperations q os
 
-pub record Passes (m : Reading) (q : Relied) (c : Context) (ts : List Ty) (as' : Arguments) (f h : flow.State) : Type 0 where
+pub record Passes (q : Relied) (c : Context) (ts : List Ty) (as' : Arguments) (f h : flow.State) : Type 0 where
   pub waiting : List ℕ
   pub typed : ArePassed c ts as'
   pub flows : Derives (rule_arguments waiting as' f) h
-  pub kept : InArguments m q as'
+  pub kept : InArguments q as'
 
 -- a place that a pointer into this region leads to, of this type
-pub record Locates (m : Reading) (q : Relied) (c : Context) (d : Dereference) (f : flow.State) (t : Ty) (r : Region) (h : flow.State) : Type 0 where
+pub record Locates (q : Relied) (c : Context) (d : Dereference) (f : flow.State) (t : Ty) (r : Region) (h : flow.State) : Type 0 where
   pub waiting : List ℕ
   pub typed : IsCell c d t r
   pub flows : Derives (rule_place waiting d f) h
-  pub kept : InPlace m q d
+  pub kept : InPlace q d
 
 -- what a new object holds, of this type, to which the pointer has this mark
-pub record Makes (m : Reading) (q : Relied) (c : Context) (i : Initial) (k : PointerKind) (t : Ty) (f h : flow.State) : Type 0 where
+pub record Makes (q : Relied) (c : Context) (i : Initial) (k : PointerKind) (t : Ty) (f h : flow.State) : Type 0 where
   pub waiting : List ℕ
   pub typed : IsMade c i k t
   pub flows : Derives (rule_initial waiting i f) h
-  pub kept : InInitial m q i
+  pub kept : InInitial q i
 
 -- a side of a swap, of this type; what is known is what is known once both places are found
-pub record Finds (m : Reading) (q : Relied) (c : Context) (y : Side) (f : flow.State) (t : Ty) (h : flow.State) : Type 0 where
+pub record Finds (q : Relied) (c : Context) (y : Side) (f : flow.State) (t : Ty) (h : flow.State) : Type 0 where
   pub waiting : List ℕ
   pub typed : IsSide c y t
   pub flows : Derives (rule_side waiting y f) h
   pub used : AllKept (side_demanded waiting y h)
-  pub kept : InSide m q y
+  pub kept : InSide q y
 
 -- behind a statement this is known, which is what the breaks in it leave to the loop around
-pub record Executes (m : Reading) (x : Exits) (c : Context) (s : Statement) (f h : flow.State) : Type 0 where
+pub record Executes (x : Exits) (c : Context) (s : Statement) (f h : flow.State) : Type 0 where
   pub before : flow.State
   pub behind : flow.State
   pub typed : WellTypedStatement c s
   pub flows : Derives (rule_statement (around x) s (record { now = f; breaks = before })) (record { now = h; breaks = behind })
   pub breaks : AreBreaks x.loop behind
-  pub kept : InStatement m x.relied c.next_region s
+  pub kept : InStatement x.relied c.next_region s
 
 -- what is left of a block: at its end, what these items have locked is full again
-pub record Continues (m : Reading) (x : Exits) (c : Context) (js : Items) (f h : flow.State) : Type 0 where
+pub record Continues (x : Exits) (c : Context) (js : Items) (f h : flow.State) : Type 0 where
   pub before : flow.State
   pub behind : flow.State
   pub ending : flow.State
   pub typed : WellTypedItems c js
   pub flows : Derives (rule_items (around x) js (record { now = f; breaks = before })) (record { now = ending; breaks = behind })
   pub breaks : AreBreaks x.loop behind
-  pub kept : is_reached f ≡ true → InItems m x.relied c.next_region js
+  pub kept : is_reached f ≡ true → InItems x.relied c.next_region js
   pub ends : Implies (with_each Full (locks_of js) ending) h
 
 -- clauses that begin with this known
-pub record Catches (m : Reading) (x : Exits) (c : Context) (start : flow.State) (cs : Clauses) (f h : flow.State) : Type 0 where
+pub record Catches (x : Exits) (c : Context) (start : flow.State) (cs : Clauses) (f h : flow.State) : Type 0 where
   pub before : flow.State
   pub behind : flow.State
   pub typed : WellTypedClauses c cs
   pub flows : Derives (rule_clauses (around x) start cs (record { now = f; breaks = before })) (record { now = h; breaks = behind })
   pub breaks : AreBreaks x.loop behind
-  pub kept : InClauses m x.relied c.next_region cs
+  pub kept : InClauses x.relied c.next_region cs
 
 -- a function that is accepted, behind whose body this is known
-pub record IsAccepted (p : Source) (h : Function) (end : flow.State) : Type 0 where
-  pub typed : IsWellTypedFunction p.program h
+pub record IsAccepted (p : Program) (h : Function) (end : flow.State) : Type 0 where
+  pub typed : IsWellTypedFunction p h
   pub breaks : flow.State
   pub flows : Derives (rule_items in_function h.body (record { now = start_of h; breaks = Unreached })) (record { now = end; breaks = breaks })
   pub ends : (t : Ty) → h.result ≡ Some t → is_reached end ≡ false
-  pub kept : InItems p.reading [] (suc h.variables) h.body
+  pub kept : InItems [] (suc h.variables) h.body
 
 -- ---- what is awaited
 
@@ -208,26 +208,26 @@ abbrev pub regions_at_call : Function → RegionContext
 regions_at_call h = record { written = h.constraints; live = regions.Heap ∷ regions.Unique ∷ h.effect; opened = [] }
 
 -- What the region variables of a callee stand for, and which of that is live there, is so here.
-pub record IsInstance (p : Source) (bs : List InScope) (h : Function) (these : ℕ → Life) (live : ℕ → Bool) : Type 0 where
-  pub stand : Stand p.reading (regions_at_call h) (Instance (frees_in bs) these live ∷ [])
+pub record IsInstance (bs : List InScope) (h : Function) (these : ℕ → Life) (live : ℕ → Bool) : Type 0 where
+  pub stand : Stand (regions_at_call h) (Instance these live ∷ [])
   pub lasting : (n : ℕ) → live n ≡ true → (r : Region) × (r ≢ regions.Unique) × IsThere bs r × (lives_in bs r ≡ these n)
   pub named : (n : ℕ) → (r : Region) × (r ≢ regions.Unique) × (lives_in bs r ≡ these n)
 
 -- a call with arguments of these types gives this
-abbrev pub IsCalled : Source → List InScope → Callee → List RunTy → RunValue → Type 0
+abbrev pub IsCalled : Program → List InScope → Callee → List RunTy → RunValue → Type 0
 IsCalled p bs callees.Putchar ts r = (ts ≡ lives.Int ∷ []) × (r ≡ Value lives.Int)
 IsCalled p bs callees.Getchar ts r = (ts ≡ []) × (r ≡ Value lives.Int)
 IsCalled p bs (callees.Function number) ts r =
-    (h : Function) × (these : ℕ → Life) × (live : ℕ → Bool) × (slice_get p.program.functions number ≡ Some h) × IsInstance p bs h these live
-    × (ts ≡ map (at (lives_of (frees_in bs) these)) h.parameters) × (r ≡ value_at (lives_of (frees_in bs) these) (result_type h.result))
+    (h : Function) × (these : ℕ → Life) × (live : ℕ → Bool) × (slice_get p.functions number ≡ Some h) × IsInstance bs h these live
+    × (ts ≡ map (at (lives_of these)) h.parameters) × (r ≡ value_at (lives_of these) (result_type h.result))
 
 -- these are the types of the fields of a struct whose parameters stand for this, and no key is among them
-abbrev pub AreFields : Source → (struct : ℕ) → List Life → List RunTy → Type 0
-AreFields p n ls ts = (s : StructType) × (slice_get p.program.structs n ≡ Some s) × (length ls ≡ s.parameters) × (ts ≡ map (at (lives_among (frees_of p.reading) ls)) s.fields) × AreKeyless ts
+abbrev pub AreFields : Program → (struct : ℕ) → List Life → List RunTy → Type 0
+AreFields p n ls ts = (s : StructType) × (slice_get p.structs n ≡ Some s) × (length ls ≡ s.parameters) × (ts ≡ map (at (lives_among ls)) s.fields) × AreKeyless ts
 
 -- a local of this type may be declared next
-abbrev pub IsNew : Reading → Context → Ty → Type 0
-IsNew m c t = IsDeclarable m c.next_region t × IsLive c (regions.Variable c.region)
+abbrev pub IsNew : Context → Ty → Type 0
+IsNew c t = IsDeclarable c.next_region t × IsLive c (regions.Variable c.region)
 
 abbrev pub null : Operand
 null = record { kind = kinds.Nullable; value = values.Null }
@@ -237,23 +237,23 @@ abbrev pub inside : Exits → LoopExit → Exits
 inside x l = record x { loop = Some l; locks = [] }
 
 -- A loop, whose condition has a value of this type and leaves this known; behind the loop it is this.
-pub record IsLoop (p : Source) (x : Exits) (bs : List InScope) (l : LoopExit) (condition : Expression) (body : Statement) (v : ValueType) (f exit : flow.State) : Type 0 where
+pub record IsLoop (p : Program) (x : Exits) (bs : List InScope) (l : LoopExit) (condition : Expression) (body : Statement) (v : ValueType) (f exit : flow.State) : Type 0 where
   pub context : Context
   pub now : flow.State
   pub stands : IsContext p x bs context
   pub tested : is_tested v ≡ true
-  pub first : Evaluates p.reading x.relied context condition l.head v f
-  pub again : Executes p.reading (inside x l) (in_body context) body f now
+  pub first : Evaluates x.relied context condition l.head v f
+  pub again : Executes (inside x l) (in_body context) body f now
   pub back : Implies now l.head
   pub fails : Implies f exit
   pub left : Implies l.breaks exit
 
 -- The elements of an array, of this type: each leaves known what was known before it.
-pub record Repeats (m : Reading) (q : Relied) (c : Context) (level : ℕ) (kind : Kind) (element : Expression) (t : Ty) (f : flow.State) : Type 0 where
+pub record Repeats (q : Relied) (c : Context) (level : ℕ) (kind : Kind) (element : Expression) (t : Ty) (f : flow.State) : Type 0 where
   pub now : flow.State
   pub level_is : level ≡ c.counters
   pub kind_is : kind ≡ kind_of t
-  pub each : Evaluates m q (with_counter c) element f (types.Value t) now
+  pub each : Evaluates q (with_counter c) element f (types.Value t) now
   pub taken : seen_by element each.typed ≡ None
   pub back : Implies now f
   pub plain : is_key t ≡ false
@@ -288,7 +288,7 @@ IsByType (lives.Pointer k t l) = IsCommonLife l
 IsByType t = Unit {0}
 
 -- What waits for a value: with the types of the operands that wait in it, what it awaits, and what goes on then, in which scope.
-pub data Waits (p : Source) (x : Exits) (q : Relied) (bs : List InScope) : Awaiting → List RunTy → RunValue → flow.State → List InScope → Want → Type 0 where
+pub data Waits (p : Program) (x : Exits) (q : Relied) (bs : List InScope) : Awaiting → List RunTy → RunValue → flow.State → List InScope → Want → Type 0 where
   converts : {from to : Kind} {target : Option Kind} (c : Context) (v : ValueType) (t : Ty) (f : flow.State) → AgreesWith c.regions (lives_in bs) → KeepsUnique c.regions (lives_in bs) → Converts c v t → from ≡ kind_of_value v → to ≡ kind_of t → target ≡ target_of_value v
       → Waits p x q bs (ConvertTo from to target) [] (read_value bs v) f bs (Val (Value (read bs t)) f)
   negates : (f : flow.State) → Waits p x q bs (Operate unary.Negate) [] (Value lives.Int) f bs (Val (Value lives.Int) f)
@@ -296,13 +296,13 @@ pub data Waits (p : Source) (x : Exits) (q : Relied) (bs : List InScope) : Await
   denies : (peek : Option ℕ) (v : ValueType) (f : flow.State) → is_tested v ≡ true → Waits p x q bs (Operate unary.Not) [] (looked peek (read_value bs v)) f bs (Val (Value lives.Int) f)
   widens : (f : flow.State) → Waits p x q bs (Operate unary.Widen) [] (Value lives.Char) f bs (Val (Value lives.Int) f)
   narrows : (f : flow.State) → Waits p x q bs (Operate unary.LowByte) [] (Value lives.Int) f bs (Val (Value lives.Char) f)
-  chains : {os : Operations} (peek : Option ℕ) (c : Context) (v : ValueType) (t : Ty) (f h : flow.State) → IsContext p x bs c → Computes p.reading q c v os f t h → IsChained peek (read_value bs v) os
+  chains : {os : Operations} (peek : Option ℕ) (c : Context) (v : ValueType) (t : Ty) (f h : flow.State) → IsContext p x bs c → Computes q c v os f t h → IsChained peek (read_value bs v) os
       → Waits p x q bs (Chain os) [] (looked peek (read_value bs v)) f bs (Val (Value (read bs t)) h)
   applies : {o : Operator} {left : Operand} (f : flow.State) → Waits p x q bs (Apply o left) (lives.Int ∷ []) (Value lives.Int) f bs (Val (Value lives.Int) f)
   decides : (peek : Option ℕ) (v : ValueType) (f h : flow.State) → is_tested v ≡ true → Implies f h → Waits p x q bs Decide [] (looked peek (read_value bs v)) f bs (Val (Value lives.Int) h)
   stores_local : (b : Bound) (t : Ty) (f : flow.State) → IsAmong (Variable b) bs → b.of_type ≡ read bs t → (b.is_hidden ≡ true → IsSpared q b.number)
       → Waits p x q bs (Store (values.Thin b.object 0)) [] (Value (read bs t)) f bs (Val (read_value bs (assigned_type t)) (with_fullness Full f b.number))
-  stores_global : (number : ℕ) (t : Ty) (f : flow.State) → slice_get (map (λ (v : GlobalVariable). v.of_type) p.program.globals) number ≡ Some t → read bs t ≡ at (as_heap (frees_of p.reading)) t
+  stores_global : (number : ℕ) (t : Ty) (f : flow.State) → slice_get (map (λ (v : GlobalVariable). v.of_type) p.globals) number ≡ Some t → read bs t ≡ at as_heap t
       → Waits p x q bs (Store (values.Thin number 0)) [] (Value (read bs t)) f bs (Val (read_value bs (assigned_type t)) f)
   points : {peek : Option ℕ} {o : PointerOperator} {left : Operand} (also : Option ℕ) (c : Context) (t : Ty) (v w : ValueType) (f : flow.State) → IsContext p x bs c → PointerOperation c o (types.Value t) v w
       → Waits p x q bs (ApplyPointer peek o left) (read bs t ∷ []) (looked also (read_value bs v)) f bs (Val (read_value bs w) f)
@@ -313,58 +313,58 @@ pub data Waits (p : Source) (x : Exits) (q : Relied) (bs : List InScope) : Await
   follows : {k : Kind} {target : Option Kind} (peek : Option ℕ) (v : RunValue) (m : PointerKind) (t : Ty) (r : Region) (f : flow.State) → IsThrough peek (lives.Pointer m (read bs t) (lives_in bs r)) v → k ≡ kind_of_mark m → target ≡ target_of t
       → IsThere bs r → Waits p x q bs (Follow k target) [] v f bs (PlaceOf peek (read bs t) (lives_in bs r) f)
   follows_member : {k : Kind} {fields : List Kind} {field : ℕ} (peek : Option ℕ) (m : PointerKind) (n : ℕ) (ls : List Life) (s : StructType) (t : Ty) (u : RunTy) (r : Region) (f : flow.State) → k ≡ kind_of_mark m
-      → slice_get p.program.structs n ≡ Some s → fields ≡ map values.kind_of s.fields → slice_get s.fields field ≡ Some t → (length ls ≡ s.parameters → at (lives_among (frees_of p.reading) ls) t ≡ u) → IsThere bs r
+      → slice_get p.structs n ≡ Some s → fields ≡ map values.kind_of s.fields → slice_get s.fields field ≡ Some t → (length ls ≡ s.parameters → at (lives_among ls) t ≡ u) → IsThere bs r
       → Waits p x q bs (FollowMember k fields field) [] (looked peek (Value (lives.Pointer m (lives.Struct n ls) (lives_in bs r)))) f bs (PlaceOf peek u (lives_in bs r) f)
-  indexes : {peek : Option ℕ} {target : Option Kind} {index : Expression} (c : Context) (t : Ty) (r : Region) (f h : flow.State) → IsContext p x bs c → (is_reached f ≡ true → EvaluatesWhole p.reading (and_looked peek q) c index f (types.Value types.Int) h)
+  indexes : {peek : Option ℕ} {target : Option Kind} {index : Expression} (c : Context) (t : Ty) (r : Region) (f h : flow.State) → IsContext p x bs c → (is_reached f ≡ true → EvaluatesWhole (and_looked peek q) c index f (types.Value types.Int) h)
       → target ≡ target_of t → IsThere bs r → Waits p x q bs (Index peek target index) [] (looked peek (Value (lives.Pointer marks.Fat (read bs t) (lives_in bs r)))) f bs (PlaceOf peek (read bs t) (lives_in bs r) h)
   advances : {peek : Option ℕ} {target : Option Kind} {base : Operand} (t : Ty) (r : Region) (f : flow.State) → target ≡ target_of t → IsThere bs r
       → Waits p x q bs (Advance peek target base) (lives.Pointer marks.Fat (read bs t) (lives_in bs r) ∷ []) (Value lives.Int) f bs (PlaceOf peek (read bs t) (lives_in bs r) f)
   counts_elements : (peek : Option ℕ) (t : RunTy) (l : Life) (f : flow.State) → Waits p x q bs CountElements [] (looked peek (Value (lives.Pointer marks.Fat t l))) f bs (Val (Value lives.Int) f)
-  places_by : {i : Initial} (c : Context) (m : PointerKind) (t : Ty) (r : Region) (f h : flow.State) → IsContext p x bs c → Makes p.reading q c i m t f h → IsThere bs r
+  places_by : {i : Initial} (c : Context) (m : PointerKind) (t : Ty) (r : Region) (f h : flow.State) → IsContext p x bs c → Makes q c i m t f h → IsThere bs r
       → Waits p x q bs (PlaceBy i) [] (Value (lives.Handle (lives_in bs r))) f bs (Val (Value (lives.Pointer m (read bs t) (lives_in bs r))) h)
   beside_handle : {region : ℕ} (t : RunTy) (f : flow.State) → Waits p x q bs (BesideHandle region) [] (Value t) f bs (Val (Value t) f)
   makes_plain : {owner : Owner} {kind : Kind} (t : Ty) (r : Region) (f : flow.State) → IsKeyless (read bs t) → IsThere bs r → IsNewOwner (lives_in bs r) owner → kind ≡ kind_of t
       → Waits p x q bs (MakePlain owner kind) [] (Value (read bs t)) f bs (Val (Value (lives.Pointer marks.NonNull (read bs t) (lives_in bs r))) f)
   makes_fields : {owner : Owner} {before : List Operand} {rest : Arguments} (c : Context) (done : List RunTy) (t : Ty) (ts : List Ty) (n : ℕ) (ls : List Life) (r : Region) (f h : flow.State)
-      → IsThere bs r → IsNewOwner (lives_in bs r) owner → IsContext p x bs c → Passes p.reading q c ts rest f h → AreFields p n ls (turned (read bs t ∷ done) (map (read bs) ts))
+      → IsThere bs r → IsNewOwner (lives_in bs r) owner → IsContext p x bs c → Passes q c ts rest f h → AreFields p n ls (turned (read bs t ∷ done) (map (read bs) ts))
       → Waits p x q bs (MakeFields owner before rest) done (Value (read bs t)) f bs (Val (Value (lives.Pointer marks.NonNull (lives.Struct n ls) (lives_in bs r))) h)
   makes_array : {owner : Owner} {level : ℕ} {kind : Kind} {element : Expression} (c : Context) (t : Ty) (r : Region) (f : flow.State) → IsThere bs r → IsNewOwner (lives_in bs r) owner → IsContext p x bs c
-      → Repeats p.reading q c level kind element t f
+      → Repeats q c level kind element t f
       → Waits p x q bs (MakeArray owner level kind element) [] (Value lives.Int) f bs (Val (Value (lives.Pointer marks.Fat (read bs t) (lives_in bs r))) f)
   fills : {object count index level : ℕ} {kind : Kind} {element : Expression} (cs : List InScope) (c : Context) (t : Ty) (r : Region) (f h : flow.State) → (bs ≡ Level level ∷ cs) → IsThere cs r → IsContext p x cs c
-      → Repeats p.reading q c level kind element t f → Implies h f
+      → Repeats q c level kind element t f → Implies h f
       → Waits p x q bs (FillElement object count index level kind element) (lives.Pointer marks.Fat (read cs t) (lives_in cs r) ∷ []) (Value (read cs t)) h cs (Val (Value (lives.Pointer marks.Fat (read cs t) (lives_in cs r))) f)
   passes : {callee : Callee} {before : List Operand} {rest : Arguments} (c : Context) (done : List RunTy) (t : Ty) (ts : List Ty) (r : ValueType) (f h : flow.State)
-      → IsContext p x bs c → Passes p.reading q c ts rest f h → IsCalled p bs callee (turned (read bs t ∷ done) (map (read bs) ts)) (read_value bs r)
+      → IsContext p x bs c → Passes q c ts rest f h → IsCalled p bs callee (turned (read bs t ∷ done) (map (read bs) ts)) (read_value bs r)
       → Waits p x q bs (Pass callee before rest) done (Value (read bs t)) f bs (Val (read_value bs r) h)
   initialises : {number : ℕ} {kind : Kind} {js : Items} (cs : List InScope) (c : Context) (t : Ty) (f h : flow.State) → Within cs bs → IsContext p x bs c
-      → IsNew p.reading c t → number ≡ c.next_local → kind ≡ kind_of t → Continues p.reading x (with_local true t c) js (with_fullness Full f number) h → Waits p x q bs (Initialise number kind js) [] (Value (read bs t)) f cs (Go h)
+      → IsNew c t → number ≡ c.next_local → kind ≡ kind_of t → Continues x (with_local true t c) js (with_fullness Full f number) h → Waits p x q bs (Initialise number kind js) [] (Value (read bs t)) f cs (Go h)
   chooses : {first second : Statement} (peek : Option ℕ) (c d : Context) (v : ValueType) (f g h i : flow.State) → is_tested v ≡ true → IsContext p x bs c → IsContext p x bs d
-      → Executes p.reading x c first f g → Executes p.reading x d second f h → Implies g i → Implies h i → Waits p x q bs (Choose first second) [] (looked peek (read_value bs v)) f bs (Go i)
+      → Executes x c first f g → Executes x d second f h → Implies g i → Implies h i → Waits p x q bs (Choose first second) [] (looked peek (read_value bs v)) f bs (Go i)
   tests : {condition : Expression} {body : Statement} (peek : Option ℕ) (l : LoopExit) (v : ValueType) (f h : flow.State) → IsLoop p x bs l condition body v f h
       → Waits p x q bs (Test condition body) [] (looked peek (read_value bs v)) f bs (Go h)
   returns : (t : Ty) (u : RunTy) (f h : flow.State) → x.result ≡ Some t → Value u ≡ x.gives → Waits p x q bs Return [] (Value u) f bs (Go h)
   frees_object : (k : PointerKind) (t : RunTy) (f : flow.State) → Waits p x q bs FreeObject [] (Value (lives.Pointer k t Owned)) f bs (Go f)
   closes_by_key : (r : Region) (f : flow.State) → Waits p x q bs CloseByKey [] (Value (lives.Key (lives_in bs r))) f bs (Go f)
   throws : {tag : ℕ} (f h : flow.State) → Waits p x q bs (ThrowWith tag) [] (Value lives.Int) f bs (Go h)
-  opens_by : {number lent : ℕ} {js : Items} (cs : List InScope) (c : Context) (b : Bound) (r : ℕ) (f h i : flow.State) → HasLoans p.reading → Within cs bs → IsContext p x bs c → IsAmong (Variable b) bs → b.number ≡ lent → b.of_type ≡ lives.Key (life_named bs r) → b.is_hidden ≡ true → IsSet f lent
+  opens_by : {number lent : ℕ} {js : Items} (cs : List InScope) (c : Context) (b : Bound) (r : ℕ) (f h i : flow.State) → Within cs bs → IsContext p x bs c → IsAmong (Variable b) bs → b.number ≡ lent → b.of_type ≡ lives.Key (life_named bs r) → b.is_hidden ≡ true → IsSet f lent
       → IsSpared x.relied lent → IsFullIn f lent → r < c.next_region → IsLive c (regions.Variable c.region) → number ≡ c.next_local
-      → Continues p.reading (lending x lent) (with_local false (types.Handle (regions.Variable r)) (with_key_opened r c)) js (with_fullness Full (with_fullness Locked f lent) number) h
+      → Continues (lending x lent) (with_local false (types.Handle (regions.Variable r)) (with_key_opened r c)) js (with_fullness Full (with_fullness Locked f lent) number) h
       → Implies (with_fullness Full h lent) i → Waits p x q bs (OpenBy number lent js) [] (Seen b.object (lives.Key (life_named bs r))) f cs (Go i)
-  aliases : {number lent : ℕ} {js : Items} (cs : List InScope) (c : Context) (b : Bound) (u t : Ty) (f h i : flow.State) → HasLoans p.reading → Within cs bs → IsContext p x bs c → IsAmong (Variable b) bs → b.number ≡ lent → b.of_type ≡ read bs u → b.is_hidden ≡ true → IsSet f lent
+  aliases : {number lent : ℕ} {js : Items} (cs : List InScope) (c : Context) (b : Bound) (u t : Ty) (f h i : flow.State) → Within cs bs → IsContext p x bs c → IsAmong (Variable b) bs → b.number ≡ lent → b.of_type ≡ read bs u → b.is_hidden ≡ true → IsSet f lent
       → IsSpared x.relied lent → IsFullIn f lent → is_unique u ≡ true → AllIn (IsKnown c.next_region) u → t ≡ with_region_of (regions.Variable c.next_region) u → IsLive c (regions.Variable c.region) → number ≡ c.next_local
-      → Continues p.reading (lending x lent) (with_local true t (with_opened scopes.Alias c)) js (with_fullness Full (with_fullness Locked f lent) number) h
+      → Continues (lending x lent) (with_local true t (with_opened scopes.Alias c)) js (with_fullness Full (with_fullness Locked f lent) number) h
       → Implies (with_fullness Full h lent) i → Waits p x q bs (AliasOf number lent js) [] (Seen b.object (read bs u)) f cs (Go i)
 
 -- what waits for a place, of this type and there so long, and what goes on then
-pub data WaitsPlace (p : Source) (x : Exits) (q : Relied) (bs : List InScope) : AwaitingPlace → Option ℕ → RunTy → Life → flow.State → Want → Type 0 where
+pub data WaitsPlace (p : Program) (x : Exits) (q : Relied) (bs : List InScope) : AwaitingPlace → Option ℕ → RunTy → Life → flow.State → Want → Type 0 where
   loads_from : {kind : Kind} (peek : Option ℕ) (t : Ty) (r : Region) (f : flow.State) → IsThere bs r → IsByType (read bs t) → is_struct t ≡ false → kind ≡ values.kind_of t
       → WaitsPlace p x q bs (LoadFrom kind) peek (read bs t) (lives_in bs r) f (Val (Value (read bs t)) f)
   takes_address : (peek : Option ℕ) (t : RunTy) (l : Life) (f : flow.State) → IsCommonLife l → WaitsPlace p x q bs TakeAddress peek t l f (Val (Value (lives.Pointer marks.NonNull t l)) f)
-  stores_to : {peek : Option ℕ} {from to : Kind} {a : Expression} (c : Context) (v : ValueType) (t : Ty) (r : Region) (f h : flow.State) → IsThere bs r → IsContext p x bs c → (is_reached f ≡ true → EvaluatesWhole p.reading (and_looked peek q) c a f v h)
+  stores_to : {peek : Option ℕ} {from to : Kind} {a : Expression} (c : Context) (v : ValueType) (t : Ty) (r : Region) (f h : flow.State) → IsThere bs r → IsContext p x bs c → (is_reached f ≡ true → EvaluatesWhole (and_looked peek q) c a f v h)
       → Converts c v t → from ≡ kind_of_value v → to ≡ kind_of t → WaitsPlace p x q bs (StoreTo peek (Convert from to a)) peek (read bs t) (lives_in bs r) f (Val (read_value bs (assigned_type t)) h)
   swaps_left : {kind : Kind} {peek : Option ℕ} {right : Side} (c : Context) (t : Ty) (r : Region) (f h : flow.State) → IsThere bs r → IsContext p x bs c → kind ≡ values.kind_of t → is_struct t ≡ false
-      → (is_reached f ≡ true → Finds p.reading (and_looked peek x.relied) c right f t h) → WaitsPlace p x q bs (SwapLeft kind peek right) peek (read bs t) (lives_in bs r) f (Go h)
+      → (is_reached f ≡ true → Finds (and_looked peek x.relied) c right f t h) → WaitsPlace p x q bs (SwapLeft kind peek right) peek (read bs t) (lives_in bs r) f (Go h)
   swaps_right : {kind : Kind} {peek : Option ℕ} {is_cell : Bool} {left : values.Value} (through : Option ℕ) (t : Ty) (r : Region) (f : flow.State) → IsThere bs r → kind ≡ values.kind_of t
       → WaitsPlace p x q bs (SwapRight kind peek is_cell left) through (read bs t) (lives_in bs r) f (Go f)
 
@@ -421,21 +421,21 @@ Keeps g i a (t ∷ ts) = AreOperands g (t ∷ ts) (held a) × AreClaimed g.own i
 -- ---- swaps
 
 -- A side of a swap whose place is found: a variable that is full where this is known, or a cell that a pointer leads to.
-pub data IsSpot (p : Source) (g : Typing) (bs : List InScope) (t : Ty) (f : flow.State) : values.Value → Type 0 where
+pub data IsSpot (p : Program) (g : Typing) (bs : List InScope) (t : Ty) (f : flow.State) : values.Value → Type 0 where
   of_local : (b : Bound) → IsAmong (Variable b) bs → b.of_type ≡ read bs t → IsFullIn f b.number → IsSpot p g bs t f (values.Thin b.object 0)
-  of_global : (number : ℕ) → slice_get (map (λ (v : GlobalVariable). v.of_type) p.program.globals) number ≡ Some t → read bs t ≡ at (as_heap (frees_of p.reading)) t
+  of_global : (number : ℕ) → slice_get (map (λ (v : GlobalVariable). v.of_type) p.globals) number ≡ Some t → read bs t ≡ at as_heap t
       → IsSpot p g bs t f (values.Thin number 0)
   of_cell : (place : values.Value) (r : Region) → IsThere bs r → HasType g (lives.Pointer marks.NonNull (read bs t) (lives_in bs r)) place → IsHad g (thing_of (lives.Pointer marks.NonNull (read bs t) (lives_in bs r)) place)
       → IsSpot p g bs t f place
 
 -- The left place of a swap that waits for the right one, of this type: a variable's, or a cell behind what is looked at, or in hand.
-pub data IsLeftSpot (p : Source) (g : Typing) (hand : ℕ) (peek : Option ℕ) (bs : List InScope) (t : Ty) (f : flow.State) : values.Value → Type 0 where
+pub data IsLeftSpot (p : Program) (g : Typing) (hand : ℕ) (peek : Option ℕ) (bs : List InScope) (t : Ty) (f : flow.State) : values.Value → Type 0 where
   left_variable : (place : values.Value) → ((h : Typing) → IsSpot p h bs t f place) → IsLeftSpot p g hand peek bs t f place
   left_cell : (place : values.Value) (r : Region) → IsThere bs r → HasType g (lives.Pointer marks.NonNull (read bs t) (lives_in bs r)) place
       → ClaimsPart g hand peek (thing_of (lives.Pointer marks.NonNull (read bs t) (lives_in bs r)) place) → IsLeftSpot p g hand peek bs t f place
 
 -- the left place of a swap that waits for the right one, of this type
-abbrev pub KeepsPlace : Source → Typing → (hand : ℕ) → List InScope → AwaitingPlace → RunTy → flow.State → Type 0
+abbrev pub KeepsPlace : Program → Typing → (hand : ℕ) → List InScope → AwaitingPlace → RunTy → flow.State → Type 0
 KeepsPlace p g i bs (SwapRight kind peek is_cell left) r f = (t : Ty) × (r ≡ read bs t) × (is_struct t ≡ false) × IsLeftSpot p g i peek bs t f left
 KeepsPlace p g i bs a r f = Unit {0}
 
@@ -450,7 +450,7 @@ IsRead g left t None = Unit {0}
 IsRead g left t (Some v) = IsResult g (Value t) v × ClaimsAt g.own left t v.value
 
 -- a place that gets a value of its type
-abbrev pub IsWrite : Source → Typing → List InScope → flow.State → Ty → Write → Type 0
+abbrev pub IsWrite : Program → Typing → List InScope → flow.State → Ty → Write → Type 0
 IsWrite p g bs f t w = (is_struct t ≡ false) × IsSpot p g bs t f w.place × IsResult g (Value (read bs t)) w.operand
 
 -- a swap awaits its second write, to this place
@@ -459,7 +459,7 @@ IsAwaited g (values.Thin object offset) = g.pending ≡ Awaits object offset
 IsAwaited g place = ⊥
 
 -- Each of two places gets what the other one has; then what the left one had is in hand, and the right one, which awaits it, has nothing.
-abbrev pub AreSwapped : Source → Typing → (hand : ℕ) → List InScope → flow.State → List Write → Type 0
+abbrev pub AreSwapped : Program → Typing → (hand : ℕ) → List InScope → flow.State → List Write → Type 0
 AreSwapped p g i bs f [] = g.pending ≡ Settled
 AreSwapped p g i bs f (w ∷ []) = (t : Ty) × IsWrite p g bs f t w × IsAwaited g w.place × Claims g.own (Hand i) (read bs t) w.operand.value
 AreSwapped p g i bs f (v ∷ w ∷ []) =
@@ -477,7 +477,7 @@ IsBlocked (Some t) f = is_reached f ≡ false
 abbrev pub IsLentOut : Typing → (lent loan : ℕ) → RunTy → (object : ℕ) → Type 0
 IsLentOut g lent j t object = (l : Life) × (slice_get g.objects object ≡ Some (variable_type t l true (OfLocal g.depth lent))) × (g.here object ≡ Away j)
 
-abbrev pub IsStack : Source → Typing → Exits → List InScope → Want → List Entry → Type 0
+abbrev pub IsStack : Program → Typing → Exits → List InScope → Want → List Entry → Type 0
 IsStack p g x bs Nothing [] = g.pending ≡ Settled
 IsStack p g x bs (Val r f) (Needs a ∷ k) =
     (ts : List RunTy) × (cs : List InScope) × (next : Want) × Waits p x (relied_at x.relied k) bs a ts r f cs next × Keeps g (operands_in k) a ts × IsStack p g x cs next k
@@ -486,7 +486,7 @@ IsStack p g x bs (Val r f) (Discard ∷ k) = IsStack p g x bs (Go f) k
 IsStack p g x bs (Go f) (Discard ∷ k) = IsStack p g x bs (Go f) k
 -- the locals that a block declares are out of scope behind its items
 IsStack p g x bs (Go f) (Rest js ∷ k) =
-    (cs : List InScope) × (c : Context) × (h : flow.State) × Within cs bs × IsContext p x bs c × Continues p.reading x c js f h × IsStack p g x cs (Go h) k
+    (cs : List InScope) × (c : Context) × (h : flow.State) × Within cs bs × IsContext p x bs c × Continues x c js f h × IsStack p g x cs (Go h) k
 IsStack p g x bs (Go f) (Join ∷ k) = (h : flow.State) × Implies f h × IsStack p g x bs (Go h) k
 IsStack p g x bs (Go f) (Loop condition body ∷ k) =
     (y : Exits) × (l : LoopExit) × (v : ValueType) × (u h : flow.State) × (x ≡ inside y l) × IsLoop p y bs l condition body v u h × Implies f l.head × IsStack p g y bs (Go h) k
@@ -500,7 +500,7 @@ IsStack p g x bs (Go f) (EndLoan lent ∷ k) =
     × AreVariables (record g { loans = j }) bs
     × IsStack p (record g { loans = j }) y bs (Go h) k
 IsStack p g x bs (Go f) (Handler cs ∷ k) =
-    (y : Exits) × (c : Context) × (start h : flow.State) × (x ≡ relying y start) × IsContext p y bs c × Holds g start bs × Catches p.reading y c start cs f h × Implies f h × IsStack p g y bs (Go h) k
+    (y : Exits) × (c : Context) × (start h : flow.State) × (x ≡ relying y start) × IsContext p y bs c × Holds g start bs × Catches y c start cs f h × Implies f h × IsStack p g y bs (Go h) k
 -- the caller's locals are as they were, and hold what they held
 IsStack p g x bs (Go f) (Caller e ∷ k) =
     (y : Exits) × (cs : List InScope) × (h : flow.State) × (d : ℕ) × (g.depth ≡ suc d) × (is_loop x.loop ≡ false) × IsBlocked x.result f × HasResult x.result x.gives × IsBound e.locals e.counters cs
@@ -577,11 +577,11 @@ AreOwn g (b ∷ bs) = IsOwnIn g b × AreOwn g bs
 abbrev pub IsBody : Exits → List InScope → Function → Type 0
 IsBody x bs h = (x.loop ≡ None) × (x.locks ≡ []) × (x.relied ≡ []) × (x.result ≡ h.result) × (read_value bs (result_type h.result) ≡ x.gives)
 
-abbrev pub IsFocus : Source → Typing → Exits → List InScope → Focus → List Entry → Type 0
+abbrev pub IsFocus : Program → Typing → Exits → List InScope → Focus → List Entry → Type 0
 IsFocus p g x bs (Evaluating a) k =
-    (c : Context) × (t : ValueType) × (f h : flow.State) × IsContext p x bs c × Holds g f bs × (evaluates : Evaluates p.reading (relied_at x.relied k) c a f t h) × IsStack p g x bs (Val (looked (seen_by a evaluates.typed) (read_value bs t)) h) k
+    (c : Context) × (t : ValueType) × (f h : flow.State) × IsContext p x bs c × Holds g f bs × (evaluates : Evaluates (relied_at x.relied k) c a f t h) × IsStack p g x bs (Val (looked (seen_by a evaluates.typed) (read_value bs t)) h) k
 IsFocus p g x bs (Locating d) k =
-    (c : Context) × (t : Ty) × (r : Region) × (f h : flow.State) × IsContext p x bs c × Holds g f bs × Locates p.reading (relied_at x.relied k) c d f t r h × IsStack p g x bs (PlaceOf (peek_behind d) (read bs t) (lives_in bs r) h) k
+    (c : Context) × (t : Ty) × (r : Region) × (f h : flow.State) × IsContext p x bs c × Holds g f bs × Locates (relied_at x.relied k) c d f t r h × IsStack p g x bs (PlaceOf (peek_behind d) (read bs t) (lives_in bs r) h) k
 IsFocus p g x bs (GivenPlace place) k =
     (peek : Option ℕ) × (t : RunTy) × (l : Life) × (f : flow.State) × Holds g f bs × HasType g (lives.Pointer marks.NonNull t l) place × ClaimsPart g (operands_in k) peek (thing_of (lives.Pointer marks.NonNull t l) place)
     × IsStack p g x bs (PlaceOf peek t l f) k
@@ -591,35 +591,35 @@ IsFocus p g x bs (Writing writes None) k = (f : flow.State) × Holds g f bs × A
 IsFocus p g x bs (Swapping kind left right before) k =
     (t : Ty) × (f : flow.State) × Holds g f bs × (kind ≡ values.kind_of t) × (is_struct t ≡ false) × IsSpot p g bs t f left × IsSpot p g bs t f right × IsRead g left (read bs t) before × IsStack p g x bs (Go f) k
 IsFocus p g x bs (Beginning owner count level kind element) k =
-    (c : Context) × (t : Ty) × (r : Region) × (f : flow.State) × IsContext p x bs c × Holds g f bs × IsThere bs r × IsNewOwner (lives_in bs r) owner × Repeats p.reading (relied_at x.relied k) c level kind element t f
+    (c : Context) × (t : Ty) × (r : Region) × (f : flow.State) × IsContext p x bs c × Holds g f bs × IsThere bs r × IsNewOwner (lives_in bs r) owner × Repeats (relied_at x.relied k) c level kind element t f
     × IsStack p g x bs (Val (Value (lives.Pointer marks.Fat (read bs t) (lives_in bs r))) f) k
 IsFocus p g x bs (Repeating object count index level kind element) k =
-    (c : Context) × (t : Ty) × (r : Region) × (f : flow.State) × IsContext p x bs c × Holds g f bs × IsThere bs r × Repeats p.reading (relied_at x.relied k) c level kind element t f
+    (c : Context) × (t : Ty) × (r : Region) × (f : flow.State) × IsContext p x bs c × Holds g f bs × IsThere bs r × Repeats (relied_at x.relied k) c level kind element t f
     × IsArray g (read bs t) (lives_in bs r) object count index × Owns g.own (Hand (operands_in k)) (pointer_at (lives_in bs r) object) × IsStack p g x bs (Val (Value (lives.Pointer marks.Fat (read bs t) (lives_in bs r))) f) k
 IsFocus p g x bs (Given v) k = (r : RunValue) × (f : flow.State) × Holds g f bs × IsResult g r v × Comes g r v k × IsStack p g x bs (Val r f) k
 IsFocus p g x bs (Executing s) k =
-    (c : Context) × (f h : flow.State) × IsContext p x bs c × Holds g f bs × Executes p.reading x c s f h × IsStack p g x bs (Go h) k
+    (c : Context) × (f h : flow.State) × IsContext p x bs c × Holds g f bs × Executes x c s f h × IsStack p g x bs (Go h) k
 IsFocus p g x bs Proceeding k = (f : flow.State) × Holds g f bs × IsStack p g x bs (Go f) k
 IsFocus p g x bs (Calling callee arguments) k =
     (ts : List RunTy) × (r : RunValue) × (f : flow.State) × Holds g f bs × IsCalled p bs callee (turned ts []) r × AreOperands g ts arguments × AreClaimed g.own (operands_in k) ts arguments × IsStack p g x bs (Val r f) k
 IsFocus p g x bs (Entering h arguments) k =
-    (end : flow.State) × (these : ℕ → Life) × (live : ℕ → Bool) × IsAccepted p h end × IsBody x bs h × ((frees : Bool) × (bs ≡ Instance frees these live ∷ [])) × Stand p.reading (regions_at_call h) bs
+    (end : flow.State) × (these : ℕ → Life) × (live : ℕ → Bool) × IsAccepted p h end × IsBody x bs h × (bs ≡ Instance these live ∷ []) × Stand (regions_at_call h) bs
     × AreOperands g (map (read bs) h.parameters) arguments × AreGiven g.own (operands_in k) (map (read bs) h.parameters) arguments × IsStack p g x bs (Go end) k
 IsFocus p g x bs (Binding number ts arguments body) k =
     (h : Function) × (end : flow.State) × (vs : List LocalInScope) × (cs : List InScope) × Within cs bs × IsAccepted p h end × IsBody x bs h × (body ≡ h.body) × (parameters_in_scope ts number vs ≡ parameters_in_scope h.parameters 0 [])
-    × (number + length ts ≡ length h.parameters) × AreOperands g (map (read bs) ts) arguments × IsScope p.reading (lives_in bs) vs bs × AreBelow number bs × AreFull g bs
-    × Stand p.reading (body_context p.program h).regions bs × IsHome p.reading 0 bs × ((i : ℕ) × (operands_in k ≤ i) × AreGiven g.own i (map (read bs) ts) arguments) × AreOwn g bs × IsStack p g x cs (Go end) k
+    × (number + length ts ≡ length h.parameters) × AreOperands g (map (read bs) ts) arguments × IsScope (lives_in bs) vs bs × AreBelow number bs × AreFull g bs
+    × Stand (body_context p h).regions bs × IsHome 0 bs × ((i : ℕ) × (operands_in k ≤ i) × AreGiven g.own i (map (read bs) ts) arguments) × AreOwn g bs × IsStack p g x cs (Go end) k
 IsFocus p g x bs (Naming number v js) k =
-    (c : Context) × (is_place : Bool) × (t : Ty) × (cs : List InScope) × (f h : flow.State) × Within cs bs × IsContext p x bs c × Holds g f bs × IsNew p.reading c t × (number ≡ c.next_local)
-    × IsResult g (Value (read bs t)) v × Comes g (Value (read bs t)) v k × Continues p.reading x (with_local is_place t c) js (with_fullness Full f number) h × IsStack p g x cs (Go h) k
+    (c : Context) × (is_place : Bool) × (t : Ty) × (cs : List InScope) × (f h : flow.State) × Within cs bs × IsContext p x bs c × Holds g f bs × IsNew c t × (number ≡ c.next_local)
+    × IsResult g (Value (read bs t)) v × Comes g (Value (read bs t)) v k × Continues x (with_local is_place t c) js (with_fullness Full f number) h × IsStack p g x cs (Go h) k
 IsFocus p g x bs Breaking k = (l : LoopExit) × (f h : flow.State) × (x.loop ≡ Some l) × Holds g f bs × Implies (with_each Full x.locks f) l.breaks × IsStack p g x bs (Go h) k
 IsFocus p g x bs Continuing k = (l : LoopExit) × (f h : flow.State) × (x.loop ≡ Some l) × Holds g f bs × Implies (with_each Full x.locks f) l.head × IsStack p g x bs (Go h) k
 IsFocus p g x bs (Returning v) k = (f : flow.State) × IsReturn g (operands_in k) x.result x.gives v × IsStack p g x bs (Go f) k
 IsFocus p g x bs (Throwing tag value) k = (w : Want) × IsStack p g x bs w k
 IsFocus p g x bs (Catching tag value cs) k =
-    (c : Context) × (start f h : flow.State) × IsContext p x bs c × Holds g start bs × Catches p.reading x c start cs f h × IsStack p g x bs (Go h) k
+    (c : Context) × (start f h : flow.State) × IsContext p x bs c × Holds g start bs × Catches x c start cs f h × IsStack p g x bs (Go h) k
 
-pub record IsRunning (p : Source) (focus : Focus) (k : List Entry) (e : Environment) (w : World) : Type 0 where
+pub record IsRunning (p : Program) (focus : Focus) (k : List Entry) (e : Environment) (w : World) : Type 0 where
   pub typing : Typing
   pub exits : Exits
   pub locals : List InScope
@@ -631,7 +631,7 @@ pub record IsRunning (p : Source) (focus : Focus) (k : List Entry) (e : Environm
   pub stands : IsFocus p typing exits locals focus k
 
 -- THE INVARIANT: every part of a state has its type, so it is neither dead nor wrong
-abbrev pub IsWell : Source → State → Type 0
+abbrev pub IsWell : Program → State → Type 0
 IsWell p (Running focus k e w) = IsRunning p focus k e w
 IsWell p (Ended ending output input) = Unit {0}
 IsWell p (Dead output input) = ⊥

@@ -196,10 +196,9 @@ AreCells g (t ∷ ts) [] n = ⊥
 AreCells g (t ∷ ts) (c ∷ cs) zero = IsCell g false t c × AreCells g ts cs zero
 AreCells g (t ∷ ts) (c ∷ cs) (suc n) = IsCell g true t c × AreCells g ts cs n
 
--- where nothing is given back, a unique object is there as long as the heap, and else as long as somebody has the pointer to it
+-- an object of this life is in its region, or is a unique one, which is there as long as somebody has the pointer to it
 abbrev pub IsOwner : Life → Owner → Type 0
 IsOwner (OfRegion region around lent) (InRegion number) = region ≡ number
-IsOwner (OfRegion region around lent) (Unique live) = (region ≡ heap_number) × (live ≡ true)
 IsOwner Owned (Unique live) = Unit {0}
 IsOwner (Kept (KeyOf region)) (InRegion number) = region ≡ number
 IsOwner l o = ⊥

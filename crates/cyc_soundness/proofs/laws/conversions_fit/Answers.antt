@@ -1,5 +1,5 @@
 -- Conversions.
-use Rattle.cyc_soundness.proofs.ValueLemmas.{converted_by}
+use Rattle.cyc_soundness.proofs.types.ValueLemmas.{converted_by}
 use Rattle.cyc_soundness.proofs.laws.conversions_fit.Goals as goal
 
 pub returns : goal.returns

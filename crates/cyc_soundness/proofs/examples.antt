@@ -1,0 +1,6 @@
+-- texts, and programs that the rules accept and refuse
+pub mod Examples
+pub mod LaterRegions
+pub mod KeyFields
+pub mod AcceptedPrograms
+pub mod RefusedPrograms

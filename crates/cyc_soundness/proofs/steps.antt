@@ -1,0 +1,10 @@
+-- each step of a typed state leads to a typed state
+pub mod Objects
+pub mod Swapping
+pub mod Places
+pub mod Evaluation
+pub mod Loans
+pub mod Supply
+pub mod Execution
+pub mod Calls
+pub mod Unwinding

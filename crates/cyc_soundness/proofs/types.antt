@@ -1,0 +1,5 @@
+-- how types, values and regions are read
+pub mod TypeLemmas
+pub mod ValueLemmas
+pub mod RegionLemmas
+pub mod Sharing
