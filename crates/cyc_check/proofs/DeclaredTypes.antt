@@ -1,14 +1,20 @@
 -- How the code reads off what a typed body declares: item by item, clause by clause.
 use Rattle.std.proofs.Common.{◌≡◌, ℕ, ◌+◌, List, [], ◌∷◌, ◌++◌, Option, None, Some, drop, refl, sym, ap, ◌∙◌, append_assoc}
 use Rattle.std.proofs.lemmas.List.{append-nil}
+use Rattle.std.specs.declared.vec.Vec.{Vec}
+use Rattle.std.specs.declared.boxed.Box.{Box}
+use Rattle.std.specs.declared.alloc.Global.{Global as Heap}
+use Rattle.cyc_words.specs.declared.span.Span.{Span}
 use Rattle.cyc_types.specs.Types.{Ty}
 use Rattle.cyc_types.specs.declared.typed.Body.{Body}
 use Rattle.cyc_types.specs.declared.typed.Item.{Item as ItemCode}
 use Rattle.cyc_types.specs.declared.typed.Clause.{Clause}
 use Rattle.cyc_types.specs.declared.typed.Stmt.{Stmt as StmtCode}
+use Rattle.cyc_types.specs.declared.typed.Stmt.TheVariants as stmt
 use Rattle.cyc_types.specs.TypedTrees.{Statement, Items, NoItems, MoreItems, Item, Execute, Declare, DeclareRegion, OpenRegion, DeclareAlias, DeclareKey, Clauses, NoClauses, Try}
 use Rattle.cyc_types.specs.TypedTreeView.{view_statement, view_item, items_of, default_of, clauses_of}
 use Rattle.cyc_types.specs.Declarations.{declared_types, item_types, clause_types, caught_types}
+use Rattle.cyc_types.proofs.TypedTreeViewLemmas.{view_try}
 
 pub item_types_first : (i : Item) (js : Items) → item_types (MoreItems i js) ≡ item_types (MoreItems i NoItems) ++ item_types js
 item_types_first (Execute s) js = ap (λ ts. ts ++ item_types js) (sym (append-nil (declared_types s)))
@@ -43,6 +49,9 @@ with_default (c ∷ cs) d =
     ∙ sym (append_assoc (caught_types c.number) (item_types (items_of c.items.items) ++ clause_types (clauses_of cs NoClauses)) (clause_types d))
 
 -- ---- a catch, with and without a default clause
+
+pub try_viewed : (s : StmtCode) {w : Span} (b : Box StmtCode Heap) (v : Vec Clause Heap) (d : Option Body) → s ≡ stmt.Try w b v d → view_statement s ≡ Try (view_statement b.value) (clauses_of v.items (default_of d))
+try_viewed s {w} b v d is = ap view_statement is ∙ view_try w b v d
 
 both : (old one two : List Ty) (b d : StmtCode) (cs ks : List Clause) → d ≡ b → ks ≡ cs → one ≡ old ++ declared_types (view_statement d) → two ≡ one ++ clause_types (clauses_of ks NoClauses)
     → two ≡ old ++ (declared_types (view_statement b) ++ clause_types (clauses_of cs NoClauses))

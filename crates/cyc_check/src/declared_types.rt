@@ -29,6 +29,7 @@ fn add_statement_types(statement: &Stmt, types: &mut Vec<Ty>) -> Result<(), Allo
             body,
             clauses,
             default,
+            ..
         } => {
             add_statement_types(body, types)?;
             add_clause_types(clauses, types)?;

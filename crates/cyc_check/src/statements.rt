@@ -38,26 +38,26 @@ pub(crate) fn check_statement(
         Stmt::Expression { value } => check_evaluation(scope, value),
         Stmt::Swap { left, right } => check_swap(scope, left, right),
         Stmt::If {
+            span,
             condition,
             then,
             otherwise: None,
-            ..
         } => {
             let condition = check_condition(scope, condition)?;
             let then = check_statement(scope, then)?;
             let otherwise = empty(scope.alloc())?;
-            choice(scope.alloc(), condition, then, otherwise)
+            choice(scope.alloc(), *span, condition, then, otherwise)
         }
         Stmt::If {
+            span,
             condition,
             then,
             otherwise: Some(otherwise),
-            ..
         } => {
             let condition = check_condition(scope, condition)?;
             let then = check_statement(scope, then)?;
             let otherwise = check_statement(scope, otherwise)?;
-            choice(scope.alloc(), condition, then, otherwise)
+            choice(scope.alloc(), *span, condition, then, otherwise)
         }
         Stmt::While {
             span,
@@ -77,18 +77,18 @@ pub(crate) fn check_statement(
             value,
         } => check_throw(scope, *span, *exception, value),
         Stmt::Try {
+            span,
             body,
             clauses,
             default,
-            ..
         } => {
             let body = check_statement(scope, body)?;
             let clauses = check_clauses(scope, clauses)?;
             match default {
-                None => try_of(scope.alloc(), body, clauses, None),
+                None => try_of(scope.alloc(), *span, body, clauses, None),
                 Some(items) => {
                     let default = check_default(scope, items)?;
-                    try_of(scope.alloc(), body, clauses, Some(default))
+                    try_of(scope.alloc(), *span, body, clauses, Some(default))
                 }
             }
         }

@@ -115,7 +115,7 @@ chain_stops (stops.Refused f) g p k left xs zs us z whole is h so_far =
 
 pub then_all_view : (xs : List Operation) → then_all xs typed.NoOperations ≡ view.operations_of xs
 then_all_view [] = refl
-then_all_view (operation.Compute o e ∷ os) = ap (typed.ThenCompute o (view.view_expression e)) (then_all_view os)
+then_all_view (operation.Compute s o e ∷ os) = ap (typed.ThenCompute o (view.view_expression e)) (then_all_view os)
 then_all_view (operation.Test o e ∷ os) = ap (typed.ThenTest o (view.view_expression e)) (then_all_view os)
 then_all_view (operation.Pointer o e ∷ os) = ap (typed.ThenPointer o (view.view_expression e)) (then_all_view os)
 then_all_view (operation.PointerPeek n o e ∷ os) = ap (typed.ThenPointerPeek n o (view.view_expression e)) (then_all_view os)

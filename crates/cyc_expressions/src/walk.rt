@@ -166,15 +166,19 @@ pub fn check_expression(scope: &mut Scope<'_>, expression: &Expr) -> Result<Box<
             operator,
             operand,
         } => check_prefixed(scope, operand, *operator, *span),
-        Expr::New { value, .. } => {
+        Expr::New { span, value } => {
             let made = check_made(scope, value)?;
             let placed = on_heap(scope.alloc())?;
-            created(scope.alloc(), placed, made)
+            created(scope.alloc(), *span, placed, made)
         }
-        Expr::RegionNew { region, value, .. } => {
+        Expr::RegionNew {
+            span,
+            region,
+            value,
+        } => {
             let placed = check_placement(scope, region, span_of(region))?;
             let made = check_made(scope, value)?;
-            created(scope.alloc(), placed, made)
+            created(scope.alloc(), *span, placed, made)
         }
         Expr::Binary { first, rest } => {
             let left = check_operand(scope, first, is_looking_first(rest))?;

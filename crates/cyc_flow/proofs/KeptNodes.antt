@@ -38,11 +38,11 @@ use Rattle.cyc_flow.specs.declared.stop.Stop.TheVariants as stops
 use Rattle.cyc_flow.specs.inside.Code.{Leads, Gives, GivesKnown, known}
 use Rattle.cyc_flow.specs.inside.Steps.{stands}
 
-module _ (value : Expr) (f : Callee) (v : Vec ConvertedCode Heap) (of_type : ValueType) (is : value ≡ expr.Call f v of_type) (items : List ConvertedCode) (same : items ≡ v.items) (r : Result (Unit {0}) Stop) (w : Evaluation) (q : List ℕ) (s : State) (ns : List ℕ) (start : State) where
+module _ (value : Expr) {w' : Span} (f : Callee) (v : Vec ConvertedCode Heap) (of_type : ValueType) (is : value ≡ expr.Call w' f v of_type) (items : List ConvertedCode) (same : items ≡ v.items) (r : Result (Unit {0}) Stop) (w : Evaluation) (q : List ℕ) (s : State) (ns : List ℕ) (start : State) where
   pub kept_call : Leads r w (run (rule_arguments q (arguments_of items) s)) (touched_arguments (arguments_of items) ns) start → Leads r w (run (rule q (view_expression value) s)) (touched (view_expression value) ns) start
   kept_call h =
       let e : view_expression value ≡ Call f (arguments_of items) (view_value_type of_type)
-      = ap view_expression is ∙ view_call f v of_type ∙ ap (λ (cs : List ConvertedCode). Call f (arguments_of cs) (view_value_type of_type)) (sym same) in
+      = ap view_expression is ∙ view_call w' f v of_type ∙ ap (λ (cs : List ConvertedCode). Call f (arguments_of cs) (view_value_type of_type)) (sym same) in
       let P : Expression → Type 0 = λ a. Leads r w (run (rule q a s)) (touched a ns) start in
       subst P (sym e) h
 
@@ -80,7 +80,7 @@ gives_known (Ok t) checked ns breaks (h, k) = (ap (λ (o : Checked State). and_t
 gives_known (Err stops.Memory) checked ns breaks h = tt
 gives_known (Err (stops.Refused x n)) checked ns breaks h = ap (λ (o : Checked State). and_then o (λ f. Ok (known f breaks))) h
 
-module _ (statement : Stmt) (x y : SideCode) (is : statement ≡ stmt.Swap x y) (r : Result Tracked Stop) (c : Around) (f : State) (ns : List ℕ) (breaks : State) where
+module _ (statement : Stmt) {span : Span} (x y : SideCode) (is : statement ≡ stmt.Swap span x y) (r : Result Tracked Stop) (c : Around) (f : State) (ns : List ℕ) (breaks : State) where
   pub kept_swap : Gives r (run (rule_swapped (view_side x) (view_side y) f)) (touched_side (view_side y) (touched_side (view_side x) ns))
       → GivesKnown r (run (rule_statement c (view_statement statement) (known f breaks))) (touched_statement (view_statement statement) ns) breaks
   kept_swap h =
@@ -98,13 +98,13 @@ module _ (statement : Stmt) (span : Span) (condition : Expr) (b : Box Stmt Heap)
 
 -- Behind the body of a `try`, what its clauses lead to is what the whole leads to.
 module _
-    (statement : Stmt) (b : Box Stmt Heap) (v : Vec Clause Heap) (d : Option Body) (is : statement ≡ stmt.Try b v d) (body : Stmt) (at : body ≡ b.value) (items : List Clause) (same : items ≡ v.items)
+    (statement : Stmt) {span : Span} (b : Box Stmt Heap) (v : Vec Clause Heap) (d : Option Body) (is : statement ≡ stmt.Try span b v d) (body : Stmt) (at : body ≡ b.value) (items : List Clause) (same : items ≡ v.items)
     (l : Option Loop) (locks later : List ℕ) (unlocked : later ≡ locks) (f breaks before end inside start now : State) (copied : before ≡ f) (goes_on : now ≡ end)
     (body_run : run (rule_statement (stands l locks) (view_statement body) (known f breaks)) ≡ Ok (known end inside)) (ns new ts all : List ℕ) (fresh : new ≡ [])
     (touches : ts ≡ touched_statement (view_statement body) new) (starts : start ≡ emptied ts before) (adds : all ≡ ns ++ ts) where
   whole : view_statement statement ≡ Try (view_statement body) (clauses_of items (default_of d))
   whole =
-      ap view_statement is ∙ view_try b v d ∙ ap (λ (s : Stmt). Try (view_statement s) (clauses_of v.items (default_of d))) (sym at)
+      ap view_statement is ∙ view_try span b v d ∙ ap (λ (s : Stmt). Try (view_statement s) (clauses_of v.items (default_of d))) (sym at)
       ∙ ap (λ (cs : List Clause). Try (view_statement body) (clauses_of cs (default_of d))) (sym same)
 
   touches_all : ts ≡ touched_statement (view_statement body) []

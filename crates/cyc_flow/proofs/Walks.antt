@@ -15,13 +15,13 @@ met (Err x) f next = refl
 
 pub operation_run : (q : List ℕ) (o : Operation) (os : List Operation) (f : State)
     → run (rule_operations q (operations_of (o ∷ os)) f) ≡ and_then (run (rule_operation q o f)) (λ g. run (rule_operations q (operations_of os) g))
-operation_run q (operation.Compute o e) os f = refl
+operation_run q (operation.Compute w o e) os f = refl
 operation_run q (operation.Test o e) os f = met (run (rule q (view_expression e) f)) f (λ g. run (rule_operations q (operations_of os) g))
 operation_run q (operation.Pointer o e) os f = refl
 operation_run q (operation.PointerPeek n o e) os f = refl
 
 pub operation_touched : (o : Operation) (os : List Operation) (ns : List ℕ) → touched_operations (operations_of (o ∷ os)) ns ≡ touched_operations (operations_of os) (touched_operation o ns)
-operation_touched (operation.Compute o e) os ns = refl
+operation_touched (operation.Compute w o e) os ns = refl
 operation_touched (operation.Test o e) os ns = refl
 operation_touched (operation.Pointer o e) os ns = refl
 operation_touched (operation.PointerPeek n o e) os ns = refl

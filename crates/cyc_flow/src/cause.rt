@@ -465,12 +465,13 @@ impl Walk {
         match statement {
             Stmt::Block { items, .. } => self.check_block(items, known),
             Stmt::Empty => Ok(known),
-            Stmt::Evaluate { value } => self.evaluate(value, known),
-            Stmt::Swap { left, right } => self.swap(left, right, known),
+            Stmt::Evaluate { value, .. } => self.evaluate(value, known),
+            Stmt::Swap { left, right, .. } => self.swap(left, right, known),
             Stmt::If {
                 condition,
                 then,
                 otherwise,
+                ..
             } => {
                 let inside = self.evaluate(condition, known)?;
                 let behind = self.check_statement(then, inside)?;
@@ -482,7 +483,7 @@ impl Walk {
                 condition,
                 body,
             } => self.check_loop(body, condition, *span, known),
-            Stmt::Return { value } => {
+            Stmt::Return { value, .. } => {
                 self.convert(value, known)?;
                 Ok(Known::Unreached)
             }
@@ -504,6 +505,7 @@ impl Walk {
                 body,
                 clauses,
                 default,
+                ..
             } => {
                 let (start, behind) = self.check_body(body, known)?;
                 let behind = self.check_clauses(start, clauses, behind)?;

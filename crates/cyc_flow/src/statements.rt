@@ -246,12 +246,13 @@ impl Walk {
         match statement {
             Stmt::Block { items, .. } => self.check_block(around, items, tracked),
             Stmt::Empty => Ok(tracked),
-            Stmt::Evaluate { value } => evaluate(self.alloc, value, tracked),
-            Stmt::Swap { left, right } => swap(self.alloc, left, right, tracked),
+            Stmt::Evaluate { value, .. } => evaluate(self.alloc, value, tracked),
+            Stmt::Swap { left, right, .. } => swap(self.alloc, left, right, tracked),
             Stmt::If {
                 condition,
                 then,
                 otherwise,
+                ..
             } => {
                 let inside = evaluate(self.alloc, condition, tracked)?;
                 let other = inside.state.copy(self.alloc)?;
@@ -271,7 +272,7 @@ impl Walk {
                 condition,
                 body,
             } => self.check_loop(body, condition, *span, tracked),
-            Stmt::Return { value } => Ok(left(return_value(self.alloc, value, tracked)?)),
+            Stmt::Return { value, .. } => Ok(left(return_value(self.alloc, value, tracked)?)),
             Stmt::Break => Ok(self.break_loop(tracked)),
             Stmt::Continue => {
                 self.check_continue(around, tracked.state)?;
@@ -285,6 +286,7 @@ impl Walk {
                 body,
                 clauses,
                 default,
+                ..
             } => {
                 let before = tracked.state.copy(self.alloc)?;
                 let inside = Tracked {

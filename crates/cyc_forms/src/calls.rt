@@ -87,6 +87,7 @@ fn result_type(returned: Option<Ty>) -> ValueType
 #[inline(never)]
 fn call(
     alloc: Global,
+    span: Span,
     callee: Callee,
     arguments: Vec<Converted>,
     returned: Option<Ty>,
@@ -97,6 +98,7 @@ fn call(
     boxed(
         alloc,
         typed::Expr::Call {
+            span,
             callee,
             arguments,
             result: given,
@@ -108,6 +110,7 @@ fn call(
 #[inline(never)]
 fn call_with(
     alloc: Global,
+    span: Span,
     callee: Callee,
     at_call: Signature,
     values: Vec<Converted>,
@@ -120,7 +123,7 @@ fn call_with(
         result: returned,
         ..
     } = at_call;
-    call(alloc, callee, arguments, returned)
+    call(alloc, span, callee, arguments, returned)
 }
 
 /// The call of a function with this signature.
@@ -138,7 +141,7 @@ fn called_by(
     let instance = instance_of(scope.alloc(), signature, &values)?;
     let at_call = signature.instantiated(scope.alloc(), &instance)?;
     call_wanted(scope, span, expressions, &values, signature, &at_call)?;
-    call_with(scope.alloc(), callee, at_call, values)
+    call_with(scope.alloc(), span, callee, at_call, values)
 }
 
 /// The call of a name with these values, which stand in these expressions.

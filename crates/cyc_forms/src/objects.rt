@@ -224,6 +224,7 @@ fn pointer(alloc: Global, kind: PointerKind, target: Ty, region: Region) -> Resu
 #[inline(never)]
 fn new(
     alloc: Global,
+    span: Span,
     placement: Placement,
     initial: Box<Initial>,
     of_type: Ty,
@@ -233,6 +234,7 @@ fn new(
     boxed(
         alloc,
         typed::Expr::New {
+            span,
             placement,
             initial,
             of_type,
@@ -242,7 +244,12 @@ fn new(
 
 /// A new object, where all demands are settled.
 #[inline(never)]
-fn create(alloc: Global, placed: Box<Placed>, made: Box<Made>) -> Result<Box<typed::Expr>, Stop>
+fn create(
+    alloc: Global,
+    span: Span,
+    placed: Box<Placed>,
+    made: Box<Made>,
+) -> Result<Box<typed::Expr>, Stop>
     ensures { Gives view_boxed result (created_behind placed made) }
 {
     let mut settled = placed.settled;
@@ -256,16 +263,17 @@ fn create(alloc: Global, placed: Box<Placed>, made: Box<Made>) -> Result<Box<typ
     } = Box::into_inner(made);
     let of_type = pointer(alloc, mark, target, placed.region)?;
     let Placed { placement, .. } = Box::into_inner(placed);
-    new(alloc, placement, initial, of_type)
+    new(alloc, span, placement, initial, of_type)
 }
 
-/// A new object.
+/// A new object, which is made at this place.
 pub fn created(
     alloc: Global,
+    span: Span,
     placed: Box<Placed>,
     made: Box<Made>,
 ) -> Result<Box<typed::Expr>, Stop>
     ensures { (w : rules.Placed) (m : rules.Made) → IsPlaced placed w → IsMade made m → Gives view_boxed result (run (created w m)) }
 {
-    create(alloc, placed, made)
+    create(alloc, span, placed, made)
 }

@@ -168,13 +168,21 @@ fn push(operations: &mut Vec<Operation>, operation: Operation) -> Result<(), Sto
 fn push_compute(
     operations: &mut Vec<Operation>,
     operator: Operator,
+    span: Span,
     operand: Box<typed::Expr>,
 ) -> Result<(), Stop>
     ensures pushed { OnOk result ((o : OperationCode) × (operations.new.items ≡ operations.old.items ++ o ∷ []) × (put_operation o ≡ nodes.ThenCompute operator (view_boxed operand))) }
     ensures memory { IfErr result (λ e. e ≡ stops.Memory) }
 {
     let operand = Box::into_inner(operand);
-    push(operations, Operation::Compute { operator, operand })
+    push(
+        operations,
+        Operation::Compute {
+            span,
+            operator,
+            operand,
+        },
+    )
 }
 
 #[inline(never)]
@@ -242,7 +250,7 @@ fn join_ints(
     ensures { Joins operations.old.items operations.new.items result (run (ints_joined (place_of_span left.entry.span) (view_given left.entry.given) operator (place_of_span span) (view_boxed operand))) }
 {
     ints_wanted(left.given, left.span, Given::by(&operand), span)?;
-    push_compute(operations, operator, operand)?;
+    push_compute(operations, operator, span, operand)?;
     Ok(Ty::Int)
 }
 
@@ -287,13 +295,14 @@ fn push_type_sum(
     left: &Ty,
     operator: Operator,
     fat: PointerOperator,
+    span: Span,
     operand: Box<typed::Expr>,
 ) -> Result<(), Stop>
     ensures pushed { OnOk result ((o : OperationCode) × (operations.new.items ≡ operations.old.items ++ o ∷ []) × (put_operation o ≡ then_added (types.Value (view_ty left.now)) operator fat (view_boxed operand))) }
     ensures memory { IfErr result (λ e. e ≡ stops.Memory) }
 {
     match left {
-        Ty::Int => push_compute(operations, operator, operand),
+        Ty::Int => push_compute(operations, operator, span, operand),
         Ty::Char | Ty::Pointer { .. } | Ty::Handle { .. } | Ty::Key { .. } | Ty::Struct { .. } =>
             push_pointer(operations, None, fat, operand),
     }
@@ -306,14 +315,15 @@ fn push_sum(
     left: Given<'_>,
     operator: Operator,
     fat: PointerOperator,
+    span: Span,
     operand: Box<typed::Expr>,
 ) -> Result<(), Stop>
     ensures pushed { OnOk result ((o : OperationCode) × (operations.new.items ≡ operations.old.items ++ o ∷ []) × (put_operation o ≡ then_added (view_given left.entry) operator fat (view_boxed operand))) }
     ensures memory { IfErr result (λ e. e ≡ stops.Memory) }
 {
     match left {
-        Given::Int => push_compute(operations, operator, operand),
-        Given::Value(of_type) => push_type_sum(operations, of_type, operator, fat, operand),
+        Given::Int => push_compute(operations, operator, span, operand),
+        Given::Value(of_type) => push_type_sum(operations, of_type, operator, fat, span, operand),
         Given::Void | Given::Null | Given::Char | Given::HeapHandle => {
             push_pointer(operations, None, fat, operand)
         }
@@ -333,7 +343,7 @@ fn join_sum(
 {
     sum_wanted(left.given, left.span, Given::by(&operand), span)?;
     let of_type = left.given.of_type()?;
-    push_sum(operations, left.given, operator, fat, operand)?;
+    push_sum(operations, left.given, operator, fat, span, operand)?;
     Ok(of_type)
 }
 
@@ -524,13 +534,14 @@ fn compared(peeked: Option<usize>, negated: bool, left: Given<'_>, right: Given<
 fn push_comparison(
     operations: &mut Vec<Operation>,
     comparison: Comparison,
+    span: Span,
     operand: Box<typed::Expr>,
 ) -> Result<(), Stop>
     ensures pushed { OnOk result ((o : OperationCode) × (operations.new.items ≡ operations.old.items ++ o ∷ []) × (put_operation o ≡ then_comparison comparison (view_boxed operand))) }
     ensures memory { IfErr result (λ e. e ≡ stops.Memory) }
 {
     match comparison {
-        Comparison::OfInts { operator } => push_compute(operations, operator, operand),
+        Comparison::OfInts { operator } => push_compute(operations, operator, span, operand),
         Comparison::OfPointers { peeked, operator } => {
             push_pointer(operations, peeked, operator, operand)
         }
@@ -552,7 +563,7 @@ fn join_equality(
     let right = Given::by(&operand);
     equality_wanted(scope, left.given, left.span, right, span)?;
     let meant = compared(left.peeked, negated, left.given, right);
-    push_comparison(operations, meant, operand)?;
+    push_comparison(operations, meant, span, operand)?;
     Ok(Ty::Int)
 }
 

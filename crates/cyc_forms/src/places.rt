@@ -90,6 +90,7 @@ fn boxed_cell(alloc: Global, cell: Dereference) -> Result<Box<Dereference>, Stop
 #[inline(never)]
 fn target(
     alloc: Global,
+    span: Span,
     kind: Kind,
     value: Box<typed::Expr>,
     of_type: Ty,
@@ -100,6 +101,7 @@ fn target(
     boxed_cell(
         alloc,
         Dereference::Target {
+            span,
             kind,
             pointer,
             of_type,
@@ -110,6 +112,7 @@ fn target(
 #[inline(never)]
 fn element(
     alloc: Global,
+    span: Span,
     value: Box<typed::Expr>,
     index: Box<typed::Expr>,
     of_type: Ty,
@@ -121,6 +124,7 @@ fn element(
     boxed_cell(
         alloc,
         Dereference::Element {
+            span,
             pointer,
             index,
             of_type,
@@ -131,6 +135,7 @@ fn element(
 #[inline(never)]
 fn member(
     alloc: Global,
+    span: Span,
     kind: Kind,
     value: Box<typed::Expr>,
     number: usize,
@@ -143,6 +148,7 @@ fn member(
     boxed_cell(
         alloc,
         Dereference::Member {
+            span,
             kind,
             pointer,
             number,
@@ -164,7 +170,7 @@ pub fn pointed(scope: &Scope<'_>, span: Span, value: Box<typed::Expr>) -> Result
     let region = given.region();
     let kind = given.pointer_kind();
     let of_type = given.target()?;
-    let cell = target(scope.alloc(), kind, value, of_type)?;
+    let cell = target(scope.alloc(), span, kind, value, of_type)?;
     Ok(Box::new(
         scope.alloc(),
         Reached {
@@ -194,7 +200,7 @@ pub fn indexed(
     live_wanted(&mut settled, scope, given, span);
     let region = given.region();
     let of_type = given.target()?;
-    let cell = element(scope.alloc(), value, index, of_type)?;
+    let cell = element(scope.alloc(), index_span, value, index, of_type)?;
     Ok(Box::new(
         scope.alloc(),
         Reached {
@@ -278,7 +284,15 @@ pub fn selected(
     let kind = given.pointer_kind();
     let of_type = field_type(scope.alloc(), arguments_of(&base), fields, name)?;
     let place = field_number(fields, name);
-    let cell = member(scope.alloc(), kind, value, number, place, of_type)?;
+    let cell = member(
+        scope.alloc(),
+        field.span,
+        kind,
+        value,
+        number,
+        place,
+        of_type,
+    )?;
     Ok(Box::new(
         scope.alloc(),
         Reached {

@@ -81,10 +81,10 @@ module _ (ts : List TyCode) (i words : ℕ) (t : TyCode) (inside : i < length ts
 nothing_before : (cs : Arguments) (own : ℕ) → max (argument_words cs + own) (arguments_need cs 0) ≡ operands_need cs 0 own
 nothing_before cs own = omega arith
 
-pub call_needs : (value : Expr) (f : Callee) (v : Vec ConvertedCode Heap) (t : ValueTypeCode) → value ≡ expr.Call f v t → (items : List ConvertedCode) → items ≡ v.items
+pub call_needs : (value : Expr) {w : _} (f : Callee) (v : Vec ConvertedCode Heap) (t : ValueTypeCode) → value ≡ expr.Call w f v t → (items : List ConvertedCode) → items ≡ v.items
     → expression_need (view_expression value) ≡ operands_need (arguments_of items) 0 (result_words (view_value_type t))
-call_needs value f v t is items same =
-    ap (λ (x : Expr). expression_need (view_expression x)) is ∙ ap expression_need (view_call f v t) ∙ nothing_before (arguments_of v.items) (result_words (view_value_type t))
+call_needs value {w} f v t is items same =
+    ap (λ (x : Expr). expression_need (view_expression x)) is ∙ ap expression_need (view_call w f v t) ∙ nothing_before (arguments_of v.items) (result_words (view_value_type t))
     ∙ ap (λ (cs : List ConvertedCode). operands_need (arguments_of cs) 0 (result_words (view_value_type t))) (sym same)
 
 pub fields_need : (value : Initial) (v : Vec ConvertedCode Heap) (handle own : ℕ) → value ≡ initial.Fields v → (items : List ConvertedCode) → items ≡ v.items
@@ -108,17 +108,17 @@ pub block_keeps : (value : Stmt) (r : ℕ) (v : Vec ItemCode Heap) → value ≡
 block_keeps value r v is items same =
     ap (λ (x : Stmt). kept_by (view_statement x)) is ∙ ap kept_by (view_block r v) ∙ ap (λ (js : List ItemCode). kept_by_items (items_of js)) (sym same)
 
-module _ (value : Stmt) (b : Box Stmt Heap) (v : Vec Clause Heap) (d : Option Body) (is : value ≡ stmt.Try b v d) (body : Stmt) (at : body ≡ b.value) (clauses : List Clause) (same : clauses ≡ v.items) where
+module _ (value : Stmt) {w : _} (b : Box Stmt Heap) (v : Vec Clause Heap) (d : Option Body) (is : value ≡ stmt.Try w b v d) (body : Stmt) (at : body ≡ b.value) (clauses : List Clause) (same : clauses ≡ v.items) where
   pub try_needs : statement_need (view_statement value) ≡ max (statement_need (view_statement body)) (max (clauses_need (clauses_of clauses NoClauses)) (clauses_need (default_of d)))
   try_needs =
-      ap (λ (x : Stmt). statement_need (view_statement x)) is ∙ ap statement_need (view_try b v d)
+      ap (λ (x : Stmt). statement_need (view_statement x)) is ∙ ap statement_need (view_try w b v d)
       ∙ ap (λ (n : ℕ). max (statement_need (view_statement b.value)) n) (clauses_with v.items (default_of d))
       ∙ ap (λ (x : Stmt). max (statement_need (view_statement x)) (max (clauses_need (clauses_of v.items NoClauses)) (clauses_need (default_of d)))) (sym at)
       ∙ ap (λ (cs : List Clause). max (statement_need (view_statement body)) (max (clauses_need (clauses_of cs NoClauses)) (clauses_need (default_of d)))) (sym same)
 
   pub try_keeps : kept_by (view_statement value) ≡ 6 + kept_by (view_statement body) + (kept_by_clauses (clauses_of clauses NoClauses) + kept_by_clauses (default_of d))
   try_keeps =
-      ap (λ (x : Stmt). kept_by (view_statement x)) is ∙ ap kept_by (view_try b v d)
+      ap (λ (x : Stmt). kept_by (view_statement x)) is ∙ ap kept_by (view_try w b v d)
       ∙ ap (λ (n : ℕ). 6 + kept_by (view_statement b.value) + n) (clauses_kept_with v.items (default_of d))
       ∙ ap (λ (x : Stmt). 6 + kept_by (view_statement x) + (kept_by_clauses (clauses_of v.items NoClauses) + kept_by_clauses (default_of d))) (sym at)
       ∙ ap (λ (cs : List Clause). 6 + kept_by (view_statement body) + (kept_by_clauses (clauses_of cs NoClauses) + kept_by_clauses (default_of d))) (sym same)

@@ -178,6 +178,7 @@ fn expression_need(value: &Expr) -> usize
             placement,
             initial,
             of_type,
+            ..
         } => {
             let need = initial_value_need(initial, handle_words(placement), words_of(of_type));
             handle_need(placement).max(need)
@@ -329,8 +330,8 @@ fn statement_need(statement: &Stmt) -> usize
 {
     match statement {
         Stmt::Block { items, .. } => items_need(items),
-        Stmt::Evaluate { value } => expression_need(value),
-        Stmt::Swap { left, right } => {
+        Stmt::Evaluate { value, .. } => expression_need(value),
+        Stmt::Swap { left, right, .. } => {
             let sides = side_need(left).max(PLACE_WORDS + side_need(right));
             (PLACE_WORDS + PLACE_WORDS).max(sides)
         }
@@ -338,6 +339,7 @@ fn statement_need(statement: &Stmt) -> usize
             condition,
             then,
             otherwise,
+            ..
         } => {
             let branches = statement_need(then).max(statement_need(otherwise));
             expression_need(condition).max(branches)
@@ -347,12 +349,13 @@ fn statement_need(statement: &Stmt) -> usize
             body,
             ..
         } => expression_need(condition).max(statement_need(body)),
-        Stmt::Return { value } => initial_need(value),
+        Stmt::Return { value, .. } => initial_need(value),
         Stmt::Throw { value, .. } => thrown_need(value),
         Stmt::Try {
             body,
             clauses,
             default,
+            ..
         } => {
             let caught = clauses_need(clauses).max(default_need(default));
             statement_need(body).max(caught)
@@ -428,6 +431,7 @@ fn kept_by(statement: &Stmt) -> usize
             body,
             clauses,
             default,
+            ..
         } => {
             let caught = kept_by_clauses(clauses) + kept_by_default(default);
             HANDLER_WORDS + kept_by(body) + caught

@@ -77,12 +77,17 @@ fn swap_wanted(left: &Found, right: &Found, span: Span) -> Result<(), Stop>
 
 /// The swap of two places.
 #[inline(never)]
-fn swap_of(alloc: Global, left: Box<Found>, right: Box<Found>) -> Result<Box<typed::Stmt>, Stop>
+fn swap_of(
+    alloc: Global,
+    span: Span,
+    left: Box<Found>,
+    right: Box<Found>,
+) -> Result<Box<typed::Stmt>, Stop>
     ensures { Gives view_boxed_statement result (Ok (nodes.Swap (view_found left).side (view_found right).side)) }
 {
     let left = Box::into_inner(left).side;
     let right = Box::into_inner(right).side;
-    boxed(alloc, typed::Stmt::Swap { left, right })
+    boxed(alloc, typed::Stmt::Swap { span, left, right })
 }
 
 /// Asks that an exception is thrown with an int exactly where one is declared.
@@ -109,9 +114,10 @@ fn thrown_wanted(
     settled.end()
 }
 
-/// The throw of an exception, whose name stands here.
+/// The throw of an exception at a place, whose name stands here.
 fn thrown(
     scope: &Scope<'_>,
+    span: Span,
     exception: Ident,
     written: &Option<Expr>,
     value: Option<Box<typed::Expr>>,
@@ -122,7 +128,7 @@ fn thrown(
         return Err(refused(Code::UnknownName, exception.span));
     };
     thrown_wanted(known.has_int, exception.span, written, &value)?;
-    throw_of(scope.alloc(), known.number, value)
+    throw_of(scope.alloc(), span, known.number, value)
 }
 
 /// The number of the exception that a clause is for, behind clauses for these, with its int or without.
@@ -185,7 +191,7 @@ pub fn check_evaluation(scope: &mut Scope<'_>, expression: &Expr) -> Result<Box<
     ensures same { OnOk result (scope.new ≡ scope.old) }
 {
     let value = check_expression(scope, expression)?;
-    evaluation(scope.alloc(), value)
+    evaluation(scope.alloc(), span_of(expression), value)
 }
 
 pub fn check_swap(
@@ -200,7 +206,7 @@ pub fn check_swap(
     let first = check_place(scope, left, span)?;
     let second = check_place(scope, right, span_of(right))?;
     swap_wanted(&first, &second, span)?;
-    swap_of(scope.alloc(), first, second)
+    swap_of(scope.alloc(), span, first, second)
 }
 
 fn check_returned(
@@ -232,7 +238,7 @@ pub fn check_return(
     ensures same { OnOk result (scope.new ≡ scope.old) }
 {
     let value = check_returned(scope, span, value)?;
-    return_of(scope.alloc(), value)
+    return_of(scope.alloc(), span, value)
 }
 
 /// The int of an exception that is thrown, if one is written.
@@ -263,5 +269,5 @@ pub fn check_throw(
     ensures same { OnOk result (scope.new ≡ scope.old) }
 {
     let thrown_value = check_thrown(scope, value)?;
-    thrown(scope, exception, value, thrown_value)
+    thrown(scope, span, exception, value, thrown_value)
 }

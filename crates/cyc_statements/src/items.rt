@@ -209,7 +209,7 @@ fn check_initial(
 }
 
 /// The declaration of the local of this number.
-fn declaration(number: usize, local: Initialised) -> typed::Item
+fn declaration(span: Span, number: usize, local: Initialised) -> typed::Item
     ensures { typed_view.view_item result ≡ nodes.Declare number (view_initialised local).0 (view_initialised local).1 }
 {
     let Initialised { of_type, value } = local;
@@ -218,6 +218,7 @@ fn declaration(number: usize, local: Initialised) -> typed::Item
         Some(value) => Some(converted(value, &of_type)),
     };
     typed::Item::Local {
+        span,
         number,
         of_type,
         value,
@@ -237,7 +238,7 @@ pub fn declare_local(
     let local = check_initial(scope, written, name, value)?;
     let number = scope.next_local();
     scope.declare_local(name, local.of_type.share()?)?;
-    Ok(declaration(number, local))
+    Ok(declaration(name.span, number, local))
 }
 
 /// The local that gets the int of an exception, if one does.
@@ -274,6 +275,7 @@ pub fn open_lexical(
     };
     scope.declare_fixed(handle, of_type)?;
     Ok(typed::Item::Region {
+        span: region.span,
         region: own,
         number,
     })
@@ -297,6 +299,7 @@ pub fn declare_dynamic(
     };
     scope.declare_local(key, of_type)?;
     Ok(typed::Item::DynamicRegion {
+        span: region.span,
         region: own,
         number,
     })

@@ -30,11 +30,15 @@ pub fn empty(alloc: Global) -> Result<Box<typed::Stmt>, Stop>
 }
 
 #[inline(never)]
-pub fn evaluation(alloc: Global, value: Box<typed::Expr>) -> Result<Box<typed::Stmt>, Stop>
+pub fn evaluation(
+    alloc: Global,
+    span: Span,
+    value: Box<typed::Expr>,
+) -> Result<Box<typed::Stmt>, Stop>
     ensures { Gives view_boxed_statement result (Ok (nodes.Evaluate (view_boxed value))) }
 {
     let value = Box::into_inner(value);
-    boxed(alloc, typed::Stmt::Evaluate { value })
+    boxed(alloc, typed::Stmt::Evaluate { span, value })
 }
 
 #[inline(never)]
@@ -51,6 +55,7 @@ pub fn block_of(
 #[inline(never)]
 pub fn choice(
     alloc: Global,
+    span: Span,
     condition: Box<typed::Expr>,
     then: Box<typed::Stmt>,
     otherwise: Box<typed::Stmt>,
@@ -61,6 +66,7 @@ pub fn choice(
     boxed(
         alloc,
         typed::Stmt::If {
+            span,
             condition,
             then,
             otherwise,
@@ -89,15 +95,20 @@ pub fn repetition(
 }
 
 #[inline(never)]
-pub fn return_of(alloc: Global, value: Option<Converted>) -> Result<Box<typed::Stmt>, Stop>
+pub fn return_of(
+    alloc: Global,
+    span: Span,
+    value: Option<Converted>,
+) -> Result<Box<typed::Stmt>, Stop>
     ensures { Gives view_boxed_statement result (Ok (nodes.Return (option_map typed_view.view_converted value))) }
 {
-    boxed(alloc, typed::Stmt::Return { value })
+    boxed(alloc, typed::Stmt::Return { span, value })
 }
 
 #[inline(never)]
 pub fn throw_of(
     alloc: Global,
+    span: Span,
     tag: usize,
     value: Option<Box<typed::Expr>>,
 ) -> Result<Box<typed::Stmt>, Stop>
@@ -107,12 +118,13 @@ pub fn throw_of(
         Some(value) => Some(Box::into_inner(value)),
         None => None,
     };
-    boxed(alloc, typed::Stmt::Throw { tag, value })
+    boxed(alloc, typed::Stmt::Throw { span, tag, value })
 }
 
 #[inline(never)]
 pub fn try_of(
     alloc: Global,
+    span: Span,
     body: Box<typed::Stmt>,
     clauses: Vec<typed::Clause>,
     default: Option<typed::Body>,
@@ -122,6 +134,7 @@ pub fn try_of(
     boxed(
         alloc,
         typed::Stmt::Try {
+            span,
             body,
             clauses,
             default,

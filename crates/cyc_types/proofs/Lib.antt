@@ -7,6 +7,7 @@ pub mod typing
 pub mod RegionLemmas
 pub mod ClosureLemmas
 pub mod TableLemmas
+pub mod PlaceLemmas
 pub mod SearchLemmas
 pub mod OpeningLemmas
 pub mod NameLemmas

@@ -1,12 +1,11 @@
 -- The equality of regions, as the code computes it and as a test.
-use Rattle.std.proofs.Common.{◌≡◌, true, List, [], ◌∷◌, refl, ap, sym, ◌∙◌, subst}
+use Rattle.std.proofs.Common.{◌≡◌, true, refl, ap, sym, ◌∙◌, subst}
 use Rattle.std.specs.Bool.{Decides}
-use Rattle.std.specs.List.{list_any}
 use Rattle.std.proofs.lemmas.Bool.{eqb-true, eq-eqb}
 use Rattle.cyc_types.specs.declared.region.Region.{Region}
 use Rattle.cyc_types.specs.declared.region.Region.TheVariants.{Heap, Unique, Variable}
 use Rattle.cyc_types.specs.contracts.region.RegionPartialEq.TheImpl.{ghosts}
-use Rattle.cyc_types.specs.Types.{region_eq, is_region_among}
+use Rattle.cyc_types.specs.Types.{region_eq}
 
 pub region_eq-refl : (a : Region) → region_eq a a ≡ true
 region_eq-refl Heap = refl
@@ -40,7 +39,3 @@ derived-Decides a b = (
   λ h. region_eq-true a b (sym (derived-region_eq a b) ∙ h),
   λ e. derived-region_eq a b ∙ subst (λ z. region_eq a z ≡ true) e (region_eq-refl a),
 )
-
-pub derived-is_region_among : (a : Region) (regions : List Region) → list_any (λ y. ghosts.eq y a) regions ≡ is_region_among a regions
-derived-is_region_among a [] = refl
-derived-is_region_among a (r ∷ rs) = rw (derived-region_eq r a, derived-is_region_among a rs)

@@ -37,9 +37,9 @@ table_leads-there c cs a b n = rw (eq_false_at c.longer a n)
 
 abbrev pub AreOpen : List Constraint → Type 0
 AreOpen [] = Unit {0}
-AreOpen (c ∷ cs) = (c.outlived.items ≡ []) × AreOpen cs
+AreOpen (c ∷ cs) = (c.outlived ≡ []) × AreOpen cs
 
-pub AreOpen-push : (cs : List Constraint) (c : Constraint) → AreOpen cs → c.outlived.items ≡ [] → AreOpen (cs ++ c ∷ [])
+pub AreOpen-push : (cs : List Constraint) (c : Constraint) → AreOpen cs → c.outlived ≡ [] → AreOpen (cs ++ c ∷ [])
 AreOpen-push [] c h e = (e, tt)
 AreOpen-push (k ∷ ks) c h e = (h.0, AreOpen-push ks c h.1 e)
 
@@ -60,7 +60,7 @@ same_pair (a, b) (x, y) l m = cc
 -- one entry more, open, for the next constraint
 pub push_open : (cs : List Constraint) (w : List (Region × Region)) (i : ℕ) (d : Region × Region) (c : Constraint) (new : List Constraint) →
     i < length w → written_in cs ≡ take i w → AreOpen cs → new ≡ cs ++ c ∷ [] →
-    c.longer ≡ (get_or w i d).0 → c.shorter ≡ (get_or w i d).1 → c.outlived.items ≡ [] →
+    c.longer ≡ (get_or w i d).0 → c.shorter ≡ (get_or w i d).1 → c.outlived ≡ [] →
     (written_in new ≡ take (i + 1) w) × AreOpen new
 push_open cs w i d c new h e o n l m t =
     let head : (c.longer, c.shorter) ≡ get_or w i d = same_pair (c.longer, c.shorter) (get_or w i d) l m in (

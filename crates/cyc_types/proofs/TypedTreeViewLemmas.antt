@@ -3,6 +3,7 @@ use Rattle.std.proofs.Common.{◌≡◌, ℕ, List, Option, None, Some, refl, sy
 use Rattle.std.specs.declared.vec.Vec.{Vec}
 use Rattle.std.specs.declared.boxed.Box.{Box}
 use Rattle.std.specs.declared.alloc.Global.{Global as Heap}
+use Rattle.cyc_words.specs.declared.span.Span.{Span}
 use Rattle.cyc_types.specs.declared.ty.Ty.{Ty as TyCode}
 use Rattle.cyc_types.specs.declared.typed.Callee.{Callee}
 use Rattle.cyc_types.specs.declared.typed.Expr.{Expr, Row_of-Converted, end_of-Converted, more_of-Converted, items-the_row-Converted, Row_of-Operation, end_of-Operation, more_of-Operation, items-the_row-Operation}
@@ -13,7 +14,7 @@ use Rattle.cyc_types.specs.declared.typed.Converted.{Converted as ConvertedCode}
 use Rattle.cyc_types.specs.declared.typed.Operation.{Operation}
 use Rattle.cyc_types.specs.declared.typed.Operation.TheVariants as operation
 use Rattle.cyc_types.specs.declared.typed.Stmt.{Stmt, Row_of-Item, end_of-Item, more_of-Item, items-the_row-Item, Row_of-Clause, end_of-Clause, more_of-Clause, items-the_row-Clause}
-use Rattle.cyc_types.specs.declared.typed.Item.TheBlock.{hidden-the_row-Item-0, items_hidden-the_row-Item-0, shown-the_row-Item-0, items_shown-the_row-Item-0, back-Stmt-Try-2, hidden-the_row-Clause-1, items_hidden-the_row-Clause-1}
+use Rattle.cyc_types.specs.declared.typed.Item.TheBlock.{hidden-the_row-Item-0, items_hidden-the_row-Item-0, shown-the_row-Item-0, items_shown-the_row-Item-0, back-Stmt-Try-3, hidden-the_row-Clause-1, items_hidden-the_row-Clause-1}
 use Rattle.cyc_types.specs.declared.typed.Item.{Item as ItemCode}
 use Rattle.cyc_types.specs.declared.typed.Body.{Body}
 use Rattle.cyc_types.specs.declared.typed.Clause.{Clause}
@@ -32,7 +33,7 @@ arguments_view v = view_arguments-items (hidden-the_row-Converted-0 v) ∙ ap ar
 
 view_operations-items : {m : _} (row : Row_of-Operation m) → view_operations row ≡ operations_of (items-the_row-Operation m row)
 view_operations-items end_of-Operation = refl
-view_operations-items (more_of-Operation (operation.Compute o e) row) = ap (ThenCompute o (view_expression e)) (view_operations-items row)
+view_operations-items (more_of-Operation (operation.Compute s o e) row) = ap (ThenCompute o (view_expression e)) (view_operations-items row)
 view_operations-items (more_of-Operation (operation.Test o e) row) = ap (ThenTest o (view_expression e)) (view_operations-items row)
 view_operations-items (more_of-Operation (operation.Pointer o e) row) = ap (ThenPointer o (view_expression e)) (view_operations-items row)
 view_operations-items (more_of-Operation (operation.PointerPeek n o e) row) = ap (ThenPointerPeek n o (view_expression e)) (view_operations-items row)
@@ -59,14 +60,14 @@ view_clauses-items (more_of-Clause e n r shape is row) default =
 pub clauses_view : (v : Vec Clause Heap) (default : Clauses) → view_clauses (hidden-the_row-Clause-1 v) default ≡ clauses_of v.items default
 clauses_view v default = view_clauses-items (hidden-the_row-Clause-1 v) default ∙ ap (λ (cs : List Clause). clauses_of cs default) (items_hidden-the_row-Clause-1 v)
 
-default_view : (d : Option Body) → view_default (back-Stmt-Try-2 d) ≡ default_of d
+default_view : (d : Option Body) → view_default (back-Stmt-Try-3 d) ≡ default_of d
 default_view None = refl
 default_view (Some b) = ap (Default b.region) (items_view b.items)
 
 -- ---- of each node that has one
 
-pub view_call : (f : Callee) (v : Vec ConvertedCode Heap) (t : ValueTypeCode) → view_expression (expr.Call f v t) ≡ Call f (arguments_of v.items) (view_value_type t)
-view_call f v t = ap (λ cs. Call f cs (view_value_type t)) (arguments_view v)
+pub view_call : (w : Span) (f : Callee) (v : Vec ConvertedCode Heap) (t : ValueTypeCode) → view_expression (expr.Call w f v t) ≡ Call f (arguments_of v.items) (view_value_type t)
+view_call w f v t = ap (λ cs. Call f cs (view_value_type t)) (arguments_view v)
 
 pub view_binary : (b : Box Expr Heap) (v : Vec Operation Heap) (t : TyCode) → view_expression (expr.Binary b v t) ≡ Binary (view_expression b.value) (operations_of v.items) (view_ty t)
 view_binary b v t = ap (λ os. Binary (view_expression b.value) os (view_ty t)) (operations_view v)
@@ -77,5 +78,5 @@ view_block r v = ap (Block r) (items_view v)
 pub view_fields : (v : Vec ConvertedCode Heap) → view_initial (initial.Fields v) ≡ Fields (arguments_of v.items)
 view_fields v = ap Fields (arguments_view v)
 
-pub view_try : (b : Box Stmt Heap) (v : Vec Clause Heap) (d : Option Body) → view_statement (stmt.Try b v d) ≡ Try (view_statement b.value) (clauses_of v.items (default_of d))
-view_try b v d = ap (Try (view_statement b.value)) (clauses_view v (view_default (back-Stmt-Try-2 d)) ∙ ap (clauses_of v.items) (default_view d))
+pub view_try : (w : Span) (b : Box Stmt Heap) (v : Vec Clause Heap) (d : Option Body) → view_statement (stmt.Try w b v d) ≡ Try (view_statement b.value) (clauses_of v.items (default_of d))
+view_try w b v d = ap (Try (view_statement b.value)) (clauses_view v (view_default (back-Stmt-Try-3 d)) ∙ ap (clauses_of v.items) (default_view d))

@@ -44,7 +44,7 @@ is_outliving c a b =
 
 -- whether an entry says that its longer-lived region outlives b
 abbrev pub entry_leads : Constraint → Region → Bool
-entry_leads c b = region_eq c.longer b || is_region_among b c.outlived.items
+entry_leads c b = region_eq c.longer b || is_region_among b c.outlived
 
 -- whether the table says that a outlives b: the first entry of a decides
 abbrev pub table_leads : List Constraint → Region → Region → Bool

@@ -17,7 +17,7 @@ use Rattle.cyc_types.specs.declared.typed.Operation.{Operation}
 use Rattle.cyc_types.specs.declared.typed.Operation.TheVariants as operation
 use Rattle.cyc_types.specs.declared.typed.Side.{Side as SideCode}
 use Rattle.cyc_types.specs.declared.typed.Side.TheVariants as side
-use Rattle.cyc_types.specs.declared.typed.Stmt.{Stmt, Row_of-Item, end_of-Item, more_of-Item, Row_of-Clause, end_of-Clause, more_of-Clause, Held-Stmt-Try-2, None', Some'}
+use Rattle.cyc_types.specs.declared.typed.Stmt.{Stmt, Row_of-Item, end_of-Item, more_of-Item, Row_of-Clause, end_of-Clause, more_of-Clause, Held-Stmt-Try-3, None', Some'}
 use Rattle.cyc_types.specs.declared.typed.Stmt.TheVariants as stmt
 use Rattle.cyc_types.specs.declared.typed.Body.{Body}
 use Rattle.cyc_types.specs.declared.typed.Clause.{Clause}
@@ -52,17 +52,17 @@ abbrev mutual
   view_expression (expr.NumberOfElements' b e) = NumberOfElements (view_expression e)
   view_expression (expr.FreeUnique' b e) = FreeUnique (view_expression e)
   view_expression (expr.FreeKey' b e) = FreeKey (view_expression e)
-  view_expression (expr.Call' f shape row t) = Call f (view_arguments row) (view_value_type t)
+  view_expression (expr.Call' s f shape row t) = Call f (view_arguments row) (view_value_type t)
   view_expression (expr.Unary' o b e) = Unary o (view_expression e)
   view_expression (expr.Binary' b e shape row t) = Binary (view_expression e) (view_operations row) (view_ty t)
   view_expression (expr.Assign' l b f k e t) = Assign (view_lvalue l) (Convert f k (view_expression e)) (view_value_type t)
   view_expression (expr.Store' b d b' f k e t) = Store (view_dereference d) (Convert f k (view_expression e)) (view_value_type t)
-  view_expression (expr.New' w b i t) = New (view_placement w) (view_initial i) (view_ty t)
+  view_expression (expr.New' s w b i t) = New (view_placement w) (view_initial i) (view_ty t)
 
   pub view_dereference : DereferenceCode → Dereference
-  view_dereference (dereference.Target k e t) = Target k (view_expression e) (view_ty t)
-  view_dereference (dereference.Member k e s f t) = Member k (view_expression e) s f (view_ty t)
-  view_dereference (dereference.Element e i t) = Element (view_expression e) (view_expression i) (view_ty t)
+  view_dereference (dereference.Target p k e t) = Target k (view_expression e) (view_ty t)
+  view_dereference (dereference.Member p k e s f t) = Member k (view_expression e) s f (view_ty t)
+  view_dereference (dereference.Element p e i t) = Element (view_expression e) (view_expression i) (view_ty t)
 
   pub view_placement : PlacementCode → Placement
   view_placement placement.OnHeap = OnHeap
@@ -80,7 +80,7 @@ abbrev mutual
 
   pub view_operations : {m : _} → Row_of-Operation m → Operations
   view_operations end_of-Operation = NoOperations
-  view_operations (more_of-Operation (operation.Compute o e) row) = ThenCompute o (view_expression e) (view_operations row)
+  view_operations (more_of-Operation (operation.Compute s o e) row) = ThenCompute o (view_expression e) (view_operations row)
   view_operations (more_of-Operation (operation.Test o e) row) = ThenTest o (view_expression e) (view_operations row)
   view_operations (more_of-Operation (operation.Pointer o e) row) = ThenPointer o (view_expression e) (view_operations row)
   view_operations (more_of-Operation (operation.PointerPeek n o e) row) = ThenPointerPeek n o (view_expression e) (view_operations row)
@@ -95,7 +95,7 @@ arguments_of [] = NoArguments
 arguments_of (c ∷ cs) = MoreArguments (view_converted c) (arguments_of cs)
 
 abbrev pub then_operation : Operation → Operations → Operations
-then_operation (operation.Compute o e) os = ThenCompute o (view_expression e) os
+then_operation (operation.Compute s o e) os = ThenCompute o (view_expression e) os
 then_operation (operation.Test o e) os = ThenTest o (view_expression e) os
 then_operation (operation.Pointer o e) os = ThenPointer o (view_expression e) os
 then_operation (operation.PointerPeek n o e) os = ThenPointerPeek n o (view_expression e) os
@@ -114,17 +114,17 @@ abbrev mutual
   pub view_statement : Stmt → Statement
   view_statement (stmt.Block' r shape row) = Block r (view_items row)
   view_statement stmt.Empty = Empty
-  view_statement (stmt.Evaluate e) = Evaluate (view_expression e)
-  view_statement (stmt.Swap a b) = Swap (view_side a) (view_side b)
-  view_statement (stmt.If' c b s b' t) = If (view_expression c) (view_statement s) (view_statement t)
+  view_statement (stmt.Evaluate s e) = Evaluate (view_expression e)
+  view_statement (stmt.Swap s a b) = Swap (view_side a) (view_side b)
+  view_statement (stmt.If' p c b s b' t) = If (view_expression c) (view_statement s) (view_statement t)
   view_statement (stmt.While' p c b s) = While (place_of_span p) (view_expression c) (view_statement s)
-  view_statement (stmt.Return v) = Return (option_map view_converted v)
+  view_statement (stmt.Return s v) = Return (option_map view_converted v)
   view_statement stmt.Break = Break
   view_statement stmt.Continue = Continue
-  view_statement (stmt.Throw n v) = Throw n (option_map view_expression v)
-  view_statement (stmt.Try' b s shape row held) = Try (view_statement s) (view_clauses row (view_default held))
+  view_statement (stmt.Throw s n v) = Throw n (option_map view_expression v)
+  view_statement (stmt.Try' p b s shape row held) = Try (view_statement s) (view_clauses row (view_default held))
 
-  pub view_default : Held-Stmt-Try-2 → Clauses
+  pub view_default : Held-Stmt-Try-3 → Clauses
   view_default None' = NoClauses
   view_default (Some' r shape row) = Default r (view_items row)
 
@@ -134,11 +134,11 @@ abbrev mutual
 
   pub view_item : ItemCode → Item
   view_item (item.Execute s) = Execute (view_statement s)
-  view_item (item.Local n t v) = Declare n (view_ty t) (option_map view_converted v)
-  view_item (item.Region r n) = DeclareRegion r n
+  view_item (item.Local s n t v) = Declare n (view_ty t) (option_map view_converted v)
+  view_item (item.Region s r n) = DeclareRegion r n
   view_item (item.Open r n s k) = OpenRegion r n (place_of_span s) k
   view_item (item.Alias r n t s m) = DeclareAlias r n (view_ty t) (place_of_span s) m
-  view_item (item.DynamicRegion r n) = DeclareKey r n
+  view_item (item.DynamicRegion s r n) = DeclareKey r n
 
   pub view_clauses : {m : _} → Row_of-Clause m → Clauses → Clauses
   view_clauses end_of-Clause default = default

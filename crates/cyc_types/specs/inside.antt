@@ -1,5 +1,7 @@
 -- what the functions inside these crates promise each other: the rules as functions, and the table of constraints
 pub mod Openings
+pub mod RegionMarks
+pub mod ConstraintPlaces
 pub mod Names
 pub mod StructTables
 pub mod WrittenMarks

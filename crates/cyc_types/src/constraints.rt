@@ -5,6 +5,7 @@ ghost use Rattle.cyc_types.specs.Types.{region_eq, is_region_among};
 ghost use Rattle.cyc_types.specs.Closure.{above, entry_leads, table_leads, written_in, IsClosed, has_entry};
 
 use crate::Region;
+use crate::region_list::RegionList;
 use smallvec::SmallVec;
 use std::alloc::{AllocError, Global};
 
@@ -13,14 +14,7 @@ use std::alloc::{AllocError, Global};
 pub struct Constraint {
     pub longer: Region,
     pub shorter: Region,
-    pub outlived: SmallVec<Region, 4>,
-}
-
-/// Whether the list has the region.
-pub(crate) fn is_region_among(region: Region, regions: &[Region]) -> bool
-    ensures { result ≡ is_region_among region regions.now }
-{
-    regions.contains(&region)
+    pub outlived: RegionList,
 }
 
 impl Constraint {
@@ -28,20 +22,20 @@ impl Constraint {
     fn new(alloc: Global, longer: Region, shorter: Region) -> Constraint
         ensures longer { result.longer ≡ longer }
         ensures shorter { result.shorter ≡ shorter }
-        ensures outlived { result.outlived.items ≡ [] }
+        ensures outlived { result.outlived ≡ [] }
     {
         Constraint {
             longer,
             shorter,
-            outlived: SmallVec::new(alloc),
+            outlived: RegionList::new(alloc),
         }
     }
 
     /// Whether the longer-lived region is known to outlive this one.
-    fn leads_to(&self, region: Region) -> bool
+    pub(crate) fn leads_to(&self, region: Region) -> bool
         ensures { result ≡ entry_leads self.now region }
     {
-        self.longer == region || is_region_among(region, &self.outlived)
+        self.longer == region || self.outlived.has(region)
     }
 
     /// Adds one region to those that the longer-lived one outlives.
@@ -72,7 +66,7 @@ impl Constraint {
 }
 
 /// The entry that says what the region outlives, if a constraint begins with it.
-pub(crate) fn entry_of(constraints: &[Constraint], region: Region) -> Option<&Constraint>
+fn entry_of(constraints: &[Constraint], region: Region) -> Option<&Constraint>
     ensures entry { MatchOption result ((b : Region) → table_leads constraints.now region b ≡ region_eq region b) (λ c. (b : Region) → table_leads constraints.now region b ≡ entry_leads c.now b) }
     ensures longer { IfSome result (λ c. c.now.longer ≡ region) }
 {
@@ -84,16 +78,6 @@ pub(crate) fn entry_of(constraints: &[Constraint], region: Region) -> Option<&Co
     None
 }
 
-/// Whether the first region outlives the second by the constraints.
-pub(crate) fn table_leads(constraints: &[Constraint], a: Region, b: Region) -> bool
-    ensures { result ≡ table_leads constraints.now a b }
-{
-    match entry_of(constraints, a) {
-        Some(constraint) => constraint.leads_to(b),
-        None => a == b,
-    }
-}
-
 /// The region and all that it outlives.
 fn all_below(
     alloc: Global,
@@ -103,7 +87,7 @@ fn all_below(
     ensures { IfOk result (λ below. (b : Region) → is_region_among b below.items ≡ table_leads constraints.now region b) }
 {
     let mut below = match entry_of(constraints, region) {
-        Some(constraint) => SmallVec::from_slice(alloc, &constraint.outlived)?,
+        Some(constraint) => SmallVec::from_slice(alloc, constraint.outlived.as_slice())?,
         None => SmallVec::new(alloc),
     };
     below.push(region)?;

@@ -12,6 +12,7 @@ pub use structs::StructNames;
 pub use ty::Ty;
 pub use typed::TypedTree;
 
+mod constraint_table;
 mod constraints;
 pub mod formation;
 mod known;
@@ -22,6 +23,7 @@ mod openings;
 mod outlives;
 pub mod parameters;
 mod region;
+mod region_list;
 mod scope;
 mod signature;
 mod structs;

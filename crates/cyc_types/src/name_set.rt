@@ -68,7 +68,7 @@ ghost use Rattle.std.specs.Prelude.{◌≡◌, ℕ, ◌<◌, length, nat_eq, not
 ghost use Rattle.std.specs.List.{list_any};
 
 /// Makes the table so long that it has a place for this name.
-fn grow(table: &mut Vec<bool>, name: usize) -> Result<(), AllocError>
+pub(crate) fn grow(table: &mut Vec<bool>, name: usize) -> Result<(), AllocError>
     ensures same { (x : ℕ) → get_or table.new.items x false ≡ get_or table.old.items x false }
     ensures long { OnOk result (name < length table.new.items) }
 {
@@ -82,7 +82,7 @@ fn grow(table: &mut Vec<bool>, name: usize) -> Result<(), AllocError>
     Ok(())
 }
 
-fn mark(table: &mut Vec<bool>, name: usize)
+pub(crate) fn mark(table: &mut Vec<bool>, name: usize)
     requires { name < length table.old.items }
     ensures { (x : ℕ) → get_or table.new.items x false ≡ (nat_eq x name || get_or table.old.items x false) }
 {

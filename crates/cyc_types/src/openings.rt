@@ -10,7 +10,8 @@ ghost use Rattle.cyc_types.specs.Closure.{IsClosed, above, above_one_of, leads, 
 ghost use Rattle.cyc_types.specs.inside.Openings.{IsInOrder, live_before, opening_of};
 
 use crate::Region;
-use crate::constraints::{Constraint, entry_of, is_region_among, table_leads};
+use crate::constraint_table::{ConstraintTable, entry_of, table_leads};
+use crate::region_list::RegionList;
 use crate::scope::{Scope, is_outlived_by_live};
 use std::alloc::AllocError;
 
@@ -29,7 +30,7 @@ fn opening_of(openings: &[usize], region: Region) -> usize
 
 /// Whether the region is live where this many of the oldest scopes are open.
 pub(crate) fn is_live_before(
-    live: &[Region],
+    live: &RegionList,
     openings: &[usize],
     scopes: &[Scope],
     count: usize,
@@ -38,7 +39,7 @@ pub(crate) fn is_live_before(
     requires { (w : List (Region × Region)) × (n : ℕ) × (count ≤ n) × IsInOrder w live.now openings.now scopes.now n }
     ensures { result ≡ is_region_among region (live_before live.now scopes.now count) }
 {
-    if is_region_among(region, live) {
+    if live.has(region) {
         return true;
     }
     let place = opening_of(openings, region);
@@ -50,7 +51,7 @@ pub(crate) fn is_live_before(
 
 /// Whether one of these regions is live there, the unique region aside.
 fn is_one_live_before(
-    live: &[Region],
+    live: &RegionList,
     openings: &[usize],
     scopes: &[Scope],
     count: usize,
@@ -69,8 +70,8 @@ fn is_one_live_before(
 
 /// Whether the constraints lead from `a` to what is live there, the unique region aside.
 fn is_above_live_before(
-    constraints: &[Constraint],
-    live: &[Region],
+    constraints: &ConstraintTable,
+    live: &RegionList,
     openings: &[usize],
     scopes: &[Scope],
     count: usize,
@@ -84,7 +85,7 @@ fn is_above_live_before(
         return true;
     }
     match entry_of(constraints, a) {
-        Some(entry) => is_one_live_before(live, openings, scopes, count, &entry.outlived),
+        Some(entry) => is_one_live_before(live, openings, scopes, count, entry.outlived.as_slice()),
         None => false,
     }
 }
@@ -93,8 +94,8 @@ fn is_above_live_before(
 ///
 /// What is live where a scope opens leads to its region. No other way leads there but the constraints, since the region is new.
 pub(crate) fn leads_in_order(
-    constraints: &[Constraint],
-    live: &[Region],
+    constraints: &ConstraintTable,
+    live: &RegionList,
     openings: &[usize],
     scopes: &[Scope],
     a: Region,
@@ -146,7 +147,7 @@ fn note(openings: &mut Vec<usize>, region: Region, place: usize) -> Result<bool,
 }
 
 /// Whether no constraint begins with the region.
-fn is_alone(constraints: &[Constraint], region: Region) -> bool
+fn is_alone(constraints: &ConstraintTable, region: Region) -> bool
     ensures { IsTrue result → (b : Region) → table_leads constraints.now region b ≡ region_eq region b }
 {
     match entry_of(constraints, region) {
@@ -157,8 +158,8 @@ fn is_alone(constraints: &[Constraint], region: Region) -> bool
 
 /// Where the oldest `in_order` scopes are in order, whether the scope is too if it opens next. Where its oldest scope stands is then noted.
 pub(crate) fn opens_in_order(
-    constraints: &[Constraint],
-    live: &[Region],
+    constraints: &ConstraintTable,
+    live: &RegionList,
     openings: &mut Vec<usize>,
     scopes: &[Scope],
     in_order: usize,

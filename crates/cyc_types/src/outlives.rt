@@ -8,8 +8,10 @@ ghost use Rattle.cyc_types.specs.Types.{region_eq, is_region_among};
 ghost use Rattle.cyc_types.specs.Closure.{HasNoUnique, IsClosed, above, above_one_of, above_one_opened, context_of, is_outliving, is_above_known, leads, written_in};
 
 use crate::Region;
-use crate::constraints::{Constraint, closed, is_region_among, table_leads};
+use crate::constraint_table::{ConstraintTable, table_leads};
+use crate::constraints::closed;
 use crate::openings::{is_live_before, leads_in_order, opens_in_order};
+use crate::region_list::RegionList;
 use crate::scope::{Kind, Scope, is_outlived_by_live};
 use std::alloc::{AllocError, Global};
 use std::marker::Model;
@@ -21,8 +23,8 @@ use std::marker::Model;
 /// opening a dynamic or an alias region adds nothing. The unique region is related to itself alone. Questions take no memory.
 #[derive(Drop)]
 pub struct Outlives {
-    constraints: Vec<Constraint>,
-    live: Vec<Region>,
+    constraints: ConstraintTable,
+    live: RegionList,
     /// Oldest first.
     scopes: Vec<Scope>,
     /// For each region variable that scopes have the place of the oldest; what it says of others does not count.
@@ -38,9 +40,9 @@ impl Model for Outlives {
 
     ghost Value = { RegionContext };
 
-    ghost view = { λ o. context_of o.constraints.items o.live.items o.scopes.items };
+    ghost view = { λ o. context_of o.constraints o.live o.scopes.items };
 
-    ghost invariant = { λ o. IsClosed o.constraints.items × IsInOrder (written_in o.constraints.items) o.live.items o.openings.items o.scopes.items o.in_order };
+    ghost invariant = { λ o. IsClosed o.constraints × IsInOrder (written_in o.constraints) o.live o.openings.items o.scopes.items o.in_order };
 }
 
 impl Outlives {
@@ -56,8 +58,8 @@ impl Outlives {
         ensures opened { IfOk result (λ outlives. outlives.opened ≡ []) }
     {
         Ok(Outlives {
-            constraints: closed(alloc, written)?,
-            live: Vec::from_slice(alloc, live)?,
+            constraints: ConstraintTable::new(alloc, closed(alloc, written)?)?,
+            live: RegionList::from_slice(alloc, live)?,
             scopes: Vec::new(alloc),
             openings: Vec::new(alloc),
             in_order: 0,
@@ -87,7 +89,7 @@ impl Outlives {
                 region,
             );
         }
-        is_region_among(region, &self.live) || is_opened(&self.scopes, region)
+        self.live.has(region) || is_opened(&self.scopes, region)
     }
 
     /// How many scopes are open.
@@ -162,7 +164,7 @@ impl Outlives {
                 b,
             );
         }
-        leads(&self.constraints, &self.live, &self.scopes, a, b)
+        leads(&self.constraints, self.live.as_slice(), &self.scopes, a, b)
     }
 }
 
@@ -179,7 +181,7 @@ fn is_opened(scopes: &[Scope], region: Region) -> bool
 }
 
 /// Whether the constraints lead from `a` to one of these regions, the unique region aside.
-fn is_above_one_of(constraints: &[Constraint], regions: &[Region], a: Region) -> bool
+fn is_above_one_of(constraints: &ConstraintTable, regions: &[Region], a: Region) -> bool
     requires { IsClosed constraints.now }
     ensures { result ≡ above_one_of (written_in constraints.now) regions.now a }
 {
@@ -192,7 +194,7 @@ fn is_above_one_of(constraints: &[Constraint], regions: &[Region], a: Region) ->
 }
 
 /// The same of the regions of scopes.
-fn is_above_one_opened(constraints: &[Constraint], scopes: &[Scope], a: Region) -> bool
+fn is_above_one_opened(constraints: &ConstraintTable, scopes: &[Scope], a: Region) -> bool
     requires { IsClosed constraints.now }
     ensures { result ≡ above_one_opened (written_in constraints.now) scopes.now a }
 {
@@ -205,7 +207,12 @@ fn is_above_one_opened(constraints: &[Constraint], scopes: &[Scope], a: Region) 
 }
 
 /// The same of all that is live where these scopes are open.
-fn is_above_live(constraints: &[Constraint], live: &[Region], scopes: &[Scope], a: Region) -> bool
+fn is_above_live(
+    constraints: &ConstraintTable,
+    live: &[Region],
+    scopes: &[Scope],
+    a: Region,
+) -> bool
     requires { IsClosed constraints.now }
     ensures { result ≡ above_one_of (written_in constraints.now) (live_regions live.now (reverse scopes.now)) a }
 {
@@ -217,7 +224,7 @@ fn is_above_live(constraints: &[Constraint], live: &[Region], scopes: &[Scope], 
 /// The scopes are passed from the oldest to the newest. Once all that is live at some scope is known to outlive `b`, a later scope
 /// matters only where its own region leads to `b`, and then all that is live there outlives `b` too.
 fn leads(
-    constraints: &[Constraint],
+    constraints: &ConstraintTable,
     live: &[Region],
     scopes: &[Scope],
     a: Region,
@@ -247,7 +254,7 @@ fn leads(
 /// Whether `a` leads to `b`, where all that was live when the scope at `known` opened does, and nothing else but what the
 /// constraints say.
 fn is_known(
-    constraints: &[Constraint],
+    constraints: &ConstraintTable,
     live: &[Region],
     scopes: &[Scope],
     known: Option<usize>,

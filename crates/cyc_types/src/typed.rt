@@ -5,6 +5,9 @@
 //! operator works on are told apart by the nodes, each conversion stands where it happens, and brackets are gone: nobody needs an
 //! environment of names or the type of an operand to say what a tree does. Chains of operators are lists, so that a tree is no deeper
 //! than the one that it was made of. Rare and large parts are in boxes, so that a node is small.
+//!
+//! A node keeps a place of the text where a later phase may refuse there, and where code is made that can end a run: by these a run's
+//! end is told.
 
 use crate::{Region, Ty};
 use cyc_syntax::Name;
@@ -173,8 +176,9 @@ pub enum Expr {
     FreeKey {
         key: Box<Expr>,
     },
-    /// With the type of its result, if it has one.
+    /// With the place of the name, and the type of its result, if it has one.
     Call {
+        span: Span,
         callee: Callee,
         arguments: Vec<Converted>,
         result: ValueType,
@@ -201,8 +205,9 @@ pub enum Expr {
         value: Box<Converted>,
         result: ValueType,
     },
-    /// `new` and `rnew`: a new object, and the type of the pointer to it.
+    /// `new` and `rnew`, at this place: a new object, and the type of the pointer to it.
     New {
+        span: Span,
         placement: Placement,
         initial: Box<Initial>,
         of_type: Ty,
@@ -213,22 +218,25 @@ pub enum Expr {
 #[cycle(expression)]
 #[derive(Drop)]
 pub enum Dereference {
-    /// `*e`, of a pointer of this kind.
+    /// `*e`, of a pointer of this kind, with the place of e.
     Target {
+        span: Span,
         kind: Kind,
         pointer: Expr,
         of_type: Ty,
     },
-    /// `e->f`, by the number of the struct and that of the field in it.
+    /// `e->f`, by the number of the struct and that of the field in it, with the place of f.
     Member {
+        span: Span,
         kind: Kind,
         pointer: Expr,
         number: usize,
         field: usize,
         of_type: Ty,
     },
-    /// `e[i]`
+    /// `e[i]`, with the place of i.
     Element {
+        span: Span,
         pointer: Expr,
         index: Expr,
         of_type: Ty,
@@ -284,8 +292,9 @@ pub struct Converted {
 #[cycle(expression)]
 #[derive(Drop)]
 pub enum Operation {
-    /// It computes with two ints.
+    /// It computes with two ints. The place is that of the operand.
     Compute {
+        span: Span,
         operator: Operator,
         operand: Expr,
     },
@@ -323,15 +332,19 @@ pub enum Stmt {
         items: Vec<Item>,
     },
     Empty,
+    /// With the place of its first token, as a swap has it.
     Evaluate {
+        span: Span,
         value: Expr,
     },
     Swap {
+        span: Span,
         left: Side,
         right: Side,
     },
-    /// Where no `else` is written, the other statement is empty.
+    /// Where no `else` is written, the other statement is empty. With the place of `if`.
     If {
+        span: Span,
         condition: Expr,
         then: Box<Stmt>,
         otherwise: Box<Stmt>,
@@ -342,18 +355,22 @@ pub enum Stmt {
         condition: Expr,
         body: Box<Stmt>,
     },
+    /// With the place of `return`.
     Return {
+        span: Span,
         value: Option<Converted>,
     },
     Break,
     Continue,
-    /// An exception by its number, with its int if it has one.
+    /// An exception by its number, with its int if it has one, and with the place of `throw`.
     Throw {
+        span: Span,
         tag: usize,
         value: Option<Expr>,
     },
-    /// The clauses of a catch, and the default clause behind them, if there is one.
+    /// The clauses of a catch, and the default clause behind them, if there is one. With the place of `try`.
     Try {
+        span: Span,
         body: Box<Stmt>,
         clauses: Vec<Clause>,
         default: Option<Body>,
@@ -384,14 +401,17 @@ pub enum Item {
     Execute {
         statement: Stmt,
     },
-    /// The declaration of the local of this number.
+    /// The declaration of the local of this number, with the place of its name.
     Local {
+        span: Span,
         number: usize,
         of_type: Ty,
         value: Option<Converted>,
     },
-    /// A lexical region to the end of the block, by its number in its function; the local of this number is its handle.
+    /// A lexical region to the end of the block, by its number in its function, with the place of its name; the local of this number is
+    /// its handle.
     Region {
+        span: Span,
         region: usize,
         number: usize,
     },
@@ -410,8 +430,9 @@ pub enum Item {
         span: Span,
         source: usize,
     },
-    /// A dynamic region, and the local that is its key.
+    /// A dynamic region, with the place of its name, and the local that is its key.
     DynamicRegion {
+        span: Span,
         region: usize,
         number: usize,
     },

@@ -13,13 +13,13 @@ use Rattle.cyc_flow.specs.declared.statements.Loop.{Loop as LoopCode}
 use Rattle.cyc_flow.specs.inside.Code.{view_state}
 
 abbrev pub rule_operation : (waiting : List ℕ) → Operation → State → Rule State
-rule_operation q (operation.Compute o e) f = rule q (view_expression e) f
+rule_operation q (operation.Compute w o e) f = rule q (view_expression e) f
 rule_operation q (operation.Test o e) f = Part (rule q (view_expression e) f) (λ g. gives (meet f g))
 rule_operation q (operation.Pointer o e) f = rule q (view_expression e) f
 rule_operation q (operation.PointerPeek n o e) f = rule (and_peeked (Some n) q) (view_expression e) f
 
 abbrev pub touched_operation : Operation → List ℕ → List ℕ
-touched_operation (operation.Compute o e) ns = touched (view_expression e) ns
+touched_operation (operation.Compute w o e) ns = touched (view_expression e) ns
 touched_operation (operation.Test o e) ns = touched (view_expression e) ns
 touched_operation (operation.Pointer o e) ns = touched (view_expression e) ns
 touched_operation (operation.PointerPeek n o e) ns = touched (view_expression e) ns

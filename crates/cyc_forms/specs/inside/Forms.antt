@@ -50,7 +50,7 @@ value_in c = view.view_expression c.value
 
 -- an operation in front of the rest of its chain
 abbrev pub put_operation : Operation → typed.Operations → typed.Operations
-put_operation (operation.Compute o e) = typed.ThenCompute o (view.view_expression e)
+put_operation (operation.Compute s o e) = typed.ThenCompute o (view.view_expression e)
 put_operation (operation.Test o e) = typed.ThenTest o (view.view_expression e)
 put_operation (operation.Pointer o e) = typed.ThenPointer o (view.view_expression e)
 put_operation (operation.PointerPeek n o e) = typed.ThenPointerPeek n o (view.view_expression e)

@@ -19,7 +19,7 @@ operands_need cs before own = max (before + argument_words cs + own) (arguments_
 
 -- the need of one operator of a chain of this type with its right operand, where the left one has so many words
 abbrev pub operation_need : Operation → Ty → (left : ℕ) → ℕ
-operation_need (operation.Compute o e) t left =
+operation_need (operation.Compute w o e) t left =
     max (left + operand_words (type_of (view_expression e)) + words_of t) (left + expression_need (view_expression e))
 operation_need (operation.Test o e) t left =
     max (left + operand_words (type_of (view_expression e)) + words_of t) (left + expression_need (view_expression e))
@@ -31,11 +31,11 @@ operation_need (operation.PointerPeek n o e) t left =
 -- the need of one item of a block
 abbrev pub item_need : Item → ℕ
 item_need (item.Execute s) = statement_need (view_statement s)
-item_need (item.Local n t v) = initial_need (option_map view_converted v)
+item_need (item.Local w n t v) = initial_need (option_map view_converted v)
 item_need i = 0
 
 -- what one item of a block keeps beside the variables
 abbrev pub kept_by_item : Item → ℕ
 kept_by_item (item.Execute s) = kept_by (view_statement s)
-kept_by_item (item.Region r n) = 1
+kept_by_item (item.Region w r n) = 1
 kept_by_item i = 0

@@ -22,7 +22,7 @@ returns-then-is_live_before c =
 pub returns-in-Some : goal.returns-in-Some
 returns-in-Some c =
     let rs = live_before c.args.live.now c.args.scopes.now c.args.count in
-    let below = c.in-Some.entry.now.outlived.items in
+    let below = c.in-Some.entry.now.outlived in
     let test : Region → Bool = λ r. not (region_eq r Unique) && is_region_among r rs in
     let first : (not (region_eq c.args.a Unique) && is_region_among c.args.a rs) ≡ false =
     elim c.else-ne.branch [
@@ -32,7 +32,7 @@ returns-in-Some c =
     let whole : above_one_of (written_in c.args.constraints.now) rs c.args.a ≡ list_any test (c.args.a ∷ below) =
     above-among (written_in c.args.constraints.now) rs (c.args.a ∷ below) c.args.a
     (λ b. sym (c.requires.closed c.args.a b) ∙ c.in-Some.ensures.entry b ∙ ap (λ z. region_eq z b || is_region_among b below) c.in-Some.ensures.longer) in
-    c.is_one_live_before.ensures ∙ ap (list_any test) c.deref.ensures ∙ sym (ap (λ z. z || list_any test below) first) ∙ sym whole
+    c.is_one_live_before.ensures ∙ ap (list_any test) c.as_slice.ensures ∙ sym (ap (λ z. z || list_any test below) first) ∙ sym whole
 
 pub returns-in-None : goal.returns-in-None
 returns-in-None c =

@@ -9,14 +9,14 @@ pub returns-then-place-count : goal.returns-then-place-count
 returns-then-place-count c =
     let e : c.eq.result ≡ region_eq (scope_at c.args.scopes.now c.opening_of-place.result).region c.args.region =
     c.eq.ensures ∙ derived-region_eq (scope_at c.args.scopes.now c.opening_of-place.result).region c.args.region in
-    let not_live : is_region_among c.args.region c.args.live.now ≡ false = sym c.is_region_among.ensures ∙ c.if-is_region_among.false in
+    let not_live : is_region_among c.args.region c.args.live.now ≡ false = sym c.has.ensures ∙ c.if-has.false in
     (rw c.opening_of-place.ensures at e)
     ∙ live-tested c.requires.0 c.args.live.now c.args.openings.now c.args.scopes.now c.requires.1 c.requires.3 c.args.count c.args.region c.requires.2
     not_live (rw c.opening_of-place.ensures at c.if-place-count.true)
 
 pub returns : goal.returns
 returns c =
-    let not_live : is_region_among c.args.region c.args.live.now ≡ false = sym c.is_region_among.ensures ∙ c.if-is_region_among.false in
+    let not_live : is_region_among c.args.region c.args.live.now ≡ false = sym c.has.ensures ∙ c.if-has.false in
     sym (live-missed c.requires.0 c.args.live.now c.args.openings.now c.args.scopes.now c.requires.1 c.requires.3 c.args.count c.args.region c.requires.2
     not_live (λ lt. absurd (out (rw c.opening_of-place.ensures at c.if-place-count.false) lt)))
   where

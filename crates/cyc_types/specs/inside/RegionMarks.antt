@@ -1,0 +1,10 @@
+-- Which regions are marked: the heap and the unique region each by a mark of its own, and each region variable by one at its number.
+-- (This project's own choice.)
+use Rattle.std.specs.Prelude.{Bool, false, List, get_or}
+use Rattle.cyc_types.specs.declared.region.Region.{Region}
+use Rattle.cyc_types.specs.declared.region.Region.TheVariants.{Heap, Unique, Variable}
+
+abbrev pub is_marked : Bool → Bool → List Bool → Region → Bool
+is_marked heap unique marks Heap = heap
+is_marked heap unique marks Unique = unique
+is_marked heap unique marks (Variable n) = get_or marks n false

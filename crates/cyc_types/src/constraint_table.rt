@@ -1,0 +1,133 @@
+//! Closed constraints in a table: what begins with a region is found there, and no constraint is searched.
+ghost use Rattle.std.specs.Prelude.{◌≡◌, ℕ, ◌<◌, cond, get_or, length, Some, None, OnOk, IfSome, MatchOption};
+ghost use Rattle.cyc_types.specs.declared.region.Region.{Region};
+ghost use Rattle.cyc_types.specs.Types.{region_eq};
+ghost use Rattle.cyc_types.specs.Closure.{entry_leads, table_leads};
+ghost use Rattle.cyc_types.specs.inside.ConstraintPlaces.{place_of};
+
+use crate::Region;
+use crate::constraints::Constraint;
+use std::alloc::{AllocError, Global};
+use std::marker::Model;
+
+/// Where the first constraint that begins with each region stands.
+#[derive(Drop)]
+pub(crate) struct Places {
+    heap: Option<usize>,
+    unique: Option<usize>,
+    /// By the number of a region variable.
+    variables: Vec<Option<usize>>,
+}
+
+/// Constraints in their order. A clause sees the list alone.
+#[derive(Drop)]
+pub(crate) struct ConstraintTable {
+    constraints: Vec<Constraint>,
+    places: Places,
+}
+
+impl Model for ConstraintTable {
+    ghost use Rattle.std.specs.Prelude.{List};
+    ghost use Rattle.cyc_types.specs.declared.constraints.Constraint.{Constraint};
+    ghost use Rattle.cyc_types.specs.inside.ConstraintPlaces.{AreFirst};
+
+    ghost Value = { List Constraint };
+
+    ghost view = { λ t. t.constraints.items };
+
+    ghost invariant = { λ t. AreFirst t.constraints.items t.constraints.items t.places };
+}
+
+impl Places {
+    /// No region has a place.
+    fn new(alloc: Global) -> Places
+        ensures { (r : Region) → place_of result r ≡ None }
+    {
+        Places {
+            heap: None,
+            unique: None,
+            variables: Vec::new(alloc),
+        }
+    }
+
+    fn get(&self, region: Region) -> Option<usize>
+        ensures { result ≡ place_of self.now region }
+    {
+        match region {
+            Region::Heap => self.heap,
+            Region::Unique => self.unique,
+            Region::Variable(number) => self.variables.get(number).copied().unwrap_or(None),
+        }
+    }
+
+    fn set(&mut self, region: Region, place: usize) -> Result<(), AllocError>
+        ensures { OnOk result ((r : Region) → place_of self.new r ≡ cond (region_eq region r) (Some place) (place_of self.old r)) }
+    {
+        match region {
+            Region::Heap => self.heap = Some(place),
+            Region::Unique => self.unique = Some(place),
+            Region::Variable(number) => {
+                grow(&mut self.variables, number)?;
+                self.variables[number] = Some(place);
+            }
+        }
+        Ok(())
+    }
+}
+
+/// Makes the table so long that it has an entry for this variable.
+fn grow(variables: &mut Vec<Option<usize>>, number: usize) -> Result<(), AllocError>
+    ensures same { (x : ℕ) → get_or variables.new.items x None ≡ get_or variables.old.items x None }
+    ensures long { OnOk result (number < length variables.new.items) }
+{
+    if number < variables.len() {
+        return Ok(());
+    }
+    let Some(length) = number.checked_add(1) else {
+        return Err(AllocError);
+    };
+    variables.resize(length, None)?;
+    Ok(())
+}
+
+impl ConstraintTable {
+    ghost use Rattle.std.specs.Prelude.{◌≡◌, IfOk};
+
+    /// The table of these constraints.
+    pub(crate) fn new(
+        alloc: Global,
+        constraints: Vec<Constraint>,
+    ) -> Result<ConstraintTable, AllocError>
+        ensures { IfOk result (λ table. table ≡ constraints.items) }
+    {
+        let mut places = Places::new(alloc);
+        for i in (0..constraints.len()).rev() {
+            places.set(constraints[i].longer, i)?;
+        }
+        Ok(ConstraintTable {
+            constraints,
+            places,
+        })
+    }
+}
+
+/// The entry that says what the region outlives, if a constraint begins with it.
+pub(crate) fn entry_of(constraints: &ConstraintTable, region: Region) -> Option<&Constraint>
+    ensures entry { MatchOption result ((b : Region) → table_leads constraints.now region b ≡ region_eq region b) (λ c. (b : Region) → table_leads constraints.now region b ≡ entry_leads c.now b) }
+    ensures longer { IfSome result (λ c. c.now.longer ≡ region) }
+{
+    match constraints.places.get(region) {
+        Some(place) => Some(&constraints.constraints[place]),
+        None => None,
+    }
+}
+
+/// Whether the first region outlives the second by the constraints.
+pub(crate) fn table_leads(constraints: &ConstraintTable, a: Region, b: Region) -> bool
+    ensures { result ≡ table_leads constraints.now a b }
+{
+    match entry_of(constraints, a) {
+        Some(constraint) => constraint.leads_to(b),
+        None => a == b,
+    }
+}

@@ -1,0 +1,92 @@
+//! A list of regions, which tells in constant time whether it has one.
+
+use crate::Region;
+use crate::name_set::{grow, mark};
+use std::alloc::{AllocError, Global};
+use std::marker::Model;
+
+/// A list of regions. A clause sees them in their order.
+#[derive(Drop)]
+pub struct RegionList {
+    regions: Vec<Region>,
+    has_heap: bool,
+    has_unique: bool,
+    /// For each region variable whether the list has it.
+    marks: Vec<bool>,
+}
+
+impl Model for RegionList {
+    ghost use Rattle.std.specs.Prelude.{◌≡◌, List};
+    ghost use Rattle.cyc_types.specs.declared.region.Region.{Region};
+    ghost use Rattle.cyc_types.specs.Types.{is_region_among};
+    ghost use Rattle.cyc_types.specs.inside.RegionMarks.{is_marked};
+
+    ghost Value = { List Region };
+
+    ghost view = { λ l. l.regions.items };
+
+    ghost invariant = { λ l. (r : Region) → is_marked l.has_heap l.has_unique l.marks.items r ≡ is_region_among r l.regions.items };
+}
+
+impl RegionList {
+    ghost use Rattle.std.specs.Prelude.{◌≡◌, [], ◌∷◌, ◌++◌, IfOk, OnOk};
+    ghost use Rattle.cyc_types.specs.Types.{is_region_among};
+
+    pub(crate) fn new(alloc: Global) -> RegionList
+        ensures { result ≡ [] }
+    {
+        RegionList {
+            regions: Vec::new(alloc),
+            has_heap: false,
+            has_unique: false,
+            marks: Vec::new(alloc),
+        }
+    }
+
+    /// The same list, with its marks.
+    pub(crate) fn from_slice(alloc: Global, regions: &[Region]) -> Result<RegionList, AllocError>
+        ensures { IfOk result (λ list. list ≡ regions.now) }
+    {
+        let mut list = RegionList::new(alloc);
+        for region in regions {
+            list.push(*region)?;
+        }
+        Ok(list)
+    }
+
+    pub(crate) fn as_slice(&self) -> &[Region]
+        ensures { result.now ≡ self.now }
+    {
+        &self.regions
+    }
+
+    /// Whether the list has the region.
+    pub(crate) fn has(&self, region: Region) -> bool
+        ensures { result ≡ is_region_among region self.now }
+    {
+        match region {
+            Region::Heap => self.has_heap,
+            Region::Unique => self.has_unique,
+            Region::Variable(number) => match self.marks.get(number) {
+                Some(mark) => *mark,
+                None => false,
+            },
+        }
+    }
+
+    /// Adds a region at the end.
+    pub(crate) fn push(&mut self, region: Region) -> Result<(), AllocError>
+        ensures { OnOk result (self.new ≡ self.old ++ region ∷ []) }
+    {
+        if let Region::Variable(number) = region {
+            grow(&mut self.marks, number)?;
+        }
+        self.regions.push(region)?;
+        match region {
+            Region::Heap => self.has_heap = true,
+            Region::Unique => self.has_unique = true,
+            Region::Variable(number) => mark(&mut self.marks, number),
+        }
+        Ok(())
+    }
+}
