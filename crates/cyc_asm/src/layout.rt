@@ -56,7 +56,7 @@ fn head_width(lines: &[Line], named: &[bool], number: usize) -> u32
 }
 
 /// How many words the line of this number takes.
-fn width_at(lines: &[Line], named: &[bool], most: &[u32], number: usize) -> u32
+pub(crate) fn width_at(lines: &[Line], named: &[bool], most: &[u32], number: usize) -> u32
     requires within { number < length lines.now }
     requires formed { All (IsFormedLine (length lines.now)) lines.now }
     requires fits { Fits lines.now }

@@ -10,6 +10,8 @@ mod emission;
 pub mod laws;
 mod layout;
 mod order;
+mod origin;
 mod slots;
 
 pub use assembler::assemble;
+pub use origin::sources;

@@ -110,7 +110,7 @@ fn moves_behind(line: &Line, behind: &Line) -> bool
 }
 
 /// Whether it may as well be executed behind so many lines and the branch or jump behind those.
-fn comes_down(lines: &[Line], named: &[bool], from: usize, count: usize) -> bool
+pub(crate) fn comes_down(lines: &[Line], named: &[bool], from: usize, count: usize) -> bool
     requires within { from + count + 1 < length lines.now }
     requires named { AreNamed lines.now (length lines.now) named.now }
     ensures { result ≡ comes_down lines.now from count }
@@ -148,7 +148,7 @@ fn try_past(lines: &mut [Line], named: &[bool], number: usize, count: usize)
 }
 
 /// Whether a line has no slot.
-fn is_ordinary(line: &Line) -> bool
+pub(crate) fn is_ordinary(line: &Line) -> bool
     ensures { result ≡ is_ordinary line.now }
 {
     match line {
@@ -160,7 +160,7 @@ fn is_ordinary(line: &Line) -> bool
 /// Brings the instruction that has one to pass, or else two, down to the branch or jump of this number, where it fills the slot
 /// that would be empty.
 /// Most lines have no slot, and are passed over at once.
-fn settle(lines: &mut [Line], named: &[bool], number: usize)
+pub(crate) fn settle(lines: &mut [Line], named: &[bool], number: usize)
     requires within { number < length lines.old }
     requires named { AreNamed lines.old (length lines.old) named.now }
     ensures { lines.new ≡ settled lines.old number }

@@ -1,5 +1,5 @@
 //! Ranges of which only some words are kept, where the others are 0. Of the data range these are the first ones, and of the stack the
-//! last ones. There is room for all of them, and what is kept grows when a word is written that is not.
+//! last ones. There is room for all of them, and what is kept grows when a word is loaded or written that is not.
 
 ghost use Rattle.std.specs.Prelude.{◌≡◌, ◌+◌, ◌-◌, ◌*◌, ◌^◌, ◌<◌, ◌≤◌, ◌++◌, length, max, min, nat_le, replicate, slice_index, slice_set, vec_capacity, if◌then◌else◌};
 ghost use Rattle.cyc_machine.specs.Arrays.{all_globals, all_stack};
@@ -69,6 +69,20 @@ pub fn set_global_word(kept: &mut Vec<u32>, number: usize, word: u32)
     kept[number] = word;
 }
 
+/// Keeps the word of the data range with this number, and those before it, as one that was written.
+pub fn keep_global_word(kept: &mut Vec<u32>, number: usize)
+    requires inside { number < DATA_WORDS }
+    requires short { length kept.old.items ≤ DATA_WORDS }
+    requires room { DATA_WORDS ≤ vec_capacity kept.old }
+    ensures words { all_globals kept.new.items ≡ all_globals kept.old.items }
+    ensures kept { number < length kept.new.items }
+    ensures short { length kept.new.items ≤ DATA_WORDS }
+    ensures room { DATA_WORDS ≤ vec_capacity kept.new }
+{
+    let next = kept_next(kept.len(), number + 1, DATA_WORDS);
+    keep_first(kept, next);
+}
+
 /// The word with this number of a stack of so many, from the lowest one on.
 pub fn stack_word(kept: &[u32], count: usize, number: usize) -> u32
     requires inside { number < count }
@@ -97,4 +111,19 @@ pub fn set_stack_word(kept: &mut Vec<u32>, count: usize, number: usize, word: u3
     let next = kept_next(kept.len(), wanted, count);
     keep_last(kept, next);
     kept[next - wanted] = word;
+}
+
+/// Keeps the word with this number of a stack of so many, and those above it, as one that was written.
+pub fn keep_stack_word(kept: &mut Vec<u32>, count: usize, number: usize)
+    requires inside { number < count }
+    requires short { length kept.old.items ≤ count }
+    requires room { count ≤ vec_capacity kept.old }
+    requires few { count ≤ 2 ^ 32 }
+    ensures words { all_stack count kept.new.items ≡ all_stack count kept.old.items }
+    ensures kept { count ≤ number + length kept.new.items }
+    ensures short { length kept.new.items ≤ count }
+    ensures room { count ≤ vec_capacity kept.new }
+{
+    let next = kept_next(kept.len(), count - number, count);
+    keep_last(kept, next);
 }

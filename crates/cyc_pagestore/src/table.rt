@@ -142,8 +142,39 @@ impl PoolTable {
         )
     }
 
-    /// Marks so many words from one on as those of a live unique block, or as those of none.
+    /// Marks so many words from one on as those of a live unique block, or as those of none. The marks of 32 words are one word of the
+    /// pool, and where the words are all of those the marks are not read.
     pub(crate) fn mark(&mut self, first: u32, count: u32, mark: bool)
+        requires { first + count ≤ 1024 * self.old.most }
+        ensures { Marks self.old self.new first count mark }
+    {
+        if count >= 32 && count % 32 == 0 && first % 32 == 0 && count <= 1024 - first % 1024 {
+            self.mark_whole(first, count, mark);
+        } else {
+            self.mark_parts(first, count, mark);
+        }
+    }
+
+    /// Marks words of one page: all of those whose marks are in the same words of the pool.
+    fn mark_whole(&mut self, first: u32, count: u32, mark: bool)
+        requires there { first + count ≤ 1024 * self.old.most }
+        requires least { 1 ≤ count }
+        requires whole { (first % 32 ≡ 0) × (count % 32 ≡ 0) }
+        requires page { first % 1024 + count ≤ 1024 }
+        ensures { Marks self.old self.new first count mark }
+    {
+        self.pool.set_whole_bits(
+            PageNo {
+                number: first / 1024,
+            },
+            first % 1024,
+            count,
+            mark,
+        );
+    }
+
+    /// Marks words as [`PoolTable::mark`], whatever words of the pool their marks are in.
+    fn mark_parts(&mut self, first: u32, count: u32, mark: bool)
         requires { first + count ≤ 1024 * self.old.most }
         ensures { Marks self.old self.new first count mark }
     {

@@ -1,7 +1,8 @@
 //! A pool of pages over one block of memory.
 
-ghost use Rattle.std.specs.Prelude.{◌==◌, ◌≡◌, ◌≢◌, ℕ, [], ◌∷◌, ◌++◌, ◌+◌, ◌*◌, ◌%◌, ◌<◌, ◌≤◌, ◌⊎◌, IfOk, MatchOption, false, length, replicate, set, slice_index, slice_index_or};
+ghost use Rattle.std.specs.Prelude.{◌==◌, ◌≡◌, ◌≢◌, ℕ, [], ◌∷◌, ◌++◌, ◌+◌, ◌*◌, ◌%◌, ◌^◌, ◌<◌, ◌≤◌, ◌⊎◌, IfOk, MatchOption, false, length, replicate, set, slice_index, slice_index_or};
 ghost use Rattle.cyc_rawpages.specs.inside.Lists.{chain_at, freed};
+ghost use Rattle.cyc_rawpages.specs.inside.Words.{headed_all};
 ghost use Rattle.cyc_rawpages.specs.inside.Pool.{IsFree, IsHead, LinksAll, between, new_pool};
 
 use super::block::Block;
@@ -65,6 +66,17 @@ fn link_all(block: &mut Block, pages: u32) -> u32
         first = left;
     }
     first
+}
+
+/// Writes the same word at so many heads, from one on.
+fn set_heads(block: &mut Block, first: usize, count: usize, word: u32)
+    requires inside { first + count ≤ length block.old.heads }
+    requires few { first + count < 2 ^ 32 }
+    ensures { block.new ≡ headed_all block.old first count word }
+{
+    for number in 0..count {
+        block.set_head(first + number, word);
+    }
 }
 
 impl Pool {
@@ -253,5 +265,18 @@ impl Pool {
         let at = bits_at(page.number, bit);
         let marks = marked_from(self.block.head(at), bit % 32, count, value);
         self.block.set_head(at, marks);
+    }
+
+    /// Sets or clears so many bits of a page, from one on: those of whole words, and all of a word at once.
+    pub fn set_whole_bits(&mut self, page: PageNo, bit: u32, count: u32, value: bool)
+        requires there { (page.number < self.old.pages) × (bit < PAGE_WORDS) × (bit + count ≤ PAGE_WORDS) }
+        requires aligned { (bit % 32 ≡ 0) × (count % 32 ≡ 0) }
+        ensures same { self.new ≡ record self.old { bits = self.new.bits } }
+        ensures whole { length self.new.bits ≡ length self.old.bits }
+        ensures bits { (number : ℕ) → slice_index_or self.new.bits number false ≡ between (λ (other : ℕ). slice_index_or self.old.bits other false) (PAGE_WORDS * page.number + bit) count value number }
+    {
+        let first = bits_at(page.number, bit);
+        let marks = marked_from(0, 0, 32, value);
+        set_heads(&mut self.block, first, (count / 32) as usize, marks);
     }
 }

@@ -1,5 +1,5 @@
 -- What a block holds, as lists.
-use Rattle.std.specs.Prelude.{◌≡◌, ℕ, ◌+◌, ◌<◌, ◌≤◌, List, [], ◌∷◌, length, get_or, set, take, drop, Option, Some, None}
+use Rattle.std.specs.Prelude.{◌≡◌, ℕ, zero, suc, ◌+◌, ◌<◌, ◌≤◌, List, [], ◌∷◌, length, get_or, set, take, drop, Option, Some, None}
 use Rattle.std.specs.declared.alloc.Global.{Global}
 use Rattle.cyc_rawpages.specs.declared.cells.Start.{Start}
 use Rattle.cyc_rawpages.specs.declared.cells.Cells.{Cells}
@@ -15,6 +15,11 @@ pub record Parts : Type 0 where
 -- a head was written
 abbrev pub headed : Parts → (index word : ℕ) → Parts
 headed parts index word = record parts { heads = set parts.heads index word }
+
+-- so many heads from one on were each written with the same word
+abbrev pub headed_all : Parts → (first count word : ℕ) → Parts
+headed_all parts first zero word = parts
+headed_all parts first (suc count) word = headed (headed_all parts first count word) (first + count) word
 
 -- a place where no word was written is read as 0
 abbrev pub value_of : Option ℕ → ℕ

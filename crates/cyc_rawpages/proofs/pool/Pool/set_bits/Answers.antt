@@ -34,7 +34,7 @@ returns-clause-bits c = λ number.
     ap (λ b. slice_index_or (tabulate (1024 * s.pages) (bit_of b)) number false) written
     ∙ run-is s.pages s.block at c.args.count w c.args.value (omega (arith, low, there)) (omega (arith, few)) (omega (arith, low, there, whole))
     (λ i from to. marks.inside i (omega (arith, from)) (omega (arith, to)))
-    (λ i out. marks.outside i (elim out [
+    (λ i low-bit out. marks.outside i (elim out [
       | inl below ↦ inl (omega (arith, below))
       | inr past ↦ inr (omega (arith, past))
     ]) ∙ ap (λ x. bit_at x i) old)

@@ -1,7 +1,7 @@
 use Rattle.std.proofs.Common.{◌≡◌, ℕ, ◌-◌, ◌≤◌, false, length}
 use Rattle.std.specs.Prelude.{slice_index_or}
 use Rattle.cyc_store.specs.Table.{marked_between}
-use Rattle.cyc_pagestore.proofs.table.PoolTable.mark.Given as goal
+use Rattle.cyc_pagestore.proofs.table.PoolTable.mark_parts.Given as goal
 
 abbrev pub decreases-loop-done : goal.decreases-loop-done
 decreases-loop-done l = l.count - l.done

@@ -3,7 +3,7 @@ use Rattle.std.specs.Prelude.{slice_index_or}
 use Rattle.cyc_store.specs.Table.{marked_between}
 use Rattle.cyc_pagestore.specs.inside.Table.{IsBacked, Marks}
 use Rattle.cyc_pagestore.proofs.Calls.{view_of, mark-keeps, mark-gives}
-use Rattle.cyc_pagestore.proofs.table.PoolTable.mark.Goals as goal
+use Rattle.cyc_pagestore.proofs.table.PoolTable.mark_parts.Goals as goal
 
 pub invariant_of-self : goal.invariant_of-self
 invariant_of-self c =
