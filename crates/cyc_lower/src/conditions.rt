@@ -3,11 +3,11 @@ ghost use Rattle.std.specs.Prelude.{◌≡◌, ◌≤◌, ◌+◌, length};
 ghost use Rattle.cyc_types.specs.TypedTreeView.{view_expression, operations_of};
 ghost use Rattle.cyc_lower.specs.inside.ControlCode.{is_same, all_test, are_tests};
 ghost use Rattle.cyc_lower.specs.inside.Lowering.{condition_of, condition_code, tests_code, last_condition, behind_tests, choice_of, choice_code};
-ghost use Rattle.cyc_lower.specs.inside.Emission.{Gives, most_locals, value_code, IsChain, is_test, other_code, other_condition, zero_condition, view_starts};
+ghost use Rattle.cyc_lower.specs.inside.Emission.{Gives, most_locals, value_code, IsChain, is_test, other_code, other_condition, zero_condition, view_starts, null_condition};
 
 use crate::emitter::Emitter;
 use crate::operands::{Condition, slot_behind};
-use crate::operators::{deciding_jump, failing_comparison, negated_condition};
+use crate::operators::{deciding_jump, failing_comparison, negated_condition, null_operation};
 use crate::starts::Starts;
 use cyc_plain::{Comparison, Operand};
 use cyc_types::typed::{Expr, Kind, LogicalOperator, Operation, UnaryOperator};
@@ -76,6 +76,25 @@ impl Emitter {
         })
     }
 
+    /// A condition that is a pointer, whose first word is compared with 0.
+    fn compare_with_null(
+        &mut self,
+        starts: &Starts,
+        failing: Comparison,
+        value: &Expr,
+        free: usize,
+    ) -> Result<Condition, AllocError>
+        requires { free ≤ most_locals + length self.old.code.items }
+        ensures { Gives (null_condition (view_starts starts.now) failing (view_expression value.now) free) result self.old self.new (value_code (view_starts starts.now) (view_expression value.now) (length self.old.code.items) free) }
+    {
+        let left = self.lower_operand(starts, value, free)?;
+        Ok(Condition {
+            failing,
+            left,
+            right: Operand::Word { word: 0 },
+        })
+    }
+
     /// A condition that is a chain: one operator that compares is left to the jump.
     fn compare_chain(
         &mut self,
@@ -92,7 +111,19 @@ impl Emitter {
         if rest.len() != 1 {
             return self.compare_with_zero(starts, value, free);
         }
-        if let Some(Operation::Compute { operator, operand }) = rest.first() {
+        if let Some(operation) = rest.first() {
+            if let Some(failing) = null_operation(operation) {
+                return self.compare_with_null(starts, failing, first, free);
+            }
+        }
+        if let Some(
+            Operation::Compute {
+                operator,
+                operand,
+                ..
+            },
+        ) = rest.first()
+        {
             if let Some(failing) = failing_comparison(*operator) {
                 let left = self.lower_left(starts, first, rest, free, free)?;
                 let behind = slot_behind(free, Kind::Int)?;

@@ -8,11 +8,13 @@ ghost use Rattle.cyc_lower.specs.inside.Emission.{Appends, view_starts};
 
 use crate::globals::global_of;
 use crate::locals::slot_of;
+use crate::marks::Mark;
 use crate::operands::Condition;
 use crate::operators::{failing_jump, move_of};
 use crate::starts::Starts;
 use cyc_plain::{Instruction, Operand};
 use cyc_types::typed::Lvalue;
+use cyc_words::Span;
 use std::alloc::{AllocError, Global};
 
 /// The place to which an instruction leads, beside the one behind it.
@@ -26,18 +28,66 @@ fn target_of(instruction: &Instruction) -> usize
     }
 }
 
-/// The code of a function, as far as it is made.
+/// The code of a function, as far as it is made, and where the text stands that it is made from.
 #[derive(Drop)]
 pub(crate) struct Emitter {
     pub(crate) code: Vec<Instruction>,
+    pub(crate) marks: Vec<Mark>,
+    /// What is emitted now is made from what stands here.
+    here: Span,
+    /// Whether marks are kept.
+    is_marked: bool,
 }
 
 impl Emitter {
-    pub(crate) fn new(alloc: Global) -> Emitter
+    /// No code yet, of a function whose name stands here. With `is_marked` marks are kept.
+    pub(crate) fn new(alloc: Global, name: Span, is_marked: bool) -> Emitter
         ensures { result.code.items ≡ [] }
     {
         Emitter {
             code: Vec::new(alloc),
+            marks: Vec::new(alloc),
+            here: name,
+            is_marked,
+        }
+    }
+
+    /// What is emitted from now on is made from what stands at this place, if it has one. Where what was emitted before came from is
+    /// answered.
+    pub(crate) fn enter(&mut self, place: Option<Span>) -> Span
+        ensures { self.new.code.items ≡ self.old.code.items }
+    {
+        let outer = self.here;
+        if let Some(place) = place {
+            self.here = place;
+        }
+        outer
+    }
+
+    /// What is emitted from now on is made from what is around that.
+    pub(crate) fn leave(&mut self, outer: Span)
+        ensures { self.new.code.items ≡ self.old.code.items }
+    {
+        self.here = outer;
+    }
+
+    /// Keeps where the next instruction comes from, where that is not where the one before it does.
+    fn mark(&mut self) -> Result<(), AllocError>
+        ensures { self.new.code.items ≡ self.old.code.items }
+    {
+        if !self.is_marked {
+            return Ok(());
+        }
+        match self.marks.last() {
+            Some(mark) if mark.span == self.here => Ok(()),
+            _ => {
+                let mark = Mark {
+                    first: self.code.len(),
+                    span: self.here,
+                };
+                self.marks.push(mark)?;
+                Ok(())
+            }
         }
     }
 
@@ -66,6 +116,7 @@ impl Emitter {
     pub(crate) fn emit(&mut self, instruction: Instruction) -> Result<(), AllocError>
         ensures { Appends result self.old self.new (instruction ∷ []) }
     {
+        self.mark()?;
         self.code.push(instruction)?;
         Ok(())
     }
@@ -87,11 +138,26 @@ impl Emitter {
         Ok(place)
     }
 
+    /// Marks of instructions that are no longer there are none.
+    fn drop_marks(&mut self, place: usize)
+        ensures { self.new.code.items ≡ self.old.code.items }
+    {
+        for _ in 0..self.marks.len() {
+            match self.marks.last() {
+                Some(mark) if mark.first >= place => {
+                    let _ = self.marks.pop();
+                }
+                _ => return,
+            }
+        }
+    }
+
     /// The code from a place on is given up.
     pub(crate) fn take_back(&mut self, place: usize)
         ensures { self.new.code.items ≡ take place self.old.code.items }
     {
         self.code.truncate(place);
+        self.drop_marks(place);
     }
 
     /// At a place that was kept comes a jump to the next instruction.

@@ -18,6 +18,7 @@ use crate::checks::{DIVISION_BY_ZERO, NULL_EXCEPTION};
 use crate::emitter::Emitter;
 use crate::globals::global_of;
 use crate::locals::{counter_of, field_of, slot_of, with_counter};
+use crate::marks::{place_of_access, place_of_operation, place_of_value};
 use crate::objects::{kinds_passed, last_element};
 use crate::operands::{
     converts_there, index_of, is_in, keeps_words, kind_at, kind_behind, masks, operand_of,
@@ -51,6 +52,21 @@ impl Emitter {
     /// A conversion of a value where it is: where it may not be null, it is tested, a thin pointer gets the other words of a fat one, and a
     /// fat pointer leads to its cell.
     fn convert(
+        &mut self,
+        starts: &Starts,
+        conversion: &Converted,
+        value: Operand,
+    ) -> Result<(), AllocError>
+        ensures { Appends result self.old self.new (conversion_code (view_starts starts.now) conversion.now.from conversion.now.to (span_of (view_expression conversion.now.value)) value (length self.old.code.items)) }
+    {
+        let outer = self.enter(place_of_value(&conversion.value));
+        self.change(starts, conversion, value)?;
+        self.leave(outer);
+        Ok(())
+    }
+
+    /// The same, at the place of the value.
+    fn change(
         &mut self,
         starts: &Starts,
         conversion: &Converted,
@@ -179,6 +195,24 @@ impl Emitter {
         requires { free ≤ most_locals + length self.old.code.items }
         ensures { Appends result self.old self.new (expression_code (view_starts starts.now) (view_expression value.now) (length self.old.code.items) slot free) }
     {
+        let outer = self.enter(place_of_value(value));
+        self.lower_value(starts, value, slot, free)?;
+        self.leave(outer);
+        Ok(())
+    }
+
+    /// The same, at its place.
+    #[cycle(expression)]
+    fn lower_value(
+        &mut self,
+        starts: &Starts,
+        value: &Expr,
+        slot: usize,
+        free: usize,
+    ) -> Result<(), AllocError>
+        requires { free ≤ most_locals + length self.old.code.items }
+        ensures { Appends result self.old self.new (expression_code (view_starts starts.now) (view_expression value.now) (length self.old.code.items) slot free) }
+    {
         match value {
             Expr::Number { value } => self.bring_word(*value, slot),
             Expr::NullPointer => self.bring_word(0, slot),
@@ -298,11 +332,29 @@ impl Emitter {
         requires { free ≤ most_locals + length self.old.code.items }
         ensures { Gives (place_operand (view_starts starts.now) (view_dereference place.now) free) result self.old self.new (place_code (view_starts starts.now) (view_dereference place.now) (length self.old.code.items) free) }
     {
+        let outer = self.enter(Some(place_of_access(place)));
+        let address = self.lower_access(starts, place, free)?;
+        self.leave(outer);
+        Ok(address)
+    }
+
+    /// The same, at its place.
+    #[cycle(expression)]
+    fn lower_access(
+        &mut self,
+        starts: &Starts,
+        place: &Dereference,
+        free: usize,
+    ) -> Result<Operand, AllocError>
+        requires { free ≤ most_locals + length self.old.code.items }
+        ensures { Gives (place_operand (view_starts starts.now) (view_dereference place.now) free) result self.old self.new (place_code (view_starts starts.now) (view_dereference place.now) (length self.old.code.items) free) }
+    {
         match place {
             Dereference::Target {
                 kind,
                 pointer,
                 of_type,
+                ..
             } => {
                 let address = self.lower_operand(starts, pointer, free)?;
                 self.follow(starts, *kind, span_in(of_type), address, free)
@@ -316,6 +368,7 @@ impl Emitter {
                 pointer,
                 index,
                 of_type,
+                ..
             } => {
                 let first = self.lower_pointer(starts, pointer, index, free)?;
                 let behind = slot_behind(free, Kind::Fat)?;
@@ -670,8 +723,31 @@ impl Emitter {
         requires { free ≤ most_locals + length self.old.code.items }
         ensures { Appends result self.old self.new (operation_code (view_starts starts.now) operation.now (length self.old.code.items) left slot free) }
     {
+        let outer = self.enter(place_of_operation(operation));
+        self.apply(starts, operation, left, slot, free)?;
+        self.leave(outer);
+        Ok(())
+    }
+
+    /// The same, at its place.
+    #[cycle(expression)]
+    fn apply(
+        &mut self,
+        starts: &Starts,
+        operation: &Operation,
+        left: Operand,
+        slot: usize,
+        free: usize,
+    ) -> Result<(), AllocError>
+        requires { free ≤ most_locals + length self.old.code.items }
+        ensures { Appends result self.old self.new (operation_code (view_starts starts.now) operation.now (length self.old.code.items) left slot free) }
+    {
         match operation {
-            Operation::Compute { operator, operand } => {
+            Operation::Compute {
+                operator,
+                operand,
+                ..
+            } => {
                 let behind = slot_behind(free, Kind::Int)?;
                 let right = self.lower_operand(starts, operand, behind)?;
                 self.lower_operator(starts, *operator, left, right, slot)

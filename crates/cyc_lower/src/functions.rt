@@ -1,5 +1,5 @@
 //! The plain functions of a typed tree, and the program that it becomes.
-ghost use Rattle.std.specs.Prelude.{◌≡◌, ◌+◌, ◌≤◌, map, option_map, IfOk};
+ghost use Rattle.std.specs.Prelude.{◌≡◌, ◌+◌, ◌≤◌, length, map, option_map, IfOk};
 ghost use Rattle.std.specs.List.{list_any};
 ghost use Rattle.cyc_syntax.specs.TokenRule.{max_tokens};
 ghost use Rattle.cyc_types.specs.TypeView.{view_ty};
@@ -17,6 +17,7 @@ ghost use Rattle.cyc_lower.specs.inside.Lowered.{CanBeLowered};
 use crate::emitter::Emitter;
 use crate::globals::{starts_of_globals, words_of_globals};
 use crate::locals::slots_of_locals;
+use crate::marks::Marks;
 use crate::starts::Starts;
 use crate::statements::{Exits, nothing_opened};
 use cyc_frame_count::{frame_count, items_need, kept_by_items, words_of, words_of_all};
@@ -41,17 +42,18 @@ fn results_of(of_type: &Option<Ty>) -> usize
     }
 }
 
-/// The code of a function's body, with temporaries from a slot on.
+/// The code of a function's body, with temporaries from a slot on, and its marks if they are asked for.
 fn lower_body(
     alloc: Global,
     starts: &Starts,
     function: &typed::Function,
     free: usize,
+    is_marked: bool,
 ) -> Result<Emitter, AllocError>
     requires { free + kept_by_items (items_of function.now.body.items) ≤ most_locals }
     ensures { IfOk result (λ made. made.code.items ≡ items_code (view_starts starts.now) (view_function function.now).body 0 outside_loops free) }
 {
-    let mut emitter = Emitter::new(alloc);
+    let mut emitter = Emitter::new(alloc, function.span, is_marked);
     let exits = Exits {
         head: 0,
         leaving: 0,
@@ -85,7 +87,7 @@ fn lower_function(
         scopes,
         alloc,
     };
-    let raises = lower_body(alloc, &anywhere, function, free)?.place();
+    let raises = lower_body(alloc, &anywhere, function, free, false)?.place();
     let starts = Starts {
         locals: &locals,
         structs,
@@ -95,7 +97,7 @@ fn lower_function(
         scopes,
         alloc,
     };
-    let mut emitter = lower_body(alloc, &starts, function, free)?;
+    let mut emitter = lower_body(alloc, &starts, function, free, false)?;
     let count = emitter.farthest().saturating_sub(raises).min(BLOCKS);
     emitter.emit(Instruction::Finish { value: free })?;
     let end = emitter.place() + count;
@@ -177,4 +179,48 @@ pub(crate) fn lower_tree(alloc: Global, tree: &TypedTree) -> Result<Plain, Alloc
     let scopes = scopes_of(&tree.functions);
     let functions = lower_functions(alloc, &tree.structs, &starts, scopes, &tree.functions)?;
     Ok(Plain::new(functions, globals, tree.main))
+}
+
+/// Where the code of a function comes from, by its body's code with the blocks at any place: that its jumps lead elsewhere changes no mark.
+fn marks_of_function(
+    alloc: Global,
+    structs: &[StructType],
+    globals: &[usize],
+    scopes: Option<usize>,
+    function: &typed::Function,
+) -> Result<Marks, AllocError>
+    requires { frame_count (view_function function.now) ≤ most_frame_count }
+{
+    let (locals, free) = slots_of_locals(alloc, function)?;
+    let anywhere = Starts {
+        locals: &locals,
+        structs,
+        raises: 0,
+        counters: &[],
+        globals,
+        scopes,
+        alloc,
+    };
+    let mut emitter = lower_body(alloc, &anywhere, function, free, true)?;
+    emitter.enter(Some(function.end));
+    emitter.emit(Instruction::Finish { value: free })?;
+    Ok(Marks {
+        raises: emitter.place(),
+        marks: emitter.marks,
+    })
+}
+
+/// Where the code of each function of a program comes from.
+pub(crate) fn marks_of_tree(alloc: Global, tree: &TypedTree) -> Result<Vec<Marks>, AllocError>
+    requires few { HaveFewWords (map view_function tree.now.functions.items) }
+    requires can_be { CanBeLowered (view_program tree.now) }
+    ensures { IfOk result (λ marks. length marks.items ≡ length tree.now.functions.items) }
+{
+    let starts = starts_of_globals(alloc, &tree.globals)?;
+    let scopes = scopes_of(&tree.functions);
+    let mut all = Vec::new(alloc);
+    for function in &tree.functions {
+        all.push(marks_of_function(alloc, &tree.structs, &starts, scopes, function)?)?;
+    }
+    Ok(all)
 }

@@ -2,6 +2,7 @@
 #![tactic(auto)]
 
 pub use limits::MOST_FUNCTIONS;
+pub use marks::{Mark, Marks, marks_of};
 pub use program::lower;
 
 mod checks;
@@ -14,6 +15,7 @@ pub mod laws;
 mod limits;
 mod locals;
 mod loops;
+mod marks;
 mod objects;
 mod operands;
 mod operators;

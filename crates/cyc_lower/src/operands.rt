@@ -161,9 +161,13 @@ fn compares_light(starts: &Starts, first: &Expr, rest: &[Operation]) -> bool
         return false;
     }
     match rest.first() {
-        Some(Operation::Compute { operator, operand }) => is_light_comparison(
-            starts, *operator, first, operand,
-        ),
+        Some(
+            Operation::Compute {
+                operator,
+                operand,
+                ..
+            },
+        ) => is_light_comparison(starts, *operator, first, operand),
         _ => false,
     }
 }

@@ -1,8 +1,9 @@
 //! What operators become.
 ghost use Rattle.std.specs.Prelude.{◌≡◌, ◌≤◌};
 ghost use Rattle.cyc_lower.specs.inside.ValueCode.{low_byte, unary_instruction, binary_operator, left_kind, pointer_operator, failing_comparison, move_of, jump_if_zero, jump_if_nonzero, test_jump, scale_of, load_of, store_of};
-ghost use Rattle.cyc_lower.specs.inside.ControlCode.{opposite, negated_condition, failing_jump, holding_jump, deciding_jump, tag_operand, other_jump, goes_on};
-ghost use Rattle.cyc_lower.specs.inside.Emission.{most_locals};
+ghost use Rattle.cyc_lower.specs.inside.ControlCode.{opposite, negated_condition, failing_jump, holding_jump, deciding_jump, tag_operand, other_jump, goes_on, null_failing, null_compared};
+ghost use Rattle.cyc_lower.specs.inside.Emission.{most_locals, null_operation};
+ghost use Rattle.cyc_types.specs.TypedTreeView.{view_expression};
 
 use crate::operands::Condition;
 use cyc_plain::{BinaryOperator, Comparison, Instruction, Operand, UnaryOperator};
@@ -104,6 +105,51 @@ pub(crate) fn pointer_operator(operator: typed::PointerOperator) -> BinaryOperat
         | typed::PointerOperator::FatIsNotNull
         | typed::PointerOperator::NullIsNot
         | typed::PointerOperator::NotEqualThin => BinaryOperator::NotEqual,
+    }
+}
+
+/// The comparison of a pointer's first word with 0 that holds where its comparison with null fails.
+fn null_failing(operator: typed::PointerOperator) -> Option<Comparison>
+    ensures { result ≡ null_failing operator }
+{
+    match operator {
+        typed::PointerOperator::ThinIsNull | typed::PointerOperator::FatIsNull => Some(
+            Comparison::NotEqual,
+        ),
+        typed::PointerOperator::ThinIsNotNull | typed::PointerOperator::FatIsNotNull => Some(
+            Comparison::Equal,
+        ),
+        typed::PointerOperator::AddFat
+        | typed::PointerOperator::SubtractFat
+        | typed::PointerOperator::NullIs
+        | typed::PointerOperator::NullIsNot
+        | typed::PointerOperator::EqualThin
+        | typed::PointerOperator::NotEqualThin => None,
+    }
+}
+
+/// The same where this is on its right.
+fn null_compared(operator: typed::PointerOperator, right: &typed::Expr) -> Option<Comparison>
+    ensures { result ≡ null_compared operator (view_expression right.now) }
+{
+    match right {
+        typed::Expr::NullPointer => null_failing(operator),
+        _ => None,
+    }
+}
+
+/// The same of an operator of a chain.
+pub(crate) fn null_operation(operation: &typed::Operation) -> Option<Comparison>
+    ensures { result ≡ null_operation operation.now }
+{
+    match operation {
+        typed::Operation::Pointer { operator, operand } => null_compared(*operator, operand),
+        typed::Operation::PointerPeek {
+            operator,
+            operand,
+            ..
+        } => null_compared(*operator, operand),
+        _ => None,
     }
 }
 

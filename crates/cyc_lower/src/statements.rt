@@ -12,6 +12,7 @@ ghost use Rattle.cyc_lower.specs.inside.Emission.{Appends, most_locals, throw_co
 
 use crate::emitter::Emitter;
 use crate::locals::slot_of;
+use crate::marks::{place_of_item, place_of_statement};
 use crate::operands::kind_of;
 use crate::operators::{goes_on, holding_jump, other_jump, tag_operand};
 use crate::starts::Starts;
@@ -409,15 +410,35 @@ impl Emitter {
         requires begun { exits.head ≤ length self.old.code.items }
         ensures { Appends result self.old self.new (statement_code (view_starts starts.now) (view_statement statement.now) (length self.old.code.items) exits free) }
     {
+        let outer = self.enter(place_of_statement(statement));
+        self.lower_form(starts, statement, exits, free)?;
+        self.leave(outer);
+        Ok(())
+    }
+
+    /// The same, at its place.
+    #[cycle(statement)]
+    fn lower_form(
+        &mut self,
+        starts: &Starts,
+        statement: &Stmt,
+        exits: Exits,
+        free: usize,
+    ) -> Result<(), AllocError>
+        requires slots { free + kept_by (view_statement statement.now) ≤ most_locals }
+        requires begun { exits.head ≤ length self.old.code.items }
+        ensures { Appends result self.old self.new (statement_code (view_starts starts.now) (view_statement statement.now) (length self.old.code.items) exits free) }
+    {
         match statement {
             Stmt::Block { items, .. } => self.lower_items(starts, items, exits, free),
             Stmt::Empty => Ok(()),
-            Stmt::Evaluate { value } => self.discard(starts, value, free),
-            Stmt::Swap { left, right } => self.lower_swap(starts, left, right, free),
+            Stmt::Evaluate { value, .. } => self.discard(starts, value, free),
+            Stmt::Swap { left, right, .. } => self.lower_swap(starts, left, right, free),
             Stmt::If {
                 condition,
                 then,
                 otherwise,
+                ..
             } => {
                 if is_nothing(otherwise) {
                     return self.lower_then(starts, then, condition, exits, free);
@@ -441,7 +462,7 @@ impl Emitter {
                 body,
                 ..
             } => self.lower_loop(starts, body, condition, exits, free),
-            Stmt::Return { value } => self.lower_return(starts, value, exits, free),
+            Stmt::Return { value, .. } => self.lower_return(starts, value, exits, free),
             Stmt::Break => {
                 self.lower_leave(exits.in_loop)?;
                 self.lower_break(exits)
@@ -450,11 +471,12 @@ impl Emitter {
                 self.lower_leave(exits.in_loop)?;
                 self.lower_continue(exits)
             }
-            Stmt::Throw { tag, value } => self.lower_throw(starts, *tag, value, free),
+            Stmt::Throw { tag, value, .. } => self.lower_throw(starts, *tag, value, free),
             Stmt::Try {
                 body,
                 clauses,
                 default,
+                ..
             } => {
                 let behind = self.begin_try(starts, free)?;
                 let opening = self.reserve()?;
@@ -469,8 +491,28 @@ impl Emitter {
         }
     }
 
+    /// One item of a block.
     #[cycle(statement)]
     fn lower_item(
+        &mut self,
+        starts: &Starts,
+        item: &Item,
+        exits: Exits,
+        free: usize,
+    ) -> Result<(), AllocError>
+        requires slots { free + kept_by_item item.now ≤ most_locals }
+        requires begun { exits.head ≤ length self.old.code.items }
+        ensures { Appends result self.old self.new (item_code (view_starts starts.now) item.now (length self.old.code.items) exits free) }
+    {
+        let outer = self.enter(place_of_item(item));
+        self.lower_entry(starts, item, exits, free)?;
+        self.leave(outer);
+        Ok(())
+    }
+
+    /// The same, at its place.
+    #[cycle(statement)]
+    fn lower_entry(
         &mut self,
         starts: &Starts,
         item: &Item,
@@ -487,6 +529,7 @@ impl Emitter {
                 number,
                 of_type,
                 value,
+                ..
             } => self.lower_declaration(starts, *number, of_type, value, free),
             Item::Region { number, .. } => self.open_lexical(starts, *number, free),
             // The word of a key is the handle of its region.

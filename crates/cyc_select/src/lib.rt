@@ -20,4 +20,4 @@ mod selection;
 mod tables;
 
 pub use code::{Code, Condition, Line};
-pub use selection::select;
+pub use selection::{FunctionLines, lines_of, select};

@@ -90,6 +90,58 @@ impl Emitter {
     }
 }
 
+/// Where the lines of a function begin.
+#[derive(Drop)]
+pub struct FunctionLines {
+    /// The number of the first one.
+    pub first: usize,
+    /// The number of the first line of each instruction, or of what comes behind where one has none.
+    pub lines: Vec<usize>,
+}
+
+/// Where the lines of a function begin.
+fn lines_of_function(
+    alloc: Global,
+    program: &Ready,
+    function: usize,
+) -> Result<FunctionLines, AllocError>
+    requires ready { IsReady program.now }
+    requires function { function < length program.now.plain.now.functions }
+    ensures first { IfOk result (λ l. l.first ≡ function_line program.now.plain.now program.now.frames.now function) }
+{
+    let code = &program.plain.function(function).code;
+    let saving = saving_count(frame_in(program.plain, program.frames, function));
+    let first = program.starts[function] + saving;
+    let lines = instruction_lines(alloc, program.plain, program.frames, function, first, code)?;
+    Ok(FunctionLines {
+        first: program.starts[function],
+        lines,
+    })
+}
+
+/// Where the lines of each function of a plain program begin, in the code that `select` gives.
+pub fn lines_of(
+    alloc: Global,
+    plain: &Plain,
+    frames: &Frames,
+) -> Result<Vec<FunctionLines>, AllocError>
+    requires { AreFrames plain.now frames.now }
+    ensures { IfOk result (λ lines. length lines.items ≡ length plain.now.functions) }
+{
+    let frames = frames.as_slice();
+    let starts = function_starts(alloc, plain, frames)?;
+    let program = Ready {
+        plain,
+        frames,
+        starts: &starts,
+    };
+    let mut lines = Vec::new(alloc);
+    for function in 0..plain.functions().len() {
+        lines.push(lines_of_function(alloc, &program, function)?)?;
+    }
+    Ok(lines)
+}
+
 /// The code, where memory suffices.
 fn selected(alloc: Global, plain: &Plain, frames: &Frames) -> Result<Code, AllocError>
     requires { AreFrames plain.now frames.now }

@@ -4,6 +4,7 @@ use Rattle.std.proofs.lemmas.List.{drop_all, drop_more, length-append}
 use Rattle.std.specs.declared.vec.Vec.{Vec}
 use Rattle.std.specs.declared.boxed.Box.{Box}
 use Rattle.std.specs.declared.alloc.Global.{Global as Heap}
+use Rattle.cyc_words.specs.declared.span.Span.{Span}
 use Rattle.cyc_types.specs.declared.typed.LogicalOperator.TheVariants as logical
 use Rattle.cyc_types.specs.declared.typed.Expr.{Expr}
 use Rattle.cyc_types.specs.declared.typed.Stmt.{Stmt}
@@ -45,7 +46,7 @@ closed_items (suc many) t = closed_items many (t + 1) ++ closed_code t
 
 abbrev pub regions_in : List ItemCode → ℕ
 regions_in [] = 0
-regions_in (item.Region r n ∷ js) = suc (regions_in js)
+regions_in (item.Region w r n ∷ js) = suc (regions_in js)
 regions_in (j ∷ js) = regions_in js
 
 behind_one : (starts : Starts) (j : ItemCode) (js : List ItemCode) (p : ℕ) (exits : Exits) (t : ℕ) → items_code starts (items_of js) (p + length (item_code starts j p exits t)) exits t ≡ opened_items starts js (p + length (item_code starts j p exits t)) (exits, t) ++ closed_items (regions_in js) t
@@ -56,7 +57,7 @@ behind_one starts j js p exits t rest =
 
 items_opened : (starts : Starts) (js : List ItemCode) (p : ℕ) (exits : Exits) (t : ℕ) → items_code starts (items_of js) p exits t ≡ opened_items starts js p (exits, t) ++ closed_items (regions_in js) t
 items_opened starts [] p exits t = refl
-items_opened starts (item.Region r n ∷ js) p exits t =
+items_opened starts (item.Region w r n ∷ js) p exits t =
     let first = opened_code starts n t in
     let front = opened_items starts js (p + length first) (inside_region exits t, t + 1) in
     let back = closed_items (regions_in js) (t + 1) in
@@ -64,10 +65,10 @@ items_opened starts (item.Region r n ∷ js) p exits t =
     ∙ ap (λ (l : List Instruction). first ++ l) (append_assoc front back (closed_code t))
     ∙ sym (append_assoc first front (back ++ closed_code t))
 items_opened starts (item.Execute s ∷ js) p exits t = behind_one starts (item.Execute s) js p exits t (items_opened starts js _ exits t)
-items_opened starts (item.Local n ty v ∷ js) p exits t = behind_one starts (item.Local n ty v) js p exits t (items_opened starts js _ exits t)
+items_opened starts (item.Local w n ty v ∷ js) p exits t = behind_one starts (item.Local w n ty v) js p exits t (items_opened starts js _ exits t)
 items_opened starts (item.Open r n w k ∷ js) p exits t = behind_one starts (item.Open r n w k) js p exits t (items_opened starts js _ exits t)
 items_opened starts (item.Alias r n ty w s ∷ js) p exits t = behind_one starts (item.Alias r n ty w s) js p exits t (items_opened starts js _ exits t)
-items_opened starts (item.DynamicRegion r n ∷ js) p exits t = behind_one starts (item.DynamicRegion r n) js p exits t (items_opened starts js _ exits t)
+items_opened starts (item.DynamicRegion w r n ∷ js) p exits t = behind_one starts (item.DynamicRegion w r n) js p exits t (items_opened starts js _ exits t)
 
 -- the newest region is the first that is closed
 closed_first : (many t : ℕ) → closed_items (suc many) t ≡ closed_code (t + many) ++ closed_items many t
@@ -89,20 +90,20 @@ ItemsRemain starts old js first free i code inside behind =
 
 items_kept : (j : ItemCode) (js : List ItemCode) → kept_by_items (items_of (j ∷ js)) ≡ kept_by_item j + kept_by_items (items_of js)
 items_kept (item.Execute s) js = refl
-items_kept (item.Region r n) js = refl
+items_kept (item.Region w r n) js = refl
 items_kept j js = omega arith
 
 -- a region takes a slot for its mark
 one_region : (j : ItemCode) (js : List ItemCode) (t : ℕ) → free_behind j t + regions_in js ≡ t + regions_in (j ∷ js)
-one_region (item.Region r n) js t = omega arith
+one_region (item.Region w r n) js t = omega arith
 one_region j js t = refl
 
 region_kept : (j : ItemCode) (t : ℕ) → free_behind j t ≤ t + kept_by_item j
-region_kept (item.Region r n) t = omega arith
+region_kept (item.Region w r n) t = omega arith
 region_kept j t = omega arith
 
 same_head : (j : ItemCode) (exits : Exits) (t : ℕ) → (exits_behind j exits t).head ≡ exits.head
-same_head (item.Region r n) exits t = refl
+same_head (item.Region w r n) exits t = refl
 same_head j exits t = refl
 
 module _ (starts : Starts) (old : List Instruction) (js : List ItemCode) (first : Exits) (free i : ℕ) (code : List Instruction) (inside : Exits) (behind : ℕ) where
@@ -222,7 +223,7 @@ module _ (starts : Starts) (a : Expression) (s : Statement) (exits : Exits) (d :
       ∙ ap (λ (n : ℕ). old ++ (condition ++ jump n ∷ first p)) end
       ∙ ap (λ (l : List Instruction). old ++ l) (sym (append-nil (condition ++ jump (p + length (first p) + 0) ∷ first p)))
 
-module _ (starts : Starts) (value : Stmt) (e : Expr) (b b' : Box Stmt Heap) (is : value ≡ stmt.If e b b') (s t : Stmt) (at : s ≡ b.value) (at' : t ≡ b'.value) where
+module _ (starts : Starts) (value : Stmt) {w : Span} (e : Expr) (b b' : Box Stmt Heap) (is : value ≡ stmt.If w e b b') (s t : Stmt) (at : s ≡ b.value) (at' : t ≡ b'.value) where
   pub if_viewed : view_statement value ≡ If (view_expression e) (view_statement s) (view_statement t)
   if_viewed = ap view_statement is ∙ ap (λ (z : Stmt). If (view_expression e) (view_statement z) (view_statement b'.value)) (sym at) ∙ ap (λ (z : Stmt). If (view_expression e) (view_statement s) (view_statement z)) (sym at')
 
@@ -233,7 +234,7 @@ module _ (starts : Starts) (value : Stmt) (e : Expr) (b b' : Box Stmt Heap) (is 
       ∙ ap (λ (z : Statement). old ++ statement_code starts (If (view_expression e) (view_statement s) z) (length old) exits d) (sym (nothing_is (view_statement t) none))
       ∙ ap (λ (z : Statement). old ++ statement_code starts z (length old) exits d) (sym if_viewed)
 
-module _ (starts : Starts) (value : Stmt) (e : Expr) (b b' : Box Stmt Heap) (is : value ≡ stmt.If e b b') (s t : Stmt) (at : s ≡ b.value) (at' : t ≡ b'.value) (exits : Exits) (d : ℕ) (o : Condition) (o_is : o ≡ choice_of starts logical.OrElse (view_expression e) d) (old : List Instruction) (x y : Instruction) (m0 m1 m2 m3 m4 m5 m6 : List Instruction) (p1 p2 : ℕ) where
+module _ (starts : Starts) (value : Stmt) {w : Span} (e : Expr) (b b' : Box Stmt Heap) (is : value ≡ stmt.If w e b b') (s t : Stmt) (at : s ≡ b.value) (at' : t ≡ b'.value) (exits : Exits) (d : ℕ) (o : Condition) (o_is : o ≡ choice_of starts logical.OrElse (view_expression e) d) (old : List Instruction) (x y : Instruction) (m0 m1 m2 m3 m4 m5 m6 : List Instruction) (p1 p2 : ℕ) where
   pub made_if : is_nothing (view_statement t) ≡ false → m0 ≡ old ++ choice_code starts logical.OrElse (view_expression e) (length old) d → p1 ≡ length m0 → m1 ≡ m0 ++ x ∷ [] → m2 ≡ m1 ++ statement_code starts (view_statement s) (length m1) exits d → p2 ≡ length m2 → m3 ≡ m2 ++ y ∷ []
       → m4 ≡ set m3 p1 (failing_jump o (length m3)) → m5 ≡ m4 ++ statement_code starts (view_statement t) (length m4) exits d → m6 ≡ set m5 p2 (instructions.Jump (length m5))
       → m6 ≡ old ++ statement_code starts (view_statement value) (length old) exits d

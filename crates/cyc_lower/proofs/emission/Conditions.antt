@@ -1,9 +1,10 @@
 -- Code of conditions that is made piece by piece.
 use Rattle.std.proofs.Common.{◌≡◌, ℕ, suc, ◌+◌, ◌≤◌, ◌<◌, Bool, true, false, take, drop, get_or, length-append, append_assoc, List, [], ◌∷◌, ◌++◌, length, Option, Some, slice_get, refl, sym, ap, subst, ◌∙◌, arith, append-nil}
-use Rattle.std.proofs.lemmas.Option.{same_Some}
+use Rattle.std.proofs.lemmas.Option.{same_Some, none-some}
 use Rattle.std.proofs.lemmas.List.{drop_all, drop_more}
 use Rattle.std.proofs.Math.Seq.{take-append_seam}
 use Rattle.std.specs.Prelude.{if◌then◌else◌, ◌&&◌, ◌==◌}
+use Rattle.cyc_words.specs.declared.span.Span.{Span}
 use Rattle.cyc_types.specs.declared.typed.Operator.{Operator}
 use Rattle.cyc_types.specs.declared.typed.LogicalOperator.{LogicalOperator}
 use Rattle.cyc_types.specs.declared.typed.Expr.{Expr}
@@ -18,10 +19,10 @@ use Rattle.cyc_plain.specs.declared.instruction.Instruction.{Instruction}
 use Rattle.cyc_lower.specs.declared.operands.Condition.{Condition}
 use Rattle.cyc_lower.specs.inside.Slots.{Starts}
 use Rattle.cyc_lower.specs.inside.ValueCode.{operand_or, failing_comparison}
-use Rattle.cyc_lower.specs.inside.ControlCode.{Compared, with_zero, compared_or, compared_of, deciding_jump, all_test, are_tests}
+use Rattle.cyc_lower.specs.inside.ControlCode.{Compared, with_zero, compared_or, compared_of, deciding_jump, all_test, are_tests, nulled_or, null_compared}
 use Rattle.cyc_lower.specs.inside.ExpressionCode.{left_of, left_slot, value_operand}
 use Rattle.cyc_lower.specs.inside.Lowering.{first_operand, first_code, second_code, pair_code, condition_code, condition_of, others_code, last_condition, tests_code, behind_tests, choice_code, choice_of, compares_light, is_light_comparison}
-use Rattle.cyc_lower.specs.inside.Emission.{most_locals, is_test, other_code, other_condition, value_code, left_code, zero_condition}
+use Rattle.cyc_lower.specs.inside.Emission.{most_locals, is_test, other_code, other_condition, value_code, left_code, zero_condition, null_condition, null_operation}
 use Rattle.cyc_lower.proofs.emission.Emitting.{joined, Lowers, Remains, goes_on, all_made, no_shorter_than}
 
 -- ---- chains that are tested whole
@@ -29,13 +30,21 @@ use Rattle.cyc_lower.proofs.emission.Emitting.{joined, Lowers, Remains, goes_on,
 pub not_single : (first : Expression) (os : List Operation) (ty : Ty) → (length os ≡ 1 → ⊥) → compared_of (Binary first (operations_of os) ty) ≡ with_zero (Binary first (operations_of os) ty)
 not_single first [] ty many = refl
 not_single first (operation.Test o e ∷ os) ty many = refl
-not_single first (operation.Pointer o e ∷ os) ty many = refl
-not_single first (operation.PointerPeek o n e ∷ os) ty many = refl
-not_single first (operation.Compute o e ∷ []) ty many = absurd (many refl)
-not_single first (operation.Compute o e ∷ operation.Compute u x ∷ os) ty many = refl
-not_single first (operation.Compute o e ∷ operation.Test u x ∷ os) ty many = refl
-not_single first (operation.Compute o e ∷ operation.Pointer u x ∷ os) ty many = refl
-not_single first (operation.Compute o e ∷ operation.PointerPeek u n x ∷ os) ty many = refl
+not_single first (operation.Pointer o e ∷ []) ty many = absurd (many refl)
+not_single first (operation.Pointer o e ∷ operation.Compute w u x ∷ os) ty many = refl
+not_single first (operation.Pointer o e ∷ operation.Test u x ∷ os) ty many = refl
+not_single first (operation.Pointer o e ∷ operation.Pointer u x ∷ os) ty many = refl
+not_single first (operation.Pointer o e ∷ operation.PointerPeek u n x ∷ os) ty many = refl
+not_single first (operation.PointerPeek o n e ∷ []) ty many = absurd (many refl)
+not_single first (operation.PointerPeek o n e ∷ operation.Compute w u x ∷ os) ty many = refl
+not_single first (operation.PointerPeek o n e ∷ operation.Test u x ∷ os) ty many = refl
+not_single first (operation.PointerPeek o n e ∷ operation.Pointer u x ∷ os) ty many = refl
+not_single first (operation.PointerPeek o n e ∷ operation.PointerPeek u m x ∷ os) ty many = refl
+not_single first (operation.Compute w o e ∷ []) ty many = absurd (many refl)
+not_single first (operation.Compute w o e ∷ operation.Compute w' u x ∷ os) ty many = refl
+not_single first (operation.Compute w o e ∷ operation.Test u x ∷ os) ty many = refl
+not_single first (operation.Compute w o e ∷ operation.Pointer u x ∷ os) ty many = refl
+not_single first (operation.Compute w o e ∷ operation.PointerPeek u n x ∷ os) ty many = refl
 
 -- one that is not compares nothing
 pub compares_alone : (starts : Starts) (first : Expression) (os : List Operation) → (length os ≡ 1 → ⊥) → compares_light starts first (operations_of os) ≡ false
@@ -43,13 +52,13 @@ compares_alone starts first [] many = refl
 compares_alone starts first (operation.Test o e ∷ os) many = refl
 compares_alone starts first (operation.Pointer o e ∷ os) many = refl
 compares_alone starts first (operation.PointerPeek o n e ∷ os) many = refl
-compares_alone starts first (operation.Compute o e ∷ []) many = absurd (many refl)
-compares_alone starts first (operation.Compute o e ∷ operation.Compute u x ∷ os) many = refl
-compares_alone starts first (operation.Compute o e ∷ operation.Test u x ∷ os) many = refl
-compares_alone starts first (operation.Compute o e ∷ operation.Pointer u x ∷ os) many = refl
-compares_alone starts first (operation.Compute o e ∷ operation.PointerPeek u n x ∷ os) many = refl
+compares_alone starts first (operation.Compute w o e ∷ []) many = absurd (many refl)
+compares_alone starts first (operation.Compute w o e ∷ operation.Compute w' u x ∷ os) many = refl
+compares_alone starts first (operation.Compute w o e ∷ operation.Test u x ∷ os) many = refl
+compares_alone starts first (operation.Compute w o e ∷ operation.Pointer u x ∷ os) many = refl
+compares_alone starts first (operation.Compute w o e ∷ operation.PointerPeek u n x ∷ os) many = refl
 
-pub compares_one : (starts : Starts) (first : Expression) (xs : List Operation) (x : Operation) (o : Operator) (e : Expr) → length xs ≡ 1 → Some x ≡ slice_get xs 0 → x ≡ operation.Compute o e
+pub compares_one : {w : Span} (starts : Starts) (first : Expression) (xs : List Operation) (x : Operation) (o : Operator) (e : Expr) → length xs ≡ 1 → Some x ≡ slice_get xs 0 → x ≡ operation.Compute w o e
     → compares_light starts first (operations_of xs) ≡ is_light_comparison starts o first (view_expression e)
 compares_one starts first [] x o e single at is = absurd (omega (arith, single))
 compares_one starts first (y ∷ z ∷ xs) x o e single at is = absurd (omega (arith, single))
@@ -73,6 +82,32 @@ module _ (starts : Starts) where
         ∙ sym (ap (λ (x : Compared). old ++ pair_code starts x.left x.right (length old) t) is),
   )
 
+  -- a pointer that is compared with null, by the only operator of a chain
+  made_nulled : (whole a : Expression) (failing : Comparison) (answer : Condition) (old new : List Instruction) (t : ℕ) → compared_of whole ≡ nulled_or (Some failing) a whole
+      → (answer ≡ null_condition starts failing a t) × (new ≡ old ++ value_code starts a (length old) t) → IsMade whole answer old new t
+  made_nulled whole a failing answer old new t is (answers, made) = (
+    answers ∙ sym (ap (λ (x : Compared). operands_of x t) is),
+    made ∙ ap (λ (l : List Instruction). old ++ l) (sym (append-nil (value_code starts a (length old) t)))
+        ∙ sym (ap (λ (x : Compared). old ++ pair_code starts x.left x.right (length old) t) is),
+  )
+
+  null_chain : (first : Expression) (x : Operation) (ty : Ty) (failing : Comparison) → null_operation x ≡ Some failing
+      → compared_of (Binary first (operations_of (x ∷ [])) ty) ≡ nulled_or (Some failing) first (Binary first (operations_of (x ∷ [])) ty)
+  null_chain first (operation.Pointer o e) ty failing is = ap (λ (f : Option Comparison). nulled_or f first (Binary first (ThenPointer o (view_expression e) NoOperations) ty)) is
+  null_chain first (operation.PointerPeek n o e) ty failing is = ap (λ (f : Option Comparison). nulled_or f first (Binary first (ThenPointerPeek n o (view_expression e) NoOperations) ty)) is
+  null_chain first (operation.Compute w o e) ty failing is = absurd (none-some failing is)
+  null_chain first (operation.Test o e) ty failing is = absurd (none-some failing is)
+
+  pub made_null : (whole first : Expression) (xs : List Operation) (x : Operation) (ty : Ty) (failing : Comparison) (answer : Condition) (old new : List Instruction) (t : ℕ)
+      → whole ≡ Binary first (operations_of xs) ty → length xs ≡ 1 → Some x ≡ slice_get xs 0 → null_operation x ≡ Some failing
+      → (answer ≡ null_condition starts failing first t) × (new ≡ old ++ value_code starts first (length old) t) → IsMade whole answer old new t
+  made_null whole first [] x ty failing answer old new t chain single at is made = absurd (omega (arith, single))
+  made_null whole first (y ∷ z ∷ xs) x ty failing answer old new t chain single at is made = absurd (omega (arith, single))
+  made_null whole first (y ∷ []) x ty failing answer old new t chain single at is made =
+      let here : null_operation y ≡ Some failing = ap null_operation (sym (same_Some x y at)) ∙ is in
+      subst (λ (w : Expression). IsMade w answer old new t) (sym chain)
+      (made_nulled (Binary first (operations_of (y ∷ [])) ty) first failing answer old new t (null_chain first y ty failing here) made)
+
   -- a chain of one operator that compares: its operands, one behind the other
   compared_pair : (first : Expression) (o : Operator) (e : Expr) (ty : Ty) (failing : Comparison) (l r : Operand) (old m1 m2 : List Instruction) (t : ℕ) → failing_comparison o ≡ Some failing
       → l ≡ first_operand starts first (view_expression e) t → m1 ≡ old ++ first_code starts first (view_expression e) (length old) t
@@ -90,17 +125,17 @@ module _ (starts : Starts) where
             ∙ sym (ap (λ (x : Compared). old ++ pair_code starts x.left x.right (length old) t) compared),
       )
 
-  pub made_compared : (whole first : Expression) (xs : List Operation) (x : Operation) (o : Operator) (e : Expr) (ty : Ty) (failing : Comparison) (l r : Operand) (old m1 m2 : List Instruction) (t behind : ℕ)
-      → whole ≡ Binary first (operations_of xs) ty → length xs ≡ 1 → Some x ≡ slice_get xs 0 → x ≡ operation.Compute o e → failing_comparison o ≡ Some failing → behind ≡ t + 1
+  pub made_compared : {w : Span} (whole first : Expression) (xs : List Operation) (x : Operation) (o : Operator) (e : Expr) (ty : Ty) (failing : Comparison) (l r : Operand) (old m1 m2 : List Instruction) (t behind : ℕ)
+      → whole ≡ Binary first (operations_of xs) ty → length xs ≡ 1 → Some x ≡ slice_get xs 0 → x ≡ operation.Compute w o e → failing_comparison o ≡ Some failing → behind ≡ t + 1
       → l ≡ operand_or (left_of starts first (operations_of xs)) (left_slot starts first (operations_of xs) t t) → m1 ≡ old ++ left_code starts first (operations_of xs) (length old) t t
       → r ≡ value_operand starts (view_expression e) behind → m2 ≡ m1 ++ value_code starts (view_expression e) (length m1) behind
       → IsMade whole (record { failing = failing; left = l; right = r }) old m2 t
   made_compared whole first [] x o e ty failing l r old m1 m2 t behind chain single at is fails behind_is left made_left right made_right = absurd (omega (arith, single))
   made_compared whole first (y ∷ z ∷ xs) x o e ty failing l r old m1 m2 t behind chain single at is fails behind_is left made_left right made_right = absurd (omega (arith, single))
   made_compared whole first (y ∷ []) x o e ty failing l r old m1 m2 t behind chain single at is fails behind_is left made_left right made_right =
-      let same : y ≡ operation.Compute o e = sym (same_Some x y at) ∙ is in
+      let same = sym (same_Some x y at) ∙ is in
       let next : behind ≡ suc t = omega (arith, behind_is) in
-      subst (λ (w : Expression). IsMade w (record { failing = failing; left = l; right = r }) old m2 t) (sym (chain ∙ ap (λ (z : Operation). Binary first (operations_of (z ∷ [])) ty) same))
+      subst (λ (z : Expression). IsMade z (record { failing = failing; left = l; right = r }) old m2 t) (sym (chain ∙ ap (λ (z : Operation). Binary first (operations_of (z ∷ [])) ty) same))
       (compared_pair first o e ty failing l r old m1 m2 t fails
       (left ∙ ap (λ (z : Operation). operand_or (left_of starts first (operations_of (z ∷ []))) (left_slot starts first (operations_of (z ∷ [])) t t)) same)
       (made_left ∙ ap (λ (z : Operation). old ++ left_code starts first (operations_of (z ∷ [])) (length old) t t) same)
@@ -143,7 +178,7 @@ module _ (starts : Starts) where
   other_more : (u : LogicalOperator) (behind t : ℕ) (o : Operation) (os : List Operation) (p : ℕ) (c : Condition)
       → all_others u behind t (o ∷ os) p c ≡ one_other u behind t o os p c ++ all_others u behind t os (p + length (one_other u behind t o os p c)) (next_other t o os c)
   other_more u behind t (operation.Test o e) os p c = refl
-  other_more u behind t (operation.Compute o e) os p c = ap (λ (n : ℕ). all_others u behind t os n c) (let z : p ≡ p + 0 = omega arith in z)
+  other_more u behind t (operation.Compute w o e) os p c = ap (λ (n : ℕ). all_others u behind t os n c) (let z : p ≡ p + 0 = omega arith in z)
   other_more u behind t (operation.Pointer o e) os p c = ap (λ (n : ℕ). all_others u behind t os n c) (let z : p ≡ p + 0 = omega arith in z)
   other_more u behind t (operation.PointerPeek n o e) os p c = ap (λ (n : ℕ). all_others u behind t os n c) (let z : p ≡ p + 0 = omega arith in z)
 
@@ -168,7 +203,7 @@ module _ (starts : Starts) where
   -- the condition of the last one stays where no test is passed over
   last_more : (o : Operation) (os : List Operation) (c : Condition) (t : ℕ) → last_condition starts (operations_of (o ∷ os)) c t ≡ last_condition starts (operations_of os) (next_other t o os c) t
   last_more (operation.Test o e) os c t = refl
-  last_more (operation.Compute o e) os c t = refl
+  last_more (operation.Compute w o e) os c t = refl
   last_more (operation.Pointer o e) os c t = refl
   last_more (operation.PointerPeek n o e) os c t = refl
 
@@ -231,7 +266,7 @@ module _ (starts : Starts) where
 -- these are tests where the first is one and the others are
 pub all_test_step : (u : LogicalOperator) (x : Operation) (xs : List Operation) → all_test u (operations_of (x ∷ xs)) ≡ (is_test u x && all_test u (operations_of xs))
 all_test_step u (operation.Test o e) xs = refl
-all_test_step u (operation.Compute o e) xs = refl
+all_test_step u (operation.Compute w o e) xs = refl
 all_test_step u (operation.Pointer o e) xs = refl
 all_test_step u (operation.PointerPeek n o e) xs = refl
 
@@ -242,6 +277,6 @@ all_test_at u xs i x inside at =
 pub some_tests : (u : LogicalOperator) (xs : List Operation) → (length xs == 0) ≡ false → are_tests u (operations_of xs) ≡ all_test u (operations_of xs)
 some_tests u [] some = absurd (let z : true ≡ false = some in cc)
 some_tests u (operation.Test o e ∷ xs) some = refl
-some_tests u (operation.Compute o e ∷ xs) some = refl
+some_tests u (operation.Compute w o e ∷ xs) some = refl
 some_tests u (operation.Pointer o e ∷ xs) some = refl
 some_tests u (operation.PointerPeek n o e ∷ xs) some = refl

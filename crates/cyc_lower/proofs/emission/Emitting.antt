@@ -7,6 +7,7 @@ use Rattle.std.proofs.Math.Seq.{set-append_seam}
 use Rattle.std.specs.declared.vec.Vec.{Vec}
 use Rattle.std.specs.declared.boxed.Box.{Box}
 use Rattle.std.specs.declared.alloc.Global.{Global as Heap}
+use Rattle.cyc_words.specs.declared.span.Span.{Span}
 use Rattle.cyc_types.specs.declared.ty.Ty.{Ty as TyCode}
 use Rattle.cyc_types.specs.declared.typed.ValueType.{ValueType as ValueTypeCode}
 use Rattle.cyc_types.specs.declared.typed.Lvalue.{Lvalue as LvalueCode}
@@ -113,7 +114,7 @@ module _ {X S : Type 0} (all : List X → ℕ → S → List Instruction) (one :
 
 -- the last operator gives to d, and any other to t
 next_slot_some : (o : Operation) (os : List Operation) (d t : ℕ) → next_slot (operations_of (o ∷ os)) d t ≡ t
-next_slot_some (operation.Compute o e) os d t = refl
+next_slot_some (operation.Compute w o e) os d t = refl
 next_slot_some (operation.Test o e) os d t = refl
 next_slot_some (operation.Pointer o e) os d t = refl
 next_slot_some (operation.PointerPeek n o e) os d t = refl
@@ -139,10 +140,10 @@ passed_done cs i slot first done left =
     let none : all_passed (arguments_of (drop i cs)) ≡ 0 = ap (λ (l : List ConvertedCode). all_passed (arguments_of l)) (drop_all i cs done) in
     omega (arith, left, none)
 
-pub call_viewed : (value : Expr) (f : Callee) (v : Vec ConvertedCode Heap) (t : ValueTypeCode) → value ≡ expr.Call f v t → (items : List ConvertedCode) → items ≡ v.items
+pub call_viewed : (value : Expr) {w : Span} (f : Callee) (v : Vec ConvertedCode Heap) (t : ValueTypeCode) → value ≡ expr.Call w f v t → (items : List ConvertedCode) → items ≡ v.items
     → view_expression value ≡ Call f (arguments_of items) (view_value_type t)
-call_viewed value f v t is items same =
-    ap view_expression is ∙ view_call f v t ∙ ap (λ (cs : List ConvertedCode). Call f (arguments_of cs) (view_value_type t)) (sym same)
+call_viewed value {w} f v t is items same =
+    ap view_expression is ∙ view_call w f v t ∙ ap (λ (cs : List ConvertedCode). Call f (arguments_of cs) (view_value_type t)) (sym same)
 
 pub binary_viewed : (value : Expr) (b : Box Expr Heap) (v : Vec Operation Heap) (t : TyCode) → value ≡ expr.Binary b v t → (first : Expr) → first ≡ b.value → (items : List Operation) → items ≡ v.items
     → view_expression value ≡ Binary (view_expression first) (operations_of items) (view_ty t)
@@ -461,7 +462,7 @@ module _ (starts : Starts) where
 
   one_operation_more : (d t : ℕ) (o : Operation) (os : List Operation) (p : ℕ) (l : Operand)
       → all_operations d t (o ∷ os) p l ≡ one_operation d t o os p l ++ all_operations d t os (p + length (one_operation d t o os p l)) (next_operation d t o os l)
-  one_operation_more d t (operation.Compute o e) os p l = refl
+  one_operation_more d t (operation.Compute w o e) os p l = refl
   one_operation_more d t (operation.Test o e) os p l = refl
   one_operation_more d t (operation.Pointer o e) os p l = refl
   one_operation_more d t (operation.PointerPeek n o e) os p l = refl
@@ -506,7 +507,7 @@ module _ (starts : Starts) where
         ∙ ap (λ (g : Callee). old ++ expression_code starts (Call g (arguments_of items) Void) (length old) d t) (sym is)
 
   -- a call, as the expression that it is
-  pub made_called : (value : Expr) (f : Callee) (v : Vec ConvertedCode Heap) (ty : ValueTypeCode) (items : List ConvertedCode) (old new : List Instruction) (d t : ℕ) → value ≡ expr.Call f v ty → items ≡ v.items
+  pub made_called : (value : Expr) {w : Span} (f : Callee) (v : Vec ConvertedCode Heap) (ty : ValueTypeCode) (items : List ConvertedCode) (old new : List Instruction) (d t : ℕ) → value ≡ expr.Call w f v ty → items ≡ v.items
       → new ≡ old ++ expression_code starts (Call f (arguments_of items) Void) (length old) d t → new ≡ old ++ expression_code starts (view_expression value) (length old) d t
   made_called value f v ty items old new d t is same made =
       made ∙ ap (λ (l : List Instruction). old ++ l) (call_alike f (arguments_of items) Void (view_value_type ty) (length old) d t)
@@ -549,7 +550,7 @@ module _ (starts : Starts) where
   left_plain a (operation.Test o e ∷ os) d t to plain none some = (refl, some (omega arith))
   left_plain a (operation.Pointer o e ∷ os) d t to plain none some = (refl, some (omega arith))
   left_plain a (operation.PointerPeek n o e ∷ os) d t to plain none some = (refl, some (omega arith))
-  left_plain a (operation.Compute o e ∷ os) d t to plain none some = by (is_simple starts (view_expression e)) plain
+  left_plain a (operation.Compute w o e ∷ os) d t to plain none some = by (is_simple starts (view_expression e)) plain
     where
       by : (simple : Bool) → simple ≡ false → (left_with simple (operand_of starts a) ≡ None) × (to ≡ slot_with starts simple a t)
       by true plain = absurd (let f : true ≡ false = plain in cc)
@@ -589,7 +590,7 @@ module _ (starts : Starts) where
   made_left_first a os old new d t to plain more there is =
       made_left a os old new d t to plain (λ none. absurd (let f : false ≡ true = sym more ∙ eq-eqb (length os) 0 none in cc)) (λ some. there) is
 
-  pub made_compute : (value : Operation) (o : Operator) (e : Expr) (old m1 m2 : List Instruction) (l r : Operand) (d t behind : ℕ) → value ≡ operation.Compute o e → behind ≡ t + 1
+  pub made_compute : {w : Span} (value : Operation) (o : Operator) (e : Expr) (old m1 m2 : List Instruction) (l r : Operand) (d t behind : ℕ) → value ≡ operation.Compute w o e → behind ≡ t + 1
       → r ≡ value_operand starts (view_expression e) behind → m1 ≡ old ++ value_code starts (view_expression e) (length old) behind → m2 ≡ m1 ++ operator_code starts o l r d
       → m2 ≡ old ++ operation_code starts value (length old) l d t
   made_compute value o e old m1 m2 l r d t behind is behind_is r_is e1 e2 =
@@ -622,7 +623,7 @@ module _ (starts : Starts) where
   discarded_alike callees.Getchar cs ty other p t = refl
   discarded_alike (callees.Function n) cs ty other p t = refl
 
-  pub made_discarded : (value : Expr) (f : Callee) (v : Vec ConvertedCode Heap) (ty : ValueTypeCode) (items : List ConvertedCode) (old new : List Instruction) (t : ℕ) → value ≡ expr.Call f v ty → items ≡ v.items
+  pub made_discarded : (value : Expr) {w : Span} (f : Callee) (v : Vec ConvertedCode Heap) (ty : ValueTypeCode) (items : List ConvertedCode) (old new : List Instruction) (t : ℕ) → value ≡ expr.Call w f v ty → items ≡ v.items
       → new ≡ old ++ discarded_code starts (Call f (arguments_of items) Void) (length old) t → new ≡ old ++ discarded_code starts (view_expression value) (length old) t
   made_discarded value f v ty items old new t is same made =
       made ∙ ap (λ (l : List Instruction). old ++ l) (discarded_alike f (arguments_of items) Void (view_value_type ty) (length old) t)

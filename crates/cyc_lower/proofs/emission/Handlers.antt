@@ -4,6 +4,7 @@ use Rattle.std.proofs.lemmas.List.{drop_all, length-append}
 use Rattle.std.specs.declared.vec.Vec.{Vec}
 use Rattle.std.specs.declared.boxed.Box.{Box}
 use Rattle.std.specs.declared.alloc.Global.{Global as Heap}
+use Rattle.cyc_words.specs.declared.span.Span.{Span}
 use Rattle.cyc_types.specs.declared.typed.Stmt.{Stmt}
 use Rattle.cyc_types.specs.declared.typed.Stmt.TheVariants as stmt
 use Rattle.cyc_types.specs.declared.typed.Clause.{Clause}
@@ -101,7 +102,7 @@ module _ (starts : Starts) (s : Statement) (cs : Clauses) (exits : Exits) (t : �
       p refl q refl
       ∙ ap (λ (n : ℕ). old ++ (kept ++ (instructions.Try t q ∷ (first p ++ (instructions.Jump (q + length (restored ++ clauses_code starts cs (q + length restored) n exits t)) ∷ (restored ++ clauses_code starts cs (q + length restored) n exits t)))))) there
 
-module _ (starts : Starts) (value : Stmt) (b : Box Stmt Heap) (v : Vec Clause Heap) (d : Option Body) (is : value ≡ stmt.Try b v d) (body : Stmt) (at : body ≡ b.value) (clauses : List Clause) (same : clauses ≡ v.items) (exits : Exits) (t : ℕ) (old : List Instruction) (x : Instruction) (m0 m1 m2 m3 m4 m5 m6 m7 : List Instruction) (opening out : ℕ) where
+module _ (starts : Starts) (value : Stmt) {w : Span} (b : Box Stmt Heap) (v : Vec Clause Heap) (d : Option Body) (is : value ≡ stmt.Try w b v d) (body : Stmt) (at : body ≡ b.value) (clauses : List Clause) (same : clauses ≡ v.items) (exits : Exits) (t : ℕ) (old : List Instruction) (x : Instruction) (m0 m1 m2 m3 m4 m5 m6 m7 : List Instruction) (opening out : ℕ) where
   pub made_handler : m0 ≡ old ++ kept_code starts t → opening ≡ length m0 → m1 ≡ m0 ++ x ∷ [] → m2 ≡ m1 ++ statement_code starts (view_statement body) (length m1) (inside_try exits t) (behind_record starts t) → out ≡ length m2 + 1
       → m3 ≡ set (m2 ++ instructions.Leave t ∷ instructions.Jump 0 ∷ []) opening (instructions.Try t (length m2 + 2)) → m4 ≡ m3 ++ restored_code starts t → BeginClauses starts clauses out exits t m4 m5
       → m6 ≡ m5 ++ clauses_code starts (default_of d) (length m5) 0 exits t → m7 ≡ set m6 out (instructions.Jump (length m6))
@@ -114,7 +115,7 @@ module _ (starts : Starts) (value : Stmt) (b : Box Stmt Heap) (v : Vec Clause He
       let all : length m2 + 2 ≡ length jumped = omega (arith, long, longer) in
       let cs = clauses_of clauses (default_of d) in
       let e : view_statement value ≡ Try (view_statement body) cs
-      = ap view_statement is ∙ view_try b v d ∙ ap (λ (x : Stmt). Try (view_statement x) (clauses_of v.items (default_of d))) (sym at)
+      = ap view_statement is ∙ view_try w b v d ∙ ap (λ (x : Stmt). Try (view_statement x) (clauses_of v.items (default_of d))) (sym at)
       ∙ ap (λ (cs : List Clause). Try (view_statement body) (clauses_of cs (default_of d))) (sym same) in
       made_try starts (view_statement body) cs exits t old x (instructions.Jump 0) m0 m1 m2 left jumped m3 m4 m6 m7 opening out
       e0 h1 e1 e2 refl (h2 ∙ sym long) refl

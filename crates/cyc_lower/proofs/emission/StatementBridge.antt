@@ -21,7 +21,7 @@ use Rattle.cyc_meaning.specs.FrameCount.{operand_words}
 use Rattle.cyc_lower.specs.inside.Slots.{Types, starts_of, slot_of, global_of}
 use Rattle.cyc_lower.specs.inside.ValueCode.{passed_words, move_of, operand_or, slot_or, code_unless_slot, left_with, conversion_code, failing_comparison, address_code, span_of, global_code, kind_passed}
 use Rattle.cyc_lower.specs.inside.ObjectCode.{right_slot, saved_code, load_at}
-use Rattle.cyc_lower.specs.inside.ControlCode.{compared_or, compared_of, failing_jump, holding_jump, all_test, are_tests, break_target, continue_target, body_target, inside_loop, leave_code, other_jump, clause_code, kept_code, kept_code_in, restored_code, restored_code_in, behind_record, inside_try, closed_code, handlers_code, marks_code, try_code, opened_code, inside_region, dynamic_code, entry_code, entry_length, is_nothing, over_code, over_length}
+use Rattle.cyc_lower.specs.inside.ControlCode.{compared_or, compared_of, failing_jump, holding_jump, all_test, are_tests, break_target, continue_target, body_target, inside_loop, leave_code, other_jump, clause_code, kept_code, kept_code_in, restored_code, restored_code_in, behind_record, inside_try, closed_code, handlers_code, marks_code, try_code, opened_code, inside_region, dynamic_code, entry_code, entry_length, is_nothing, over_code, over_length, null_compared, nulled_or}
 use Rattle.cyc_lower.specs.inside.ExpressionCode.{source_of, operand_of, value_slot, slot_with, value_operand, converted_operand, printed_operand, expression_code, converted_operand_code, printed_code, place_operand, place_offset, place_code, brought_code, is_simple}
 use Rattle.cyc_lower.specs.inside.Lowering.{assignment_code, assigned_operand, discarded_code, first_operand, first_code, second_code, pair_code, condition_code, condition_of, others_code, last_condition, tests_code, behind_tests, choice_code, choice_of, return_code, declaration_code, statement_code, items_code, results_of, side_code, read_side, write_side, exchange_code, swap_code, thrown_code, thrown_operand, caught_code, clauses_code, is_guard}
 use Rattle.cyc_lower.specs.declared.operands.Condition.{Condition}
@@ -106,6 +106,16 @@ module _ (code : List Instruction) (b : Numbering) (types : Types) (raised : Blo
       by : (f : Option Comparison) → Fits b types (compared_or f a c (Binary a (ThenCompute o c NoOperations) ty)).left × Fits b types (compared_or f a c (Binary a (ThenCompute o c NoOperations) ty)).right
       by (Some failing) = (first, second)
       by None = ((first, (second, none)), tt)
+  compared_numbered (Binary a (ThenPointer o c NoOperations) ty) (first, rest) = by (null_compared o c)
+    where
+      by : (f : Option Comparison) → Fits b types (nulled_or f a (Binary a (ThenPointer o c NoOperations) ty)).left × Fits b types (nulled_or f a (Binary a (ThenPointer o c NoOperations) ty)).right
+      by (Some failing) = (first, tt)
+      by None = ((first, rest), tt)
+  compared_numbered (Binary a (ThenPointerPeek n o c NoOperations) ty) (first, rest) = by (null_compared o c)
+    where
+      by : (f : Option Comparison) → Fits b types (nulled_or f a (Binary a (ThenPointerPeek n o c NoOperations) ty)).left × Fits b types (nulled_or f a (Binary a (ThenPointerPeek n o c NoOperations) ty)).right
+      by (Some failing) = (first, tt)
+      by None = ((first, rest), tt)
   compared_numbered a numbered = (numbered, tt)
 
   condition_stands : (a : Expression) (t p q : ℕ) → Fits b types a → p + length (condition_code (starts_of types) a p t) ≡ q → HasAt code p (condition_code (starts_of types) a p t)

@@ -2,16 +2,19 @@
 use Rattle.std.proofs.Common.{◌≡◌, ◌≢◌, ℕ, ◌+◌, ◌<◌, Bool, true, false, not, List, ◌∷◌, Option, None, Some, slice_get, refl, sym, ap, subst, ◌∙◌, arith, inl, inr}
 use Rattle.std.specs.Prelude.{◌==◌, ◌&&◌, if◌then◌else◌}
 use Rattle.std.proofs.lemmas.Bool.{eq-eqb, ne_eqb, eqb-true}
+use Rattle.std.proofs.lemmas.Option.{none-some}
 use Rattle.cyc_words.specs.Word.{add_of, sub_of}
 use Rattle.cyc_types.specs.declared.typed.Kind.{Kind}
 use Rattle.cyc_types.specs.declared.typed.Kind.TheVariants as kinds
 use Rattle.cyc_types.specs.declared.typed.PointerOperator.{PointerOperator}
 use Rattle.cyc_types.specs.declared.typed.PointerOperator.TheVariants as pointers
+use Rattle.cyc_types.specs.declared.typed.Operator.TheVariants as operators
 use Rattle.cyc_types.specs.TypedTrees.{Expression, Operations, Program}
 use Rattle.cyc_store.specs.State.{StoreState}
+use Rattle.cyc_plain.specs.declared.instruction.Comparison.{Comparison}
 use Rattle.cyc_plain.specs.declared.instruction.Operand.{Operand}
 use Rattle.cyc_plain.specs.declared.instruction.Operand.TheVariants as operands
-use Rattle.cyc_plain.specs.inside.Operators.{truth}
+use Rattle.cyc_plain.specs.inside.Operators.{truth, compares}
 use Rattle.cyc_plain.specs.inside.State as plain
 use Rattle.cyc_plain.specs.declared.instruction.Instruction.TheVariants as instructions
 use Rattle.cyc_plain.specs.inside.State.{Words, put, copied, Frame, Configuration}
@@ -32,16 +35,19 @@ use Rattle.cyc_objects.proofs.Comparing.{thin-compared}
 use Rattle.cyc_types.specs.Texts.{is_comparison}
 use Rattle.cyc_lower.specs.inside.ValueCode.{left_kind, behind_left, pointer_operator}
 use Rattle.cyc_lower.specs.inside.Lowering.{lower_program}
+use Rattle.cyc_lower.specs.inside.ControlCode.{null_failing}
 use Rattle.cyc_lower.proofs.slots.Widths.{same_kind, Outside}
 use Rattle.cyc_lower.proofs.relation.Moves.{copied_elsewhere}
 use Rattle.cyc_lower.proofs.relation.Stands.{FirstTwoAt, IndexAt, PointerAt, ValueAt}
 use Rattle.cyc_lower.proofs.relation.HeldValues.{IsIn, Holds, held, callers}
-use Rattle.cyc_lower.proofs.relation.Relation.{types_on, silent, DataIn, SharedAt, LandsStack, in_temporary, in_local, EvaluatingAt, as_operand, Matches, code_of, bounds_at, top, floor}
+use Rattle.cyc_lower.proofs.relation.Relation.{types_on, silent, DataIn, SharedAt, ConditionStack, LandsStack, in_temporary, in_local, EvaluatingAt, as_operand, Matches, code_of, bounds_at, top, floor}
 use Rattle.cyc_lower.proofs.relation.Data.{height-least, in_words, floor-least}
 use Rattle.cyc_lower.proofs.relation.Accesses.{IsWell}
-use Rattle.cyc_lower.proofs.relation.Matched.{IsMatched, by_one, by_two}
+use Rattle.cyc_lower.proofs.relation.Matched.{IsMatched, silently, by_one, by_two}
 use Rattle.cyc_lower.proofs.value_steps.Evaluations.{landed, landed_word}
 use Rattle.cyc_objects.specs.inside.Related.{AreApart}
+use Rattle.cyc_lower.proofs.value_steps.Decided.{given_compared}
+use Rattle.cyc_lower.proofs.value_steps.ValueWords.{fails_by}
 use Rattle.cyc_lower.proofs.relation.Apart.{variables-apart}
 use Rattle.cyc_lower.proofs.relation.Leads.{AreNamed}
 
@@ -188,6 +194,34 @@ module _ (k : List Entry) (e : Environment) (w : World) where
   tells_found false equal a b same = ap (λ x. Running (Given (record { kind = kinds.Int; value = Int (truth x) })) k e w) same
   tells_found true equal a b same = ap (λ x. Running (Given (record { kind = kinds.Int; value = Int x })) k e w) (turned equal ∙ ap (λ x. truth (not x)) same)
 
+  -- what is tested for null is a pointer
+  is_pointer : (negated : Bool) (v : Value) → IsWell (computed kinds.Int (null_test negated v) k e w) → IsPointer v
+  is_pointer negated Null well = tt
+  is_pointer negated (Thin object offset) well = tt
+  is_pointer negated (Fat object start many index) well = tt
+  is_pointer negated v well = absurd (well refl)
+
+  null_told : (t : Tables) (negated : Bool) (i : Kind) (left : Value) (words : Words) (p : ℕ) → Is t i left words p → IsWell (computed kinds.Int (null_test negated left) k e w)
+      → computed kinds.Int (null_test negated left) k e w ≡ gives_told negated (words p) 0
+  null_told t negated i left words p is well =
+      ap (λ (r : Result). computed kinds.Int r k e w) (null_on_right negated left (words p) 0 (has_word t i left words p is (is_pointer negated left well)) refl)
+
+  -- a pointer beside null gives what the comparison of its first word with 0 tells
+  abbrev Tells : PointerOperator → (failing : Comparison) → (left v : Value) → (word : ℕ) → Type 0
+  Tells u failing left v word = (n : ℕ) × (applies_pointer u left v k e w ≡ Running (Given (record { kind = kinds.Int; value = Int n })) k e w) × ((n == 0) ≡ compares failing word 0)
+
+  null_decides : (t : Tables) (u : PointerOperator) (failing : Comparison) (i : Kind) (left v : Value) (words : Words) (p : ℕ) → null_failing u ≡ Some failing → Is t i left words p → IsWell (applies_pointer u left v k e w)
+      → Tells u failing left v (words p)
+  null_decides t pointers.ThinIsNull failing i left Null words p is at well = (told false (words p) 0, null_told t false i left words p at well, fails_by operators.Equal failing (words p) 0 is)
+  null_decides t pointers.ThinIsNotNull failing i left Null words p is at well = (told true (words p) 0, null_told t true i left words p at well, fails_by operators.NotEqual failing (words p) 0 is)
+  null_decides t pointers.FatIsNull failing i left Null words p is at well = (told false (words p) 0, null_told t false i left words p at well, fails_by operators.Equal failing (words p) 0 is)
+  null_decides t pointers.FatIsNotNull failing i left Null words p is at well = (told true (words p) 0, null_told t true i left words p at well, fails_by operators.NotEqual failing (words p) 0 is)
+  null_decides t pointers.ThinIsNull failing i left v words p is at well = absurd (well refl)
+  null_decides t pointers.ThinIsNotNull failing i left v words p is at well = absurd (well refl)
+  null_decides t pointers.FatIsNull failing i left v words p is at well = absurd (well refl)
+  null_decides t pointers.FatIsNotNull failing i left v words p is at well = absurd (well refl)
+  null_decides t u failing i left v words p is at well = absurd (none-some failing is)
+
   -- ---- all comparisons
 
   module _ (t : Tables) (s : StoreState) (related : objects.Related t (silent w) s) (apart : AreApart t (silent w)) where
@@ -199,13 +233,6 @@ module _ (k : List Entry) (e : Environment) (w : World) where
         ap (λ x. tells negated x k e w) found
         ∙ tells_found negated equal (words p) (others q)
         (thin-compared related apart kinds.Nullable kinds.Nullable left v (words p) (others q) equal (thin_is t i left words p is_left left_thin) (thin_is t j v others q is thin) (same_compared w left v ∙ found))
-
-    -- what is tested for null is a pointer
-    is_pointer : (negated : Bool) (v : Value) → IsWell (computed kinds.Int (null_test negated v) k e w) → IsPointer v
-    is_pointer negated Null well = tt
-    is_pointer negated (Thin object offset) well = tt
-    is_pointer negated (Fat object start many index) well = tt
-    is_pointer negated v well = absurd (well refl)
 
     tests_left : (negated : Bool) (i : Kind) (left : Value) (words : Words) (p b : ℕ) → Is t i left words p → b ≡ 0 → IsWell (computed kinds.Int (null_test negated left) k e w)
         → computed kinds.Int (null_test negated left) k e w ≡ gives_told negated (words p) b
@@ -410,6 +437,18 @@ module _ (source : Program) (pages calls : ℕ) where
   applies_pointers pointers.NullIsNot peek left v o d q k e w c names well shared facts is is_left holds (takes, (here, end)) lands = compares_pointers pointers.NullIsNot peek left v o d q k e w c names refl well shared facts is is_left holds here end lands
   applies_pointers pointers.EqualThin peek left v o d q k e w c names well shared facts is is_left holds (takes, (here, end)) lands = compares_pointers pointers.EqualThin peek left v o d q k e w c names refl well shared facts is is_left holds here end lands
   applies_pointers pointers.NotEqualThin peek left v o d q k e w c names well shared facts is is_left holds (takes, (here, end)) lands = compares_pointers pointers.NotEqualThin peek left v o d q k e w c names refl well shared facts is is_left holds here end lands
+
+  -- a pointer beside null is not compared where the next jump does so
+  pub tests_null : (peek : Option ℕ) (u : PointerOperator) (left v : Kinded) (failing : Comparison) (l : Operand) (k : List Entry) (e : Environment) (w : World) (c : Configuration) → null_failing u ≡ Some failing
+      → IsWell (step source (Running (Given v) (Needs (ApplyPointer peek u left) ∷ k) e w)) → (shared : SharedAt source pages calls k e w c) → DataIn source shared.tables c.active.slots k e w c → IsIn shared.tables left c.active.slots l
+      → Holds shared.tables c.active.slots (floor source c.active.function k) (held k) → ConditionStack source c.active.function failing l (operands.Word 0) c.active.next c.frames k
+      → IsMatched source pages calls (Running (Given v) (Needs (ApplyPointer peek u left) ∷ k) e w) (plain.Running c)
+  tests_null peek u left v failing l k e w c is well shared facts is_left holds stack =
+      let (words, p, same, at) = in_words shared.tables left c.active.slots l is_left in
+      let (n, does, fails) = null_decides k e w shared.tables u failing left.kind left.value v.value words p is at well in
+      silently source pages calls (Running (Given v) (Needs (ApplyPointer peek u left) ∷ k) e w) (Running (Given (record { kind = kinds.Int; value = Int n })) k e w) (plain.Running c) does
+      (shared, given_compared source pages calls shared.tables (record { kind = kinds.Int; value = Int n }) failing l (operands.Word 0) k e w c (compares failing (words p) 0) (ap Some fails) (ap (λ x. compares failing x 0) (sym same)) facts holds stack)
+      (omega arith)
 
   -- the right operand stands behind the left one
   pub right_follows : (peek : Option ℕ) (u : PointerOperator) (b : Expression) (os : Operations) (v : Kinded) (k : List Entry) (e : Environment) (w : World) (c : Configuration) (r : Operand) (m d q : ℕ) → takes_kind u v.kind ≡ true

@@ -41,7 +41,7 @@ use Rattle.cyc_lower.proofs.slots.CellBytes.{passed_slots}
 use Rattle.cyc_lower.specs.inside.ValueCode.{converts_there, passed_words, all_passed, kinds_passed, converted_by, moved_by, move_of, binary_operator, operand_or, code_unless, slot_or, code_unless_slot, next_slot, conversion_code, divisor_code, checked_code, operator_code, truth_code, low_byte, test_code, is_in, copy_code, failing_comparison, left_with, first_temporary, jump_if_zero, jump_if_nonzero, behind_left, pointer_code, pointer_operator, index_of, first_two, pointer_instructions, address_code, blocks, element_by, count_code, span_of, tested_code, widened_code, conversion_by, tested_by, check_code, loaded_code, bounds_code, stepped_code, scaled_code, summed_code, bounded_code, past_bounded, thinned_code, reached_code, followed_code, followed_operand, followed_by, span_in, reached_operand, word_by_word, load_word, store_word, global_code, keeps_words, load_of, store_of, unary_instruction, last_byte_code, blank_code, kind_behind, kind_passed, scale_of, masks, masked_by, inside_code}
 use Rattle.cyc_lower.specs.inside.ObjectCode.{begun_code, filled_code, ended_code, elements_code, stores_code, cells_code, slots_of_kinds, object_code, free_code, right_slot, saved_code, load_at, measured_code, sized_code}
 use Rattle.cyc_lower.specs.declared.operands.Condition.{Condition}
-use Rattle.cyc_lower.specs.inside.ControlCode.{compared_or, failing_jump, holding_jump, deciding_jump, are_tests, break_target, continue_target, body_target, outside_loops, inside_loop, leave_code, tag_operand, other_jump, clause_code, opened_code, closed_code, named_code, dynamic_code, closing_code, handlers_code, marks_code, kept_code, kept_code_in, restored_code, restored_code_in, behind_record, inside_try, inside_region, entry_code, entry_length, is_nothing, over_code, over_length}
+use Rattle.cyc_lower.specs.inside.ControlCode.{compared_or, failing_jump, holding_jump, deciding_jump, are_tests, break_target, continue_target, body_target, outside_loops, inside_loop, leave_code, tag_operand, other_jump, clause_code, opened_code, closed_code, named_code, dynamic_code, closing_code, handlers_code, marks_code, kept_code, kept_code_in, restored_code, restored_code_in, behind_record, inside_try, inside_region, entry_code, entry_length, is_nothing, over_code, over_length, null_compared, nulled_or}
 use Rattle.cyc_lower.specs.inside.ExpressionCode.{source_of, source_slot, operand_of, left_of, value_slot, left_slot, value_operand, converted_operand, printed_operand, load_code, expression_code, arguments_code, converted_code, converted_operand_code, printed_code, initial_code, operations_code, slot_with, made_code, place_operand, place_offset, place_code, pointer_of, pointer_slot, brought_code, is_simple, are_simple}
 use Rattle.cyc_lower.specs.inside.Lowering.{assignment_code, discarded_code, first_code, second_code, pair_code, condition_code, condition_of, others_code, tests_code, behind_tests, choice_code, choice_of, return_code, declaration_code, statement_code, items_code, lower_function, store_address_code, side_code, read_side, write_side, exchange_code, swap_code, caught_code, clauses_code, starts_with, raises_of, farthest, is_guard, is_light, compares_light}
 use Rattle.cyc_meaning.specs.Operators.{null_exception}
@@ -817,6 +817,16 @@ module _ (starts : Starts) where
           let q = p + length front in
           omega (arith, both front (second_code starts b q t), first_size a b p t, second_size b q t)
       by None = alone_size (Binary a (ThenCompute o b NoOperations) ty) p t
+  condition_size (Binary a (ThenPointer o b NoOperations) ty) p t = by (null_compared o b)
+    where
+      by : (f : Option Comparison) → code_size (pair_code starts (nulled_or f a (Binary a (ThenPointer o b NoOperations) ty)).left (nulled_or f a (Binary a (ThenPointer o b NoOperations) ty)).right p t) ≤ size_per_weight * expression_weight (Binary a (ThenPointer o b NoOperations) ty)
+      by (Some failing) = omega (arith, alone_size a p t)
+      by None = alone_size (Binary a (ThenPointer o b NoOperations) ty) p t
+  condition_size (Binary a (ThenPointerPeek n o b NoOperations) ty) p t = by (null_compared o b)
+    where
+      by : (f : Option Comparison) → code_size (pair_code starts (nulled_or f a (Binary a (ThenPointerPeek n o b NoOperations) ty)).left (nulled_or f a (Binary a (ThenPointerPeek n o b NoOperations) ty)).right p t) ≤ size_per_weight * expression_weight (Binary a (ThenPointerPeek n o b NoOperations) ty)
+      by (Some failing) = omega (arith, alone_size a p t)
+      by None = alone_size (Binary a (ThenPointerPeek n o b NoOperations) ty) p t
   condition_size a p t = alone_size a p t
 
   -- the operands of tests
@@ -904,6 +914,8 @@ module _ (starts : Starts) where
   guard_size : (a : Expression) (p t : ℕ) → is_guard starts a ≡ true → code_size (condition_code starts a p t) ≤ 50 * expression_weight a
   guard_size (Unary unary.Not a) p t guard = omega (arith, guard_size a p t guard)
   guard_size (Binary a (ThenCompute o b NoOperations) ty) p t guard = compared_guard_size a b o ty (failing_comparison o) p t guard
+  guard_size (Binary a (ThenPointer o b NoOperations) ty) p t guard = absurd (let f : false ≡ true = guard in cc)
+  guard_size (Binary a (ThenPointerPeek n o b NoOperations) ty) p t guard = absurd (let f : false ≡ true = guard in cc)
   guard_size (Binary a os ty) p t guard = elim (or_cases (is_simple starts (Binary a os ty)) (compares_light starts a os) guard) [
     | inl simple ↦ light_alone_size (Binary a os ty) p t simple
     | inr light ↦ absurd (let f : false ≡ true = light in cc)

@@ -25,7 +25,7 @@ use Rattle.cyc_lower.specs.inside.Slots.{starts_of, slot_of, Types, global_of}
 use Rattle.cyc_lower.specs.inside.ValueCode.{passed_words, operand_or, slot_or, code_unless_slot, left_with, conversion_code, failing_comparison, span_of, word_by_word, global_code, keeps_words, kind_passed}
 use Rattle.cyc_lower.specs.inside.ObjectCode.{right_slot, load_at}
 use Rattle.cyc_lower.specs.declared.operands.Condition.{Condition}
-use Rattle.cyc_lower.specs.inside.ControlCode.{compared_or, failing_jump, holding_jump, deciding_jump, are_tests, body_target, inside_loop, leave_code, tag_operand, clause_code, opened_code, closed_code, named_code, dynamic_code, handlers_code, marks_code, kept_code, kept_code_in, restored_code, restored_code_in, behind_record, behind_record_in, inside_try, inside_region, outermost, entry_code, entry_length, is_nothing, over_code, over_length}
+use Rattle.cyc_lower.specs.inside.ControlCode.{compared_or, failing_jump, holding_jump, deciding_jump, are_tests, body_target, inside_loop, leave_code, tag_operand, clause_code, opened_code, closed_code, named_code, dynamic_code, handlers_code, marks_code, kept_code, kept_code_in, restored_code, restored_code_in, behind_record, behind_record_in, inside_try, inside_region, outermost, entry_code, entry_length, is_nothing, over_code, over_length, null_compared, nulled_or}
 use Rattle.cyc_lower.specs.inside.ExpressionCode.{source_of, operand_of, value_slot, slot_with, value_operand, converted_operand, printed_operand, expression_code, converted_operand_code, printed_code, brought_code, is_simple}
 use Rattle.cyc_lower.specs.inside.Lowering.{spare_slots, assignment_code, discarded_code, first_operand, first_code, second_code, pair_code, condition_code, condition_of, others_code, last_condition, tests_code, behind_tests, choice_code, choice_of, return_code, declaration_code, statement_code, items_code, results_of, side_code, read_side, write_side, exchange_code, swap_code, thrown_code, thrown_operand, caught_code, clauses_code, is_guard}
 use Rattle.cyc_lower.proofs.slots.Widths.{kind_positive, kind_few, type_words, words_in, HasRoom, keeps_wide}
@@ -91,6 +91,18 @@ module _ (program : PlainProgram) (r : Routine) (b : Numbering) (types : Types) 
           (λ less. unless_in program r b types locals levels globals called results behind (operand_of (starts_of types) c) (expression_code (starts_of types) c next (value_slot (starts_of types) c (suc t)) (suc t)) next less
           (λ fits. expression_in program r b called results types locals levels globals behind c next (value_slot (starts_of types) c (suc t)) (suc t) second (slot_fits program r b types locals levels globals called results behind c (suc t) second free) (omega (arith, few, some)) fits))
       by None short = pair_in (Binary a (ThenCompute o c NoOperations) ty) (Number 0) p t (first, (second, none)) few short (λ less. tt)
+  condition_in (Binary a (ThenPointer o c NoOperations) ty) p t (first, rest) few short = by (null_compared o c) short
+    where
+      by : (f : Option Comparison) → p + length (pair_code (starts_of types) (nulled_or f a (Binary a (ThenPointer o c NoOperations) ty)).left (nulled_or f a (Binary a (ThenPointer o c NoOperations) ty)).right p t) < length r.code
+          → AreIn program r b types locals levels globals called results behind (pair_code (starts_of types) (nulled_or f a (Binary a (ThenPointer o c NoOperations) ty)).left (nulled_or f a (Binary a (ThenPointer o c NoOperations) ty)).right p t)
+      by (Some failing) short = pair_in a (Number 0) p t first (omega (arith, few)) short (λ less. tt)
+      by None short = pair_in (Binary a (ThenPointer o c NoOperations) ty) (Number 0) p t (first, rest) few short (λ less. tt)
+  condition_in (Binary a (ThenPointerPeek n o c NoOperations) ty) p t (first, rest) few short = by (null_compared o c) short
+    where
+      by : (f : Option Comparison) → p + length (pair_code (starts_of types) (nulled_or f a (Binary a (ThenPointerPeek n o c NoOperations) ty)).left (nulled_or f a (Binary a (ThenPointerPeek n o c NoOperations) ty)).right p t) < length r.code
+          → AreIn program r b types locals levels globals called results behind (pair_code (starts_of types) (nulled_or f a (Binary a (ThenPointerPeek n o c NoOperations) ty)).left (nulled_or f a (Binary a (ThenPointerPeek n o c NoOperations) ty)).right p t)
+      by (Some failing) short = pair_in a (Number 0) p t first (omega (arith, few)) short (λ less. tt)
+      by None short = pair_in (Binary a (ThenPointerPeek n o c NoOperations) ty) (Number 0) p t (first, rest) few short (λ less. tt)
   condition_in a p t numbered few short = pair_in a (Number 0) p t numbered few short (λ less. tt)
 
   compared_in : (a : Expression) (t : ℕ) → Fits b types a → t + expression_need a + spare_slots ≤ r.slots → IsOperand r (condition_of (starts_of types) a t).left × IsOperand r (condition_of (starts_of types) a t).right
@@ -102,6 +114,16 @@ module _ (program : PlainProgram) (r : Routine) (b : Numbering) (types : Types) 
           let free : suc t + words_of_kind (kind_at program r b types locals levels globals called results behind c) ≤ r.slots = omega (arith, few, operand_positive (type_of a), operand_positive (type_of c), words_positive ty, kind_few (kind_at program r b types locals levels globals called results behind c)) in
           (left_with_in program r b types locals levels globals called results behind (is_simple (starts_of types) c) a t first (omega (arith, few, kind_few (kind_at program r b types locals levels globals called results behind a))), value_in program r b types locals levels globals called results behind c (suc t) second free)
       by None = (value_in program r b types locals levels globals called results behind (Binary a (ThenCompute o c NoOperations) ty) t (first, (second, none)) (omega (arith, few)), tt)
+  compared_in (Binary a (ThenPointer o c NoOperations) ty) t (first, rest) few = by (null_compared o c)
+    where
+      by : (f : Option Comparison) → IsOperand r (first_operand (starts_of types) (nulled_or f a (Binary a (ThenPointer o c NoOperations) ty)).left (nulled_or f a (Binary a (ThenPointer o c NoOperations) ty)).right t) × IsOperand r (value_operand (starts_of types) (nulled_or f a (Binary a (ThenPointer o c NoOperations) ty)).right (suc t))
+      by (Some failing) = (value_in program r b types locals levels globals called results behind a t first (omega (arith, few, kind_few (kind_at program r b types locals levels globals called results behind a))), tt)
+      by None = (value_in program r b types locals levels globals called results behind (Binary a (ThenPointer o c NoOperations) ty) t (first, rest) (omega (arith, few, kind_few (kind_at program r b types locals levels globals called results behind (Binary a (ThenPointer o c NoOperations) ty)))), tt)
+  compared_in (Binary a (ThenPointerPeek n o c NoOperations) ty) t (first, rest) few = by (null_compared o c)
+    where
+      by : (f : Option Comparison) → IsOperand r (first_operand (starts_of types) (nulled_or f a (Binary a (ThenPointerPeek n o c NoOperations) ty)).left (nulled_or f a (Binary a (ThenPointerPeek n o c NoOperations) ty)).right t) × IsOperand r (value_operand (starts_of types) (nulled_or f a (Binary a (ThenPointerPeek n o c NoOperations) ty)).right (suc t))
+      by (Some failing) = (value_in program r b types locals levels globals called results behind a t first (omega (arith, few, kind_few (kind_at program r b types locals levels globals called results behind a))), tt)
+      by None = (value_in program r b types locals levels globals called results behind (Binary a (ThenPointerPeek n o c NoOperations) ty) t (first, rest) (omega (arith, few, kind_few (kind_at program r b types locals levels globals called results behind (Binary a (ThenPointerPeek n o c NoOperations) ty)))), tt)
   compared_in a t numbered few = (value_in program r b types locals levels globals called results behind a t numbered (omega (arith, few, kind_few (kind_at program r b types locals levels globals called results behind a))), tt)
 
   -- ---- regions

@@ -38,7 +38,7 @@ use Rattle.cyc_meaning.specs.Values.{words_of_kind, bytes_of_kind, begins, behin
 use Rattle.cyc_lower.specs.inside.ValueCode.{converts_there, passed_words, kinds_passed, converted_by, moved_by, move_of, operand_or, code_unless, slot_or, code_unless_slot, left_with, next_slot, check_code, conversion_code, divisor_code, checked_code, operator_code, truth_code, test_code, is_in, copy_code, failing_comparison, first_temporary, behind_left, pointer_code, index_of, first_two, pointer_instructions, address_code, addressed_by, guard_code, blocks, element_by, count_code, span_of, tested_code, widened_code, conversion_by, tested_by, bounds_code, stepped_code, scaled_code, summed_code, bounded_code, thinned_code, reached_code, followed_code, followed_operand, followed_by, span_in, reached_operand, word_by_word, load_word, store_word, global_code, keeps_words, scale_of, load_of, store_of, unary_instruction, last_byte_code, blank_code, kind_behind, kind_passed, variable_bytes, masks, masked_by, low_byte, inside_code}
 use Rattle.cyc_lower.specs.inside.ObjectCode.{begun_code, filled_code, ended_code, elements_code, stores_code, cells_code, slots_of_kinds, object_code, right_slot, saved_code, asked_code, load_at, measured_code, sized_code, most_elements}
 use Rattle.cyc_lower.specs.declared.operands.Condition.{Condition}
-use Rattle.cyc_lower.specs.inside.ControlCode.{counter_operand, compared_or, compared_of, deciding_jump, are_tests, outside_loops, inside_loop, leave_code, clause_code, opened_code, closed_code, named_code, dynamic_code, handlers_code, marks_code, kept_code, kept_code_in, restored_code, restored_code_in, behind_record, inside_try, inside_region, body_target, entry_code, entry_length, holding_jump, is_nothing, over_code, over_length}
+use Rattle.cyc_lower.specs.inside.ControlCode.{counter_operand, compared_or, compared_of, deciding_jump, are_tests, outside_loops, inside_loop, leave_code, clause_code, opened_code, closed_code, named_code, dynamic_code, handlers_code, marks_code, kept_code, kept_code_in, restored_code, restored_code_in, behind_record, inside_try, inside_region, body_target, entry_code, entry_length, holding_jump, is_nothing, over_code, over_length, null_compared, nulled_or}
 use Rattle.cyc_lower.specs.inside.ExpressionCode.{source_of, source_slot, operand_of, left_of, value_slot, left_slot, value_operand, converted_operand, printed_operand, load_code, expression_code, arguments_code, converted_code, converted_operand_code, printed_code, initial_code, operations_code, slot_with, made_code, place_operand, place_offset, place_code, pointer_of, pointer_slot, brought_code, is_simple}
 use Rattle.cyc_lower.specs.inside.Lowering.{assignment_code, discarded_code, first_code, second_code, pair_code, condition_code, condition_of, others_code, last_condition, tests_code, behind_tests, choice_code, choice_of, return_code, declaration_code, statement_code, items_code, initial_word, lower_function, lower_program, store_address_code, store_code, caught_code, clauses_code, function_code, side_code, read_side, write_side, exchange_code, swap_code, globals_of, lower_globals, starts_with, raises_of, scopes_of, body_code, farthest, with_blocks, is_guard}
 use Rattle.cyc_lower.proofs.slots.Widths.{kind_few}
@@ -642,6 +642,16 @@ module _ (starts : Starts) where
       by : (f : Option Comparison) → IsOfWords (compared_or f a b (Binary a (ThenCompute o b NoOperations) ty)).left × IsOfWords (compared_or f a b (Binary a (ThenCompute o b NoOperations) ty)).right
       by (Some failing) = (first, second)
       by None = ((first, (second, none)), omega arith)
+  compared_words (Binary a (ThenPointer o b NoOperations) ty) (first, rest) = by (null_compared o b)
+    where
+      by : (f : Option Comparison) → IsOfWords (nulled_or f a (Binary a (ThenPointer o b NoOperations) ty)).left × IsOfWords (nulled_or f a (Binary a (ThenPointer o b NoOperations) ty)).right
+      by (Some failing) = (first, omega arith)
+      by None = ((first, rest), omega arith)
+  compared_words (Binary a (ThenPointerPeek n o b NoOperations) ty) (first, rest) = by (null_compared o b)
+    where
+      by : (f : Option Comparison) → IsOfWords (nulled_or f a (Binary a (ThenPointerPeek n o b NoOperations) ty)).left × IsOfWords (nulled_or f a (Binary a (ThenPointerPeek n o b NoOperations) ty)).right
+      by (Some failing) = (first, omega arith)
+      by None = ((first, rest), omega arith)
   compared_words a words = (words, omega arith)
 
   -- two operands that are compared

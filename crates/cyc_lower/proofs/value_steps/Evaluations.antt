@@ -13,6 +13,7 @@ use Rattle.cyc_types.specs.declared.typed.Operator.{Operator}
 use Rattle.cyc_types.specs.Types.{Ty, ValueType, words_of}
 use Rattle.cyc_types.specs.TypedTrees.{type_of_place, Dereference, Placement, Initial, Target, Lvalue, Local, Global, Expression, Number, Copy, Call, Unary, Binary, Assign, Converted, Convert, Arguments, NoArguments, MoreArguments, Operations, NoOperations, ThenCompute, ThenTest, ThenPointer, Function, Program, ThenPointerPeek, peeked, Member, Element}
 use Rattle.cyc_types.specs.TypedTrees as typed
+use Rattle.cyc_types.specs.declared.typed.PointerOperator.{PointerOperator}
 use Rattle.cyc_plain.specs.declared.instruction.Comparison.{Comparison}
 use Rattle.cyc_plain.specs.declared.instruction.Comparison.TheVariants as comparisons
 use Rattle.cyc_plain.specs.declared.instruction.Operand.{Operand}
@@ -29,7 +30,7 @@ use Rattle.cyc_plain.proofs.SlotLaws.{put-same}
 use Rattle.cyc_meaning.specs.Values.{Int, Null, Thin, Handle, Operand as Kinded, kind_of, words_of_kind, bytes_of_kind, is_thin}
 use Rattle.cyc_store.specs.declared.range.TheConstants.{HEAP, UNIQUE}
 use Rattle.cyc_meaning.specs.SourceMachine.{status_in}
-use Rattle.cyc_meaning.specs.State.{status_of, InRegion, World, heap_number, Environment, ConvertTo, Operate, Chain, Apply, Decide, Store, Pass, PlaceBy, MakePlain, MakeFields, MakeArray, Choose, Test, Follow, LoadFrom, Entry, Needs, NeedsPlace, Discard, Focus, Evaluating, Locating, Given, Running, FollowMember, TakeAddress, StoreTo, Owner, Unique, FreeObject, CloseByKey, CountElements, Index, Advance}
+use Rattle.cyc_meaning.specs.State.{status_of, InRegion, World, heap_number, Environment, ConvertTo, Operate, Chain, Apply, ApplyPointer, Decide, Store, Pass, PlaceBy, MakePlain, MakeFields, MakeArray, Choose, Test, Follow, LoadFrom, Entry, Needs, NeedsPlace, Discard, Focus, Evaluating, Locating, Given, Running, FollowMember, TakeAddress, StoreTo, Owner, Unique, FreeObject, CloseByKey, CountElements, Index, Advance}
 use Rattle.cyc_lower.proofs.relation.Counters.{CountersHold, counters_hold, counters_low}
 use Rattle.cyc_meaning.specs.Step.{counts, target_of, target_by, object_of, assigned, passes, step, loaded_from, addressed}
 use Rattle.cyc_meaning.specs.Allocation.{makes}
@@ -40,7 +41,7 @@ use Rattle.cyc_lower.proofs.slots.Slots.{slot-room, slot-low, words-there, words
 use Rattle.cyc_lower.proofs.slots.Widths.{keeps_whole, kind_positive, type_words, made_kind, HasRoom, Outside}
 use Rattle.cyc_lower.proofs.relation.Moves.{moved_slots, moves, put_elsewhere, moved_elsewhere, moved_is}
 use Rattle.cyc_lower.specs.inside.ValueCode.{failing_comparison, converts_there, masks, span_of, all_passed, kinds_passed, move_of, left_with, followed_operand, span_in, operand_or, reached_operand, load_word, address_of_global, keeps_words, variable_bytes}
-use Rattle.cyc_lower.specs.inside.ControlCode.{counter_operand, compared_or, opposite, compared_of}
+use Rattle.cyc_lower.specs.inside.ControlCode.{counter_operand, compared_or, opposite, compared_of, null_compared, nulled_or}
 use Rattle.cyc_lower.specs.inside.ExpressionCode.{operand_of, value_slot, source_of, source_slot, slot_with, pointer_of, is_simple, are_simple}
 use Rattle.cyc_lower.specs.inside.Lowering.{lower_program}
 use Rattle.cyc_lower.proofs.relation.Weights.{weight, stack_weight, expression_weight, arguments_weight, object_weight}
@@ -822,6 +823,7 @@ module _ (source : Program) (pages calls : ℕ) where
       → CountersHold e.counters slots (floor source g k) k
   counters_beside t e g o p slots frames (Needs (Apply u left) ∷ k) counted (l, is, low, inl (holds, applied)) = counters_hold t e.counters slots (floor source g k) k counted holds
   counters_beside t e g o p slots frames (Needs (Apply u left) ∷ k) counted (l, is, low, inr (q, at, beside)) = counters_beside t e g (operands.Slot (top source g k)) q slots frames k counted beside
+  counters_beside t e g o p slots frames (Needs (ApplyPointer peek u left) ∷ k) counted (l, failing, is, low, holds, fails, stack) = counters_hold t e.counters slots (floor source g k) k counted holds
   counters_beside t e g o p slots frames (Needs (Advance peek target base) ∷ k) counted (n, q, is, low, holds, advances) = counters_hold t e.counters slots (floor source g k) k counted holds
   counters_beside t e g o p slots frames (Needs (Chain os) ∷ k) counted (q, low, simple, at, beside) = counters_beside t e g (operands.Slot (top source g k)) q slots frames k counted beside
   counters_beside t e g o p slots frames (Needs (Operate unary.Widen) ∷ k) counted beside = counters_beside t e g o p slots frames k counted beside
@@ -946,6 +948,24 @@ module _ (source : Program) (pages calls : ℕ) where
       chain_begins (is_simple (starts_on source c.active.function k) b) a (ThenCompute o b NoOperations) t k e w c l m known at_a (λ low. (low, to_jump (inl (failing, r, q, (is, at_b), stack))))
   compares None o a b t k e w c l r q is known at stack = not_zero (Binary a (ThenCompute o b NoOperations) t) k e w c l r q known at stack
 
+  compares_null : (f : Option Comparison) (o : PointerOperator) (a b : Expression) (t : Ty) (k : List Entry) (e : Environment) (w : World) (c : Configuration) (l r : Operand) (q : ℕ) → null_compared o b ≡ f
+      → At_step (Binary a (ThenPointer o b NoOperations) t) k e w c
+      → PairAt (code_of source c.active.function) (bounds_at source c.active.function) (types_on source c.active.function k) (nulled_or f a (Binary a (ThenPointer o b NoOperations) t)).left
+      (nulled_or f a (Binary a (ThenPointer o b NoOperations) t)).right l r (top source c.active.function k) c.active.next q
+      → ConditionStack source c.active.function (nulled_or f a (Binary a (ThenPointer o b NoOperations) t)).failing l r q c.frames k → IsBegun (Binary a (ThenPointer o b NoOperations) t) k e w c
+  compares_null (Some failing) o a b t k e w c l r q is known (m, at_a, (same, end)) stack =
+      chain_begins true a (ThenPointer o b NoOperations) t k e w c l m known at_a (λ low. (low, to_jump (inl (failing, r, q, (is, same, end), stack))))
+  compares_null None o a b t k e w c l r q is known at stack = not_zero (Binary a (ThenPointer o b NoOperations) t) k e w c l r q known at stack
+
+  compares_peek : (f : Option Comparison) (n : ℕ) (o : PointerOperator) (a b : Expression) (t : Ty) (k : List Entry) (e : Environment) (w : World) (c : Configuration) (l r : Operand) (q : ℕ) → null_compared o b ≡ f
+      → At_step (Binary a (ThenPointerPeek n o b NoOperations) t) k e w c
+      → PairAt (code_of source c.active.function) (bounds_at source c.active.function) (types_on source c.active.function k) (nulled_or f a (Binary a (ThenPointerPeek n o b NoOperations) t)).left
+      (nulled_or f a (Binary a (ThenPointerPeek n o b NoOperations) t)).right l r (top source c.active.function k) c.active.next q
+      → ConditionStack source c.active.function (nulled_or f a (Binary a (ThenPointerPeek n o b NoOperations) t)).failing l r q c.frames k → IsBegun (Binary a (ThenPointerPeek n o b NoOperations) t) k e w c
+  compares_peek (Some failing) n o a b t k e w c l r q is known (m, at_a, (same, end)) stack =
+      chain_begins true a (ThenPointerPeek n o b NoOperations) t k e w c l m known at_a (λ low. (low, to_jump (inl (failing, r, q, (is, same, end), stack))))
+  compares_peek None n o a b t k e w c l r q is known at stack = not_zero (Binary a (ThenPointerPeek n o b NoOperations) t) k e w c l r q known at stack
+
   -- a condition that is negated leads to the same places the other way round
   turned : (g : ℕ) (failing : Comparison) (l r : Operand) (p : ℕ) (frames : List Frame) (k : List Entry) → ConditionStack source g (opposite failing) l r p frames k
       → (f : ℕ) × (h : ℕ) × ForkAt (code_of source g) (bounds_at source g) (types_on source g k) failing l r p f h × DecidedStack source g false f frames k × DecidedStack source g true h frames k
@@ -963,6 +983,8 @@ module _ (source : Program) (pages calls : ℕ) where
       (shared, facts, as_condition f h (compared_whole (code_of source g) (bounds_at source g) (types_on source g k) a f h (top source g k) c.active.next (l, r, q, at, fork)) holds first second)
       (omega arith)
   compared_begins (Binary a (ThenCompute o b NoOperations) t) k e w c l r q known at stack = compares (failing_comparison o) o a b t k e w c l r q refl known at stack
+  compared_begins (Binary a (ThenPointer o b NoOperations) t) k e w c l r q known at stack = compares_null (null_compared o b) o a b t k e w c l r q refl known at stack
+  compared_begins (Binary a (ThenPointerPeek n o b NoOperations) t) k e w c l r q known at stack = compares_peek (null_compared o b) n o a b t k e w c l r q refl known at stack
   compared_begins a k e w c l r q known at stack = not_zero a k e w c l r q known at stack
 
   -- a condition that leads to two places

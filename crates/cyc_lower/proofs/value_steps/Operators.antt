@@ -13,7 +13,7 @@ use Rattle.cyc_types.specs.declared.typed.Operator.{Operator}
 use Rattle.cyc_types.specs.declared.typed.Operator.TheVariants as operators
 use Rattle.cyc_types.specs.declared.typed.LogicalOperator.{LogicalOperator}
 use Rattle.cyc_types.specs.declared.typed.LogicalOperator.TheVariants as logical
-use Rattle.cyc_types.specs.TypedTrees.{Expression, Operations, NoOperations, ThenCompute, ThenTest, ThenPointer, ThenPointerPeek, Program}
+use Rattle.cyc_types.specs.TypedTrees.{Expression, NullPointer, Operations, NoOperations, ThenCompute, ThenTest, ThenPointer, ThenPointerPeek, Program}
 use Rattle.cyc_plain.specs.declared.instruction.Comparison.{Comparison}
 use Rattle.cyc_plain.specs.declared.instruction.Comparison.TheVariants as comparisons
 use Rattle.cyc_plain.specs.declared.instruction.Operand.{Operand}
@@ -42,6 +42,8 @@ use Rattle.cyc_lower.proofs.relation.Moves.{put_elsewhere}
 use Rattle.cyc_lower.specs.inside.ValueCode.{binary_operator, failing_comparison, next_slot, jump_if_zero, jump_if_nonzero, converts_there, unary_instruction, keeps_words, masks, low_byte}
 use Rattle.cyc_lower.specs.inside.ExpressionCode.{operand_of, value_slot, is_simple}
 use Rattle.cyc_lower.specs.inside.Lowering.{lower_program}
+use Rattle.cyc_types.specs.declared.typed.PointerOperator.{PointerOperator}
+use Rattle.cyc_lower.specs.inside.ControlCode.{null_failing, null_compared}
 use Rattle.cyc_lower.proofs.relation.Stands.{OperandBy, CheckAt, CheckedAt, OperatorAt, TruthAt, ExpressionAt, OperationsAt, GuardAt, TestedAt, ConversionBy, LeftBy}
 use Rattle.cyc_objects.specs.inside.Tables.{Tables}
 use Rattle.cyc_objects.specs.inside.Words.{Is}
@@ -400,6 +402,8 @@ module _ (source : Program) (pages calls : ℕ) where
       (l, low_same t left l (top source g k) slots other low same is, low, inl (Holds-same t slots other (floor source g k) (held k) (λ m below. same m (omega (arith, below))) holds, applied))
   beside_same t locals g o p slots other frames (Needs (Apply u left) ∷ k) same (l, is, low, inr (q, at, beside)) =
       (l, low_same t left l (top source g k) slots other low same is, low, inr (q, at, beside_same t locals g (operands.Slot (top source g k)) q slots other frames k (λ m below. same m (omega (arith, below))) beside))
+  beside_same t locals g o p slots other frames (Needs (ApplyPointer peek u left) ∷ k) same (l, failing, is, low, holds, fails, stack) =
+      (l, failing, low_same t left l (top source g k) slots other low same is, low, Holds-same t slots other (floor source g k) (held k) (λ m below. same m (omega (arith, below))) holds, fails, stack)
   beside_same t locals g o p slots other frames (Needs (Advance peek target base) ∷ k) same (n, q, is, low, holds, advances) = (
     n,
     q,
@@ -642,6 +646,40 @@ module _ (source : Program) (pages calls : ℕ) where
           (subst (IsIn shared.tables v c.active.slots) there is, holds)
           (subst (λ x. AppliedStack source g e.locals u x r m c.frames (Needs (Chain os) ∷ k)) there applied)
 
+  -- null, which has no code, and beside it a pointer where it was
+  null_beside : (peek : Option ℕ) (u : PointerOperator) (v : Kinded) (o r : Operand) (failing : Comparison) (q : ℕ) (k : List Entry) (e : Environment) (w : World) (c : Configuration) → null_failing u ≡ Some failing → r ≡ operands.Word 0 → c.active.next ≡ q
+      → (t : Tables) → IsIn t v c.active.slots o → IsLow o (top source c.active.function k) → Holds t c.active.slots (floor source c.active.function k) (held k) → ConditionStack source c.active.function failing o r q c.frames k
+      → EvaluatingAt source t NullPointer e.locals c.active.function c.active.next c.active.slots c.frames (Needs (ApplyPointer peek u v) ∷ Needs (Chain NoOperations) ∷ k)
+  null_beside peek u v o r failing q k e w c fails same end t is low holds stack =
+      let g = c.active.function in
+      as_right (
+        operands.Word 0,
+        c.active.next,
+        refl,
+        (refl, refl),
+        (o, failing, is, low, holds, fails, subst (λ (x : Operand). ConditionStack source g failing o x c.active.next c.frames k) same (subst (λ (p : ℕ). ConditionStack source g failing o r p c.frames k) (sym end) stack)),
+      )
+
+  null_goes_on : (u : PointerOperator) (b : Expression) (v : Kinded) (o r : Operand) (failing : Comparison) (q : ℕ) (k : List Entry) (e : Environment) (w : World) (c : Configuration) → IsWell (step source (Running (Given v) (Needs (Chain (ThenPointer u b NoOperations)) ∷ k) e w))
+      → Stands v o k e w c → IsLow o (top source c.active.function k) → null_compared u b ≡ Some failing → r ≡ operands.Word 0 → c.active.next ≡ q → ConditionStack source c.active.function failing o r q c.frames k
+      → GoesBehind v (Needs (Chain (ThenPointer u b NoOperations)) ∷ k) e w c
+  null_goes_on u NullPointer v o r failing q k e w c well (shared, facts, is, holds) low fails same end stack =
+      silently source pages calls (Running (Given v) (Needs (Chain (ThenPointer u NullPointer NoOperations)) ∷ k) e w) (Running (Evaluating NullPointer) (Needs (ApplyPointer None u v) ∷ Needs (Chain NoOperations) ∷ k) e w) (plain.Running c)
+      (awaited (takes_kind u v.kind) (ApplyPointer None u v) NullPointer NoOperations k e w well)
+      (shared, facts, null_beside None u v o r failing q k e w c fails same end shared.tables is low holds stack)
+      (omega arith)
+  null_goes_on u b v o r failing q k e w c well stands low fails same end stack = absurd (none-some failing fails)
+
+  peek_goes_on : (n : ℕ) (u : PointerOperator) (b : Expression) (v : Kinded) (o r : Operand) (failing : Comparison) (q : ℕ) (k : List Entry) (e : Environment) (w : World) (c : Configuration) → IsWell (step source (Running (Given v) (Needs (Chain (ThenPointerPeek n u b NoOperations)) ∷ k) e w))
+      → Stands v o k e w c → IsLow o (top source c.active.function k) → null_compared u b ≡ Some failing → r ≡ operands.Word 0 → c.active.next ≡ q → ConditionStack source c.active.function failing o r q c.frames k
+      → GoesBehind v (Needs (Chain (ThenPointerPeek n u b NoOperations)) ∷ k) e w c
+  peek_goes_on n u NullPointer v o r failing q k e w c well (shared, facts, is, holds) low fails same end stack =
+      silently source pages calls (Running (Given v) (Needs (Chain (ThenPointerPeek n u NullPointer NoOperations)) ∷ k) e w) (Running (Evaluating NullPointer) (Needs (ApplyPointer (Some n) u v) ∷ Needs (Chain NoOperations) ∷ k) e w) (plain.Running c)
+      (awaited (takes_kind u v.kind) (ApplyPointer (Some n) u v) NullPointer NoOperations k e w well)
+      (shared, facts, null_beside (Some n) u v o r failing q k e w c fails same end shared.tables is low holds stack)
+      (omega arith)
+  peek_goes_on n u b v o r failing q k e w c well stands low fails same end stack = absurd (none-some failing fails)
+
   pub chains : (os : Operations) (v : Kinded) (o : Operand) (k : List Entry) (e : Environment) (w : World) (c : Configuration)
       → IsWell (step source (Running (Given v) (Needs (Chain os) ∷ k) e w)) → Stands v o k e w c
       → ValueStack source c.active.function e.locals v.kind o c.active.next c.frames (Needs (Chain os) ∷ k) → GoesBehind v (Needs (Chain os) ∷ k) e w c
@@ -677,6 +715,8 @@ module _ (source : Program) (pages calls : ℕ) where
             (subst (IsIn shared.tables v c.active.slots) there is) holds at_b here (chain_lands os (operator_kind u) g e.locals d s q c.frames k ops lands),
       )
       (omega arith)
+  chains (ThenPointer u b NoOperations) v o k e w c well stands (low, to_jump (inl (failing, r, q, (fails, same, end), stack))) = null_goes_on u b v o r failing q k e w c well stands low fails same end stack
+  chains (ThenPointerPeek n u b NoOperations) v o k e w c well stands (low, to_jump (inl (failing, r, q, (fails, same, end), stack))) = peek_goes_on n u b v o r failing q k e w c well stands low fails same end stack
   chains (ThenTest u b os) v o k e w c well (shared, facts, is, holds) (low, to_jump (inr stack)) =
       tested_given source pages calls v o (Needs (Chain (ThenTest u b os)) ∷ k) e w c (λ none. well (ap (λ z. status_in (status_of (tested z u b os k e w))) none)) shared facts is holds stack
   chains os v o k e w c well stands (low, to_jump (inl (failing, r, q, at, stack))) = absurd at

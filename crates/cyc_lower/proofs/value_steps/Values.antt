@@ -48,7 +48,7 @@ use Rattle.cyc_lower.proofs.relation.Accesses.{IsWell, is_fitting, is_declared, 
 use Rattle.cyc_lower.proofs.place_steps.PlaceWords.{stays, member_there}
 use Rattle.cyc_lower.proofs.relation.Matched.{silently, by_one}
 use Rattle.cyc_lower.proofs.handler_steps.Handling.{leaving, shared_leaving, record_left, raised}
-use Rattle.cyc_lower.proofs.pointer_steps.PointerSteps.{applies_pointers}
+use Rattle.cyc_lower.proofs.pointer_steps.PointerSteps.{applies_pointers, tests_null}
 use Rattle.cyc_lower.proofs.object_steps.UniqueBlocks.{frees_value}
 use Rattle.cyc_lower.proofs.region_steps.Keys.{closes_by_key}
 use Rattle.cyc_lower.proofs.pointer_steps.FatSteps.{counts}
@@ -424,6 +424,8 @@ module _ (source : Program) (pages calls : ℕ) where
   left_given : (v : Kinded) (k : List Entry) (e : Environment) (w : World) (c : Configuration) → IsWell (step source (Running (Given v) k e w)) → (shared : SharedAt source pages calls k e w c) → DataIn source shared.tables c.active.slots k e w c
       → ReadyAt source shared.tables v e.locals c.active.function c.active.next c.active.slots c.frames k → GoesBehind source pages calls v k e w c
   left_given v (Needs (Apply u left) ∷ k) e w c well shared facts ready = applies source pages calls u left v k e w c well shared facts ready
+  left_given v (Needs (ApplyPointer peek u left) ∷ k) e w c well shared facts (o, is, (l, failing, is_left, low, holds, fails, stack)) =
+      tests_null source pages calls peek u left v failing l k e w c fails well shared facts is_left holds stack
   left_given v (Needs (Advance peek target base) ∷ k) e w c well shared facts ready = advances_pointer source pages calls peek target base v.kind v.value k e w c well shared facts ready
   left_given v (Needs (Chain NoOperations) ∷ k) e w c well shared facts (o, is, (q, low, simple, (there, end), beside)) =
       let g = c.active.function in

@@ -3,7 +3,9 @@ use Rattle.std.specs.Prelude.{ℕ, ◌+◌, Bool, true, false, ◌&&◌, List, [
 use Rattle.cyc_types.specs.declared.typed.UnaryOperator.TheVariants as unary
 use Rattle.cyc_types.specs.declared.typed.LogicalOperator.{LogicalOperator}
 use Rattle.cyc_types.specs.declared.typed.LogicalOperator.TheVariants as logical
-use Rattle.cyc_types.specs.TypedTrees.{Expression, Number, Unary, Binary, Statement, Empty, Operations, NoOperations, ThenCompute, ThenTest}
+use Rattle.cyc_types.specs.declared.typed.PointerOperator.{PointerOperator}
+use Rattle.cyc_types.specs.declared.typed.PointerOperator.TheVariants as pointers
+use Rattle.cyc_types.specs.TypedTrees.{Expression, Number, NullPointer, Unary, Binary, Statement, Empty, Operations, NoOperations, ThenCompute, ThenTest, ThenPointer, ThenPointerPeek}
 use Rattle.cyc_plain.specs.declared.instruction.Comparison.{Comparison}
 use Rattle.cyc_plain.specs.declared.instruction.Comparison.TheVariants as comparisons
 use Rattle.cyc_plain.specs.declared.instruction.Operand.{Operand}
@@ -45,6 +47,22 @@ abbrev pub compared_or : Option Comparison → (left right whole : Expression) �
 compared_or (Some failing) left right whole = record { failing = failing; left = left; right = right }
 compared_or None left right whole = with_zero whole
 
+-- the comparison of a pointer's first word with 0 that holds where its comparison with null fails
+abbrev pub null_failing : PointerOperator → Option Comparison
+null_failing pointers.ThinIsNull = Some comparisons.NotEqual
+null_failing pointers.ThinIsNotNull = Some comparisons.Equal
+null_failing pointers.FatIsNull = Some comparisons.NotEqual
+null_failing pointers.FatIsNotNull = Some comparisons.Equal
+null_failing o = None
+
+abbrev pub null_compared : PointerOperator → (right : Expression) → Option Comparison
+null_compared o NullPointer = null_failing o
+null_compared o b = None
+
+abbrev pub nulled_or : Option Comparison → (left whole : Expression) → Compared
+nulled_or (Some failing) left whole = record { failing = failing; left = left; right = Number 0 }
+nulled_or None left whole = with_zero whole
+
 -- one that is negated compares the same, and fails where that holds
 abbrev pub negated : Compared → Compared
 negated x = record { failing = opposite x.failing; left = x.left; right = x.right }
@@ -53,6 +71,9 @@ abbrev pub compared_of : Expression → Compared
 compared_of (Unary unary.Not a) = negated (compared_of a)
 compared_of (Binary a (ThenCompute o b NoOperations) ty) =
     compared_or (failing_comparison o) a b (Binary a (ThenCompute o b NoOperations) ty)
+compared_of (Binary a (ThenPointer o b NoOperations) ty) = nulled_or (null_compared o b) a (Binary a (ThenPointer o b NoOperations) ty)
+compared_of (Binary a (ThenPointerPeek n o b NoOperations) ty) =
+    nulled_or (null_compared o b) a (Binary a (ThenPointerPeek n o b NoOperations) ty)
 compared_of a = with_zero a
 
 abbrev pub negated_condition : Condition → Condition

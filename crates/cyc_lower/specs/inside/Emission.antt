@@ -1,5 +1,5 @@
 -- What the code that emits says of itself: what it adds to the code made so far.
-use Rattle.std.specs.Prelude.{◌≡◌, ℕ, suc, ◌+◌, ◌^◌, ◌≤◌, Bool, false, if◌then◌else◌, Option, IfOk, List, [], ◌∷◌, ◌++◌, length, map, set, Some, option_map, Result, OnOk, slice_get}
+use Rattle.std.specs.Prelude.{◌≡◌, ℕ, suc, ◌+◌, ◌^◌, ◌≤◌, Bool, false, if◌then◌else◌, Option, IfOk, List, [], ◌∷◌, ◌++◌, length, map, set, Some, None, option_map, Result, OnOk, slice_get}
 use Rattle.std.specs.declared.alloc.AllocError.{AllocError}
 use Rattle.cyc_types.specs.declared.typed.Operation.{Operation}
 use Rattle.cyc_types.specs.declared.typed.Operation.TheVariants as operation
@@ -20,10 +20,11 @@ use Rattle.cyc_plain.specs.declared.instruction.Instruction.TheVariants.{WriteBy
 use Rattle.cyc_frame_count.specs.inside.Needs.{most_frame_count}
 use Rattle.cyc_lower.specs.inside.Slots.{Starts, slot_of}
 use Rattle.cyc_lower.specs.inside.ValueCode.{code_unless, slot_or, code_unless_slot, conversion_code, compute_code, test_code, behind_left, pointer_code, span_of}
-use Rattle.cyc_lower.specs.inside.ControlCode.{is_same, deciding_jump, holding_jump, inside_loop, tag_operand, clause_code, opened_code, named_code, dynamic_code, inside_region, entry_code, looped_code, body_target}
+use Rattle.cyc_lower.specs.inside.ControlCode.{is_same, deciding_jump, holding_jump, inside_loop, tag_operand, clause_code, opened_code, named_code, dynamic_code, inside_region, entry_code, looped_code, body_target, null_compared}
 use Rattle.cyc_lower.specs.inside.ExpressionCode.{operand_of, source_of, source_slot, printed_operand, printed_code, left_of, value_slot, left_slot, value_operand, expression_code, brought_code, are_simple, is_simple}
 use Rattle.cyc_lower.specs.inside.Lowering.{is_guard, condition_code, choice_code, choice_of, statement_code, declaration_code, condition_of, thrown_operand, thrown_code, caught_code, items_code, clauses_code}
 use Rattle.cyc_meaning.specs.FrameCount.{frame_count}
+use Rattle.cyc_plain.specs.declared.instruction.Comparison.{Comparison}
 use Rattle.cyc_plain.specs.declared.instruction.Comparison.TheVariants as comparisons
 use Rattle.cyc_lower.specs.declared.emitter.Emitter.{Emitter}
 use Rattle.cyc_lower.specs.declared.starts.Starts.{Starts as StartsCode}
@@ -57,6 +58,12 @@ is_test u (operation.Test o e) = is_same u o
 is_test u o = false
 
 -- Locals that have these first slots, in a program with these structs.
+-- whether an operator compares with null, and by what that fails
+abbrev pub null_operation : Operation → Option Comparison
+null_operation (operation.Pointer o e) = null_compared o (view_expression e)
+null_operation (operation.PointerPeek n o e) = null_compared o (view_expression e)
+null_operation o = None
+
 module _ (starts : Starts) where
   -- the code of an expression that is an operand
   abbrev pub value_code : Expression → (p t : ℕ) → List Instruction
@@ -65,6 +72,10 @@ module _ (starts : Starts) where
   -- a condition that is such an expression compared with 0
   abbrev pub zero_condition : Expression → (t : ℕ) → Condition
   zero_condition a t = record { failing = comparisons.Equal; left = value_operand starts a t; right = Word 0 }
+
+  -- the same where another comparison holds where it fails
+  abbrev pub null_condition : Comparison → Expression → (t : ℕ) → Condition
+  null_condition failing a t = record { failing = failing; left = value_operand starts a t; right = Word 0 }
 
   -- `putchar` of its argument
   abbrev pub print_code : Arguments → (p t : ℕ) → List Instruction
@@ -108,7 +119,7 @@ module _ (starts : Starts) where
 
   -- one operator of a chain with its right operand, where the left one is l
   abbrev pub operation_code : Operation → (p : ℕ) → (l : Operand) → (d t : ℕ) → List Instruction
-  operation_code (operation.Compute o e) p l d t =
+  operation_code (operation.Compute w o e) p l d t =
       compute_code starts o l (value_operand starts (view_expression e) (suc t)) (value_code (view_expression e) p (suc t)) d
   operation_code (operation.Test o e) p l d t = test_code o (expression_code starts (view_expression e) (p + 1) t t) p d t
   operation_code (operation.Pointer o e) p l d t = pointer_operation_code o (view_expression e) p l d t
@@ -134,11 +145,11 @@ module _ (starts : Starts) where
   -- one item of a block
   abbrev pub item_code : Item → (p : ℕ) → Exits → (t : ℕ) → List Instruction
   item_code (item.Execute s) p exits t = statement_code starts (view_statement s) p exits t
-  item_code (item.Local n ty v) p exits t = declaration_code starts n (view_ty ty) (option_map view_converted v) p t
-  item_code (item.Region r n) p exits t = opened_code starts n t
+  item_code (item.Local w n ty v) p exits t = declaration_code starts n (view_ty ty) (option_map view_converted v) p t
+  item_code (item.Region w r n) p exits t = opened_code starts n t
   item_code (item.Open r n w k) p exits t = named_code starts 1 n (Slot (slot_of starts k))
   item_code (item.Alias r n ty w s) p exits t = named_code starts (words_of (view_ty ty)) n (Slot (slot_of starts s))
-  item_code (item.DynamicRegion r n) p exits t = dynamic_code starts n t
+  item_code (item.DynamicRegion w r n) p exits t = dynamic_code starts n t
 
   -- a clause of a `try`
   abbrev pub case_code : (tag : ℕ) → (number : Option ℕ) → Items → (p out : ℕ) → Exits → (t : ℕ) → List Instruction
@@ -169,11 +180,11 @@ module _ (starts : Starts) where
 
 -- behind an item of a block: the ways out, and the first slot for temporaries
 abbrev pub exits_behind : Item → Exits → (t : ℕ) → Exits
-exits_behind (item.Region r n) exits t = inside_region exits t
+exits_behind (item.Region w r n) exits t = inside_region exits t
 exits_behind i exits t = exits
 
 abbrev pub free_behind : Item → (t : ℕ) → ℕ
-free_behind (item.Region r n) t = t + 1
+free_behind (item.Region w r n) t = t + 1
 free_behind i t = t
 
 -- ---- programs

@@ -50,19 +50,19 @@ call-returns-in_ok-count-in-Function t c =
     (made_call (view_starts c.args.starts.now) c.args.callee c.args.arguments.now c.args.self.now.code.items c.lower_arguments-in-Function.new.self.code.items c.emit-in-Function.new.self.code.items c.args.slot c.args.free c.in-Function.number c.in_ok-count-in-Function.count c.in-Function.is c.in_ok-count-in-Function.ensures.0 c.in_ok-count-in-Function.ensures.1)
     c.emit-in-Function.ensures
 
-pub lower_expression-lower_operations-requires : goal.lower_expression-lower_operations-requires
-lower_expression-lower_operations-requires t c =
+pub lower_value-lower_operations-requires : goal.lower_value-lower_operations-requires
+lower_value-lower_operations-requires t c =
     let room = room_behind (view_starts c.args.starts.now) (view_expression c.deref-in-Binary.result.now) (operations_of c.deref-in-Binary-2.result.now) c.args.self.now.code.items c.lower_left.new.self.code.items c.args.slot c.args.free c.requires c.in_ok-left-in-Binary.ensures.1 in
     (search (rules, types.the_lemmas, expressions.the_lemmas, get_or_read), room)
 
-pub lower_expression-returns-in-Call : goal.lower_expression-returns-in-Call
-lower_expression-returns-in-Call t c =
+pub lower_value-returns-in-Call : goal.lower_value-returns-in-Call
+lower_value-returns-in-Call t c =
     on_ok_weaker c.call.result
     (made_called (view_starts c.args.starts.now) c.args.value.now c.in-Call.callee c.in-Call.arguments c.in-Call.result c.deref.result.now c.args.self.now.code.items c.call.new.self.code.items c.args.slot c.args.free c.in-Call.is c.deref.ensures.value)
     c.call.ensures
 
-pub lower_expression-returns-in_ok-left-in-Binary : goal.lower_expression-returns-in_ok-left-in-Binary
-lower_expression-returns-in_ok-left-in-Binary t c =
+pub lower_value-returns-in_ok-left-in-Binary : goal.lower_value-returns-in_ok-left-in-Binary
+lower_value-returns-in_ok-left-in-Binary t c =
     on_ok_weaker c.lower_operations.result
     (made_binary (view_starts c.args.starts.now) c.args.value.now c.in-Binary.first c.in-Binary.rest c.in-Binary.of_type c.deref-in-Binary.result.now c.deref-in-Binary-2.result.now c.deref-in-Binary-3.result.now c.args.self.now.code.items c.lower_left.new.self.code.items c.lower_operations.new.self.code.items c.in_ok-left-in-Binary.left c.args.slot c.args.free
     c.in-Binary.is c.deref-in-Binary.ensures c.deref-in-Binary-2.ensures.value c.deref-in-Binary-3.ensures.value c.in_ok-left-in-Binary.ensures.0 c.in_ok-left-in-Binary.ensures.1)
@@ -81,14 +81,14 @@ lower_left-returns t c =
       | lower_left-else-is_empty w ↦ made_left_first (view_starts c.args.starts.now) a os old new c.args.slot c.args.free to plain (sym c.is_empty.ensures ∙ w.if-is_empty.false) w.to-is c.in_ok-lower_expression.ensures
     ]
 
-pub lower_operation-returns-in_ok-right-in-Compute : goal.lower_operation-returns-in_ok-right-in-Compute
-lower_operation-returns-in_ok-right-in-Compute t c =
+pub apply-returns-in_ok-right-in-Compute : goal.apply-returns-in_ok-right-in-Compute
+apply-returns-in_ok-right-in-Compute t c =
     on_ok_weaker c.lower_operator.result
     (made_compute (view_starts c.args.starts.now) c.args.operation.now c.in-Compute.operator c.in-Compute.operand c.args.self.now.code.items c.lower_operand.new.self.code.items c.lower_operator.new.self.code.items c.args.left c.in_ok-right-in-Compute.right c.args.slot c.args.free c.in_ok-behind-in-Compute.behind c.in-Compute.is c.in_ok-behind-in-Compute.ensures.0 c.in_ok-right-in-Compute.ensures.0 c.in_ok-right-in-Compute.ensures.1)
     c.lower_operator.ensures
 
-pub lower_operation-returns-in_ok-lower_expression-in-Test : goal.lower_operation-returns-in_ok-lower_expression-in-Test
-lower_operation-returns-in_ok-lower_expression-in-Test t c =
+pub apply-returns-in_ok-lower_expression-in-Test : goal.apply-returns-in_ok-lower_expression-in-Test
+apply-returns-in_ok-lower_expression-in-Test t c =
     let o = c.in-Test.operator in
     let free = c.args.free in
     let made = c.lower_expression.new.self.code.items in
@@ -129,8 +129,8 @@ print-returns t c =
     made_print (view_starts c.args.starts.now) c.args.arguments.now c.args.self.now.code.items c.loop-argument.self.code.items c.emit.new.self.code.items c.loop-argument.argument-index c.loop-argument.byte c.args.free c.loop-argument-test.false
     c.loop-argument.invariant.0 c.loop-argument.invariant.1 c.in_ok-emit.ensures
 
-pub lower_expression-returns-in_ok-assigned-in-Assign : goal.lower_expression-returns-in_ok-assigned-in-Assign
-lower_expression-returns-in_ok-assigned-in-Assign t c =
+pub lower_value-returns-in_ok-assigned-in-Assign : goal.lower_value-returns-in_ok-assigned-in-Assign
+lower_value-returns-in_ok-assigned-in-Assign t c =
     let same = c.deref-in-Assign-2.ensures ∙ sym c.deref-in-Assign.ensures in
     on_ok_weaker c.copy.result
     (λ e. made_assigned (view_starts c.args.starts.now) c.args.value.now c.in-Assign.target c.in-Assign.value c.in-Assign.result c.in-Assign.is c.deref-in-Assign.result.now c.deref-in-Assign.ensures c.args.self.now.code.items c.lower_assignment.new.self.code.items c.copy.new.self.code.items c.in_ok-assigned-in-Assign.assigned c.args.slot c.args.free c.in_ok-assigned-in-Assign.ensures.0 c.in_ok-assigned-in-Assign.ensures.1
@@ -154,14 +154,14 @@ lower_object-returns-in_ok-kinds-in-Fields t c =
     c.in-Fields.is c.deref.ensures.value kinds_are c.in_ok-words-in-Fields.ensures.1)
     c.make_object.ensures
 
-pub lower_expression-store-requires : goal.lower_expression-store-requires
-lower_expression-store-requires t c = (
+pub lower_value-store-requires : goal.lower_value-store-requires
+lower_value-store-requires t c = (
   search (rules, types.the_lemmas, expressions.the_lemmas, get_or_read),
   room_for_right (view_starts c.args.starts.now) (view_dereference c.deref-in-Store.result.now) c.args.self.now.code.items c.take_address-in-Store.new.self.code.items c.args.free c.requires c.in_ok-take_address-in-Store.ensures,
 )
 
-pub lower_expression-returns-in_ok-stored-in-Store : goal.lower_expression-returns-in_ok-stored-in-Store
-lower_expression-returns-in_ok-stored-in-Store t c =
+pub lower_value-returns-in_ok-stored-in-Store : goal.lower_value-returns-in_ok-stored-in-Store
+lower_value-returns-in_ok-stored-in-Store t c =
     let same = c.deref-in-Store-3.ensures ∙ sym c.deref-in-Store-2.ensures in
     on_ok_weaker c.copy-in-Store.result
     (λ e. made_stored (view_starts c.args.starts.now) c.args.value.now c.in-Store.target c.in-Store.value c.in-Store.result c.in-Store.is c.deref-in-Store.result.now c.deref-in-Store.ensures c.deref-in-Store-2.result.now c.deref-in-Store-2.ensures c.args.self.now.code.items c.take_address-in-Store.new.self.code.items c.store.new.self.code.items c.copy-in-Store.new.self.code.items c.in_ok-stored-in-Store.stored c.args.slot c.args.free c.in_ok-stored-in-Store.ensures.0

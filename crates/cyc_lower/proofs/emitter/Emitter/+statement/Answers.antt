@@ -43,8 +43,8 @@ lower_loop-jump_here-requires t c =
     let three = no_shorter_than c.lower_choice.new.self.code.items _ c.emit.new.self.code.items c.in_ok-emit.ensures in
     omega (arith, zero, one, same, two, three, c.in_ok-leaving.ensures.0)
 
-pub lower_statement-returns-in-Block : goal.lower_statement-returns-in-Block
-lower_statement-returns-in-Block t c =
+pub lower_form-returns-in-Block : goal.lower_form-returns-in-Block
+lower_form-returns-in-Block t c =
     on_ok_weaker c.lower_items.result
     (made_block (view_starts c.args.starts.now) c.args.statement.now c.in-Block.region c.in-Block.items c.in-Block.is c.deref.result.now c.deref.ensures.value c.args.self.now.code.items c.lower_items.new.self.code.items c.args.exits c.args.free)
     c.lower_items.ensures
@@ -61,21 +61,21 @@ lower_then-lower_statement-requires t c =
     let one = no_shorter_than c.lower_choice.new.self.code.items _ c.reserve.new.self.code.items c.in_ok-over.ensures.1 in
     (search (rules, types.the_lemmas, statements.the_lemmas, get_or_read), (omega (arith, c.requires.slots), omega (arith, zero, one, c.requires.begun)))
 
-pub lower_statement-lower_then-requires : goal.lower_statement-lower_then-requires
-lower_statement-lower_then-requires t c =
+pub lower_form-lower_then-requires : goal.lower_form-lower_then-requires
+lower_form-lower_then-requires t c =
     let tree = if_viewed (view_starts c.args.starts.now) c.args.statement.now c.in-If.condition c.in-If.then c.in-If.otherwise c.in-If.is c.deref-then-is_nothing.result.now c.deref-in-If.result.now c.deref-then-is_nothing.ensures c.deref-in-If.ensures in
     let kept = ap kept_by tree in
     (search (rules, types.the_lemmas, statements.the_lemmas, get_or_read), (omega (arith, kept, c.requires.slots), omega (arith, c.requires.begun)))
 
-pub lower_statement-returns-then-is_nothing : goal.lower_statement-returns-then-is_nothing
-lower_statement-returns-then-is_nothing t c =
+pub lower_form-returns-then-is_nothing : goal.lower_form-returns-then-is_nothing
+lower_form-returns-then-is_nothing t c =
     on_ok_weaker c.lower_then.result
     (made_alone (view_starts c.args.starts.now) c.args.statement.now c.in-If.condition c.in-If.then c.in-If.otherwise c.in-If.is c.deref-then-is_nothing.result.now c.deref-in-If.result.now c.deref-then-is_nothing.ensures c.deref-in-If.ensures
     (sym c.is_nothing.ensures ∙ c.if-is_nothing.true) c.args.exits c.args.free c.args.self.now.code.items c.lower_then.new.self.code.items)
     c.lower_then.ensures
 
-pub lower_statement-returns-in_ok-lower_statement-in-If-2 : goal.lower_statement-returns-in_ok-lower_statement-in-If-2
-lower_statement-returns-in_ok-lower_statement-in-If-2 t c =
+pub lower_form-returns-in_ok-lower_statement-in-If-2 : goal.lower_form-returns-in_ok-lower_statement-in-If-2
+lower_form-returns-in_ok-lower_statement-in-If-2 t c =
     made_if (view_starts c.args.starts.now) c.args.statement.now c.in-If.condition c.in-If.then c.in-If.otherwise c.in-If.is c.deref-in-If-2.result.now c.deref-in-If-3.result.now c.deref-in-If-2.ensures c.deref-in-If-3.ensures c.args.exits c.args.free c.in_ok-condition-in-If.condition c.in_ok-condition-in-If.ensures.0 c.args.self.now.code.items (Jump 0) (Jump 0)
     c.lower_choice.new.self.code.items c.reserve.new.self.code.items c.lower_statement.new.self.code.items c.reserve-in-If.new.self.code.items c.jump_here_if_failing.new.self.code.items c.lower_statement-in-If.new.self.code.items c.jump_here.new.self.code.items
     c.in_ok-over_then-in-If.over_then c.in_ok-over_otherwise-in-If.over_otherwise
@@ -114,8 +114,8 @@ lower_default-lower_items-requires t c =
     let same = ap (λ (js : List Item). kept_by_items (items_of js)) c.deref.ensures.value in
     (search (rules, types.the_lemmas, statements.the_lemmas, get_or_read), (omega (arith, few, same, c.requires.slots), c.requires.begun))
 
-pub lower_statement-lower_items-requires : goal.lower_statement-lower_items-requires
-lower_statement-lower_items-requires t c =
+pub lower_form-lower_items-requires : goal.lower_form-lower_items-requires
+lower_form-lower_items-requires t c =
     let e = block_keeps c.args.statement.now c.in-Block.region c.in-Block.items c.in-Block.is c.deref.result.now c.deref.ensures.value in
     (search (rules, types.the_lemmas, statements.the_lemmas, get_or_read), (omega (arith, e, c.requires.slots), c.requires.begun))
 
@@ -148,8 +148,8 @@ lower_items-loop-behind-preserved t c =
 pub lower_items-returns : goal.lower_items-returns
 lower_items-returns t c = closes_end _ c.loop-behind.self.code.items c.args.free c.loop-behind.behind c.loop-behind-test.false c.loop-behind.invariant
 
-pub lower_statement-lower_statement-requires-in-Try : goal.lower_statement-lower_statement-requires-in-Try
-lower_statement-lower_statement-requires-in-Try t c =
+pub lower_form-lower_statement-requires-in-Try : goal.lower_form-lower_statement-requires-in-Try
+lower_form-lower_statement-requires-in-Try t c =
     let e = try_keeps c.args.statement.now c.in-Try.body c.in-Try.clauses c.in-Try.default c.in-Try.is c.deref-in-Try.result.now c.deref-in-Try.ensures c.in-Try.clauses.items refl in
     let room = record_room c.args.starts.now.scopes c.args.free in
     let zero = no_shorter_than c.args.self.now.code.items _ c.begin_try.new.self.code.items c.in_ok-behind-in-Try.ensures.1 in
@@ -157,8 +157,8 @@ lower_statement-lower_statement-requires-in-Try t c =
     let head = ap (λ (exits : Exits). exits.head) c.inside_try.ensures in
     (search (rules, types.the_lemmas, statements.the_lemmas, get_or_read), (omega (arith, e, room, c.in_ok-behind-in-Try.ensures.0, c.requires.slots), omega (arith, zero, one, head, c.requires.begun)))
 
-pub lower_statement-lower_clauses-requires : goal.lower_statement-lower_clauses-requires
-lower_statement-lower_clauses-requires t c =
+pub lower_form-lower_clauses-requires : goal.lower_form-lower_clauses-requires
+lower_form-lower_clauses-requires t c =
     let e = try_keeps c.args.statement.now c.in-Try.body c.in-Try.clauses c.in-Try.default c.in-Try.is c.deref-in-Try.result.now c.deref-in-Try.ensures c.deref-in-Try-2.result.now c.deref-in-Try-2.ensures.value in
     let zero = no_shorter_than c.args.self.now.code.items _ c.begin_try.new.self.code.items c.in_ok-behind-in-Try.ensures.1 in
     let one = no_shorter_than c.begin_try.new.self.code.items _ c.reserve-in-Try.new.self.code.items c.in_ok-opening-in-Try.ensures.1 in
@@ -167,8 +167,8 @@ lower_statement-lower_clauses-requires t c =
     let four = no_shorter_than c.end_body.new.self.code.items _ c.restore_scopes.new.self.code.items c.in_ok-restore_scopes-in-Try.ensures in
     (search (rules, types.the_lemmas, statements.the_lemmas, get_or_read), (omega (arith, e, c.requires.slots), omega (arith, zero, one, two, three, four, c.requires.begun)))
 
-pub lower_statement-lower_default-requires : goal.lower_statement-lower_default-requires
-lower_statement-lower_default-requires t c =
+pub lower_form-lower_default-requires : goal.lower_form-lower_default-requires
+lower_form-lower_default-requires t c =
     let e = try_keeps c.args.statement.now c.in-Try.body c.in-Try.clauses c.in-Try.default c.in-Try.is c.deref-in-Try.result.now c.deref-in-Try.ensures c.deref-in-Try-2.result.now c.deref-in-Try-2.ensures.value in
     let zero = no_shorter_than c.args.self.now.code.items _ c.begin_try.new.self.code.items c.in_ok-behind-in-Try.ensures.1 in
     let one = no_shorter_than c.begin_try.new.self.code.items _ c.reserve-in-Try.new.self.code.items c.in_ok-opening-in-Try.ensures.1 in
@@ -178,16 +178,16 @@ lower_statement-lower_default-requires t c =
     let five = clauses_longer (view_starts c.args.starts.now) c.deref-in-Try-2.result.now c.in_ok-out-in-Try.out c.args.exits c.args.free c.restore_scopes.new.self.code.items c.lower_clauses.new.self.code.items c.in_ok-lower_clauses-in-Try.ensures in
     (search (rules, types.the_lemmas, statements.the_lemmas, get_or_read), (omega (arith, e, c.requires.slots), omega (arith, zero, one, two, three, four, five, c.requires.begun)))
 
-pub lower_statement-jump_here-requires-in-Try : goal.lower_statement-jump_here-requires-in-Try
-lower_statement-jump_here-requires-in-Try t c =
+pub lower_form-jump_here-requires-in-Try : goal.lower_form-jump_here-requires-in-Try
+lower_form-jump_here-requires-in-Try t c =
     let three = body_longer c.lower_statement-in-Try.new.self.code.items c.end_body.new.self.code.items (Leave c.args.free) (Jump 0) _ c.in_ok-opening-in-Try.opening c.in_ok-out-in-Try.ensures.1 in
     let four = no_shorter_than c.end_body.new.self.code.items _ c.restore_scopes.new.self.code.items c.in_ok-restore_scopes-in-Try.ensures in
     let five = clauses_longer (view_starts c.args.starts.now) c.deref-in-Try-2.result.now c.in_ok-out-in-Try.out c.args.exits c.args.free c.restore_scopes.new.self.code.items c.lower_clauses.new.self.code.items c.in_ok-lower_clauses-in-Try.ensures in
     let six = no_shorter_than c.lower_clauses.new.self.code.items _ c.lower_default.new.self.code.items c.in_ok-lower_default-in-Try.ensures in
     omega (arith, three, four, five, six, c.in_ok-out-in-Try.ensures.0)
 
-pub lower_statement-returns-in_ok-lower_default-in-Try : goal.lower_statement-returns-in_ok-lower_default-in-Try
-lower_statement-returns-in_ok-lower_default-in-Try t c =
+pub lower_form-returns-in_ok-lower_default-in-Try : goal.lower_form-returns-in_ok-lower_default-in-Try
+lower_form-returns-in_ok-lower_default-in-Try t c =
     let begun = c.reserve-in-Try.new.self.code.items in
     let body = view_statement c.deref-in-Try.result.now in
     made_handler (view_starts c.args.starts.now) c.args.statement.now c.in-Try.body c.in-Try.clauses c.in-Try.default c.in-Try.is c.deref-in-Try.result.now c.deref-in-Try.ensures c.deref-in-Try-2.result.now c.deref-in-Try-2.ensures.value c.args.exits c.args.free c.args.self.now.code.items (Jump 0)

@@ -4,7 +4,7 @@ use Rattle.cyc_types.specs.TypedTrees.{Expression}
 use Rattle.cyc_types.specs.TypedTreeView.{view_expression}
 use Rattle.cyc_lower.specs.inside.ControlCode.{with_zero, compared_of}
 use Rattle.cyc_lower.specs.inside.Emission.{view_starts}
-use Rattle.cyc_lower.proofs.emission.Conditions.{not_single, made_alone, made_compared}
+use Rattle.cyc_lower.proofs.emission.Conditions.{not_single, made_alone, made_compared, made_null}
 use Rattle.cyc_lower.proofs.emitter.Emitter.compare_chain.Goals as goal
 
 pub returns-then-rest-ne1 : goal.returns-then-rest-ne1
@@ -17,10 +17,18 @@ returns-then-rest-ne1 c =
     (λ answer made. made_alone (view_starts c.args.starts.now) whole whole answer c.args.self.now.code.items c.compare_with_zero.new.self.code.items c.args.free is made)
     c.compare_with_zero.ensures
 
-pub returns-in-Some : goal.returns-in-Some
-returns-in-Some c =
+pub returns-in-Some-null_operation : goal.returns-in-Some-null_operation
+returns-in-Some-null_operation c =
     let (ty, chain) = c.requires.chain in
-    made_compared (view_starts c.args.starts.now) (view_expression c.args.value.now) (view_expression c.args.first.now) c.args.rest.now c.in-Some-Compute.field-0.now c.in-Some-Compute.operator c.in-Some-Compute.operand ty c.in-Some.failing c.in_ok-left.left c.in_ok-right.right
+    IfOk-weaker c.compare_with_null.result _ _
+    (λ answer made. made_null (view_starts c.args.starts.now) (view_expression c.args.value.now) (view_expression c.args.first.now) c.args.rest.now c.in-Some.operation.now ty c.in-Some-null_operation.failing answer c.args.self.now.code.items c.compare_with_null.new.self.code.items c.args.free
+    chain (omega (arith, c.if-rest-ne1.false)) c.in-Some.ensures.value (sym c.null_operation.ensures ∙ c.in-Some-null_operation.is) made)
+    c.compare_with_null.ensures
+
+pub returns-in-Some-failing_comparison : goal.returns-in-Some-failing_comparison
+returns-in-Some-failing_comparison c =
+    let (ty, chain) = c.requires.chain in
+    made_compared (view_starts c.args.starts.now) (view_expression c.args.value.now) (view_expression c.args.first.now) c.args.rest.now c.in-Some-Compute.field-0.now c.in-Some-Compute.operator c.in-Some-Compute.operand ty c.in-Some-failing_comparison.failing c.in_ok-left.left c.in_ok-right.right
     c.args.self.now.code.items c.lower_left.new.self.code.items c.lower_operand.new.self.code.items c.args.free c.in_ok-behind.behind
-    chain (omega (arith, c.if-rest-ne1.false)) c.in-Some-Compute.ensures.value c.in-Some-Compute.field-0-is (sym c.failing_comparison.ensures ∙ c.in-Some.is) c.in_ok-behind.ensures.0
+    chain (omega (arith, c.if-rest-ne1.false)) c.in-Some-Compute.ensures.value c.in-Some-Compute.field-0-is (sym c.failing_comparison.ensures ∙ c.in-Some-failing_comparison.is) c.in_ok-behind.ensures.0
     c.in_ok-left.ensures.0 c.in_ok-left.ensures.1 c.in_ok-right.ensures.0 c.in_ok-right.ensures.1
