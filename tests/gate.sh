@@ -43,7 +43,7 @@ add() {
 # The lines of a log that say what failed, and those before a crate that is not proved, which say why: at most 24.
 faults_in() {
   grep -E -B 6 '^rt: [a-z_]+(: its tests are)? NOT PROVED$' "$1" | grep -v ': proved$' | head -n 14
-  grep -E '^FAILED |^rt: FAILED|^there is no (program|command)' "$1" | head -n 10
+  grep -E '^FAILED |^rt: FAILED|^there is no (program|command|module)' "$1" | head -n 10
 }
 
 if ! sh tests/install.sh; then
@@ -60,9 +60,10 @@ add "self tests" python3 tests/runners/self_test.py
 add "wrong bodies" python3 tests/runners/wrong.py
 add "command line" python3 tests/runners/run.py
 add "whole language" python3 tests/runners/run.py --whole
-add "traces" python3 tests/runners/run.py tests/traced/traced.cases
 add "codes" python3 tests/runners/codes.py
 add "warnings" python3 tests/runners/warned.py
+add "whereabouts" python3 tests/runners/whereabouts.py
+add "told" python3 tests/runners/told.py
 add "documents" python3 tests/runners/documents.py
 add "trusted" python3 tests/runners/trusted.py
 add "examples" python3 tests/runners/examples.py
@@ -70,6 +71,7 @@ add "sessions" python3 tests/runners/sessions.py
 add "judged" python3 tests/runners/judged.py
 add "dialogs" python3 tests/runners/interactive.py
 add "editors" python3 tests/runners/editors.py
+add "language server" python3 tests/runners/edited.py
 add "calls" python3 tests/runners/calls.py
 add "refused allocations" python3 tests/runners/refused.py
 add "limits of memory" python3 tests/runners/memory.py

@@ -5,7 +5,7 @@
 #     sh tests/install.sh
 set -eu
 cd "$(dirname "$0")"
-packages=$(sh tools.sh | sed -n 's/^there is no command .*: Debian has it in //p')
+packages=$(sh tools.sh | sed -n 's/^there is no .*: Debian has it in //p')
 [ -n "$packages" ] || exit 0
 as_root=""
 [ "$(id -u)" -eq 0 ] || as_root="sudo"

@@ -1,8 +1,9 @@
 #!/bin/sh
 # What can be tried in some minutes of a change, with no proof: builds the program unproved at the place that is named, and runs on it,
 # side by side, the command-line suite and the whole-language cases but for those with long files or many steps, the codes, the documents,
-# the scripts, the examples, the dialogs, the sessions that documents show, the submissions for the judge, the syntax files and some random
-# programs. Where a command is missing that they need, it ends before. The last line is `N passed, M failed` over all of it.
+# the scripts, whether wrong bodies find what they replace, the examples, the dialogs, the sessions that documents show, the submissions
+# for the judge, the syntax files, the language server and some random programs. Where a command is missing that they need, it ends
+# before. The last line is `N passed, M failed` over all of it.
 #
 #     sh tests/quick.sh PROGRAM
 set -u
@@ -45,7 +46,7 @@ add() {
   failed=$((failed + bad))
 }
 
-if ! sh tests/tools.sh gcc man parallel pyflakes3 readelf shellcheck vim; then
+if ! sh tests/tools.sh gcc man nvim parallel pyflakes3 readelf shellcheck vim; then
   echo "0 passed, 1 failed"
   exit 1
 fi
@@ -58,17 +59,21 @@ begin "command line" on run.py --quick
 begin "whole language" on run.py --whole --quick
 begin "random programs" on differential.py --count 12
 begin "editors" python3 tests/runners/editors.py
+begin "language server" on edited.py --count 8
 begin "documents" python3 tests/runners/documents.py
 begin "scripts" python3 tests/runners/scripts.py
+begin "places of wrong bodies" python3 tests/runners/wrong.py --placed
 begin "trusted" python3 tests/runners/trusted.py
 begin "codes" on codes.py
 begin "warnings" on warned.py --count 100
+begin "whereabouts" on whereabouts.py --count 60
+begin "told" on told.py --count 100
 begin "examples" on examples.py
 begin "sessions" on sessions.py
 begin "judged" on judged.py --count 60
 begin "dialogs" on interactive.py
 wait
-for name in "command line" "whole language" "codes" "warnings" "documents" "trusted" "scripts" "examples" "dialogs" "sessions" "judged" "editors" "random programs"; do
+for name in "command line" "whole language" "codes" "warnings" "whereabouts" "told" "documents" "trusted" "scripts" "places of wrong bodies" "examples" "dialogs" "sessions" "judged" "editors" "language server" "random programs"; do
   add "$name"
 done
 echo "$passed passed, $failed failed"

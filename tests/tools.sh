@@ -7,9 +7,18 @@ set -eu
 cd "$(dirname "$0")"
 tools=${*:-$(grep -o '^[a-z][^ ]*' tools.txt)}
 status=0
+# Where Debian's python3 has its modules.
+modules=${MODULES:-/usr/lib/python3/dist-packages}
 for tool in $tools; do
-  command -v "$tool" >/dev/null && continue
-  echo "there is no command $tool: Debian has it in $(sed -n "s/^$tool //p" tools.txt)"
+  kind="command"
+  case $tool in
+  python3-*)
+    kind="module"
+    [ -e "$modules/${tool#python3-}" ] && continue
+    ;;
+  *) command -v "$tool" >/dev/null && continue ;;
+  esac
+  echo "there is no $kind $tool: Debian has it in $(sed -n "s/^$tool //p" tools.txt)"
   status=1
 done
 [ "$status" -eq 0 ] || echo "sh tests/install.sh installs what is missing"

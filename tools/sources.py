@@ -10,6 +10,7 @@ is taken before the proofs begin: where a source was touched since, nothing is n
 """
 import hashlib
 import os
+import shutil
 import subprocess
 import sys
 
@@ -55,6 +56,23 @@ def program_of(root, crate):
 def programs_in(root):
     """The crates that are programs."""
     return [crate for crate in stands_on(root) if os.path.exists(os.path.join(root, "crates", crate, "src", "main.rt"))]
+
+
+def copy_to(room, crates, copy=shutil.copy2):
+    """Copies these crates to a folder, file by file, which is then a repository of them alone."""
+    os.mkdir(os.path.join(room, ".git"))
+    shutil.copy(os.path.join(ROOT, "HANDLES"), room)
+    with open(os.path.join(room, "crates.txt"), "w", encoding="utf-8") as file:
+        file.writelines(line + "\n" for line in lines_of(ROOT) if line.split(":")[0].split()[0] in crates)
+    for crate in crates:
+        folder = os.path.join(ROOT, "crates", crate)
+        shutil.copytree(
+            folder,
+            os.path.join(room, "crates", crate),
+            symlinks=True,
+            ignore=lambda at, _, top=folder: ["out"] if at == top else [],
+            copy_function=copy,
+        )
 
 
 # ---- what programs are made of

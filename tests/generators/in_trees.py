@@ -8,8 +8,8 @@ ends, what it prints, and how many words the frames of its functions have. A tex
 refuse is run all the same: then the run may be dead. With `pub mod Texts` in `crates/cyc_meaning/proofs/Lib.antt`, `rt check` there
 says whether the definitions agree. Runs should be short: the prover makes every step.
 
-    python3 tests/generators/in_trees.py --accepted > crates/cyc_soundness/proofs/AcceptedPrograms.antt
-    python3 tests/generators/in_trees.py --refused > crates/cyc_soundness/proofs/RefusedPrograms.antt
+    python3 tests/generators/in_trees.py --accepted > crates/cyc_soundness/proofs/examples/AcceptedPrograms.antt
+    python3 tests/generators/in_trees.py --refused > crates/cyc_soundness/proofs/examples/RefusedPrograms.antt
 
 These are the programs of `sound/accepted.programs` and `sound/refused.programs`, each with how its run ends. A program that the rules
 refuse is made a tree by leaving out the rules of the code that refuses it.

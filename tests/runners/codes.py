@@ -1,20 +1,22 @@
 #!/usr/bin/env python3
-"""Compares what stands elsewhere of the codes of refusals with docs/codes.txt, and tries the smallest text of each
-code; the same of the habits of C programmers with docs/habits.txt, and of the text of each.
+"""Compares what stands elsewhere of the codes of refusals with docs/codes.txt, and tries the texts of each code: the smallest that is
+refused with it, the one on its page and that one mended; the same of the habits of C programmers with docs/habits.txt, and of the text of
+each.
 
     python3 tests/runners/codes.py [--program PATH] [--write]
 
-The docstrings of crates/cyc_words/src/fault.rt, the messages and hints of crates/cyc_terminal/src/advice.rt and the
-table of codes in docs/LANGUAGE.md have to say what docs/codes.txt says. --write makes the table in docs/LANGUAGE.md of it, and
-tries nothing. The table in crates/cyc_terminal/src/habits.rt has to be that of docs/habits.txt, row by row. `cyclone --version`
-has to name the toolchain's logic as `rt --version` does. The last line is `N passed, M failed`, of the four files, the version, the codes and
-the habits.
+The docstrings of crates/cyc_words/src/fault.rt, the messages and hints of crates/cyc_terminal/src/advice.rt, the pages in
+crates/cyc_terminal/src/pages.rt and in docs/CODES.md, what `cyclone explain` prints and the table of codes in docs/LANGUAGE.md have to say
+what docs/codes.txt says. --write makes the pages and the table in docs/LANGUAGE.md of it, and tries nothing. The table in
+crates/cyc_terminal/src/habits.rt has to be that of docs/habits.txt, row by row. `cyclone --version` has to name the toolchain's logic as
+`rt --version` does. The last line is `N passed, M failed`, of the files, the version, the codes and the habits.
 """
 import os
 import re
 import subprocess
 import sys
 import tempfile
+import textwrap
 
 import suite
 
@@ -22,7 +24,9 @@ TABLE = os.path.join(suite.ROOT, "docs", "codes.txt")
 LANGUAGE = os.path.join(suite.ROOT, "docs", "LANGUAGE.md")
 FAULTS = os.path.join(suite.ROOT, "crates", "cyc_words", "src", "fault.rt")
 ADVICE = os.path.join(suite.ROOT, "crates", "cyc_terminal", "src", "advice.rt")
-FIELDS = {"meaning", "place", "message", "hint", "text", "at", "by"}
+PAGES = os.path.join(suite.ROOT, "crates", "cyc_terminal", "src", "pages.rt")
+BOOK = os.path.join(suite.ROOT, "docs", "CODES.md")
+FIELDS = {"meaning", "place", "message", "hint", "text", "at", "by", "rule", "breaks", "mended"}
 HABITS = os.path.join(suite.ROOT, "docs", "habits.txt")
 HABITS_CODE = os.path.join(suite.ROOT, "crates", "cyc_terminal", "src", "habits.rt")
 HABIT_FIELDS = {"code", "before", "at", "expected", "hint", "text", "place"}
@@ -31,6 +35,32 @@ KINDS = ("any", "number", "marked", "name", "call", "wide")
 # The table of codes in docs/LANGUAGE.md, from its head to the empty line behind it.
 HEAD = "| Code | What it means | Its place | Smallest text |\n|---|---|---|---|\n"
 PART = re.compile(r'"([^"]*)"(?: \* (\d+))?')
+# A line of a text on a page, the first of `breaks` or `mended`; and one that stands there several times.
+LINE = "  | "
+REPEATED = re.compile(r"(.*\S) +\((\d+) times\)")
+MANY = "A line below that ends with (N times) stands N times, with the number of the copy in place of #."
+# How wide the words of a page are.
+WIDTH = 78
+BOOK_HEAD = """# The codes of refusals
+
+Each refusal has a code, by which its last line names it: `fault 22 at 3:14` is code 22. Below stands what
+`cyclone explain 22` prints of it, and so for each: the rule, a text that breaks it, and that text mended. The suite
+checks each text. `docs/LANGUAGE.md` has the codes in one table.
+"""
+PAGES_HEAD = """//! The page of each code of a refusal, which `cyclone explain` prints: the rule, a text that breaks it, and that text mended. They are made
+//! of `docs/codes.txt` by `python3 tests/runners/codes.py --write`.
+ghost use Rattle.std.specs.Prelude.{◌≡◌};
+ghost use Rattle.cyc_terminal.specs.inside.Pages.{page_of};
+
+use cyc_words::Code;
+"""
+PAGES_FUNCTION = """
+/// The page of a code, in lines.
+pub fn page(code: Code) -> &'static str
+    ensures { result.now ≡ page_of code }
+{
+    match code {
+"""
 
 
 class Code:
@@ -39,6 +69,8 @@ class Code:
     def __init__(self, number, name):
         self.number = int(number)
         self.name = name
+        # The lines of the text on its page that is refused, and of that text mended.
+        self.broken, self.whole = [], []
 
     def parts(self):
         """The smallest text as pieces that are repeated; nothing where the table has words in its place."""
@@ -51,6 +83,20 @@ class Code:
         pieces = [piece.replace("#", str(copy)) if times > 1 else piece
                   for piece, times in self.parts() for copy in range(1, times + 1)]
         return "".join(pieces).encode("ascii")
+
+    def page(self):
+        """What `cyclone explain` prints of it."""
+        said = [f"fault {self.number}: {self.message}", filled(f"{self.meaning}. Its place: {self.place}."), filled(self.rule)]
+        if self.broken:
+            refused = f"Accepted by check, and refused by compile with fault {self.number}" if self.by == "compile" else "Refused"
+            if any(map(REPEATED.fullmatch, self.broken)):
+                said.append(filled(MANY))
+            said += [f"{refused}, at {self.breaks}:", indented(self.broken), "Mended, and accepted:", indented(self.whole)]
+        return "\n\n".join(said) + "\n"
+
+    def constant(self):
+        """The name of its page in the code."""
+        return re.sub(r"(?<=[a-z])(?=[A-Z])|(?<=A)(?=Place)", "_", self.name).upper()
 
     def row(self):
         """The code's row of the table for people."""
@@ -80,6 +126,23 @@ class Habit:
         return characters(self.text).encode("utf-8")
 
 
+def filled(words):
+    return textwrap.fill(words, WIDTH, break_on_hyphens=False)
+
+
+def indented(lines):
+    return "\n".join("    " + line if line else "" for line in lines)
+
+
+def repeated(lines):
+    """The source file that the lines of a text on a page stand for."""
+    found = []
+    for line in lines:
+        match = REPEATED.fullmatch(line)
+        found += [match[1].replace("#", str(copy + 1)) for copy in range(int(match[2]))] if match else [line]
+    return "".join(line + "\n" for line in found).encode("ascii")
+
+
 def listed(words):
     """A list of words of the table: each in brackets, or what stands in place of them."""
     return [words] if words in KINDS else [characters(word) for word in re.findall(r"\[(.+?)\](?= \[|$)", words)]
@@ -106,13 +169,18 @@ def content(path):
 
 def codes():
     """The codes of the table."""
-    found = []
+    found, lines = [], []
     for line in content(TABLE).split("\n"):
         word, _, rest = line.partition(" ")
-        if word.isdigit():
+        if line.startswith(LINE):
+            lines.append(line[len(LINE):])
+        elif word.isdigit():
             found.append(Code(word, rest.strip()))
         elif word in FIELDS:
             setattr(found[-1], word, rest.strip())
+            if word in ("breaks", "mended"):
+                lines = []
+                setattr(found[-1], "broken" if word == "breaks" else "whole", lines)
         elif line and not line.startswith("#"):
             sys.exit(f"{TABLE}: no field is called {word}")
     for code in found:
@@ -214,21 +282,54 @@ def faults_of_language(found):
     return faults or ([] if wanted == got else ["the tables are not of one length"])
 
 
-def faults_of_code(code, program, folder):
-    """What the program says of the smallest text of a code otherwise."""
-    if code.parts() is None:
-        return []
+def faults_of_text(code, text, place, program, folder):
+    """What the program says otherwise of a text that is refused with a code at a place; or, where no place is given, accepted."""
     source = os.path.join(folder, "text.cyc")
     with open(source, "wb") as file:
-        file.write(code.source())
-    refusal = (b"", f"fault {code.number} at {code.at}", 2)
+        file.write(text)
+    done = (b"", "done", 0)
+    refusal = (b"", f"fault {code.number} at {place}", 2) if place else done
     checked = suite.answer([program, "check", source])
     compiled = suite.answer([program, "compile", source, "-o", os.path.join(folder, "text.elf")])
     expected = [
-        ("check", (b"", "done", 0) if code.by == "compile" else refusal, checked),
+        ("check", done if code.by == "compile" else refusal, checked),
         ("compile", refusal, compiled),
     ]
     return [suite.difference(what, wanted, got) for what, wanted, got in expected if wanted != got]
+
+
+def faults_of_code(code, program, folder):
+    """What the program says of the texts of a code otherwise, and of its page."""
+    wanted, got = (code.page().encode("ascii"), "done", 0), suite.answer([program, "explain", str(code.number)])
+    faults = [] if wanted == got else [suite.difference("explain", wanted, got)]
+    if code.parts() is not None:
+        faults += faults_of_text(code, code.source(), code.at, program, folder)
+        faults += faults_of_text(code, repeated(code.broken), code.breaks, program, folder)
+        faults += faults_of_text(code, repeated(code.whole), None, program, folder)
+    return faults
+
+
+def literal(text):
+    return text.replace("\\", "\\\\").replace('"', '\\"')
+
+
+def pages_in_code(found):
+    """The file of the pages in the program."""
+    constants = [f'\nconst {code.constant()}: &str = "\\\n{literal(code.page())}";\n' for code in found]
+    arms = [f"        Code::{code.name} => {code.constant()},\n" for code in found]
+    return PAGES_HEAD + "".join(constants) + PAGES_FUNCTION + "".join(arms) + "    }\n}\n"
+
+
+def book(found):
+    """The document of the pages."""
+    return BOOK_HEAD + "".join(f"\n## {code.number}: {code.message}\n\n{indented(code.page().splitlines())}\n" for code in found)
+
+
+def faults_of_file(path, wanted):
+    """What a file that is made of the table says otherwise."""
+    lines, wanted = content(path).split("\n"), wanted.split("\n")
+    faults = [suite.difference("a line", one, other) for one, other in zip(wanted, lines) if one != other]
+    return faults[:1] or ([] if len(wanted) == len(lines) else ["the pages are not of one length"])
 
 
 def faults_of_version(program):
@@ -246,11 +347,18 @@ def main():
     found = codes()
     if options.write:
         before, _, behind = table_of(content(LANGUAGE))
-        with open(LANGUAGE, "w", encoding="utf-8") as file:
-            file.write(before + table_for(found) + behind)
+        for path, text in ((LANGUAGE, before + table_for(found) + behind), (PAGES, pages_in_code(found)), (BOOK, book(found))):
+            with open(path, "w", encoding="utf-8") as file:
+                file.write(text)
         return
     usual = habits()
-    files = [(FAULTS, faults_of_docstrings), (ADVICE, faults_of_advice), (LANGUAGE, faults_of_language)]
+    files = [
+        (FAULTS, faults_of_docstrings),
+        (ADVICE, faults_of_advice),
+        (LANGUAGE, faults_of_language),
+        (PAGES, lambda found: faults_of_file(PAGES, pages_in_code(found))),
+        (BOOK, lambda found: faults_of_file(BOOK, book(found))),
+    ]
     program = suite.program_of(options, len(files) + 2 + len(found) + len(usual))
     suite.need(["rt"], len(files) + 2 + len(found) + len(usual))
     with tempfile.TemporaryDirectory(prefix="cyclone-codes-") as folder:

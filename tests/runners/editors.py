@@ -1,11 +1,13 @@
 #!/usr/bin/env python3
-"""Reads the examples, and a text of odd tokens, with the syntax files in editors/, and says which bytes are taken for what they are not.
+"""Reads the examples, and a text of odd tokens, with the files in editors/, and says which bytes are taken for what they are not, and which
+lines are indented otherwise than they should be.
 
     python3 tests/runners/editors.py
 
 What each byte is comes from the reference's rules of tokens (language/texts.py). The file for vim is read by vim; the TextMate grammar
-by a small reader of such grammars here, a line and a token at a time, as editors do. The last line is `N passed, M failed`, of texts
-and files.
+by a small reader of such grammars here, a line and a token at a time, as editors do. Each example, with no indentation, is indented by vim
+as it is written, by two spaces. What package.json names is there, and its words are those of the grammar. The last line is
+`N passed, M failed`, of texts and files.
 """
 import json
 import os
@@ -17,8 +19,9 @@ import suite  # first: it says where the references and the generators are
 from language import texts
 
 EXAMPLES = os.path.join(suite.ROOT, "examples")
-VIM = os.path.join(suite.ROOT, "editors", "vim")
-TEXTMATE = os.path.join(suite.ROOT, "editors", "textmate", "cyclone.tmLanguage.json")
+EDITORS = os.path.join(suite.ROOT, "editors")
+VIM = os.path.join(EDITORS, "vim")
+TEXTMATE = os.path.join(EDITORS, "textmate", "cyclone.tmLanguage.json")
 # What touches its neighbour, what only begins like something else, and comments of each form.
 ODD = """int interest=0x1F+0X0a-017*08/12int%_1;/**//*/ if " ' # */return'\\''+'\\\\'-' '*'"';
 a-->b>>=c:=:d||e//*/ while
@@ -59,6 +62,17 @@ call writefile(groups, $GROUPS)
 quitall!
 """
 
+# Indents a text anew.
+INDENT_SCRIPT = """
+set nomore encoding=latin1
+execute 'set runtimepath^=' . $FILES
+filetype plugin indent on
+execute 'edit ' . $TEXT
+normal gg=G
+execute 'write! ' . $GROUPS
+quitall!
+"""
+
 
 def kinds_of(text):
     """The kind of each byte of a text by the rules of tokens; nothing for a space."""
@@ -73,17 +87,50 @@ def kinds_of(text):
     return kinds
 
 
-def groups_in_vim(text, folder):
-    """What vim takes each byte of each line for."""
+def in_vim(script, text, folder, **more):
+    """What a script for vim leaves in the file GROUPS, of a text in the file TEXT; nothing where it leaves none."""
     paths = {name: os.path.join(folder, name.lower() + ".cyc") for name in ("TEXT", "GROUPS", "SCRIPT")}
-    for name, content in (("TEXT", text), ("SCRIPT", VIM_SCRIPT)):
+    for name, content in (("TEXT", text), ("SCRIPT", script), ("GROUPS", "")):
         with open(paths[name], "w", encoding="latin-1") as file:
             file.write(content)
     words = ["vim", "-N", "-u", "NONE", "-i", "NONE", "-n", "-es", "-S", paths["SCRIPT"]]
-    environment = {**os.environ, **paths, "FILES": VIM, "HOME": folder, "TERM": "dumb"}
-    subprocess.run(words, env=environment, stdin=subprocess.DEVNULL, capture_output=True, timeout=suite.SECONDS)
+    environment = {**os.environ, **paths, "FILES": VIM, "HOME": folder, "TERM": "dumb", **more}
+    subprocess.run(words, env=environment, cwd=folder, stdin=subprocess.DEVNULL, capture_output=True, timeout=suite.SECONDS)
     with open(paths["GROUPS"], encoding="latin-1") as file:
-        return [line.split(" ") for line in file.read().split("\n")]
+        return file.read()
+
+
+def groups_in_vim(text, folder):
+    """What vim takes each byte of each line for."""
+    return [line.split(" ") for line in in_vim(VIM_SCRIPT, text, folder).split("\n")]
+
+
+def faults_of_indentation(text, folder):
+    """Where vim indents a text otherwise than it is, with two spaces for a tabulator."""
+    wanted = text.replace("\t", "  ")
+    got = in_vim(INDENT_SCRIPT, re.sub("^[ \t]+", "", text, flags=re.M), folder)
+    return [suite.difference("the text as vim indents it", wanted, got)] if wanted != got else []
+
+
+def faults_of_package():
+    """What is wrong with what an extension of Visual Studio Code has."""
+    with open(os.path.join(EDITORS, "package.json"), encoding="utf-8") as file:
+        package = json.load(file)
+    parts = package["contributes"]
+    paths = [parts["languages"][0]["configuration"], parts["grammars"][0]["path"], parts["snippets"][0]["path"]]
+    faults = [f"there is no file {path}" for path in paths if not os.path.isfile(os.path.join(EDITORS, path))]
+    with open(os.path.join(suite.ROOT, "VERSION"), encoding="utf-8") as file:
+        version = file.read().strip()
+    if package["version"] != version:
+        faults.append(suite.difference("its version", version, package["version"]))
+    for path in paths:
+        with open(os.path.join(EDITORS, path), encoding="utf-8") as file:
+            json.load(file)
+    with open(TEXTMATE, encoding="utf-8") as file:
+        scope = json.load(file)["scopeName"]
+    if parts["grammars"][0]["scopeName"] != scope:
+        faults.append(suite.difference("the scope", scope, parts["grammars"][0]["scopeName"]))
+    return faults
 
 
 def first_match(rules, line, at):
@@ -147,10 +194,12 @@ def main():
             with open(os.path.join(EXAMPLES, name), encoding="latin-1") as file:
                 named.append((f"examples/{name}", file.read()))
     files = ((groups_in_vim, 0, "editors/vim"), (scopes_in_textmate, 1, "editors/textmate"))
-    suite.need(["vim"], len(named) * len(files))
+    suite.need(["vim"], len(named) * (len(files) + 1))
     with tempfile.TemporaryDirectory(prefix="editors-") as folder:
         things = [(f"{name} in {where}", lambda one=(text, reader, column): faults_of(*one, folder))
                   for name, text in named for reader, column, where in files]
+        things += [(f"the indentation of {name}", lambda text=text: faults_of_indentation(text, folder)) for name, text in named[1:]]
+        things.append(("editors/package.json", faults_of_package))
         suite.try_each(things, lambda thing: thing[0], lambda thing: thing[1]())
 
 

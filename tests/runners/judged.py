@@ -26,15 +26,23 @@ HERE = os.path.join(suite.TESTS, "judged")
 INPUTS = os.path.join(HERE, "lines")
 LIMITS = ["--steps", "300000", "--output", "5000", "--calls", "200", "--pages", "16", "--seconds", "50"]
 COUNT = 2000
-# A stand-in for the program: it makes an image of any text. A run says what limits it has, or what it is told to say.
+# A stand-in for the program: it makes an image of any text. A run prints what limits it has, or reports what it is told to.
 STAND_IN = """#!/bin/sh
 case "$1" in
 compile) cp "$2" "$4"; echo done >&2;;
-*) if [ -s image.elf ]; then cat image.elf >&2; else ulimit -v; ulimit -S -t; ulimit -H -t; echo returned 0 >&2; fi;;
+*) while [ "$1" != --report ]; do shift; done
+if [ -s image.elf ]; then cat image.elf > "$2"; else ulimit -v; ulimit -S -t; ulimit -H -t; echo 'REPORT' > "$2"; fi
+echo returned 0 >&2;;
 esac
 """
-# What a run may say that is no last line of the program's.
-NO_LINES = ["returned", "returned x", "returned 99999999999", "uncaught 4", "returned 0 0", "fault", "full of it", "", "\udcff"]
+# A whole report, and texts that are none.
+REPORT = (
+    '{"end":"returned","value":0,"exception":null,"cause":null,"image_fault":null,"limit":null,"instructions":1,"counter":0,"most_calls":null,'
+    '"read":0,"written":0}')
+NO_REPORTS = [
+    "no JSON", "[]", "{}", "returned", "null", '{"end":"returned","value":0}', REPORT.replace('"returned"', '["returned"]'),
+    REPORT.replace("returned", "right"), REPORT.replace("returned", "done"), REPORT[:-1], "[" * 9000, "9" * 9000, "\udcff",
+]
 NUMBERS = [
     ("--seconds", "nan"), ("--seconds", "inf"), ("--seconds", "-1"), ("--seconds", "x"), ("--cpu", "0"), ("--memory", "1.5"),
     ("--memory", "-1"), ("--output", "-1"), ("--output", "9" * 5000), ("-j", "0"), ("-j", "\udcff"),
@@ -88,7 +96,7 @@ class Room:
         words = [program, "compile", os.path.join(self.submissions, "right.cyc"), "-o", self.limited, "--pages", "3", "--calls", "1"]
         subprocess.run(words, check=True, capture_output=True)
         self.empty, self.out = self.write("empty.cyc", b""), self.write("out", b"")
-        self.stand_in = self.write("stand_in", STAND_IN.encode())
+        self.stand_in = self.write("stand_in", STAND_IN.replace("REPORT", REPORT).encode())
         os.chmod(self.stand_in, 0o755)
         self.right = os.path.join(self.submissions, "right.cyc")
         self.loop = os.path.join(self.submissions, "loop.cyc")
@@ -129,6 +137,16 @@ def try_fields(room):
     yield "the words of a fault", (True, True), (said[0].endswith(f":17:10: {fault['message']}"), said[-1] == f"    hint: {fault['hint']}")
     run = room.judge(os.path.join(room.submissions, "status.cyc"), os.path.join(INPUTS, "three.in"))["runs"][0]
     yield "a run", ["returned", 5, 5, "3\n", None], [run[it] for it in ("verdict", "value", "status", "output", "difference")]
+    size = os.path.getsize(os.path.join(INPUTS, "three.in"))
+    wanted = [None, None, None, None, size, 2]
+    yield "its figures", wanted, [run["figures"][it] for it in ("limit", "cause", "image_fault", "most_calls", "read", "written")]
+    deep = room.judge("--calls", "20", "--peaks", os.path.join(room.submissions, "deep.cyc"))["runs"][0]
+    yield "the figures of a full run", ["full", "calls", 20], [deep["verdict"], *(deep["figures"][it] for it in ("limit", "most_calls"))]
+    cut = room.judge(os.path.join(room.submissions, "cut.elf"))["runs"][0]
+    yield "the figures of no run", ["image fault", True, None], [
+        cut["verdict"], cut["figures"]["image_fault"] is not None, cut["figures"]["instructions"]]
+    stopped = room.judge("--seconds", "0.5", "--steps", "1000000000000", room.loop)["runs"][0]
+    yield "no figures of a run that is stopped", ("time", None), (stopped["verdict"], stopped["figures"])
     verdict = room.judge(room.limited)
     got = [verdict["accepted"], verdict["compile"], verdict["runs"][0]["verdict"], verdict["score"]]
     yield "an image", [None, None, "returned", None], got
@@ -195,7 +213,7 @@ def try_pipes(room):
 
 
 def try_numbers(room):
-    """A number that is none has a verdict for each input, and so has a last line that says nothing."""
+    """A number that is none has a verdict for each input, and so has a report that is none, whatever the last line says."""
     for option, number in NUMBERS:
         verdict = room.judge(option, number, room.right, "one", "two", status=2)
         got = [(run["verdict"], ERROR in (run["error"] or "")) for run in verdict["runs"]]
@@ -203,10 +221,10 @@ def try_numbers(room):
     for option in ("--calls", "--pages", "--steps"):
         run = room.judge(option, "x", room.right)["runs"][0]
         yield f"{option} x", ("failed", "usage"), (run["verdict"], run["last"])
-    for line in NO_LINES:
-        source = room.write("said.cyc", os.fsencode(line) + b"\n")
+    for text in NO_REPORTS:
+        source = room.write("said.cyc", os.fsencode(text) + b"\n")
         run = room.by_stand_in(source, "--test", room.out, room.out)["runs"][0]
-        yield f"a last line {line!r}", ("failed", None, None), (run["verdict"], run["value"], run["exception"])
+        yield f"a report {text[:60]!r}", ("failed", "returned 0", None), (run["verdict"], run["last"], run["value"])
 
 
 def try_order(room):

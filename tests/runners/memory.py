@@ -8,8 +8,10 @@ until no page is left, and crates/cyc_bench makes, fills and drops three such st
 each has no memory before it begins.
 
 Images whose headers name far more bytes than they have, or that fill the whole text range, are run for an instruction: each
-under 5 times its length, what the program takes of any image, and, where it is loaded, 180 MB for its text; and each within
-PROCESSOR_SECONDS. The last line is `N passed, M failed`; each command is one.
+under 5 times its length, what the program takes of any image, and, where it is loaded, 180 MB: of these 140 are for its text, 32
+for the bytes of its segments, and 8 for its data range and stack. The program is asked what they are, too, under the same limits but
+that it loads none; those that are not loaded have no word to list, and are listed so. Each takes no more than PROCESSOR_SECONDS. The
+last line is `N passed, M failed`; each command is one.
 """
 import os
 import resource
@@ -78,6 +80,9 @@ def on_images(program, folder):
             file.write(content)
         limit = 5 * len(content) + ANY * MB
         found.append(Command([program, "run", "--steps", "1", path], limit + (0 if ran == 3 else LOADED * MB), ran, PROCESSOR_SECONDS))
+        if ran == 3:
+            found.append(Command([program, "disasm", path], limit, 0, PROCESSOR_SECONDS))
+        found.append(Command([program, "info", path], limit, 0, PROCESSOR_SECONDS))
     return found
 
 
@@ -115,7 +120,7 @@ def main():
     parser = suite.command_line(__doc__)
     parser.add_argument("--bench", default=BENCH)
     options = parser.parse_args()
-    count = 4 + len(hostile_images())
+    count = 4 + 2 * len(hostile_images()) + sum(ran == 3 for _, _, ran in hostile_images())
     program = suite.program_of(options, count)
     if not os.access(options.bench, os.X_OK):
         print(f"there is no program {options.bench}: `rt ci` builds it")

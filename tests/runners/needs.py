@@ -40,8 +40,8 @@ case "$*" in
 *) echo "1 passed, 0 failed";;
 esac
 """
-# 1 of the proofs, 15 of the cases, 3 of the codes, 4 of memory, 1 of twelve others; the failures are those above.
-ADDED = "35 passed, 5 failed"
+# 1 of the proofs, 10 of the cases, 3 of the codes, 4 of memory, 1 of fifteen others; the failures are those above.
+ADDED = "33 passed, 5 failed"
 
 # A case file, and what is wrong with it.
 BAD_CASES = {
@@ -85,7 +85,8 @@ class Room:
     def __init__(self, folder, stand_ins):
         self.folder, self.bin, self.called = folder, os.path.join(folder, "bin"), os.path.join(folder, "called")
         for name, text in stand_ins.items():
-            write(os.path.join(self.bin, name), text)
+            is_module = name.startswith(suite.MODULE)
+            write(os.path.join(folder, "modules", name.removeprefix(suite.MODULE)) if is_module else os.path.join(self.bin, name), text)
         for name in {*USUAL} - stand_ins.keys():
             os.symlink(shutil.which(name), os.path.join(self.bin, name))
         for name in OF_GATE:
@@ -94,7 +95,7 @@ class Room:
 
     def ask(self, words):
         """The status of a command and the lines that it prints."""
-        environment = {**os.environ, "PATH": self.bin, "CALLED": self.called}
+        environment = {**os.environ, "PATH": self.bin, "MODULES": self.path("modules"), "CALLED": self.called}
         done = subprocess.run(words, env=environment, stdin=subprocess.DEVNULL, stdout=subprocess.PIPE, stderr=subprocess.STDOUT, text=True)
         return done.returncode, done.stdout.splitlines()
 
@@ -135,7 +136,8 @@ def runner(name, *words):
 
 
 def missing(tool):
-    return f"there is no command {tool}" + (f": Debian has it in {suite.packages()[tool]}" if tool in suite.packages() else "")
+    kind = "module" if tool.startswith(suite.MODULE) else "command"
+    return f"there is no {kind} {tool}" + (f": Debian has it in {suite.packages()[tool]}" if tool in suite.packages() else "")
 
 
 def try_tools(needs):
@@ -183,7 +185,8 @@ def try_runners(needs):
         ("qemu-mips", instructions), ("mips-linux-gnu-objdump", instructions), ("qemu-mips", (*instructions, "--without-objdump")),
         ("vim", ["editors.py"]), ("cc", ["refused.py", "--program", program, "--runner", program]),
         ("gcc", ["differential.py", "--program", program, "--count", "4"]), ("rt", ["codes.py", "--program", program]),
-        ("parallel", ["judged.py", "--program", program]), ("shellcheck", ["scripts.py"]), ("pyflakes3", ["scripts.py"]),
+        ("parallel", ["judged.py", "--program", program]), ("valgrind", ["growth.py", "--program", program]), ("shellcheck", ["scripts.py"]), ("pyflakes3", ["scripts.py"]),
+        ("nvim", ["edited.py", "--program", program]), *((it, ["browsed.py", "--program", program]) for it in ("chromium", "chromedriver", "python3-aiohttp")),
         *((it, ["run.py", "--program", program, os.path.join(needs.folder, f"{it}.cases")]) for it in cases),
     ):
         needs.fails(f"{words[0]} without {tool}", needs.room([tool]), runner(*words), missing(tool))

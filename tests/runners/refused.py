@@ -120,6 +120,7 @@ def commands(program, runner, folder):
         [program, "run", path("throws.elf"), *limits],
         [program, "disasm", path("main.elf")],
         [program, "disasm", path("small.elf")],
+        [program, "explain", "22"],
     ]
     yield from ((words, None, BY_PROGRAM) for words in checked + run_or_listed)
     for name in ("main", "prints", "arrays", "throws", "swaps"):

@@ -3,8 +3,9 @@
 table of what the gate costs, on looks at processes that are written here, has the sums worked by hand; wrong bodies are tried together
 where they may be, and what the prover says of them is judged as it should be; pairs of programs that do not print the same have no
 figures, and the others the right ones; documents that say something else than the data, and sessions that show something else than is
-printed, are found; a random program with a planted difference is shrunk to a small one that shows it; and the reference answers the cases of
-the whole language, in tests/whole, and those of the program that check texts, as they say.
+printed, are found; what texts cost for their length is judged as it should be; a random program with a planted difference is shrunk to a
+small one that shows it; and the reference answers the cases of the whole language, in tests/whole, and those of the program that check
+texts, as they say.
 
     python3 tests/runners/self_test.py [TEXTS.json]
 
@@ -26,6 +27,7 @@ import differential
 import documents
 import facts
 import gate_table
+import growth
 import images
 import in_trees
 import interactive
@@ -34,6 +36,7 @@ import needs
 import reference
 import run
 import sessions
+import shapes
 import shrink
 import wrong
 
@@ -853,7 +856,7 @@ DRIFTS = [
     ("README.md", "The code stands in ", "The code stands in 1"),
     ("docs/ARCHITECTURE.md", "| `cyc_lex` |", "| `cyc_lexer` |"),
     ("docs/FIGURES.md", "\n| `cyc_words` | 5", "\n| `cyc_words` | 6"),
-    ("docs/FIGURES.md", "\n| `cyc_tracer` | 2", "\n| `cyc_tracer` | 3"),
+    ("docs/FIGURES.md", "\n| `cyc_runner` | 2", "\n| `cyc_runner` | 3"),
     ("docs/FIGURES.md", "\n| files above 600 lines | ", "\n| files above 600 lines | 1"),
     ("docs/WRONG_BODIES.md", "\n| reader forgets its end |", "\n| reader forgets |"),
     ("docs/GUARANTEES.md", "random programs of them: 1", "random programs of them: 2"),
@@ -1080,6 +1083,62 @@ def are_pairs_right(folder):
     return right
 
 
+# A shape of texts, what they cost by their tokens, where the usual text costs 1,000 a token, the last line, and what is said against it.
+GROWING, BEHIND_MUCH = shapes.Shape("a b ", "c d # ", "e"), shapes.Shape("a " * 500, "c ", "e")
+WITH_FAULT = shapes.Shape("", "c ", "e", checked="fault 20")
+COSTS_OF_TEXTS = [
+    (GROWING, lambda tokens: 1000 * tokens, "done", []),
+    (GROWING, lambda tokens: 1450 * tokens, "done", []),
+    (GROWING, lambda tokens: 1550 * tokens, "done", ["for each part"]),
+    (GROWING, lambda tokens: tokens * tokens, "done", ["twice as long"]),
+    (GROWING, lambda tokens: 3 * tokens * tokens, "done", ["for each part", "twice as long"]),
+    (GROWING, lambda tokens: 1000 * tokens, "fault 20 at 1:1", ["the last line"]),
+    (GROWING, lambda tokens: 1000 * tokens, "signal 11", ["the last line"]),
+    (WITH_FAULT, lambda tokens: 9500 * tokens, "fault 20 at 1:1", []),
+    (WITH_FAULT, lambda tokens: 10500 * tokens, "fault 20 at 1:1", ["for each part"]),
+    (WITH_FAULT, lambda tokens: 1000 * tokens, "done", ["the last line"]),
+    (WITH_FAULT, lambda tokens: 2 * tokens * tokens, "fault 20 at 1:1", ["twice as long"]),
+    # What stands before the forms does not grow, and each token has its part of what that takes.
+    (BEHIND_MUCH, lambda tokens: 1000 * tokens + 400_000, "done", []),
+    (BEHIND_MUCH, lambda tokens: 1000 * tokens + 600_000, "done", ["for each part"]),
+    (BEHIND_MUCH, lambda tokens: 500_000 + (tokens - 500) ** 2, "done", ["twice as long"]),
+]
+
+
+class Planted(growth.Meter):
+    """A meter of texts whose costs are made up, beside those of the usual text and of the program of one line."""
+
+    def __init__(self, cost, said):
+        super().__init__("no program")
+        self.planted, self.said = cost, said
+
+    def cost(self, command, content, options):
+        text = content.decode("ascii")
+        tokens, is_usual = len(text.replace(";", " ; ").split()), text.startswith("\nint f0")
+        counted = 0 if text == shapes.SMALL else 1000 * tokens if is_usual else self.planted(tokens)
+        return growth.Cost(50_000 + counted, 1, 1, self.said, 0)
+
+
+def is_growth_judged(folder):
+    """Whether what texts cost is judged as it should be, and counted on a stand-in."""
+    right = True
+    for shape, cost, said, wanted in COSTS_OF_TEXTS:
+        faults = growth.faults_of(shape, "check", growth.figures_of(Planted(cost, said), shape, "check", 1000))
+        if len(faults) != len(wanted) or not all(part in fault for part, fault in zip(wanted, faults)):
+            print(suite.difference(f"what is said of the costs of {shape.text(1)!r}", wanted, faults))
+            right = False
+    for cost, wanted in ((growth.Cost(1, 257, 1, "done", 0), "MB"), (growth.Cost(1, 1, 100_000, "done", 0), "bytes of messages")):
+        faults = growth.faults_of(GROWING, "check", growth.Figures(1.0, 2.0, cost))
+        right = right and len(faults) == 1 and wanted in faults[0]
+    meter = growth.Meter(os.path.join(folder, "stand_in"))
+    good, bad = (meter.cost("check", text, []) for text in (b"good", b"bad"))
+    got = good.said, bad.said, good.length, good.instructions > 1000, good.memory > 0
+    if got != ("done", "fault 1 at 1:1", 5, True, True):
+        print(suite.difference("what a stand-in costs", ("done", "fault 1 at 1:1", 5, True, True), got))
+        right = False
+    return right
+
+
 def is_runner_right(folder):
     for name, text in (("stand_in", STAND_IN), ("over_stores", OVER_STORES)):
         path = os.path.join(folder, name)
@@ -1248,7 +1307,7 @@ def main():
         right += [is_library_made(folder), is_first_run_kept(), is_refusal_kept(folder), is_judge_right()]
         right += [are_pairs_right(folder), are_dialogs_judged(folder), are_drifts_found(), are_sessions_tried(folder), is_gate_published()]
         right.append(are_lemmas_told_apart(folder))
-        right.append(is_reading_watched(folder))
+        right += [is_reading_watched(folder), is_growth_judged(folder)]
         right += needs.tried(folder, os.path.join(folder, "stand_in"))
         right.append(reference.with_room(lambda: is_shrinker_right(folder)))
     right += reference.with_room(lambda: [is_case_right(case) for case in cases] + [is_text_right(case) for case in texts])

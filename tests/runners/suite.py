@@ -20,6 +20,8 @@ SECONDS = 60
 STACK = 4
 # The commands that tests run beside the program, and the packages that have them.
 TOOLS = os.path.join(TESTS, "tools.txt")
+# What the name of a module begins with there, and where Debian's python3 has its modules, as tools.sh knows too.
+MODULE, MODULES = "python3-", "/usr/lib/python3/dist-packages"
 # A long value is shown by its two ends, and two that differ by so many bytes about the first place where they do.
 SHOWN = 400
 ABOUT = 60
@@ -43,9 +45,9 @@ def answer(words, given=b""):
     return done.stdout, last_line(done.stderr), done.returncode
 
 
-def said(words):
+def said(words, given=b""):
     """The lines on standard error."""
-    done = subprocess.run(words, input=b"", capture_output=True, timeout=SECONDS)
+    done = subprocess.run(words, input=given, capture_output=True, timeout=SECONDS)
     return done.stderr.decode("latin-1").split("\n")[:-1]
 
 
@@ -81,12 +83,20 @@ def packages():
         return dict(line.strip().split(" ", 1) for line in file if not line.startswith("#"))
 
 
+def is_there(tool):
+    """Whether there is a command, or a module of Debian's python3 where the name begins so."""
+    if tool.startswith(MODULE):
+        return os.path.exists(os.path.join(os.environ.get("MODULES", MODULES), tool.removeprefix(MODULE)))
+    return shutil.which(tool) is not None
+
+
 def need(tools, count):
-    """Ends the test where one of these commands is missing: all `count` failed."""
-    missing = [tool for tool in tools if not shutil.which(tool)]
+    """Ends the test where one of these commands or modules is missing: all `count` failed."""
+    missing = [tool for tool in tools if not is_there(tool)]
     for tool in missing:
         there = packages().get(tool)
-        print(f"there is no command {tool}" + (f": Debian has it in {there}" if there else ""))
+        kind = "module" if tool.startswith(MODULE) else "command"
+        print(f"there is no {kind} {tool}" + (f": Debian has it in {there}" if there else ""))
     if missing:
         end(0, count)
 

@@ -25,6 +25,7 @@ CALLS = (
     ("c", "compile", "cyc_system", None),
     ("c", "compile_with", "cyc_system", None),
     ("r", "run", "cyc_system", None),
+    ("r", "run_counting", "cyc_system", None),
     ("r", "run_with", "cyc_system", None),
     ("d", "disassemble", "cyc_system", None),
     ("m", "step", "cyc_machine", "Machine"),
@@ -34,7 +35,7 @@ CALLS = (
 # The crates whose public contracts `specs/` is for.
 PUBLIC = ("cyc_system", "cyc_machine", "cyc_store", "cyc_elf", "cyc_isa")
 # What the program's messages take from the front end is no promise of the page: what the phases made of a text, as the code holds it.
-FOR_MESSAGES = ("run_phases", "Phases", "compile_with_tokens", "Compilation")
+FOR_MESSAGES = ("run_phases", "Phases", "compile_with_tokens", "Compilation", "compile_with_places", "Placed")
 # Each public source, by the words that name it in the head of a file.
 SOURCES = (
     ("Cyclone's manual", r"Cyclone (User's )?[Mm]anual|User's Manual"),

@@ -14,6 +14,7 @@ import re
 import tempfile
 
 import suite  # first: it says where the references and the generators are
+import codes
 import makers
 import reference
 from language import warned
@@ -29,7 +30,8 @@ class Row:
 
     def __init__(self, lines):
         parts = dict(line.split(None, 1) for line in lines)
-        self.name, self.words, self.text = parts["warning"], parts["words"], parts["text"]
+        self.name, self.words = parts["warning"], parts["words"]
+        self.text = codes.characters(parts["text"]).encode("utf-8").decode("latin-1")
         line, column = parts["place"].split(":")
         self.wanted = [((int(line), int(column)), self.words)]
 
@@ -46,7 +48,7 @@ class Text:
     def __init__(self, name, text, words):
         self.name, self.text = name, text
         program = reference.Program(text)
-        self.wanted = [(place, words[warning]) for place, warning in warned.warnings_of(program)]
+        self.wanted = [(place, words[warning]) for place, warning in warned.warnings_of(program, text)]
 
 
 def accepted(text):

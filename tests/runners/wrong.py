@@ -239,6 +239,24 @@ def show_private(chosen_crates):
     print("\n".join([*lines, f"{count} wrong bodies are refused by private functions alone"]))
 
 
+# ---- whether each is at its place
+
+
+def misplaced(case, crates):
+    """What keeps a case from its place: a file that is not there, or a text that does not stand in it once."""
+    try:
+        texts_with([case], crates)
+    except (OSError, ValueError) as error:
+        return [str(error)]
+    return []
+
+
+def show_misplaced(cases):
+    """Tells of each of these cases whether what it replaces is there, tries none, and ends."""
+    crates = os.path.join(suite.ROOT, "crates")
+    suite.try_each(cases, lambda case: f"{case.crate}, {case.name}", lambda case: misplaced(case, crates))
+
+
 # ---- which wrong bodies are tried together
 
 
@@ -803,6 +821,7 @@ def main():
     parser.add_argument("--anew", action="store_true", help="tries also what an earlier run on this machine refused")
     parser.add_argument("--missing", action="store_true", help="lists the public functions that have no wrong body, and tries none")
     parser.add_argument("--private", action="store_true", help="lists the cases that private functions alone refuse, and tries none")
+    parser.add_argument("--placed", action="store_true", help="tells whether what each case replaces is there, and tries none")
     options = parser.parse_args()
     if options.private:
         show_private(options.crates)
@@ -813,6 +832,8 @@ def main():
     cases = chosen(options, every)
     if cases is None:
         return 2
+    if options.placed:
+        show_misplaced(cases)
     signal.signal(signal.SIGTERM, lambda *_: sys.exit("it was ended"))
     kit = os.path.dirname(subprocess.run(["rt", "doc"], capture_output=True, text=True, check=True).stdout.strip())
     refused = {head[0] for head, _ in in_trees.programs_in("refused")}

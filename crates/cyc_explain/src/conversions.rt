@@ -212,6 +212,7 @@ fn more_on(given: Given<'_>, wanted: &Ty) -> Message {
         (Given::Int | Given::Char | Given::Value(Ty::Int | Ty::Char), Ty::Pointer { .. }) => {
             Message::NullWanted
         }
+        (Given::Null, Ty::Int | Ty::Char) => Message::ZeroWanted,
         _ => Message::Nothing,
     }
 }

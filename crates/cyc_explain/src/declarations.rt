@@ -65,7 +65,7 @@ fn explain_head(teller: &mut Teller, declaration: &Declaration) {
             name,
             value,
         } => {
-            explain_global(teller, of_type, *value);
+            explain_global(teller, *name, of_type, *value);
             teller.tell(Message::MainVariable, name.span);
         }
         Declaration::Function {
@@ -175,7 +175,12 @@ fn initial(written: &WrittenType, value: Option<GlobalValue>) -> (Span, Message)
 }
 
 /// The words for a global of a type that none has, or that does not begin with a value of its type.
-fn explain_global(teller: &mut Teller, written: &WrittenType, value: Option<GlobalValue>) {
+fn explain_global(
+    teller: &mut Teller,
+    name: Ident,
+    written: &WrittenType,
+    value: Option<GlobalValue>,
+) {
     teller.unknown = match written.base {
         BaseType::Key { .. } => Message::KeyNoGlobal,
         BaseType::Handle { .. } => Message::HandleNoGlobal,
@@ -185,6 +190,7 @@ fn explain_global(teller: &mut Teller, written: &WrittenType, value: Option<Glob
     teller.tell(Message::GlobalType, written.span);
     let (span, found) = initial(written, value);
     if teller.is_fault(Code::TypeMismatch, span) || teller.is_fault(Code::NullForNonNull, span) {
+        teller.notes.name = name.name.number;
         teller.say(Message::GlobalWanted);
         teller.words.put_written(&teller.notes.lexicon, written);
         teller.say(found);

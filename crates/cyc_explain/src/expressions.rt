@@ -239,6 +239,10 @@ fn explain_operation(
     }
 }
 
+fn is_null(found: &Option<ValueType>) -> bool {
+    matches!(found, Some(ValueType::Null))
+}
+
 /// The words for two values that are not compared, if both are known.
 fn explain_compared(teller: &mut Teller, span: Span) {
     if matches!(teller.notes.wanted, Some(_)) {
@@ -248,6 +252,8 @@ fn explain_compared(teller: &mut Teller, span: Span) {
             Message::FatCompared
         } else if is_left || is_right {
             Message::NullCompared
+        } else if is_null(&teller.notes.found) || is_null(&teller.notes.wanted) {
+            Message::ZeroWanted
         } else {
             Message::Nothing
         };

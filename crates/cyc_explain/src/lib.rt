@@ -3,7 +3,7 @@
 //! ends behind a refusal, so what is made for the words is not let go (`ManuallyDrop`): that is proved wherever it stands.
 #![tactic(auto)]
 
-pub use explanation::explain;
+pub use explanation::{Explanation, explain};
 
 mod bodies;
 mod calls;

@@ -133,6 +133,7 @@ pub(crate) enum Message {
     IntsWanted,
     NewBytes,
     NullWanted,
+    ZeroWanted,
     AddressWanted,
     ThroughWanted,
     GlobalWanted,
@@ -218,7 +219,7 @@ no pointer leads to a key%/hint: pass the key itself, which gives it away
 a global is an int or a pointer%/hint: give the function what it needs as a parameter
 %n has an int%/hint: write it in brackets: throw new %n(1), or case &%n(n)
 %n has no int%/hint: leave out the brackets: throw new %n, or case &%n
-expected %w, found no value%/hint: write a value behind return
+%f returns %w, found no value%/hint: write a value behind return
 %f returns no value%/hint: write return alone, or a type before the function's name
 expected the same type, with the same regions, found %t and %w%/hint: swap places of one type
 expected %w, found %t%/hint: an alias has its source's type, with its own region in place of `U
@@ -285,13 +286,14 @@ expected %w, found %t
 %/hint: char and int differ behind a pointer: copy the elements one by one, each by char(x)
 %/hint: char and int differ behind a pointer: copy the elements one by one
 %/hint: a new object has the type of its value: write char(0) for a byte
-%/hint: write NULL for a null pointer
+%/hint: write NULL for a null pointer, or make an object by new, as new 5
+%/hint: NULL is a null pointer: as a number write 0
 %/hint: write &%v for its address, or NULL for a null pointer
 %/hint: write *%n = .. for what %n leads to, or NULL for a null pointer
-expected %.
+%n is %.
 , found no value, which is NULL
-, found int
-, found NULL
+, found int%/hint: a pointer that is a global has * or ? and begins with NULL: give it an object in main
+, found NULL%/hint: NULL is a null pointer: as a number write 0
 found %t%/
 %r is not in the effect of %f
 %/hint: name it there, behind the parameters: ; {%r}

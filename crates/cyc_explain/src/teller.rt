@@ -1,4 +1,5 @@
 //! Who says why a program is refused: once, where its fault stands. What the words name is noted before.
+use crate::explanation::Explanation;
 use crate::homes::Homes;
 use crate::lexicon::{Lexicon, NO_NAME};
 use crate::messages::{Message, code_of};
@@ -65,6 +66,9 @@ impl Teller {
             words: Words {
                 bytes: Vec::new(alloc),
                 stand_in: b"",
+                room: usize::MAX,
+                is_cut: false,
+                place: None,
                 is_whole: true,
             },
             is_whole: true,
@@ -72,12 +76,15 @@ impl Teller {
     }
 
     /// Takes what was said, if anything was.
-    pub(crate) fn take_words(&mut self) -> Option<Vec<u8>> {
+    pub(crate) fn take_words(&mut self) -> Option<Explanation> {
         let is_known = self.notes.lexicon.is_whole && self.notes.homes.is_whole;
         let is_said = self.words.is_whole && !self.words.bytes.is_empty();
         if self.is_whole && is_known && self.notes.theirs.is_whole && is_said {
             let empty = Vec::new(self.alloc);
-            Some(replace(&mut self.words.bytes, empty))
+            Some(Explanation {
+                lines: replace(&mut self.words.bytes, empty),
+                place: self.words.place,
+            })
         } else {
             None
         }

@@ -8,8 +8,18 @@ use cyc_syntax::{BaseType, Ident, PointerKind, WrittenType};
 use cyc_types::typed::ValueType;
 use cyc_types::{Region, Ty};
 use cyc_words::Span;
+use std::mem::replace;
 
 const DIGITS: &[u8] = b"0123456789";
+
+/// How many bytes fill a gap at most: a name or a type that is longer is cut, and three dots stand for the rest of it.
+const MOST_FILLED: usize = 160;
+
+/// The same behind so many bytes as `MOST_WHOLE`, so that lines with many gaps stay short too.
+const LEAST_FILLED: usize = 12;
+
+/// How many bytes there may be before gaps get fewer.
+const MOST_WHOLE: usize = 1200;
 
 /// What the gaps of a text are filled with, as it was noted last.
 #[derive(Drop)]
@@ -45,6 +55,12 @@ pub(crate) struct Words {
     pub(crate) bytes: Vec<u8>,
     /// What stands for each region, where anything does.
     pub(crate) stand_in: &'static [u8],
+    /// How many bytes the gap that is filled may still take; outside of gaps any number.
+    pub(crate) room: usize,
+    /// Whether something was left out of it.
+    pub(crate) is_cut: bool,
+    /// The place that they name last, if they name one.
+    pub(crate) place: Option<Span>,
     /// Whether memory did not run out.
     pub(crate) is_whole: bool,
 }
@@ -93,11 +109,27 @@ impl Words {
     /// Says a byte of a text, which may be the letter of a gap; whether the next one is.
     fn say_byte(&mut self, notes: &Notes, byte: u8, is_gap: bool) -> bool {
         if is_gap {
+            self.begin_gap();
             self.fill(notes, byte);
+            self.end_gap();
         } else if byte != b'%' {
             self.put_byte(byte);
         }
         byte == b'%' && !is_gap
+    }
+
+    /// From here on what is put fills a gap.
+    fn begin_gap(&mut self) {
+        let is_long = self.bytes.len() > MOST_WHOLE;
+        self.room = if is_long { LEAST_FILLED } else { MOST_FILLED };
+    }
+
+    /// Here the gap ends, with dots for what was left out of it.
+    fn end_gap(&mut self) {
+        self.room = usize::MAX;
+        if replace(&mut self.is_cut, false) {
+            self.put(b"...");
+        }
     }
 
     /// Fills the gap of this letter.
@@ -150,11 +182,15 @@ impl Words {
     }
 
     fn put_byte(&mut self, byte: u8) {
-        self.is_whole = self.bytes.push(byte).is_ok() && self.is_whole;
+        self.put(&[byte]);
     }
 
+    /// Puts as much of some bytes as there is room for.
     fn put(&mut self, bytes: &[u8]) {
-        if self.bytes.extend_from_slice(bytes).is_err() {
+        let length = bytes.len().min(self.room);
+        self.is_cut = self.is_cut || length < bytes.len();
+        self.room = self.room.saturating_sub(length);
+        if self.bytes.extend_from_slice(&bytes[..length]).is_err() {
             self.is_whole = false;
         }
     }
@@ -175,6 +211,7 @@ impl Words {
     }
 
     fn put_place(&mut self, span: Span) {
+        self.place = Some(span);
         self.put_number(span.line as usize);
         self.put_byte(b':');
         self.put_number(span.column as usize);
@@ -335,11 +372,13 @@ impl Words {
 
     /// A type of a global as it is written, in which what is left out is the heap.
     pub(crate) fn put_written(&mut self, lexicon: &Lexicon, written: &WrittenType) {
+        self.begin_gap();
         self.put_written_base(lexicon, &written.base);
         for mark in &written.marks {
             self.put(mark_of(mark.kind));
             self.put_mark_region(lexicon, mark.region);
         }
+        self.end_gap();
     }
 
     /// The same of what stands in front of its marks.

@@ -15,25 +15,26 @@ ghost use Rattle.cyc_elf.specs.Layout.{FitsFields};
 ghost use Rattle.cyc_rawpages.specs.inside.Lists.{chain_at};
 ghost use Rattle.cyc_rawpages.specs.inside.Pool.{IsHead};
 
-use cyc_asm::assemble;
+use cyc_asm::{assemble, sources};
 use cyc_check::check;
 use cyc_elf::{ElfFault, Image, Outline, Segment, read_image, read_outline, write_image};
 use cyc_flow::{Flowed, flow};
 use cyc_frame::{Frames, layout};
 use cyc_isa::{Instr, decode, encode, reads, write_text, writes};
 use cyc_lex::lex;
-use cyc_lower::lower;
+use cyc_lower::{Marks, lower, marks_of};
 use cyc_machine::{Cause, End, Event, Limits, LoadFault, Machine, has_place};
 use cyc_pagestore::PageStore;
 use cyc_parse::parse;
 use cyc_plain::{Plain, well_formed};
 use cyc_plainstore::PlainStore;
 use cyc_rawpages::{Chain, PageNo, Pool};
-use cyc_select::{Code, select};
+use cyc_select::{Code, FunctionLines, lines_of, select};
 use cyc_store::{BadHandle, BadMark, No, NotABlock, Store};
 use cyc_syntax::{Name, Names, Span, Token, Tree};
 use cyc_system::{
-    Limit, Report, RunFault, Stop, compile, compile_with, disassemble, note_of, run, run_with,
+    Limit, Placed, Report, RunFault, Source, Stop, Stretch, Trail, compile, compile_with,
+    compile_with_places, disassemble, follow, note_of, run, run_counting, run_with, source_at,
 };
 use cyc_types::{Kind, Outlives, Region, TypedTree};
 use cyc_words::{
@@ -154,6 +155,14 @@ pub fn lowered(alloc: Global, program: &Flowed) -> Result<Plain, Fault>
     lower(alloc, program)
 }
 
+pub fn marked(alloc: Global, program: &Flowed) -> Result<Vec<Marks>, AllocError>
+    requires well_typed { IsWellTypedProgram (view_program program.now.tree) }
+    requires small { program_weight (view_program program.now.tree) ≤ max_tokens }
+    requires can_be { CanBeLowered (view_program program.now.tree) }
+{
+    marks_of(alloc, program)
+}
+
 pub fn formed(plain: &Plain) -> bool {
     well_formed(plain)
 }
@@ -166,6 +175,20 @@ pub fn selected(alloc: Global, plain: &Plain, frames: &Frames) -> Result<Code, F
     requires { AreFrames plain.now frames.now }
 {
     select(alloc, plain, frames)
+}
+
+pub fn lines_counted(
+    alloc: Global,
+    plain: &Plain,
+    frames: &Frames,
+) -> Result<Vec<FunctionLines>, AllocError>
+    requires { AreFrames plain.now frames.now }
+{
+    lines_of(alloc, plain, frames)
+}
+
+pub fn sourced(alloc: Global, code: &Code) -> Result<Vec<usize>, Fault> {
+    sources(alloc, code)
 }
 
 pub fn assembled(alloc: Global, code: &Code) -> Result<Vec<u32>, Fault> {
@@ -353,6 +376,10 @@ pub fn register<S: Store + Drop>(machine: &Machine<S>, number: u8) -> u32
     machine.reg(number)
 }
 
+pub fn word<S: Store + Drop>(machine: &Machine<S>, address: u32) -> Result<u32, Cause> {
+    machine.word(address)
+}
+
 pub fn events(byte: u8, end: End) -> [Event; 5] {
     [
         Event::Ran,
@@ -381,12 +408,18 @@ pub fn reports(end: End, count: u64) -> [Report; 2] {
             count,
             counter: 4_194_304,
             limit: Some(Limit::Calls),
+            read: 1,
+            written: 2,
+            calls: None,
         },
         Report {
             stop: spent,
             count,
             counter: 4_194_304,
             limit: Some(Limit::Pages),
+            read: 3,
+            written: 4,
+            calls: Some(5),
         },
     ]
 }
@@ -407,6 +440,24 @@ pub fn compiled(alloc: Global, text: &[u8]) -> Result<Vec<u8>, Fault> {
 
 pub fn compiled_with(alloc: Global, text: &[u8]) -> Result<Vec<u8>, Fault> {
     compile_with(alloc, text, Some((3, 1)))
+}
+
+pub fn placed(alloc: Global, text: &[u8]) -> Result<Placed, Fault> {
+    compile_with_places(alloc, text, Some((3, 1)))
+}
+
+pub fn followed(
+    alloc: Global,
+    image: &[u8],
+    stretches: &[Stretch],
+    limits: Limits,
+    input: &[u8],
+) -> Result<Option<Trail>, RunFault> {
+    follow(alloc, image, stretches, limits, 1000, input)
+}
+
+pub fn come_from(stretches: &[Stretch], address: u32) -> Option<Source> {
+    source_at(stretches, address)
 }
 
 pub fn carried(alloc: Global, image: &[u8]) -> Result<Option<(u32, u32)>, ElfFault> {
@@ -436,6 +487,17 @@ pub fn ran_with<R: ByteIn, W: ByteOut, S: Store + Drop>(
     requires pages { (S.held store).pages ≡ limits.pages }
 {
     run_with(alloc, image, limits, budget, reader, writer, store)
+}
+
+pub fn run_counted<R: ByteIn, W: ByteOut>(
+    alloc: Global,
+    image: &[u8],
+    limits: Limits,
+    budget: u64,
+    reader: &mut R,
+    writer: &mut W,
+) -> Result<Report, RunFault> {
+    run_counting(alloc, image, limits, budget, reader, writer)
 }
 
 pub fn disassembled<W: ByteOut>(

@@ -4,6 +4,7 @@ pub mod CutLemmas
 pub mod PlaceLemmas
 -- names and trees
 pub mod NameLemmas
+pub mod NameIndexLemmas
 pub mod WeightLemmas
 pub mod TreeViewLemmas
 -- worked examples, by computation

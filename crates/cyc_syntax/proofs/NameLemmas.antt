@@ -1,34 +1,13 @@
 -- The numbers of names: a text that is met keeps its number, and the number gives the text back.
-use Rattle.std.proofs.Common.{zero, get_or, fold, ⊎_elim, if◌then◌else◌, ◌≡◌, ◌≢◌, ℕ, suc, ◌+◌, ◌<◌, Bool, true, false, not, ◌||◌, cond, ltb, Some, List, [], ◌∷◌, ◌++◌, length, map, slice_get, refl, sym, ap, subst, ◌∙◌, arith}
-use Rattle.std.specs.List.{list_any, position, position_or_len, prefix_len}
+use Rattle.std.proofs.Common.{zero, get_or, fold, ⊎_elim, ◌≡◌, ◌≢◌, ℕ, suc, ◌+◌, ◌<◌, Bool, true, false, not, ◌||◌, cond, Some, List, [], ◌∷◌, ◌++◌, length, slice_get, refl, sym, ap, subst, ◌∙◌, arith}
+use Rattle.std.specs.List.{list_any, position_or_len}
 use Rattle.std.specs.Str.{bytes_eq}
-use Rattle.std.proofs.lemmas.Bool.{true≢false, cases_Bool, cond-true, cond-false, lt-ltb, cases_lt, or_left, or_right, or_cases, or_parts}
-use Rattle.std.proofs.lemmas.Bool.Decides.{nat_tests}
-use Rattle.std.proofs.lemmas.Option.{cond_some, same_Some}
-use Rattle.std.proofs.lemmas.List.{map-append, get_or_append_left, get_or_push, length_push}
+use Rattle.std.proofs.lemmas.Bool.{true≢false, cases_Bool, cond-true, cond-false, cases_lt, or_left, or_right, or_cases, or_parts}
+use Rattle.std.proofs.lemmas.Option.{same_Some}
+use Rattle.std.proofs.lemmas.List.{get_or_append_left, get_or_push, length_push}
 use Rattle.std.proofs.Math.Numerals.{one-add}
 use Rattle.std.proofs.lemmas.Slice.Eq.{bytes_eq-Decides}
 use Rattle.cyc_syntax.specs.Names.{is_among, with_text, distinct_texts, number_of, AreDistinct}
-
-prefix_len-map : {X Y : Type 0} (f : X → Y) (p : Y → Bool) (xs : List X) → prefix_len p (map f xs) ≡ prefix_len (λ x. p (f x)) xs
-prefix_len-map f p [] = refl
-prefix_len-map f p (x ∷ xs) = ap (λ n. cond (p (f x)) (1 + n) 0) (prefix_len-map f p xs)
-
-list_any-map : {X Y : Type 0} (f : X → Y) (p : Y → Bool) (xs : List X) → list_any p (map f xs) ≡ list_any (λ x. p (f x)) xs
-list_any-map f p [] = refl
-list_any-map f p (x ∷ xs) = ap (λ b. p (f x) || b) (list_any-map f p xs)
-
--- a test's first place is within the list exactly where some element passes
-within-position : {X : Type 0} (p : X → Bool) (xs : List X) → ltb (position_or_len p xs) (length xs) ≡ list_any p xs
-within-position p [] = refl
-within-position p (x ∷ xs) =
-    ⊎_elim
-    (λ passes. ap (λ b. ltb (cond (not b) (1 + position_or_len p xs) 0) (suc (length xs))) passes ∙ lt-ltb 0 (suc (length xs)) (omega arith) ∙ sym (or_left _ _ passes))
-    (λ fails.
-    ap (λ b. ltb (cond (not b) (1 + position_or_len p xs) 0) (suc (length xs))) fails
-    ∙ grind (arith, nat_tests)
-    ∙ within-position p xs ∙ ap (λ b. b || list_any p xs) (sym fails))
-    (cases_Bool (p x))
 
 -- what stands at the first place that passes
 at-position : {X : Type 0} (p : X → Bool) (xs : List X) → list_any p xs ≡ true → (x : X) × (slice_get xs (position_or_len p xs) ≡ Some x) × (p x ≡ true)
@@ -42,14 +21,14 @@ at-position p (x ∷ xs) any =
     (cases_Bool (p x))
 
 -- none passes, so one more at the end that passes is the first
-position_push : {X : Type 0} (p : X → Bool) (xs : List X) (x : X) → list_any p xs ≡ false → p x ≡ true
+pub position_push : {X : Type 0} (p : X → Bool) (xs : List X) (x : X) → list_any p xs ≡ false → p x ≡ true
     → position_or_len p (xs ++ x ∷ []) ≡ position_or_len p xs
 position_push p [] x none passes = ap (λ b. cond (not b) 1 0) passes
 position_push p (y ∷ xs) x none passes =
     ap (λ n. cond (not (p y)) (1 + n) 0) (position_push p xs x (or_parts _ _ none).1 passes)
 
 -- a first place stays, whatever is added
-position-append : {X : Type 0} (p : X → Bool) (xs ys : List X) → list_any p xs ≡ true → position_or_len p (xs ++ ys) ≡ position_or_len p xs
+pub position-append : {X : Type 0} (p : X → Bool) (xs ys : List X) → list_any p xs ≡ true → position_or_len p (xs ++ ys) ≡ position_or_len p xs
 position-append p [] ys any = absurd (true≢false (sym any))
 position-append p (x ∷ xs) ys any =
     ⊎_elim
@@ -57,7 +36,7 @@ position-append p (x ∷ xs) ys any =
     (λ fails. ap (λ n. cond (not (p x)) (1 + n) 0) (position-append p xs ys (ap (λ b. b || list_any p xs) (sym fails) ∙ any)))
     (cases_Bool (p x))
 
-same_text : (text : List ℕ) → bytes_eq text text ≡ true
+pub same_text : (text : List ℕ) → bytes_eq text text ≡ true
 same_text text = (bytes_eq-Decides text text).1 refl
 
 -- a text that is there has a number, and the number gives it back
@@ -75,14 +54,6 @@ is_among-with_text texts text =
     last [] = or_left _ _ (same_text text)
     last (x ∷ xs) = or_right _ _ (last xs)
 
--- and its number is the place that it had, or the first after the others
-pub number_of-with_text_same : (texts : List (List ℕ)) (text : List ℕ) → number_of (with_text texts text) text ≡ number_of texts text
-number_of-with_text_same texts text =
-    ⊎_elim
-    (λ there. ap (λ l. number_of l text) (cond-true _ _ _ there))
-    (λ new. ap (λ l. number_of l text) (cond-false _ _ _ new) ∙ position_push (bytes_eq text) texts text new (same_text text))
-    (cases_Bool (is_among text texts))
-
 -- a text that is there stays, with its number, whatever is met
 pub is_among-with_text_other : (texts : List (List ℕ)) (a b : List ℕ) → is_among a texts ≡ true → is_among a (with_text texts b) ≡ true
 is_among-with_text_other texts a b among =
@@ -98,31 +69,6 @@ number_of-with_text texts a b among =
     (λ there. ap (λ l. number_of l a) (cond-true _ _ _ there))
     (λ new. ap (λ l. number_of l a) (cond-false _ _ _ new) ∙ position-append (bytes_eq a) texts (b ∷ []) among)
     (cases_Bool (is_among b texts))
-
--- texts that own their bytes
-module _ {X : Type 0} (f : X → List ℕ) (keys : List X) (text : List ℕ) where
-  pub is_among-keys : is_among text (map f keys) ≡ list_any (λ k. bytes_eq text (f k)) keys
-  is_among-keys = list_any-map f (bytes_eq text) keys
-
-  pub number_of-keys : number_of (map f keys) text ≡ position_or_len (λ k. bytes_eq text (f k)) keys
-  number_of-keys = prefix_len-map f (λ t. not (bytes_eq text t)) keys
-
-  -- a look-up that finds the text
-  pub found_text : (n : ℕ) → Some n ≡ position (λ k. bytes_eq text (f k)) keys → (is_among text (map f keys) ≡ true) × (n ≡ number_of (map f keys) text)
-  found_text n found =
-      let here = cond_some _ _ _ (sym found) in
-      (is_among-keys ∙ sym (within-position _ keys) ∙ here.0, sym here.1 ∙ sym number_of-keys)
-
-  -- the keys after one more is inserted are the texts after it is met
-  pub keys_with_text : (key : X) → f key ≡ text
-      → map f (if list_any (λ k. bytes_eq (f key) (f k)) keys then keys else keys ++ key ∷ []) ≡ with_text (map f keys) text
-  keys_with_text key is =
-      ap (λ t. map f (if list_any (λ k. bytes_eq t (f k)) keys then keys else keys ++ key ∷ [])) is
-      ∙ chosen (list_any (λ k. bytes_eq text (f k)) keys) refl
-    where
-      chosen : (b : Bool) → list_any (λ k. bytes_eq text (f k)) keys ≡ b → map f (if b then keys else keys ++ key ∷ []) ≡ with_text (map f keys) text
-      chosen true there = sym (cond-true _ _ _ (is_among-keys ∙ there))
-      chosen false new = map-append f keys (key ∷ []) ∙ ap (λ t. map f keys ++ t ∷ []) is ∙ sym (cond-false _ _ _ (is_among-keys ∙ new))
 
 -- equal numbers, equal texts
 pub one_text : (texts : List (List ℕ)) (a b : List ℕ) → is_among a texts ≡ true → is_among b texts ≡ true

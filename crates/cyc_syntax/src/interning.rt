@@ -1,9 +1,10 @@
 //! Names as numbers.
-ghost use Rattle.std.specs.Prelude.{◌≡◌, ◌<◌, List, [], length, slice_get, Some, is_some, IfSome, IfNone, IsTrue, IsOk, IfOk, OnOk, OnErr};
+ghost use Rattle.std.specs.Prelude.{◌≡◌, ◌<◌, List, [], ◌∷◌, ◌++◌, false, length, slice_get, Some, is_some, IfSome, IfNone, IsTrue, IsOk, IfOk, OnOk, OnErr};
 ghost use Rattle.cyc_syntax.specs.Names.{is_among, with_text, number_of};
+ghost use Rattle.cyc_syntax.specs.inside.NameIndex as index;
 
-use indexmap::IndexSet;
 use std::alloc::{AllocError, Global};
+use std::collections::BTreeMap;
 use std::marker::Model;
 
 /// A name: the number of its text in the `Names` that gave it.
@@ -14,17 +15,38 @@ pub struct Name {
 
 /// The texts that were interned, each once, in the order in which they first came. A text's number is its place there,
 /// from 0.
+// A text is looked up by its key, a number. Whoever writes a program may choose names that have one key. So both
+// look-ups are in order: no choice of names makes one longer than the logarithm of how many there are.
 #[derive(Drop)]
 pub struct Names {
-    texts: IndexSet<Vec<u8>>,
+    texts: Vec<Vec<u8>>,
+    /// From a key to the number of the first text that has it.
+    firsts: BTreeMap<u64, usize>,
+    /// From each other text, whose key a text before it has, to its number.
+    others: BTreeMap<Vec<u8>, usize>,
 }
 
 impl Model for Names {
     ghost use Rattle.std.specs.Prelude.{List, ℕ, map};
+    ghost use Rattle.cyc_syntax.specs.inside.NameIndex.{first_in, other_in, IsIndexOf};
 
     ghost Value = { List (List ℕ) };
 
-    ghost view = { λ n. map (λ v. v.items) n.texts.keys };
+    ghost view = { λ n. map (λ v. v.items) n.texts.items };
+
+    ghost invariant = { λ n. IsIndexOf (map (λ v. v.items) n.texts.items) (first_in n.firsts) (other_in n.others) };
+}
+
+/// The key of a text: its bytes as the digits of a number, to 64 bits. Texts of up to seven bytes have keys of their
+/// own.
+fn key_of(text: &[u8]) -> u64
+    ensures { result ≡ index.key_of text.now }
+{
+    let mut key: u64 = 0;
+    for byte in text {
+        key = key.wrapping_mul(257).wrapping_add(u64::from(*byte));
+    }
+    key
 }
 
 impl Names {
@@ -33,8 +55,13 @@ impl Names {
         ensures empty { IfOk result (λ names. names ≡ []) }
         ensures succeeds { IsOk result }
     {
+        let texts = Vec::new(alloc);
+        let firsts = BTreeMap::new(alloc);
+        let others = BTreeMap::new(alloc);
         Ok(Names {
-            texts: IndexSet::new(alloc),
+            texts,
+            firsts,
+            others,
         })
     }
 
@@ -47,12 +74,48 @@ impl Names {
         // Only a new text takes memory.
         ensures known { IsTrue (is_among text.now self.old) → IsOk result }
     {
-        if let Some(number) = self.texts.get_index_of(text) {
+        if let Some(number) = self.number(text) {
             return Ok(Name { number });
         }
-        let owned = Vec::from_slice(*self.texts.allocator(), text)?;
-        let (number, _) = self.texts.insert_full(owned)?;
+        let number = self.add(text)?;
         Ok(Name { number })
+    }
+
+    /// Adds a text that has no number yet, and answers the one that it has then.
+    fn add(&mut self, text: &[u8]) -> Result<usize, AllocError>
+        requires { is_among text.now self.old ≡ false }
+        ensures texts { OnOk result (self.new ≡ self.old ++ text.now ∷ []) }
+        ensures number { IfOk result (λ number. number ≡ length self.old) }
+        ensures unchanged { OnErr result (self.new ≡ self.old) }
+    {
+        let number = self.texts.len();
+        let owned = Vec::from_slice(*self.texts.allocator(), text)?;
+        self.texts.reserve(1)?;
+        let key = key_of(text);
+        if self.firsts.contains_key(&key) {
+            let other = Vec::from_slice(*self.texts.allocator(), text)?;
+            self.others.insert(other, number)?;
+        } else {
+            self.firsts.insert(key, number)?;
+        }
+        self.texts.push_reserved(owned);
+        Ok(number)
+    }
+
+    /// The number of a text, if it has one.
+    fn number(&self, text: &[u8]) -> Option<usize>
+        ensures { result ≡ index.number_if self.now text.now }
+    {
+        let key = key_of(text);
+        let Some(first) = self.firsts.get(&key) else {
+            return None;
+        };
+        let number = *first;
+        let known = self.texts[number].as_slice();
+        if known == text {
+            return Some(number);
+        }
+        self.others.get(text).copied()
     }
 
     /// The number of names. It is the number that the next new text gets.
@@ -68,7 +131,7 @@ impl Names {
         ensures number { IfSome result (λ name. name.number ≡ number_of self.now text.now) }
         ensures missing { IfNone result (number_of self.now text.now ≡ length self.now) }
     {
-        match self.texts.get_index_of(text) {
+        match self.number(text) {
             Some(number) => Some(Name { number }),
             None => None,
         }

@@ -1,15 +1,16 @@
 -- The loop of the engine: what it has done so far is a run of the machine on every input that goes on from what was
 -- read.
 use Rattle.std.proofs.Common.{◌≡◌, ℕ, zero, suc, ◌+◌, ◌-◌, ◌<◌, ◌≤◌, List, [], ◌∷◌, ◌++◌, drop, Bool, true, false, Option, None, Some, Result, Ok, Err, refl, sym, ap, subst, ◌∙◌, arith, append_assoc, append-nil, inl, inr}
-use Rattle.std.specs.Prelude.{unwrap_or, is_none, not, slice_get, MatchBool}
+use Rattle.std.specs.Prelude.{unwrap_or, is_none, not, slice_get, MatchBool, length, max, IfSome}
 use Rattle.std.specs.Io.KnownBytes.{Keeps, Appends, Consumes, IsAtEnd}
+use Rattle.std.proofs.lemmas.List.{length-append}
 use Rattle.cyc_words.proofs.DeviceLemmas.{Keeps-refl, Appends-nil, Appends-append, Consumes-nil, Consumes-append}
 use Rattle.cyc_machine.specs.declared.event.End.{End}
 use Rattle.cyc_machine.specs.declared.event.Event.{Event}
 use Rattle.cyc_machine.specs.declared.event.Event.TheVariants.{Ran, WantsByte, Puts, Ended, NoMemory}
 use Rattle.cyc_machine.specs.declared.phase.Phase.TheVariants.{Running, Waiting}
 use Rattle.cyc_machine.specs.State.{State}
-use Rattle.cyc_machine.specs.Step.{Step, given, given_in}
+use Rattle.cyc_machine.specs.Step.{Step, StepOver, given, given_in}
 use Rattle.cyc_machine.specs.Run.{World, told, Goes, Run, RunsQuietly, TellsLast, IsStretch, end_in}
 use Rattle.cyc_elf.specs.declared.fault.ElfFault.{ElfFault}
 use Rattle.cyc_elf.specs.Image.{ImageContents}
@@ -20,12 +21,14 @@ use Rattle.cyc_machine.specs.Bounds.{Bounds}
 use Rattle.cyc_machine.specs.Shape.{phase_after}
 use Rattle.cyc_machine.specs.Start.{has_outside, start_state, start_world}
 use Rattle.cyc_machine.proofs.PhaseLaws.{Step-phase}
+use Rattle.cyc_system.specs.declared.engine.Exchanged.{Exchanged}
 use Rattle.cyc_system.specs.declared.report.Report.{Report}
+use Rattle.cyc_system.specs.declared.report.Stop.{Stop}
 use Rattle.cyc_system.specs.declared.report.Stop.TheVariants as stops
 use Rattle.cyc_system.specs.declared.report.RunFault.{RunFault}
 use Rattle.cyc_system.specs.declared.report.RunFault.TheVariants.{Elf, Load, Read, Write, Memory}
-use Rattle.cyc_system.specs.Engine.{Devices, Rests, Tells, Leaves, Counted, Executes, Runs, Refuses, Starts, Answers, AnswersAnew, IsReported, limit_at}
-use Rattle.cyc_system.specs.inside.Turn.{Asked, Turned}
+use Rattle.cyc_system.specs.Engine.{Devices, Rests, Tells, Leaves, Counted, Peaks, Executes, Runs, calls_in, Refuses, Starts, Answers, AnswersAnew, IsReported, limit_at}
+use Rattle.cyc_system.specs.inside.Turn.{Asked, Turned, after_byte, counted_at}
 
 -- one more instruction at the end of a run
 pub Run-more : (count : ℕ) (u v w : World) → Run count u v → Goes v w → Run (suc count) u w
@@ -41,15 +44,28 @@ counted_more : (count : ℕ) (u v w : World) → Counted count u v → v.machine
 counted_more count u v w counted running goes =
     subst (λ k. Counted k u w) (let one : suc count ≡ count + 1 = omega arith in one) (v, counted_run count u v counted, ap end_in running, goes)
 
+-- So many instructions, with the most calls under way in them, where they are counted.
+abbrev pub Way : (calls : Option ℕ) → ℕ → World → World → Type 0
+Way calls count u v = Counted count u v × IfSome calls (Peaks count u v)
+
+way_more : (calls : Option ℕ) (count : ℕ) (u v w : World) → Way calls count u v → v.machine.phase ≡ Running → Goes v w → Way (counted_at calls w.machine.core) (count + 1) u w
+way_more None count u v w (counted, none) running goes = (counted_more count u v w counted running goes, tt)
+way_more (Some most) count u v w (counted, peaks) running goes = (
+  counted_more count u v w counted running goes,
+  subst (λ k. Peaks k u w (max most (calls_in w))) (let one : suc count ≡ count + 1 = omega arith in one) (v, most, peaks, ap end_in running, goes, refl),
+)
+
 -- The loop after so many turns: on an input that begins with what was read, and ends with it once the end was seen.
-pub record Progress (start : List ℕ → World) (old now : Devices) (count : ℕ) (seen : Bool) (machine : State) : Type 0 where
+pub record Progress (start : List ℕ → World) (old now : Devices) (count : ℕ) (x : Exchanged) (calls : Option ℕ) (machine : State) : Type 0 where
   pub read : List ℕ
   pub output : List ℕ
   pub consumed : Consumes old.remaining now.remaining read
   pub printed : Appends old.written now.written output
-  pub at_end : seen ≡ true → Leaves old.remaining now.remaining []
+  pub reads : x.read ≡ length read
+  pub writes : x.written ≡ length output
+  pub at_end : x.ended ≡ true → Leaves old.remaining now.remaining []
   pub running : machine.phase ≡ Running
-  pub runs : (rest : List ℕ) → (seen ≡ true → rest ≡ []) → Counted count (start (read ++ rest)) (record { machine = machine; output = output; input = rest })
+  pub runs : (rest : List ℕ) → (x.ended ≡ true → rest ≡ []) → Way calls count (start (read ++ rest)) (record { machine = machine; output = output; input = rest })
 
 -- Devices that were not used.
 
@@ -75,20 +91,23 @@ end_seen (Some told) (Some left) (Some more) xs h e k = k ∙ e
 -- One more turn, by the event.
 
 -- an instruction that uses no device, or the writer alone
-quiet : (start : List ℕ → World) (old now new : Devices) (count : ℕ) (seen : Bool) (machine machine' : State) (event : Event) (s : State) (more : List ℕ)
-    → (p : Progress start old now count seen machine) → Step machine event s → machine' ≡ s → phase_after event ≡ Running → Keeps now.remaining new.remaining → Appends now.written new.written more
+quiet : (start : List ℕ → World) (old now new : Devices) (count : ℕ) (x x' : Exchanged) (calls : Option ℕ) (machine machine' : State) (event : Event) (s : State) (more : List ℕ)
+    → (p : Progress start old now count x calls machine) → Step machine event s → machine' ≡ s → phase_after event ≡ Running → Keeps now.remaining new.remaining → Appends now.written new.written more
+    → x'.ended ≡ x.ended → x'.read ≡ x.read → x'.written ≡ x.written + length more
     → ((rest : List ℕ) → told (record { machine = machine; output = p.output; input = rest }) event s ≡ record { machine = s; output = p.output ++ more; input = rest })
-    → Progress start old new (count + 1) seen machine'
-quiet start old now new count seen machine machine' event s more p step is on kept appends leaves = record {
+    → Progress start old new (count + 1) x' (counted_at calls machine'.core) machine'
+quiet start old now new count x x' calls machine machine' event s more p step is on kept appends ends reads writes leaves = record {
   read = p.read;
   output = p.output ++ more;
   consumed = consumes_kept old.remaining now.remaining new.remaining p.read p.consumed kept;
   printed = Appends-append old.written now.written new.written p.output more p.printed appends;
-  at_end = λ end. leaves_kept old.remaining now.remaining new.remaining [] (p.at_end end) kept;
+  reads = reads ∙ p.reads;
+  writes = writes ∙ (ap (λ n. n + length more) p.writes ∙ sym (length-append p.output more));
+  at_end = λ end. leaves_kept old.remaining now.remaining new.remaining [] (p.at_end (sym ends ∙ end)) kept;
   running = ap (λ t. t.phase) is ∙ Step-phase machine event s step ∙ on;
   runs = λ rest ended.
-      counted_more count (start (p.read ++ rest)) (record { machine = machine; output = p.output; input = rest }) (record { machine = machine'; output = p.output ++ more; input = rest })
-      (p.runs rest ended) p.running
+      way_more calls count (start (p.read ++ rest)) (record { machine = machine; output = p.output; input = rest }) (record { machine = machine'; output = p.output ++ more; input = rest })
+      (p.runs rest (λ e. ended (ends ∙ e))) p.running
       (event, s, step, ap (λ m. record { machine = m; output = p.output ++ more; input = rest }) is ∙ sym (leaves rest));
 }
 
@@ -97,22 +116,24 @@ given_running : (s : State) (byte : Option ℕ) → s.phase ≡ Waiting → (giv
 given_running s byte waiting = ap (λ q. (given_in q s byte).phase) waiting
 
 -- what an input that goes on with rest was before the byte was taken from it
-pub record Took (start : List ℕ → World) (count : ℕ) (machine : State) (output read : List ℕ) (byte : Option ℕ) (rest : List ℕ) : Type 0 where
+pub record Took (start : List ℕ → World) (count : ℕ) (calls : Option ℕ) (machine : State) (output read : List ℕ) (byte : Option ℕ) (rest : List ℕ) : Type 0 where
   pub before : List ℕ
-  pub runs : Counted count (start (read ++ rest)) (record { machine = machine; output = output; input = before })
+  pub runs : Way calls count (start (read ++ rest)) (record { machine = machine; output = output; input = before })
   pub first : slice_get before 0 ≡ byte
   pub others : drop 1 before ≡ rest
 
-wanting : (start : List ℕ → World) (old now new : Devices) (count : ℕ) (seen seen' : Bool) (machine machine' s : State) (byte : Option ℕ) (read : List ℕ)
-    → (p : Progress start old now count seen machine) → Step machine WantsByte s → machine' ≡ given s byte → Keeps now.written new.written
-    → Consumes old.remaining new.remaining read → (seen' ≡ true → Leaves old.remaining new.remaining [])
-    → ((rest : List ℕ) → (seen' ≡ true → rest ≡ []) → Took start count machine p.output read byte rest)
-    → Progress start old new (count + 1) seen' machine'
-wanting start old now new count seen seen' machine machine' s byte read p step is kept consumed at_end took = record {
+wanting : (start : List ℕ → World) (old now new : Devices) (count : ℕ) (x x' : Exchanged) (calls : Option ℕ) (machine machine' s : State) (byte : Option ℕ) (read : List ℕ)
+    → (p : Progress start old now count x calls machine) → Step machine WantsByte s → machine' ≡ given s byte → Keeps now.written new.written
+    → Consumes old.remaining new.remaining read → (x'.ended ≡ true → Leaves old.remaining new.remaining []) → x'.read ≡ length read → x'.written ≡ x.written
+    → ((rest : List ℕ) → (x'.ended ≡ true → rest ≡ []) → Took start count calls machine p.output read byte rest)
+    → Progress start old new (count + 1) x' (counted_at calls machine'.core) machine'
+wanting start old now new count x x' calls machine machine' s byte read p step is kept consumed at_end reads writes took = record {
   read = read;
   output = p.output;
   consumed = consumed;
   printed = appends_kept old.written now.written new.written p.output p.printed kept;
+  reads = reads;
+  writes = writes ∙ p.writes;
   at_end = at_end;
   running = ap (λ t. t.phase) is ∙ given_running s byte (Step-phase machine WantsByte s step);
   runs = λ rest ended.
@@ -122,66 +143,67 @@ wanting start old now new count seen seen' machine machine' s byte read p step i
       let leads : there ≡ told here WantsByte s =
       ap (λ m. record { machine = m; output = p.output; input = rest }) (is ∙ ap (given s) (sym t.first))
       ∙ ap (λ i. record { machine = given s (slice_get t.before 0); output = p.output; input = i }) (sym t.others) in
-      counted_more count (start (read ++ rest)) here there t.runs p.running (WantsByte, s, step, leads);
+      way_more calls count (start (read ++ rest)) here there t.runs p.running (WantsByte, s, step, leads);
 }
 
 -- at the end of the input there is no byte, and nothing is left
-none_left : (start : List ℕ → World) (count : ℕ) (machine : State) (output read rest : List ℕ) → rest ≡ [] → Counted count (start (read ++ rest)) (record { machine = machine; output = output; input = rest }) → Took start count machine output read None rest
-none_left start count machine output read rest empty runs = record {
+none_left : (start : List ℕ → World) (count : ℕ) (calls : Option ℕ) (machine : State) (output read rest : List ℕ) → rest ≡ [] → Way calls count (start (read ++ rest)) (record { machine = machine; output = output; input = rest }) → Took start count calls machine output read None rest
+none_left start count calls machine output read rest empty runs = record {
   before = rest;
   runs = runs;
   first = ap (λ xs. slice_get xs 0) empty;
   others = ap (drop 1) empty ∙ sym empty;
 }
 
-asked_turn : (start : List ℕ → World) (old now new : Devices) (count : ℕ) (seen : Bool) (machine machine' s : State) (byte : Option ℕ)
-    → Progress start old now count seen machine → Step machine WantsByte s → machine' ≡ given s byte → Asked seen byte now.remaining new.remaining → Keeps now.written new.written
-    → Progress start old new (count + 1) (is_none byte) machine'
-asked_turn start old now new count true machine machine' s byte p step is (none, kept) silent =
-    subst (λ b. Progress start old new (count + 1) (is_none b) machine') (sym none)
-    (wanting start old now new count true true machine machine' s None p.read p step (is ∙ ap (given s) none) silent
+asked_turn : (start : List ℕ → World) (old now new : Devices) (count : ℕ) (x : Exchanged) (seen : Bool) (calls : Option ℕ) (machine machine' s : State) (byte : Option ℕ) → x.ended ≡ seen
+    → Progress start old now count x calls machine → Step machine WantsByte s → machine' ≡ given s byte → Asked seen byte now.remaining new.remaining → Keeps now.written new.written
+    → Progress start old new (count + 1) (after_byte x byte) (counted_at calls machine'.core) machine'
+asked_turn start old now new count x true calls machine machine' s byte was p step is (none, kept) silent =
+    subst (λ b. Progress start old new (count + 1) (after_byte x b) (counted_at calls machine'.core) machine') (sym none)
+    (wanting start old now new count x (after_byte x None) calls machine machine' s None p.read p step (is ∙ ap (given s) none) silent
     (consumes_kept old.remaining now.remaining new.remaining p.read p.consumed kept)
-    (λ end. leaves_kept old.remaining now.remaining new.remaining [] (p.at_end refl) kept)
-    (λ rest ended. none_left start count machine p.output p.read rest (ended refl) (p.runs rest ended)))
-asked_turn start old now new count false machine machine' s None p step is (ends, kept) silent =
-    wanting start old now new count false true machine machine' s None p.read p step is silent
+    (λ end. leaves_kept old.remaining now.remaining new.remaining [] (p.at_end was) kept) p.reads refl
+    (λ rest ended. none_left start count calls machine p.output p.read rest (ended refl) (p.runs rest (λ e. ended refl))))
+asked_turn start old now new count x false calls machine machine' s None was p step is (ends, kept) silent =
+    wanting start old now new count x (after_byte x None) calls machine machine' s None p.read p step is silent
     (consumes_kept old.remaining now.remaining new.remaining p.read p.consumed kept)
-    (λ end. end_seen old.remaining now.remaining new.remaining p.read p.consumed ends kept)
-    (λ rest ended. none_left start count machine p.output p.read rest (ended refl) (p.runs rest (λ e. cc)))
-asked_turn start old now new count false machine machine' s (Some byte) p step is consumes silent =
-    wanting start old now new count false false machine machine' s (Some byte) (p.read ++ byte ∷ []) p step is silent
+    (λ end. end_seen old.remaining now.remaining new.remaining p.read p.consumed ends kept) p.reads refl
+    (λ rest ended. none_left start count calls machine p.output p.read rest (ended refl) (p.runs rest (λ e. ended refl)))
+asked_turn start old now new count x false calls machine machine' s (Some byte) was p step is consumes silent =
+    wanting start old now new count x (after_byte x (Some byte)) calls machine machine' s (Some byte) (p.read ++ byte ∷ []) p step is silent
     (Consumes-append old.remaining now.remaining new.remaining p.read (byte ∷ []) p.consumed consumes)
-    (λ e. cc)
+    (λ e. cc) (ap (λ n. n + 1) p.reads ∙ sym (length-append p.read (byte ∷ []))) refl
     (λ rest ended. record {
       before = byte ∷ rest;
-      runs = subst (λ xs. Counted count (start xs) (record { machine = machine; output = p.output; input = byte ∷ rest })) (sym (append_assoc p.read (byte ∷ []) rest)) (p.runs (byte ∷ rest) (λ e. cc));
+      runs = subst (λ xs. Way calls count (start xs) (record { machine = machine; output = p.output; input = byte ∷ rest })) (sym (append_assoc p.read (byte ∷ []) rest)) (p.runs (byte ∷ rest) (λ e. let never : false ≡ true = sym was ∙ e in cc));
       first = refl;
       others = refl;
     })
 
-pub Progress-turn : (start : List ℕ → World) (old now new : Devices) (count : ℕ) (seen seen' : Bool) (machine machine' : State)
-    → Progress start old now count seen machine → Turned machine machine' seen seen' now new (Ok None) → Progress start old new (count + 1) seen' machine'
-Progress-turn start old now new count seen seen' machine machine' p (Ran, s, step, (is, same, (kept, silent))) =
-    subst (λ b. Progress start old new (count + 1) b machine') (sym same)
-    (quiet start old now new count seen machine machine' Ran s [] p step is refl kept (Appends-nil now.written new.written silent)
+pub Progress-turn : (start : List ℕ → World) (old now new : Devices) (count : ℕ) (x x' : Exchanged) (calls : Option ℕ) (machine machine' : State)
+    → Progress start old now count x calls machine → Turned machine machine' x x' now new (Ok None) → Progress start old new (count + 1) x' (counted_at calls machine'.core) machine'
+Progress-turn start old now new count x x' calls machine machine' p (Ran, s, step, (is, same, (kept, silent))) =
+    subst (λ y. Progress start old new (count + 1) y (counted_at calls machine'.core) machine') (sym same)
+    (quiet start old now new count x x calls machine machine' Ran s [] p step is refl kept (Appends-nil now.written new.written silent) refl refl (let none : x.written ≡ x.written + 0 = omega arith in none)
     (λ rest. ap (λ o. record { machine = s; output = o; input = rest }) (sym (append-nil p.output))))
-Progress-turn start old now new count seen seen' machine machine' p (WantsByte, s, step, (byte, is, ends, asked, silent)) =
-    subst (λ b. Progress start old new (count + 1) b machine') (sym ends) (asked_turn start old now new count seen machine machine' s byte p step is asked silent)
-Progress-turn start old now new count seen seen' machine machine' p (Puts byte, s, step, (is, same, kept, printed)) =
-    subst (λ b. Progress start old new (count + 1) b machine') (sym same)
-    (quiet start old now new count seen machine machine' (Puts byte) s (byte ∷ []) p step is refl kept printed (λ rest. refl))
-Progress-turn start old now new count seen seen' machine machine' p (Ended end, s, step, none) = absurd none
-Progress-turn start old now new count seen seen' machine machine' p (NoMemory, s, step, none) = absurd none
+Progress-turn start old now new count x x' calls machine machine' p (WantsByte, s, step, (byte, is, ends, asked, silent)) =
+    subst (λ y. Progress start old new (count + 1) y (counted_at calls machine'.core) machine') (sym ends)
+    (asked_turn start old now new count x x.ended calls machine machine' s byte refl p step is asked silent)
+Progress-turn start old now new count x x' calls machine machine' p (Puts byte, s, step, (is, same, kept, printed)) =
+    subst (λ y. Progress start old new (count + 1) y (counted_at calls machine'.core) machine') (sym same)
+    (quiet start old now new count x (record x { written = x.written + 1 }) calls machine machine' (Puts byte) s (byte ∷ []) p step is refl kept printed refl refl refl (λ rest. refl))
+Progress-turn start old now new count x x' calls machine machine' p (Ended end, s, step, none) = absurd none
+Progress-turn start old now new count x x' calls machine machine' p (NoMemory, s, step, none) = absurd none
 
--- instructions that only ran
-pub Progress-quiet : (start : List ℕ → World) (old now : Devices) (count more : ℕ) (seen : Bool) (machine machine' : State)
-    → Progress start old now count seen machine → RunsQuietly more machine machine' → Progress start old now (count + more) seen machine'
-Progress-quiet start old now count zero seen machine machine' p run =
-    subst (λ (k : ℕ). Progress start old now k seen machine') (let same : count ≡ count + zero = omega arith in same)
-    (subst (λ (m : State). Progress start old now count seen m) (sym run) p)
-Progress-quiet start old now count (suc more) seen machine machine' p (mid, run, step) =
-    subst (λ (k : ℕ). Progress start old now k seen machine') (let same : count + more + 1 ≡ count + suc more = omega arith in same)
-    (Progress-turn start old now now (count + more) seen seen mid machine' (Progress-quiet start old now count more seen machine mid p run)
+-- instructions that only ran, where calls are not counted
+pub Progress-quiet : (start : List ℕ → World) (old now : Devices) (count more : ℕ) (x : Exchanged) (machine machine' : State)
+    → Progress start old now count x None machine → RunsQuietly more machine machine' → Progress start old now (count + more) x None machine'
+Progress-quiet start old now count zero x machine machine' p run =
+    subst (λ (k : ℕ). Progress start old now k x None machine') (let same : count ≡ count + zero = omega arith in same)
+    (subst (λ (m : State). Progress start old now count x None m) (sym run) p)
+Progress-quiet start old now count (suc more) x machine machine' p (mid, run, step) =
+    subst (λ (k : ℕ). Progress start old now k x None machine') (let same : count + more + 1 ≡ count + suc more = omega arith in same)
+    (Progress-turn start old now now (count + more) x x None mid machine' (Progress-quiet start old now count more x machine mid p run)
     (Ran, machine', step, (refl, refl, (Keeps-refl now.remaining, Keeps-refl now.written))))
 
 -- a stretch that ends with something else than that it ran, or that memory is wanted
@@ -192,6 +214,11 @@ tells_last grows most old count WantsByte new other memory stretch = stretch
 tells_last grows most old count (Puts byte) new other memory stretch = stretch
 tells_last grows most old count (Ended end) new other memory stretch = stretch
 tells_last grows most old count NoMemory new other memory stretch = absurd (memory refl)
+
+-- it has an instruction
+pub stretch_some : (grows : Bool) (most : ℕ) (old : State) (count : ℕ) (event : Event) (new : State) → (event ≡ Ran → ⊥) → (event ≡ NoMemory → ⊥) → IsStretch grows most old count event new → 1 ≤ count
+stretch_some grows most old count event new other memory stretch =
+    let t = tells_last grows most old count event new other memory stretch in omega (arith, t.counted)
 
 -- no stretch is too long
 pub stretch_few : (grows : Bool) (most : ℕ) (old : State) (count : ℕ) (event : Event) (new : State) → IsStretch grows most old count event new → count ≤ most
@@ -231,12 +258,16 @@ nothing_over (Some told) None leaves = absurd leaves
 nothing_over (Some told) (Some left) leaves = leaves
 
 -- the loop has executed so many instructions
-executes_of : (start : List ℕ → World) (old now : Devices) (count : ℕ) (seen : Bool) (machine : State) → (p : Progress start old now count seen machine)
+way_of : (start : List ℕ → World) (old now : Devices) (count : ℕ) (x : Exchanged) (calls : Option ℕ) (machine : State) → (p : Progress start old now count x calls machine)
+    → Way calls count (start (p.read ++ rest_of old.remaining now.remaining)) (record { machine = machine; output = p.output; input = rest_of old.remaining now.remaining })
+way_of start old now count x calls machine p = p.runs (rest_of old.remaining now.remaining) (λ end. nothing_over old.remaining now.remaining (p.at_end end))
+
+executes_of : (start : List ℕ → World) (old now : Devices) (count : ℕ) (x : Exchanged) (calls : Option ℕ) (machine : State) → (p : Progress start old now count x calls machine)
     → Executes start old now count (record { machine = machine; output = p.output; input = rest_of old.remaining now.remaining })
-executes_of start old now count seen machine p = record {
+executes_of start old now count x calls machine p = record {
   input = p.read ++ rest_of old.remaining now.remaining;
   told = told_all old.remaining now.remaining p.read p.consumed;
-  counted = p.runs (rest_of old.remaining now.remaining) (λ end. nothing_over old.remaining now.remaining (p.at_end end));
+  counted = (way_of start old now count x calls machine p).0;
   unread = left_over old.remaining now.remaining p.read p.consumed;
   written = p.printed;
 }
@@ -251,57 +282,85 @@ executes_kept start old now new count w x (kept, silent) = record {
   written = appends_kept old.written now.written new.written w.output x.written silent;
 }
 
--- the budget is used up
-pub spends : (start : List ℕ → World) (old now : Devices) (count budget : ℕ) (seen : Bool) (machine : State) → Progress start old now count seen machine → count ≡ budget
-    → IsReported start budget old now (record { stop = stops.Spent; count = budget; counter = machine.core.counter; limit = limit_at stops.Spent machine.core })
-spends start old now count budget seen machine p is = record {
-  world = record { machine = machine; output = p.output; input = rest_of old.remaining now.remaining };
-  executes = subst (λ k. Executes start old now k (record { machine = machine; output = p.output; input = rest_of old.remaining now.remaining })) is (executes_of start old now count seen machine p);
-  few = let all : budget ≤ budget = omega arith in all;
-  stops = (ap end_in p.running, refl);
-  stands = (refl, refl);
+-- what was read, and what is left
+all_read : (taken : ℕ) (read rest : List ℕ) → taken ≡ length read → taken + length rest ≡ length (read ++ rest)
+all_read taken read rest reads = ap (λ n. n + length rest) reads ∙ sym (length-append read rest)
+
+-- what is reported of a machine that stops so
+abbrev pub reported : Stop → (count : ℕ) → Exchanged → (calls : Option ℕ) → State → Report
+reported stop count x calls machine = record {
+  stop = stop;
+  count = count;
+  counter = machine.core.counter;
+  limit = limit_at stop machine.core;
+  read = x.read;
+  written = x.written;
+  calls = calls;
 }
+
+-- the budget is used up
+pub spends : (start : List ℕ → World) (old now : Devices) (count budget : ℕ) (x : Exchanged) (calls : Option ℕ) (machine : State) → Progress start old now count x calls machine → count ≡ budget
+    → IsReported start budget old now (reported stops.Spent budget x calls machine)
+spends start old now count budget x calls machine p is =
+    let here : IsReported start budget old now (reported stops.Spent count x calls machine) = record {
+      world = record { machine = machine; output = p.output; input = rest_of old.remaining now.remaining };
+      executes = record {
+        input = p.read ++ rest_of old.remaining now.remaining;
+        told = told_all old.remaining now.remaining p.read p.consumed;
+        counted = (way_of start old now count x calls machine p).0;
+        unread = left_over old.remaining now.remaining p.read p.consumed;
+        written = p.printed;
+      };
+      few = omega (arith, is);
+      stops = (ap end_in p.running, is);
+      stands = (refl, refl);
+      read = all_read x.read p.read (rest_of old.remaining now.remaining) p.reads;
+      printed = p.writes;
+      calls = (way_of start old now count x calls machine p).1;
+    } in
+    subst (λ (k : ℕ). IsReported start budget old now (reported stops.Spent k x calls machine)) is here
 
 -- the run ends
-executes_last : (start : List ℕ → World) (old now new : Devices) (count : ℕ) (seen seen' : Bool) (machine machine' : State) (end : End) → (p : Progress start old now count seen machine)
-    → Turned machine machine' seen seen' now new (Ok (Some end)) → Executes start old new (count + 1) (record { machine = machine'; output = p.output; input = rest_of old.remaining now.remaining })
-executes_last start old now new count seen seen' machine machine' end p (step, rests) =
+pub stops_at : (start : List ℕ → World) (old now new : Devices) (count budget : ℕ) (x x' : Exchanged) (calls : Option ℕ) (machine machine' : State) (end : End) → Progress start old now count x calls machine → count + 1 ≤ budget
+    → Turned machine machine' x x' now new (Ok (Some end))
+    → IsReported start budget old new (reported (stops.End end) (count + 1) x' (counted_at calls machine'.core) machine')
+stops_at start old now new count budget x x' calls machine machine' end p few (step, same, (kept, silent)) =
     let rest = rest_of old.remaining now.remaining in
-    let x = executes_kept start old now new count (record { machine = machine; output = p.output; input = rest }) (executes_of start old now count seen machine p) rests in
     let here : World = record { machine = machine; output = p.output; input = rest } in
-    let there : World = record { machine = machine'; output = p.output; input = rest } in record {
-      input = x.input;
-      told = x.told;
-      counted = counted_more count (start x.input) here there x.counted p.running (Ended end, machine', step, refl);
-      unread = x.unread;
-      written = x.written;
-    }
-
-pub stops_at : (start : List ℕ → World) (old now new : Devices) (count budget : ℕ) (seen seen' : Bool) (machine machine' : State) (end : End) → Progress start old now count seen machine → count + 1 ≤ budget
-    → Turned machine machine' seen seen' now new (Ok (Some end))
-    → IsReported start budget old new (record { stop = stops.End end; count = count + 1; counter = machine'.core.counter; limit = limit_at (stops.End end) machine'.core })
-stops_at start old now new count budget seen seen' machine machine' end p few turned = record {
-  world = record { machine = machine'; output = p.output; input = rest_of old.remaining now.remaining };
-  executes = executes_last start old now new count seen seen' machine machine' end p turned;
-  few = few;
-  stops = ap end_in (Step-phase machine (Ended end) machine' turned.0);
-  stands = (refl, refl);
-}
+    let there : World = record { machine = machine'; output = p.output; input = rest } in
+    let way = way_more calls count (start (p.read ++ rest)) here there (way_of start old now count x calls machine p) p.running (Ended end, machine', step, refl) in
+    let all : IsReported start budget old new (reported (stops.End end) (count + 1) x (counted_at calls machine'.core) machine') = record {
+      world = there;
+      executes = record {
+        input = p.read ++ rest;
+        told = told_all old.remaining now.remaining p.read p.consumed;
+        counted = way.0;
+        unread = leaves_kept old.remaining now.remaining new.remaining rest (left_over old.remaining now.remaining p.read p.consumed) kept;
+        written = appends_kept old.written now.written new.written p.output p.printed silent;
+      };
+      few = few;
+      stops = ap end_in (Step-phase machine (Ended end) machine' step);
+      stands = (refl, refl);
+      read = all_read x.read p.read rest p.reads;
+      printed = p.writes;
+      calls = way.1;
+    } in
+    subst (λ y. IsReported start budget old new (reported (stops.End end) (count + 1) y (counted_at calls machine'.core) machine')) (sym same) all
 
 -- a device fails
-pub fails_at : (grows : Bool) (start : List ℕ → World) (old now new : Devices) (count budget : ℕ) (seen seen' : Bool) (machine machine' : State) (e : RunFault) → Progress start old now count seen machine → count < budget
-    → Turned machine machine' seen seen' now new (Err e) → Runs grows start budget old new (Err e)
-fails_at grows start old now new count budget seen seen' machine machine' Read p below (s, step, rests) =
+pub fails_at : (grows : Bool) (start : List ℕ → World) (old now new : Devices) (count budget : ℕ) (x x' : Exchanged) (calls : Option ℕ) (machine machine' : State) (e : RunFault) → Progress start old now count x calls machine → count < budget
+    → Turned machine machine' x x' now new (Err e) → Runs grows start budget old new (Err e)
+fails_at grows start old now new count budget x x' calls machine machine' Read p below (s, step, rests) =
     let rest = rest_of old.remaining now.remaining in
     let here : World = record { machine = machine; output = p.output; input = rest } in
-    (count, here, executes_kept start old now new count here (executes_of start old now count seen machine p) rests, below, ap end_in p.running, (s, step))
-fails_at grows start old now new count budget seen seen' machine machine' Write p below (byte, s, step, rests) =
+    (count, here, executes_kept start old now new count here (executes_of start old now count x calls machine p) rests, below, ap end_in p.running, (s, step))
+fails_at grows start old now new count budget x x' calls machine machine' Write p below (byte, s, step, rests) =
     let rest = rest_of old.remaining now.remaining in
     let here : World = record { machine = machine; output = p.output; input = rest } in
-    (count, here, executes_kept start old now new count here (executes_of start old now count seen machine p) rests, below, ap end_in p.running, (byte, s, step))
-fails_at grows start old now new count budget seen seen' machine machine' (Elf f) p below none = absurd none
-fails_at grows start old now new count budget seen seen' machine machine' (Load f) p below none = absurd none
-fails_at grows start old now new count budget seen seen' machine machine' Memory p below none = absurd none
+    (count, here, executes_kept start old now new count here (executes_of start old now count x calls machine p) rests, below, ap end_in p.running, (byte, s, step))
+fails_at grows start old now new count budget x x' calls machine machine' (Elf f) p below none = absurd none
+fails_at grows start old now new count budget x x' calls machine machine' (Load f) p below none = absurd none
+fails_at grows start old now new count budget x x' calls machine machine' Memory p below none = absurd none
 
 -- a loaded image is run
 loaded : (inside : Bool) (refused runs : Type 0) → (inside ≡ true → ⊥) → runs → MatchBool inside refused runs
@@ -373,36 +432,51 @@ early_memory read limits budget old new result (store, _, answers) is =
 
 -- A stretch that ends with something else than that it ran: what was told is answered.
 
-pub Progress-stretch : (grows : Bool) (start : List ℕ → World) (old now new : Devices) (count most more : ℕ) (seen seen' : Bool) (machine mid machine' : State) (event : Event) → Progress start old now count seen machine
-    → (event ≡ Ran → ⊥) → (event ≡ NoMemory → ⊥) → IsStretch grows most machine more event mid → ((before : State) → Step before event mid → Turned before machine' seen seen' now new (Ok None))
-    → Progress start old new (count + more) seen' machine'
-Progress-stretch grows start old now new count most more seen seen' machine mid machine' event p other memory stretch turned =
+pub Progress-stretch : (grows : Bool) (start : List ℕ → World) (old now new : Devices) (count most more : ℕ) (x x' : Exchanged) (machine mid machine' : State) (event : Event) → Progress start old now count x None machine
+    → (event ≡ Ran → ⊥) → (event ≡ NoMemory → ⊥) → IsStretch grows most machine more event mid → ((before : State) → Step before event mid → Turned before machine' x x' now new (Ok None))
+    → Progress start old new (count + more) x' None machine'
+Progress-stretch grows start old now new count most more x x' machine mid machine' event p other memory stretch turned =
     let t = tells_last grows most machine more event mid other memory stretch in
     let same : count + t.quiet + 1 ≡ count + more = omega (arith, t.counted) in
-    subst (λ (k : ℕ). Progress start old new k seen' machine') same
-    (Progress-turn start old now new (count + t.quiet) seen seen' t.before machine' (Progress-quiet start old now count t.quiet seen machine t.before p t.runs) (turned t.before t.last))
+    subst (λ (k : ℕ). Progress start old new k x' None machine') same
+    (Progress-turn start old now new (count + t.quiet) x x' None t.before machine' (Progress-quiet start old now count t.quiet x machine t.before p t.runs) (turned t.before t.last))
 
-pub stops_after : (grows : Bool) (start : List ℕ → World) (old now new : Devices) (count budget more : ℕ) (seen seen' : Bool) (machine mid machine' : State) (event : Event) (end : End) → Progress start old now count seen machine → count < budget
-    → (event ≡ Ran → ⊥) → (event ≡ NoMemory → ⊥) → IsStretch grows (budget - count) machine more event mid → ((before : State) → Step before event mid → Turned before machine' seen seen' now new (Ok (Some end)))
-    → IsReported start budget old new (record { stop = stops.End end; count = count + more; counter = machine'.core.counter; limit = limit_at (stops.End end) machine'.core })
-stops_after grows start old now new count budget more seen seen' machine mid machine' event end p below other memory stretch turned =
+pub stops_after : (grows : Bool) (start : List ℕ → World) (old now new : Devices) (count budget more : ℕ) (x x' : Exchanged) (machine mid machine' : State) (event : Event) (end : End) → Progress start old now count x None machine → count < budget
+    → (event ≡ Ran → ⊥) → (event ≡ NoMemory → ⊥) → IsStretch grows (budget - count) machine more event mid → ((before : State) → Step before event mid → Turned before machine' x x' now new (Ok (Some end)))
+    → IsReported start budget old new (reported (stops.End end) (count + more) x' None machine')
+stops_after grows start old now new count budget more x x' machine mid machine' event end p below other memory stretch turned =
     let t = tells_last grows (budget - count) machine more event mid other memory stretch in
     let same : count + t.quiet + 1 ≡ count + more = omega (arith, t.counted) in
     let few : count + t.quiet + 1 ≤ budget = omega (arith, below, same, stretch_few grows (budget - count) machine more event mid stretch) in
-    subst (λ (k : ℕ). IsReported start budget old new (record { stop = stops.End end; count = k; counter = machine'.core.counter; limit = limit_at (stops.End end) machine'.core })) same
-    (stops_at start old now new (count + t.quiet) budget seen seen' t.before machine' end (Progress-quiet start old now count t.quiet seen machine t.before p t.runs) few (turned t.before t.last))
+    subst (λ (k : ℕ). IsReported start budget old new (reported (stops.End end) k x' None machine')) same
+    (stops_at start old now new (count + t.quiet) budget x x' None t.before machine' end (Progress-quiet start old now count t.quiet x machine t.before p t.runs) few (turned t.before t.last))
 
-pub fails_after : (grows : Bool) (start : List ℕ → World) (old now new : Devices) (count budget more : ℕ) (seen seen' : Bool) (machine mid machine' : State) (event : Event) (e : RunFault) → Progress start old now count seen machine → count < budget
-    → (event ≡ Ran → ⊥) → (event ≡ NoMemory → ⊥) → IsStretch grows (budget - count) machine more event mid → ((before : State) → Step before event mid → Turned before machine' seen seen' now new (Err e))
+pub fails_after : (grows : Bool) (start : List ℕ → World) (old now new : Devices) (count budget more : ℕ) (x x' : Exchanged) (machine mid machine' : State) (event : Event) (e : RunFault) → Progress start old now count x None machine → count < budget
+    → (event ≡ Ran → ⊥) → (event ≡ NoMemory → ⊥) → IsStretch grows (budget - count) machine more event mid → ((before : State) → Step before event mid → Turned before machine' x x' now new (Err e))
     → Runs grows start budget old new (Err e)
-fails_after grows start old now new count budget more seen seen' machine mid machine' event e p below other memory stretch turned =
+fails_after grows start old now new count budget more x x' machine mid machine' event e p below other memory stretch turned =
     let t = tells_last grows (budget - count) machine more event mid other memory stretch in
-    fails_at grows start old now new (count + t.quiet) budget seen seen' t.before machine' e (Progress-quiet start old now count t.quiet seen machine t.before p t.runs) (omega (arith, t.counted, t.few)) (turned t.before t.last)
+    fails_at grows start old now new (count + t.quiet) budget x x' None t.before machine' e (Progress-quiet start old now count t.quiet x machine t.before p t.runs) (omega (arith, t.counted, t.few)) (turned t.before t.last)
 
 -- The store wants memory, before any more is executed.
-pub wants_after : (grows : Bool) (start : List ℕ → World) (old now : Devices) (count budget more : ℕ) (seen : Bool) (machine mid : State) → Progress start old now count seen machine → count < budget
+pub wants_after : (grows : Bool) (start : List ℕ → World) (old now : Devices) (count budget more : ℕ) (x : Exchanged) (machine mid : State) → Progress start old now count x None machine → count < budget
     → IsStretch grows (budget - count) machine more NoMemory mid → Runs grows start budget old now (Err Memory)
-wants_after grows start old now count budget more seen machine mid p below (few, runs, wants) =
-    let q = Progress-quiet start old now count more seen machine mid p runs in
+wants_after grows start old now count budget more x machine mid p below (few, runs, wants) =
+    let q = Progress-quiet start old now count more x machine mid p runs in
     let here : World = record { machine = mid; output = q.output; input = rest_of old.remaining now.remaining } in
-    (count + more, here, executes_of start old now (count + more) seen mid q, (omega (arith, few)), ap end_in q.running, wants)
+    (count + more, here, executes_of start old now (count + more) x None mid q, (omega (arith, few)), ap end_in q.running, wants)
+
+-- One instruction, where each is looked at.
+
+pub told_step : (grows : Bool) (old : State) (event : Event) (new : State) → (event ≡ NoMemory → ⊥) → StepOver grows old event new → Step old event new
+told_step grows old Ran new memory step = step
+told_step grows old WantsByte new memory step = step
+told_step grows old (Puts byte) new memory step = step
+told_step grows old (Ended end) new memory step = step
+told_step grows old NoMemory new memory step = absurd (memory refl)
+
+pub wants_at : (grows : Bool) (start : List ℕ → World) (old now : Devices) (count budget : ℕ) (x : Exchanged) (calls : Option ℕ) (machine new : State) → Progress start old now count x calls machine → count < budget
+    → StepOver grows machine NoMemory new → Runs grows start budget old now (Err Memory)
+wants_at grows start old now count budget x calls machine new p below (wants, same) =
+    let here : World = record { machine = machine; output = p.output; input = rest_of old.remaining now.remaining } in
+    (count, here, executes_of start old now count x calls machine p, below, ap end_in p.running, wants)

@@ -1,7 +1,7 @@
 -- Lines that are written one after another.
 use Rattle.std.proofs.Common.{◌≡◌, ℕ, zero, suc, ◌+◌, ◌-◌, ◌*◌, ◌/◌, ◌<◌, List, [], ◌∷◌, ◌++◌, Option, Result, IsErr, sym, ap, subst, ◌∙◌, arith, append-nil, length, get_or, take}
 use Rattle.std.specs.Prelude.{map}
-use Rattle.std.proofs.lemmas.List.{get_or-map, take_more}
+use Rattle.std.proofs.lemmas.List.{take_more}
 use Rattle.std.specs.List.{flat_map, range_with_len}
 use Rattle.std.specs.Io.KnownBytes.{Appends}
 use Rattle.std.proofs.lemmas.Grind.{flat_map-append}
@@ -51,10 +51,6 @@ segment_exit s count n a b c r is below err taken then =
     (TakesText_exit a b c (flat_map (segment_line s) (range_with_len 0 n)) (segment_line s n) (flat_map (segment_line s) (range_with_len (n + 1) (count - (n + 1)))) r err taken then)
 
 -- A list of parts that are written one after another.
-
--- the element that a loop is at, seen by a function
-pub item_seen : {X Y : Type 0} (f : X → Y) (xs : List X) (i : ℕ) (x : X) → i < length xs → x ≡ get_or xs i x → get_or (map f xs) i (f x) ≡ f x
-item_seen f xs i x below is = get_or-map f xs i x (f x) below ∙ ap f (sym is)
 
 pub parts_more : {X : Type 0} (f : X → List ℕ) (xs : List X) (i : ℕ) (x : X) → i < length xs → get_or xs i x ≡ x → flat_map f (take i xs) ++ f x ≡ flat_map f (take (i + 1) xs)
 parts_more f xs i x below is =

@@ -13,16 +13,20 @@ use Rattle.cyc_frame.specs.inside.Layout as frames
 use Rattle.cyc_frame.specs.inside.Layout.{HasSmallFrames}
 use Rattle.cyc_system.specs.FullPreservation.{IsImageOf}
 use Rattle.cyc_system.specs.declared.compiler.Compilation.{Compilation}
+use Rattle.cyc_system.specs.declared.places.Placed.{Placed}
 use Rattle.cyc_system.specs.Front.{IsAcceptedText, IsRefusedText, HasFault}
 use Rattle.cyc_system.specs.Compiled.{IsTooLarge, IsSmallEnough, IsSmall, IsCompiledText, IsRefusedAtLast, HasFaultAtLast}
 use Rattle.cyc_system.proofs.Sizes.{large_above, large_below, small_above, small_below}
 
--- the bytes of a file are an image of the program, alone or beside the text's tokens
+-- the bytes of a file are an image of the program, alone, beside the text's tokens, or beside where it comes from as well
 abbrev pub HasImage : Program → Vec ℕ Global → Type 0
 HasImage p file = IsImageOf p file.items
 
 abbrev pub HasImageBeside : Program → Compilation → Type 0
 HasImageBeside p made = HasImage p made.image
+
+abbrev pub HasImagePlaced : Program → Placed → Type 0
+HasImagePlaced p made = HasImageBeside p made.compilation
 
 -- ---- what stands behind the front end, for a typed program
 

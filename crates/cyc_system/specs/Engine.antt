@@ -1,15 +1,15 @@
 -- What it means to run an image between a reader and a writer. This project's own choice.
-use Rattle.std.specs.Prelude.{◌≡◌, ℕ, zero, suc, ◌≤◌, ◌<◌, ◌==◌, if◌then◌else◌, Bool, List, Option, None, Some, Result, Ok, Err, MatchBool, ◌⊎◌}
+use Rattle.std.specs.Prelude.{◌≡◌, ℕ, zero, suc, ◌+◌, ◌-◌, ◌*◌, ◌/◌, ◌≤◌, ◌<◌, ◌==◌, max, length, IfSome, if◌then◌else◌, Bool, List, Option, None, Some, Result, Ok, Err, MatchBool, ◌⊎◌}
 use Rattle.std.specs.Io.KnownBytes.{Keeps, Appends}
 use Rattle.cyc_store.specs.State.{StoreState, IsNew}
 use Rattle.cyc_elf.specs.declared.fault.ElfFault.{ElfFault}
 use Rattle.cyc_elf.specs.Image.{ImageContents}
 use Rattle.cyc_machine.specs.declared.fault.LoadFault.TheVariants as load
-use Rattle.cyc_machine.specs.declared.constants.TheConstants.{END_FULL, SERVICE}
+use Rattle.cyc_machine.specs.declared.constants.TheConstants.{END_FULL, SERVICE, STACK_POINTER}
 use Rattle.cyc_machine.specs.declared.event.End.TheVariants as ends
 use Rattle.cyc_machine.specs.declared.event.Event.TheVariants.{WantsByte, Puts}
 use Rattle.cyc_machine.specs.Bounds.{Bounds}
-use Rattle.cyc_machine.specs.State.{Core, State, register}
+use Rattle.cyc_machine.specs.State.{Core, State, register, stack_end, words_per_call}
 use Rattle.cyc_machine.specs.Step.{Step, WantsMemory}
 use Rattle.cyc_machine.specs.Run.{World, Goes, Run, end_of}
 use Rattle.cyc_machine.specs.Start.{has_outside, start_world}
@@ -46,6 +46,20 @@ abbrev pub Counted : ℕ → World → World → Type 0
 Counted zero old new = new ≡ old
 Counted (suc count) old new = (mid : World) × Run count old mid × (end_of mid ≡ None) × Goes mid new
 
+-- How many calls are under way, as the programs of this project's compiler have them: each call has a frame of 256 words, the first of
+-- them just below the end of the stack, and the stack pointer is the address of the last one.
+abbrev pub calls_at : Core → ℕ
+calls_at core = (stack_end - register core STACK_POINTER) / (4 * words_per_call)
+
+abbrev pub calls_in : World → ℕ
+calls_in w = calls_at w.machine.core
+
+-- The same, and the most calls under way in any world from the old one up to the new one, both included, are so many.
+abbrev pub Peaks : ℕ → World → World → (most : ℕ) → Type 0
+Peaks zero old new most = (new ≡ old) × (most ≡ calls_in old)
+Peaks (suc count) old new most =
+    (mid : World) × (before : ℕ) × Peaks count old mid before × (end_of mid ≡ None) × Goes mid new × (most ≡ max before (calls_in new))
+
 -- So many instructions were executed, on an input of which the reader told all that it tells: what they printed was
 -- written, and what they asked for was read, the rest not.
 pub record Executes (start : List ℕ → World) (old new : Devices) (count : ℕ) (w : World) : Type 0 where
@@ -71,13 +85,17 @@ abbrev pub StandsAt : Report → World → Type 0
 StandsAt report w = (report.counter ≡ w.machine.core.counter) × (report.limit ≡ limit_at report.stop w.machine.core)
 
 -- A run that begins in this world, on whatever input, and of which this is reported: so many instructions, none beyond the budget, how
--- it stopped, and where it stands then. All of it is of one run.
+-- it stopped, where it stands then, the bytes that it read and printed, and the most calls, where they were counted. All of it is of one
+-- run.
 pub record IsReported (start : List ℕ → World) (budget : ℕ) (old new : Devices) (report : Report) : Type 0 where
   pub world : World
   pub executes : Executes start old new report.count world
   pub few : report.count ≤ budget
   pub stops : Stops report.stop budget report.count world
   pub stands : StandsAt report world
+  pub read : report.read + length world.input ≡ length executes.input
+  pub printed : report.written ≡ length world.output
+  pub calls : IfSome report.calls (Peaks report.count (start executes.input) world)
 
 -- the next instruction wants a byte, or prints one
 abbrev pub WantsByteNext : World → Type 0

@@ -68,7 +68,11 @@ fn lower_simplified(alloc: Global, program: &Flowed) -> Result<Plain, Fault>
 }
 
 /// Compiles a typed program to an image, as the bytes of a file.
-fn build(alloc: Global, program: &Flowed, note: Option<(u32, u32)>) -> Result<Vec<u8>, Fault>
+pub(crate) fn build(
+    alloc: Global,
+    program: &Flowed,
+    note: Option<(u32, u32)>,
+) -> Result<Vec<u8>, Fault>
     requires well_typed { IsWellTypedProgram (view_program program.now.tree) }
     requires small { program_weight (view_program program.now.tree) ≤ max_tokens }
     requires can_be { CanBeLowered (view_program program.now.tree) }
@@ -111,7 +115,7 @@ pub fn compile_with_tokens(
     ensures note { IfOk result (λ made. Carries made.image.items note) }
 {
     let phases = run_phases(alloc, text)?;
-    let warnings = find_warnings(alloc, &phases.tree);
+    let warnings = find_warnings(alloc, &phases.tree, text);
     // The memory of the tree is enough for all that the passes behind the front end make.
     drop(phases.tree);
     let image = build(alloc, &phases.program, note)?;

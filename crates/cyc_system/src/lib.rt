@@ -3,16 +3,20 @@
 
 mod compiler;
 mod engine;
+mod following;
 mod front;
 mod image;
 pub mod laws;
 mod listing;
 mod notes;
+mod places;
 mod report;
 
 pub use compiler::{Compilation, compile, compile_with, compile_with_tokens};
-pub use engine::{run, run_with};
+pub use engine::{run, run_counting, run_with};
+pub use following::{Trail, follow, source_at};
 pub use front::{Phases, accept, run_phases};
 pub use listing::disassemble;
 pub use notes::note_of;
+pub use places::{Declared, Placed, Places, Source, Stretch, compile_with_places};
 pub use report::{Limit, Report, RunFault, Stop};

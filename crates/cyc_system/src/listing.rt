@@ -1,19 +1,21 @@
 //! Lists the words of an image's text with their instructions.
 
-ghost use Rattle.std.specs.Prelude.{◌≡◌, ◌+◌, ◌<◌, ◌^◌, ◌||◌, true, All, OnOk, OnErr, map, slice_index, Err};
+ghost use Rattle.std.specs.Prelude.{◌≡◌, ◌+◌, ◌<◌, ◌≤◌, ◌^◌, ◌&&◌, ◌||◌, nat_le, nat_lt, true, All, OnOk, OnErr, length, map, slice_index, Err};
 ghost use Rattle.std.specs.Io.KnownBytes.{Keeps};
 ghost use Rattle.std.specs.List.{flat_map};
 ghost use Rattle.cyc_words.specs.Device.{TakesText};
 ghost use Rattle.cyc_isa.specs.Text.{hex_digit_of, hex_digits_of};
-ghost use Rattle.cyc_elf.specs.Image.{segment_contents, IsSegment};
+ghost use Rattle.cyc_elf.specs.Image.{IsSegment};
+ghost use Rattle.cyc_elf.specs.Outline.{fields_of};
+ghost use Rattle.cyc_machine.specs.State.{text_base, text_end};
 ghost use Rattle.cyc_machine.specs.Start.{word_in};
-ghost use Rattle.cyc_elf.specs.Reading.{reading};
+ghost use Rattle.cyc_elf.specs.Reading.{reading, segment_of};
 ghost use Rattle.cyc_system.specs.Faults.{is_write};
 ghost use Rattle.cyc_system.specs.declared.report.RunFault.TheVariants.{Memory};
-ghost use Rattle.cyc_system.specs.Listing.{word_text, head_of, line_of, segment_lines, begins_in_text, listed_lines, Shows};
+ghost use Rattle.cyc_system.specs.Listing.{word_text, head_of, line_of, segment_lines, listed_lines, Shows};
 
 use crate::report::RunFault;
-use cyc_elf::{Segment, read_image};
+use cyc_elf::{ProgramHeader, read_outline};
 use cyc_isa::{decode, write_text};
 use cyc_machine::constants::{TEXT_BASE, TEXT_END};
 use cyc_words::{ByteOut, Failed, word_at};
@@ -89,12 +91,14 @@ fn byte_at(bytes: &[u8], index: usize) -> u8
     if index < bytes.len() { bytes[index] } else { 0 }
 }
 
-/// The word at an offset of a segment: the file's bytes, and zeros past them.
-fn word_in(segment: &Segment, offset: usize) -> u32
-    requires { offset < 2 ^ 32 }
-    ensures { result ≡ word_in (segment_contents segment.now) (segment.now.vaddr + offset) }
+/// The word at an offset of the segment that a header describes: the file's bytes, and zeros past them.
+fn word_in(file: &[u8], header: &ProgramHeader, offset: usize) -> u32
+    requires stored { header.now.offset + header.now.file_size ≤ length file.now }
+    requires offset { offset < 2 ^ 32 }
+    ensures { result ≡ word_in (segment_of file.now (fields_of header.now)) (header.now.vaddr + offset) }
 {
-    let bytes = segment.bytes.as_slice();
+    let start = header.offset as usize;
+    let bytes = &file[start..start + header.file_size as usize];
     word_at(&[
         byte_at(bytes, offset),
         byte_at(bytes, offset + 1),
@@ -103,59 +107,66 @@ fn word_in(segment: &Segment, offset: usize) -> u32
     ])
 }
 
-/// Writes the lines of a segment.
-fn put_segment<W: ByteOut>(segment: &Segment, out: &mut W) -> Result<(), Failed>
-    requires { IsSegment (segment_contents segment.now) }
-    ensures bytes { TakesText (W.written out.old) (segment_lines (segment_contents segment.now)) result (W.written out.new) }
+/// Writes the lines of the segment that a header describes.
+fn put_segment<W: ByteOut>(file: &[u8], header: &ProgramHeader, out: &mut W) -> Result<(), Failed>
+    requires stored { header.now.offset + header.now.file_size ≤ length file.now }
+    requires segment { IsSegment (segment_of file.now (fields_of header.now)) }
+    ensures bytes { TakesText (W.written out.old) (segment_lines (segment_of file.now (fields_of header.now))) result (W.written out.new) }
     ensures works { OnOk result (W.failed out.new ≡ W.failed out.old) }
     ensures fails { OnErr result (W.failed out.new ≡ true) }
 {
-    for number in 0..segment.size.div_ceil(4) {
+    for number in 0..header.memory_size.div_ceil(4) {
         let offset = 4 * number;
         put_line(
-            segment.vaddr + offset,
-            word_in(segment, offset as usize),
+            header.vaddr + offset,
+            word_in(file, header, offset as usize),
             out,
         )?;
     }
     Ok(())
 }
 
-fn begins_in_text(segment: &Segment) -> bool
-    ensures { result ≡ begins_in_text (segment_contents segment.now) }
+fn is_in_text(address: u32) -> bool
+    ensures { result ≡ (nat_le text_base address && nat_lt address text_end) }
 {
-    TEXT_BASE <= segment.vaddr && segment.vaddr < TEXT_END
+    TEXT_BASE <= address && address < TEXT_END
 }
 
-/// Writes the lines of a segment, where it begins in the text range.
-fn put_listed<W: ByteOut>(segment: &Segment, out: &mut W) -> Result<(), Failed>
-    requires { IsSegment (segment_contents segment.now) }
-    ensures bytes { TakesText (W.written out.old) (listed_lines (segment_contents segment.now)) result (W.written out.new) }
+/// Writes the lines of the segment that a header describes, where it begins in the text range.
+fn put_listed<W: ByteOut>(file: &[u8], header: &ProgramHeader, out: &mut W) -> Result<(), Failed>
+    requires stored { header.now.offset + header.now.file_size ≤ length file.now }
+    requires segment { IsSegment (segment_of file.now (fields_of header.now)) }
+    ensures bytes { TakesText (W.written out.old) (listed_lines (segment_of file.now (fields_of header.now))) result (W.written out.new) }
     ensures works { OnOk result (W.failed out.new ≡ W.failed out.old) }
     ensures fails { OnErr result (W.failed out.new ≡ true) }
 {
-    if begins_in_text(segment) {
-        put_segment(segment, out)
+    if is_in_text(header.vaddr) {
+        put_segment(file, header, out)
     } else {
         Ok(())
     }
 }
 
-/// Writes the lines of several segments.
-fn put_all_listed<W: ByteOut>(segments: &[Segment], out: &mut W) -> Result<(), Failed>
-    requires { All IsSegment (map segment_contents segments.now) }
-    ensures bytes { TakesText (W.written out.old) (flat_map listed_lines (map segment_contents segments.now)) result (W.written out.new) }
+/// Writes the lines of the segments that headers describe.
+fn put_all_listed<W: ByteOut>(
+    file: &[u8],
+    loads: &[ProgramHeader],
+    out: &mut W,
+) -> Result<(), Failed>
+    requires stored { All (λ h. h.offset + h.file_size ≤ length file.now) loads.now }
+    requires segments { All IsSegment (map (segment_of file.now) (map fields_of loads.now)) }
+    ensures bytes { TakesText (W.written out.old) (flat_map listed_lines (map (segment_of file.now) (map fields_of loads.now))) result (W.written out.new) }
     ensures works { OnOk result (W.failed out.new ≡ W.failed out.old) }
     ensures fails { OnErr result (W.failed out.new ≡ true) }
 {
-    for segment in segments {
-        put_listed(segment, out)?;
+    for number in 0..loads.len() {
+        put_listed(file, &loads[number], out)?;
     }
     Ok(())
 }
 
 /// Lists an image: a line for each word of each segment whose address is in the text range, with the address, the word
-/// and the text of its instruction, or `.word` where it is none's.
+/// and the text of its instruction, or `.word` where it is none's. The bytes of the segments stay where they are, in the file.
 ///
 /// A failure of the writer leaves a prefix of the listing.
 pub fn disassemble<W: ByteOut>(alloc: Global, image: &[u8], writer: &mut W) -> Result<(), RunFault>
@@ -165,8 +176,8 @@ pub fn disassemble<W: ByteOut>(alloc: Global, image: &[u8], writer: &mut W) -> R
     // `Write` is answered exactly where the writer failed in this call.
     ensures writer { W.failed writer.new ≡ (is_write result || W.failed writer.old) }
 {
-    let image = read_image(alloc, image)?;
-    match put_all_listed(&image.segments, writer) {
+    let outline = read_outline(alloc, image)?;
+    match put_all_listed(image, &outline.loads, writer) {
         Ok(()) => Ok(()),
         Err(_) => Err(RunFault::Write),
     }

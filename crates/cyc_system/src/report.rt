@@ -25,7 +25,7 @@ pub enum Limit {
     Pages,
 }
 
-/// What came of a run: how it stopped, how many instructions were executed, and where it stood then.
+/// What came of a run: how it stopped, how many instructions were executed, where it stood then, and what it used.
 #[derive(Clone, Copy, Debug, PartialEq, Eq)]
 pub struct Report {
     pub stop: Stop,
@@ -34,6 +34,12 @@ pub struct Report {
     pub counter: u32,
     /// Of which limit more was wanted, where the run is full.
     pub limit: Option<Limit>,
+    /// How many bytes were read of the input.
+    pub read: u64,
+    /// How many bytes were printed.
+    pub written: u64,
+    /// The most calls that were under way at once, where they were counted.
+    pub calls: Option<u32>,
 }
 
 /// Why an image was not run to a stop, or not listed. Want of memory is `Memory`, wherever it comes from, and a listing

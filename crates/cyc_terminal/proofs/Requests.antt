@@ -1,5 +1,5 @@
 -- From what the parser of command lines finds to the request.
-use Rattle.std.proofs.Common.{◌≡◌, ℕ, List, Option, None, Some, Result, Ok, Err, codes, sym, subst, ◌∙◌}
+use Rattle.std.proofs.Common.{◌≡◌, ℕ, Bool, List, Option, None, Some, Result, Ok, Err, codes, sym, subst, ◌∙◌}
 use Rattle.std.specs.Prelude.{Box, IfOk, IfSome, option_map}
 use Rattle.std.specs.Box.{box_value}
 use Rattle.std.specs.Str.Parse.{digits_value}
@@ -11,31 +11,37 @@ use Rattle.clap.specs.declared.parser.matches.ArgMatches.TheViews.{out-ArgMatche
 use Rattle.clap.specs.declared.parser.matches.Found.{Found}
 use Rattle.clap.specs.declared.parser.matches.SubCommand.{SubCommand}
 use Rattle.cyc_terminal.specs.inside.Limits.{Given}
-use Rattle.cyc_terminal.specs.inside.Request.{AreLimitsOf, IsAskedOf, IsCompileRequest, IsNumberIfGiven, IsRequestOf, IsRunRequest, IsWithinBudget}
+use Rattle.cyc_terminal.specs.inside.Request.{AreLimitsOf, IsAskedOf, IsCodeOf, IsCompileRequest, IsNumberIfGiven, IsRequestOf, IsRunRequest, IsWithinBudget, AreCapsOf, IsFlagOf}
 use Rattle.cyc_terminal.specs.declared.arguments.Request.{Request}
-use Rattle.cyc_terminal.specs.declared.arguments.Request.TheVariants.{Check, Compile, Run, Disassemble}
+use Rattle.cyc_terminal.specs.declared.arguments.Request.TheVariants.{Check, Compile, Run, Disassemble, Explain, Describe}
 
 -- ---- the request of a command, by its name
 
 pub compiled : {E : Type 0} (name : List ℕ) (given : List ℕ → Option (List ℕ)) (r : Result Request E) → name ≡ codes "compile" → IfOk r (IsCompileRequest given) → IfOk r (IsRequestOf name given)
-compiled name given (Ok (Compile source image limits)) named is = (named, is)
-compiled name given (Ok (Check source)) named is = absurd is
-compiled name given (Ok (Run image limits budget)) named is = absurd is
+compiled name given (Ok (Compile source image limits places json)) named is = (named, is)
+compiled name given (Ok (Check source json)) named is = absurd is
+compiled name given (Ok (Run image limits caps budget report peaks places)) named is = absurd is
 compiled name given (Ok (Disassemble image)) named is = absurd is
+compiled name given (Ok (Explain code)) named is = absurd is
+compiled name given (Ok (Describe image)) named is = absurd is
 compiled name given (Err e) named is = tt
 
 pub run : {E : Type 0} (name : List ℕ) (given : List ℕ → Option (List ℕ)) (r : Result Request E) → name ≡ codes "run" → IfOk r (IsRunRequest given) → IfOk r (IsRequestOf name given)
-run name given (Ok (Run image limits budget)) named is = (named, is)
-run name given (Ok (Check source)) named is = absurd is
-run name given (Ok (Compile source image limits)) named is = absurd is
+run name given (Ok (Run image limits caps budget report peaks places)) named is = (named, is)
+run name given (Ok (Check source json)) named is = absurd is
+run name given (Ok (Compile source image limits places json)) named is = absurd is
 run name given (Ok (Disassemble image)) named is = absurd is
+run name given (Ok (Explain code)) named is = absurd is
+run name given (Ok (Describe image)) named is = absurd is
 run name given (Err e) named is = tt
 
 pub within_budget : {E : Type 0} (name : List ℕ) (given : List ℕ → Option (List ℕ)) (r : Result Request E) → IfOk r (IsRequestOf name given) → IfOk r IsWithinBudget
-within_budget name given (Ok (Run image limits budget)) (named, (_, _, _, least, most)) = (least, most)
-within_budget name given (Ok (Check source)) is = tt
-within_budget name given (Ok (Compile source image limits)) is = tt
+within_budget name given (Ok (Run image limits caps budget report peaks places)) (named, (_, _, _, _, least, most, _, _, _)) = (least, most)
+within_budget name given (Ok (Check source json)) is = tt
+within_budget name given (Ok (Compile source image limits places json)) is = tt
 within_budget name given (Ok (Disassemble image)) is = tt
+within_budget name given (Ok (Explain code)) is = tt
+within_budget name given (Ok (Describe image)) is = tt
 within_budget name given (Err e) is = tt
 
 -- ---- what the parser found, by its rows
@@ -46,21 +52,36 @@ limits_by_rows f limits (pages, calls) = (
   subst (λ (o : Option (List ℕ)). IsNumberIfGiven o limits.calls) (first_value-rows f (codes "calls")) calls,
 )
 
+caps_by_rows : (f : Found) (caps : Given) → AreCapsOf (first_value f) caps → AreCapsOf (λ id. first_of id (rows_of f)) caps
+caps_by_rows f caps (pages, calls) = (
+  subst (λ (o : Option (List ℕ)). IsNumberIfGiven o caps.pages) (first_value-rows f (codes "at-most-pages")) pages,
+  subst (λ (o : Option (List ℕ)). IsNumberIfGiven o caps.calls) (first_value-rows f (codes "at-most-calls")) calls,
+)
+
+flag_by_rows : (f : Found) (flag : Bool) → IsFlagOf (first_value f (codes "json")) flag → IsFlagOf (first_of (codes "json") (rows_of f)) flag
+flag_by_rows f flag is = subst (λ (o : Option (List ℕ)). IsFlagOf o flag) (first_value-rows f (codes "json")) is
+
 by_rows : (name : Text) (f : Found) (request : Request) → IsRequestOf name (first_value f) request → IsRequestOf name (λ id. first_of id (rows_of f)) request
-by_rows name f (Check source) (named, s) = (named, sym (first_value-rows f (codes "source")) ∙ s)
-by_rows name f (Compile source image limits) (named, (s, i, l)) =
-    (named, (sym (first_value-rows f (codes "source")) ∙ s, sym (first_value-rows f (codes "image")) ∙ i, limits_by_rows f limits l))
-by_rows name f (Run image limits budget) (named, (i, l, n, least, most)) = (
+by_rows name f (Check source json) (named, s, j) = (named, sym (first_value-rows f (codes "source")) ∙ s, flag_by_rows f json j)
+by_rows name f (Compile source image limits places json) (named, (s, i, l, p, j)) =
+    (named, (sym (first_value-rows f (codes "source")) ∙ s, sym (first_value-rows f (codes "image")) ∙ i, limits_by_rows f limits l, sym (first_value-rows f (codes "places")) ∙ p, flag_by_rows f json j))
+by_rows name f (Run image limits caps budget report peaks places) (named, (i, l, m, n, least, most, r, k, p)) = (
   named,
   (
     sym (first_value-rows f (codes "image")) ∙ i,
     limits_by_rows f limits l,
+    caps_by_rows f caps m,
     subst (λ (o : Option (List ℕ)). IfSome o (λ text. budget ≡ digits_value 10 text)) (first_value-rows f (codes "steps")) n,
     least,
     most,
+    sym (first_value-rows f (codes "report")) ∙ r,
+    subst (λ (o : Option (List ℕ)). IsFlagOf o peaks) (first_value-rows f (codes "peaks")) k,
+    sym (first_value-rows f (codes "places")) ∙ p,
   ),
 )
 by_rows name f (Disassemble image) (named, i) = (named, sym (first_value-rows f (codes "image")) ∙ i)
+by_rows name f (Explain code) (named, c) = (named, subst (λ (o : Option (List ℕ)). IsCodeOf o code) (first_value-rows f (codes "code")) c)
+by_rows name f (Describe image) (named, i) = (named, sym (first_value-rows f (codes "image")) ∙ i)
 
 -- the subcommand that the parser entered, of which the name and the rows are known
 entered : {Z : Type 0} (o : Option (Box SubCommand Z)) (name : Text) (rows : List Row)

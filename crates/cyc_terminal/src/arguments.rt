@@ -2,36 +2,57 @@
 ghost use Rattle.std.specs.Prelude.{◌≡◌, ◌≤◌, Some, IfOk, IfSome, codes, map, string_bytes};
 ghost use Rattle.std.specs.Str.Parse.{digits_value};
 ghost use Rattle.clap.specs.Words.{app_of, first_value, found_of};
-ghost use Rattle.cyc_terminal.specs.inside.Request.{AreLimitsOf, IsCompileRequest, IsNumberIfGiven, IsNumberOf, IsAskedOf, IsRequestOf, IsRunRequest, IsWithinBudget};
+ghost use Rattle.cyc_terminal.specs.inside.Request.{AreLimitsOf, IsCodeOf, IsCompileRequest, IsNumberIfGiven, IsNumberOf, IsAskedOf, IsRequestOf, IsRunRequest, IsWithinBudget, AreCapsOf, IsFlagOf};
 
+use crate::codes::{code_written, list_of_codes};
 use crate::limits::GivenLimits;
 use crate::number;
+use crate::version::VERSION;
 use clap::error::ErrorKind;
 use clap::{Arg, ArgAction, ArgMatches, Command, Error};
 use cyc_machine::constants::{MAX_CALLS, MAX_PAGES, MIN_CALLS, MIN_PAGES};
+use cyc_words::Code;
 use std::alloc::{AllocError, Global};
 
 /// What the words of a command line ask for.
 #[derive(Clone, Copy)]
 pub enum Request<'a> {
-    /// `check SOURCE`: to say what is wrong with the program in the file `source`.
+    /// `check SOURCE`: to say what is wrong with the program in the file `source`, as JSON or to a person.
     Check {
         source: &'a str,
+        is_json: bool,
     },
-    /// `compile SOURCE -o IMAGE`: to compile the program in the file `source` to the file `image`, which carries the limits.
+    /// `compile SOURCE -o IMAGE`: to compile the program in the file `source` to the file `image`, which carries the limits, and to write
+    /// where it comes from to the file `places`, if one is given.
     Compile {
         source: &'a str,
         image: &'a str,
         limits: GivenLimits,
+        places: Option<&'a str>,
+        is_json: bool,
     },
-    /// `run IMAGE`: to run an image with these limits, else its own, for at most `budget` instructions.
+    /// `run IMAGE`: to run an image with these limits, else its own, but with none above those of `caps`, for at most `budget`
+    /// instructions; to write what is reported of the run to the file `report`, where one is named, with the most calls under way
+    /// where `peaks` says so; and to say by the file `places`, where one is named, where in the program the run ended.
     Run {
         image: &'a str,
         limits: GivenLimits,
+        caps: GivenLimits,
         budget: u64,
+        report: Option<&'a str>,
+        peaks: bool,
+        places: Option<&'a str>,
     },
     /// `disasm IMAGE`: to list the instructions of an image.
     Disassemble {
+        image: &'a str,
+    },
+    /// `explain CODE`: to say what a refusal with this code is about.
+    Explain {
+        code: Code,
+    },
+    /// `info IMAGE`: to say what an image is.
+    Describe {
         image: &'a str,
     },
 }
@@ -42,19 +63,13 @@ pub const MOST_STEPS: u64 = 1_000_000_000_000;
 const ABOUT: &str = "Checks programs in an integer profile of Cyclone, a safe C with regions, \
      compiles them to MIPS32 images, and runs and disassembles those images.";
 
-/// What `--version` says behind the program's name: the product, the logic of the toolchain that proves and builds it, which its kits
-/// share, and what is proved.
-const VERSION: &str = "(Hengvuol), of sources for Rattle with logic dac8208d650f15bf
-
-Proved, where it was built by make build: an image that it makes prints what its program means,
-and nothing else, and ends alike; no program that it accepts reaches what is freed. Trusted: the
-toolchain and the C library. docs/GUARANTEES.md in the repository says all of it.";
-
 const EXAMPLES: &str = "Examples:
   cyclone check hello.cyc                   say what is wrong with the program
   cyclone compile hello.cyc -o hello.elf    compile it to an image
   cyclone run hello.elf                     run it: what it returns is the exit status
   cyclone disasm hello.elf                  list its instructions
+  cyclone explain 22                        say what a refusal with fault 22 is about
+  cyclone info hello.elf                    say what it is: its segments and its limits
 
 Exit status: 0 done, or the low 8 bits of what the program returned; 2 the source file was
 refused; 3 not an image; 4 uncaught exception; 5 out of calls or pages; 6 the machine trapped;
@@ -64,28 +79,47 @@ standard error says which.";
 const CHECK_HELP: &str = "Example:
   cyclone check hello.cyc
 
-A message says what is wrong first in the source file, and where.";
+A message says what is wrong first in the source file, and where; others what is wrong behind
+it. With --json each refusal and each warning is an object on a line of the standard output.";
 
 const COMPILE_HELP: &str = "Examples:
   cyclone compile hello.cyc -o hello.elf
   cyclone compile hello.cyc -o hello.elf --pages 16 --calls 64
+  cyclone compile hello.cyc -o hello.elf --places hello.places
 
 Where the program is refused, no file is written: a message says what is wrong, and where.
 With --pages or --calls the image carries both limits, and each run without these options
-has them.";
+has them. With --places a run can say where in the program it ended; the image is the same.";
 
-const RUN_HELP: &str = "Example:
+const RUN_HELP: &str = "Examples:
   echo hello | cyclone run echo.elf --calls 64 --steps 5000000
+  cyclone run other.elf --at-most-pages 256 --at-most-calls 512 --report run.json
+  cyclone run hello.elf --places hello.places
 
 The program's input is the standard input, and its output the standard output. The exit
 status is the low 8 bits of what it returned. Each of the limits of pages and calls is that
 of its option; where that is left out, the one that the image carries; where it carries none,
-1024 pages and 4096 calls.";
+1024 pages and 4096 calls. With --at-most-pages and --at-most-calls none is above these. The
+file of --report has one JSON object: how the run ended, and its figures. With the file of
+places that compile wrote, a run that ends before its program does says at which line, and
+which calls were under way.";
 
 const DISASM_HELP: &str = "Example:
   cyclone disasm hello.elf
 
 Each line has an address, the word that stands there, and its instruction.";
+
+const EXPLAIN_HELP: &str = "Example:
+  cyclone explain 22
+
+The last line of a refusal has its code: fault 22 at 3:14. What is printed is the rule, a program
+that breaks it, and that program mended. Without a code the codes are listed.";
+
+const INFO_HELP: &str = "Example:
+  cyclone info hello.elf
+
+The lines say where the image is entered, which segments it has, which limits it carries for
+its runs, and whether it has the form of what this compiler makes.";
 
 /// How a word of a command is given.
 #[derive(Clone, Copy)]
@@ -98,6 +132,12 @@ enum Form {
     Number(&'static str),
     /// A number behind the option's name, where it is there.
     Limit,
+    /// The number of a code, of which all are listed where it is left out.
+    Code,
+    /// A file behind the option's name, where it is there.
+    FileIfGiven,
+    /// The option's name alone, where it is there.
+    Flag,
 }
 
 /// A file or an option of a command.
@@ -141,6 +181,13 @@ const IMAGE: Word = Word {
     help: "The image file",
 };
 
+const CODE: Word = Word {
+    id: "code",
+    shown: "CODE",
+    form: Form::Code,
+    help: "The number of the code",
+};
+
 const PAGES: Word = Word {
     id: "pages",
     shown: "N",
@@ -169,11 +216,60 @@ const CARRIED_CALLS: Word = Word {
     help: "The calls of the image's runs, from 1 to 4096 [default: 4096, if --pages is given]",
 };
 
+const MOST_PAGES: Word = Word {
+    id: "at-most-pages",
+    shown: "N",
+    form: Form::Limit,
+    help: "No more pages than this, whatever the image carries, from 3 to 65536",
+};
+
+const MOST_CALLS: Word = Word {
+    id: "at-most-calls",
+    shown: "N",
+    form: Form::Limit,
+    help: "No more calls than this, whatever the image carries, from 1 to 4096",
+};
+
+const REPORT: Word = Word {
+    id: "report",
+    shown: "FILE",
+    form: Form::FileIfGiven,
+    help: "A file to write to how the run ended, and its figures, as JSON",
+};
+
+const PEAKS: Word = Word {
+    id: "peaks",
+    shown: "",
+    form: Form::Flag,
+    help: "With --report: count the most calls under way too; the run takes several times as long",
+};
+
+const PLACES: Word = Word {
+    id: "places",
+    shown: "FILE",
+    form: Form::FileIfGiven,
+    help: "A file to write where in the program each word of the image comes from",
+};
+
+const GIVEN_PLACES: Word = Word {
+    id: "places",
+    shown: "FILE",
+    form: Form::FileIfGiven,
+    help: "The image's file of places, to say where in the program the run ended",
+};
+
 const STEPS: Word = Word {
     id: "steps",
     shown: "N",
     form: Form::Number("1000000000"),
     help: "Instructions executed, from 1 to 1000000000000",
+};
+
+const JSON: Word = Word {
+    id: "json",
+    shown: "",
+    form: Form::Flag,
+    help: "Print refusals and warnings as JSON, an object on a line for each",
 };
 
 const COMMANDS: &[Plan] = &[
@@ -182,21 +278,31 @@ const COMMANDS: &[Plan] = &[
         path: "cyclone check",
         about: "Checks a program, and says what is wrong with it",
         after_help: CHECK_HELP,
-        words: &[SOURCE],
+        words: &[SOURCE, JSON],
     },
     Plan {
         name: "compile",
         path: "cyclone compile",
         about: "Compiles a program to an image",
         after_help: COMPILE_HELP,
-        words: &[SOURCE, OUTPUT, CARRIED_PAGES, CARRIED_CALLS],
+        words: &[SOURCE, OUTPUT, CARRIED_PAGES, CARRIED_CALLS, PLACES, JSON],
     },
     Plan {
         name: "run",
         path: "cyclone run",
         about: "Runs an image",
         after_help: RUN_HELP,
-        words: &[IMAGE, PAGES, CALLS, STEPS],
+        words: &[
+            IMAGE,
+            PAGES,
+            CALLS,
+            MOST_PAGES,
+            MOST_CALLS,
+            STEPS,
+            REPORT,
+            PEAKS,
+            GIVEN_PLACES,
+        ],
     },
     Plan {
         name: "disasm",
@@ -205,18 +311,34 @@ const COMMANDS: &[Plan] = &[
         after_help: DISASM_HELP,
         words: &[IMAGE],
     },
+    Plan {
+        name: "explain",
+        path: "cyclone explain",
+        about: "Says what the code of a refusal is about",
+        after_help: EXPLAIN_HELP,
+        words: &[CODE],
+    },
+    Plan {
+        name: "info",
+        path: "cyclone info",
+        about: "Says what an image is",
+        after_help: INFO_HELP,
+        words: &[IMAGE],
+    },
 ];
 
 fn argument<'a>(alloc: Global, word: &Word) -> Arg<'a> {
-    let argument = Arg::new(alloc, word.id)
-        .value_name(word.shown)
-        .action(ArgAction::Set)
-        .help(word.help);
+    let argument = Arg::new(alloc, word.id).help(word.help);
+    if let Form::Flag = word.form {
+        return argument.long(word.id).action(ArgAction::SetTrue);
+    }
+    let argument = argument.value_name(word.shown).action(ArgAction::Set);
     match word.form {
         Form::File => argument.required(true),
         Form::Output => argument.short('o').required(true),
         Form::Number(default) => argument.long(word.id).default_value(default),
-        Form::Limit => argument.long(word.id),
+        Form::Code => argument,
+        Form::Limit | Form::FileIfGiven | Form::Flag => argument.long(word.id),
     }
 }
 
@@ -345,6 +467,16 @@ fn file_of<'a>(
     }
 }
 
+/// Whether an option is given that is a name alone.
+fn is_given<'a>(matches: &ArgMatches<'a>, option: &str) -> bool
+    ensures { IsFlagOf (first_value (found_of matches.now) option.now) result }
+{
+    match matches.get_str(option) {
+        Some("true") => true,
+        _ => false,
+    }
+}
+
 /// The limits that the words give.
 fn limits_of<'a>(
     alloc: Global,
@@ -355,6 +487,33 @@ fn limits_of<'a>(
 {
     let pages = number_if_given(alloc, command, matches, "pages", MIN_PAGES, MAX_PAGES)?;
     let calls = number_if_given(alloc, command, matches, "calls", MIN_CALLS, MAX_CALLS)?;
+    Ok(GivenLimits { pages, calls })
+}
+
+/// The limits that no run is to be above, where the words give them.
+fn caps_of<'a>(
+    alloc: Global,
+    command: &mut Command<'a>,
+    matches: &ArgMatches<'a>,
+) -> Result<GivenLimits, Error>
+    ensures { IfOk result (λ caps. AreCapsOf (first_value (found_of matches.now)) caps) }
+{
+    let pages = number_if_given(
+        alloc,
+        command,
+        matches,
+        "at-most-pages",
+        MIN_PAGES,
+        MAX_PAGES,
+    )?;
+    let calls = number_if_given(
+        alloc,
+        command,
+        matches,
+        "at-most-calls",
+        MIN_CALLS,
+        MAX_CALLS,
+    )?;
     Ok(GivenLimits { pages, calls })
 }
 
@@ -372,6 +531,8 @@ fn compile_request<'a>(
         source,
         image,
         limits,
+        places: matches.get_str("places"),
+        is_json: is_given(matches, "json"),
     })
 }
 
@@ -397,16 +558,54 @@ fn run_request<'a>(
 {
     let image = file_of(command, matches, "image")?;
     let limits = limits_of(alloc, command, matches)?;
+    let caps = caps_of(alloc, command, matches)?;
     let budget = budget_of(alloc, command, matches)?;
+    let report = matches.get_str("report");
+    let peaks = is_given(matches, "peaks");
+    let places = matches.get_str("places");
+    if peaks && report.is_none() {
+        let message = "--peaks wants --report FILE";
+        return Err(command.error(ErrorKind::MissingRequiredArgument, message)?);
+    }
     Ok(Request::Run {
         image,
         limits,
+        caps,
         budget,
+        report,
+        peaks,
+        places,
     })
 }
 
+/// The code of a refusal whose number the words give, if it is one's.
+fn code_given(matches: &ArgMatches<'_>) -> Option<Code>
+    ensures { IfSome result (IsCodeOf (first_value (found_of matches.now) (codes "code"))) }
+{
+    match matches.get_str("code") {
+        Some(text) => code_written(text),
+        None => None,
+    }
+}
+
+/// The same, or the list of all codes as a mistake.
+fn code_of<'a>(
+    alloc: Global,
+    command: &mut Command<'a>,
+    matches: &ArgMatches<'a>,
+) -> Result<Code, Error>
+    ensures { IfOk result (IsCodeOf (first_value (found_of matches.now) (codes "code"))) }
+{
+    match code_given(matches) {
+        Some(code) => Ok(code),
+        None => {
+            let list = list_of_codes(alloc)?;
+            Err(command.error(ErrorKind::ValueValidation, list.as_str())?)
+        }
+    }
+}
+
 /// What is asked for by the words behind the name of a command.
-#[tactic(auto, using(crate::proofs::Requests::compiled, crate::proofs::Requests::run))]
 fn request_of<'a>(alloc: Global, name: &str, matches: &ArgMatches<'a>) -> Result<Request<'a>, Error>
     ensures { IfOk result (IsRequestOf name.now (first_value (found_of matches.now))) }
 {
@@ -414,13 +613,24 @@ fn request_of<'a>(alloc: Global, name: &str, matches: &ArgMatches<'a>) -> Result
     match name {
         "check" => {
             let source = file_of(&mut command, matches, "source")?;
-            Ok(Request::Check { source })
+            Ok(Request::Check {
+                source,
+                is_json: is_given(matches, "json"),
+            })
         }
         "compile" => compile_request(alloc, &mut command, matches),
         "run" => run_request(alloc, &mut command, matches),
         "disasm" => {
             let image = file_of(&mut command, matches, "image")?;
             Ok(Request::Disassemble { image })
+        }
+        "explain" => {
+            let code = code_of(alloc, &mut command, matches)?;
+            Ok(Request::Explain { code })
+        }
+        "info" => {
+            let image = file_of(&mut command, matches, "image")?;
+            Ok(Request::Describe { image })
         }
         // The parser takes no other name.
         _ => Err(command.error(ErrorKind::InvalidSubcommand, "there is no such command")?),

@@ -2,7 +2,7 @@
 ghost use Rattle.std.specs.Prelude.{◌≡◌, Some, slice_get, option_map, ◌≤◌, ◌<◌, ◌+◌, flat_map};
 ghost use Rattle.std.specs.Fmt.{WritesOnOk};
 ghost use Rattle.std.specs.Str.{chars};
-ghost use Rattle.cyc_terminal.specs.inside.Excerpt.{IsExcerpt, bytes_before, dots, escaped_byte, excerpt_text, shown_byte, shown_bytes, shown_char, blank_byte, blank_bytes, blank_char, line_at, lines_of};
+ghost use Rattle.cyc_terminal.specs.inside.Excerpt.{IsExcerpt, bytes_before, dots, escaped_byte, excerpt_text, is_hidden, line_char, name_text, shown_byte, shown_bytes, shown_char, blank_byte, blank_bytes, blank_char, line_at, lines_of};
 
 use std::{fmt, str};
 
@@ -50,51 +50,6 @@ fn write_blank<W: fmt::Write>(byte: u8, f: &mut fmt::Formatter<W>) -> fmt::Resul
     }
 }
 
-fn write_char<W: fmt::Write>(c: char, f: &mut fmt::Formatter<W>) -> fmt::Result
-    ensures { WritesOnOk W.write_str_gives f.old result (shown_char c) f.new }
-{
-    let code = u32::from(c);
-    if code < 0x80 {
-        write_byte(code as u8, f)
-    } else if code < 0xa0 {
-        write_escaped(0xc2, f)?;
-        write_escaped(code as u8, f)
-    } else {
-        f.write_char(c)
-    }
-}
-
-fn write_blank_char<W: fmt::Write>(c: char, f: &mut fmt::Formatter<W>) -> fmt::Result
-    ensures { WritesOnOk W.write_str_gives f.old result (blank_char c) f.new }
-{
-    let code = u32::from(c);
-    if code < 0x80 {
-        write_blank(code as u8, f)
-    } else if code < 0xa0 {
-        f.write_str("        ")
-    } else {
-        f.write_str(" ")
-    }
-}
-
-fn write_text<W: fmt::Write>(text: &str, f: &mut fmt::Formatter<W>) -> fmt::Result
-    ensures { WritesOnOk W.write_str_gives f.old result (flat_map shown_char (chars text.now)) f.new }
-{
-    for c in text.chars() {
-        write_char(c, f)?;
-    }
-    Ok(())
-}
-
-fn write_blank_text<W: fmt::Write>(text: &str, f: &mut fmt::Formatter<W>) -> fmt::Result
-    ensures { WritesOnOk W.write_str_gives f.old result (flat_map blank_char (chars text.now)) f.new }
-{
-    for c in text.chars() {
-        write_blank_char(c, f)?;
-    }
-    Ok(())
-}
-
 fn write_bytes<W: fmt::Write>(bytes: &[u8], f: &mut fmt::Formatter<W>) -> fmt::Result
     ensures { WritesOnOk W.write_str_gives f.old result (flat_map shown_byte bytes.now) f.new }
 {
@@ -113,8 +68,88 @@ fn write_blank_bytes<W: fmt::Write>(bytes: &[u8], f: &mut fmt::Formatter<W>) -> 
     Ok(())
 }
 
-/// A file's name or a piece of a text as it is shown: UTF-8 as it is written but for control characters, any other bytes by their
-/// numbers.
+/// Whether the character of this number, beyond ASCII, is not seen, ends a line or turns the direction of writing: a control character,
+/// a mark or an isolate of bidirectional text, a space or a joiner of no width, a separator of lines, a tag.
+fn is_hidden(code: u32) -> bool
+    ensures { result ≡ is_hidden code }
+{
+    matches!(
+        code,
+        0x80..=0x9f
+            | 0x61c
+            | 0x200b..=0x200f
+            | 0x2028..=0x202e
+            | 0x2060..=0x206f
+            | 0xfeff
+            | 0xe0000..=0xe007f
+    )
+}
+
+fn write_char<W: fmt::Write>(c: char, f: &mut fmt::Formatter<W>) -> fmt::Result
+    ensures { WritesOnOk W.write_str_gives f.old result (shown_char c) f.new }
+{
+    let code = u32::from(c);
+    if code < 0x80 {
+        write_byte(code as u8, f)
+    } else if is_hidden(code) {
+        write_bytes(c.encode_utf8(&mut [0; 4]).as_bytes(), f)
+    } else {
+        f.write_char(c)
+    }
+}
+
+fn write_line_char<W: fmt::Write>(c: char, f: &mut fmt::Formatter<W>) -> fmt::Result
+    ensures { WritesOnOk W.write_str_gives f.old result (line_char c) f.new }
+{
+    if c == '\n' {
+        f.write_str("\n")
+    } else {
+        write_char(c, f)
+    }
+}
+
+fn write_blank_char<W: fmt::Write>(c: char, f: &mut fmt::Formatter<W>) -> fmt::Result
+    ensures { WritesOnOk W.write_str_gives f.old result (blank_char c) f.new }
+{
+    let code = u32::from(c);
+    if code < 0x80 {
+        write_blank(code as u8, f)
+    } else if is_hidden(code) {
+        write_blank_bytes(c.encode_utf8(&mut [0; 4]).as_bytes(), f)
+    } else {
+        f.write_str(" ")
+    }
+}
+
+fn write_text<W: fmt::Write>(text: &str, f: &mut fmt::Formatter<W>) -> fmt::Result
+    ensures { WritesOnOk W.write_str_gives f.old result (flat_map shown_char (chars text.now)) f.new }
+{
+    for c in text.chars() {
+        write_char(c, f)?;
+    }
+    Ok(())
+}
+
+fn write_lines<W: fmt::Write>(text: &str, f: &mut fmt::Formatter<W>) -> fmt::Result
+    ensures { WritesOnOk W.write_str_gives f.old result (flat_map line_char (chars text.now)) f.new }
+{
+    for c in text.chars() {
+        write_line_char(c, f)?;
+    }
+    Ok(())
+}
+
+fn write_blank_text<W: fmt::Write>(text: &str, f: &mut fmt::Formatter<W>) -> fmt::Result
+    ensures { WritesOnOk W.write_str_gives f.old result (flat_map blank_char (chars text.now)) f.new }
+{
+    for c in text.chars() {
+        write_blank_char(c, f)?;
+    }
+    Ok(())
+}
+
+/// A piece of a text as it is shown: UTF-8 as it is written but for control characters and those that are not seen or turn the direction
+/// of writing, any other bytes by their numbers.
 #[derive(Drop)]
 pub struct Shown<'a>(pub &'a [u8]);
 
@@ -126,6 +161,34 @@ impl fmt::Display for Shown<'_> {
             Ok(text) => write_text(text, f),
             Err(_) => write_bytes(self.0, f),
         }
+    }
+}
+
+/// Lines of text as they are shown: the characters of each as `Shown` shows them.
+#[derive(Drop)]
+pub struct Lines<'a>(pub &'a str);
+
+impl fmt::Display for Lines<'_> {
+    ghost output = { λ s. Some (flat_map line_char (chars s.0.now)) };
+
+    fn fmt<W: fmt::Write>(&self, f: &mut fmt::Formatter<W>) -> fmt::Result {
+        write_lines(self.0, f)
+    }
+}
+
+/// How many bytes of a file's name are shown at most.
+const MOST_NAME: usize = 512;
+
+/// The name of a file as it is shown: of one that is longer than `MOST_NAME` its end, behind dots.
+#[derive(Drop)]
+pub struct FileName<'a>(pub &'a [u8]);
+
+impl fmt::Display for FileName<'_> {
+    ghost output = { λ s. Some (name_text s.0.now) };
+
+    fn fmt<W: fmt::Write>(&self, f: &mut fmt::Formatter<W>) -> fmt::Result {
+        let left_out = self.0.len().saturating_sub(MOST_NAME);
+        write!(f, "{}{}", dots(left_out), Shown(&self.0[left_out..]))
     }
 }
 

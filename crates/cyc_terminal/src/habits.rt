@@ -17,6 +17,7 @@ any ~~ #include ~~ any ~~ there are no headers: delete the line, since putchar a
 any ~~ #define ~~ any ~~ there is no preprocessor: a global serves as a constant, as int N = 10;, and a function as a macro with arguments
 any ~~ #if~#ifdef~#ifndef~#else~#elif~#endif~#undef~#pragma~#error~#line~# 1 ~~ any ~~ there is no preprocessor: delete the line
 any ~~ ... ~~ any ~~ a function has as many arguments as parameters: give what varies by a ? pointer
+any ~~ .. ~~ any ~~ there are no ranges: write i = 0; while (i < 10) { ..; i = i + 1; }
 any ~~ .length~.len~.size~.count ~~ any ~~ numelts(a) is the number of elements behind a ? pointer
 {~, ~~ . ~~ any ~~ the values of a new struct have no names: give one for each field in their order, as in new P{1, 2}
 any ~~ .0~.1~.2~.3~.4~.5~.6~.7~.8~.9 ~~ any ~~ there are no fractions: int is the only number type
@@ -102,9 +103,12 @@ sizeof~sizeof(~sizeof (~sizeof(char~sizeof (char ~~ any ~~ any ~~ there is no si
 any ~~ short~long~signed~unsigned~float~double~bool~_Bool~size_t~int8_t~uint8_t~int32_t~uint32_t~int64_t~uint64_t~i8~u8~i16~u16~i32~u32~i64~u64~usize~isize~boolean~byte~Integer~ssize_t~ptrdiff_t~intptr_t~uintptr_t~int16_t~uint16_t~uint~uchar~ulong~ushort ~~ any ~~ int and char are the only number types: an int has 32 bits, and a char is 0 to 255
 short~long~signed~unsigned~float~double~bool~_Bool~size_t~int8_t~uint8_t~int32_t~uint32_t~int64_t~uint64_t~i8~u8~i16~u16~i32~u32~i64~u64~usize~isize~boolean~byte~Integer~ssize_t~ptrdiff_t~intptr_t~uintptr_t~int16_t~uint16_t~uint~uchar~ulong~ushort ~~ any ~~ any ~~ int and char are the only number types: an int has 32 bits, and a char is 0 to 255
 any ~~ const~static~extern~inline~register~volatile~restrict~unsafe ~~ any ~~ there is no const, static, extern, inline, register, volatile or restrict: leave the word out
+static ~~ any ~~ any ~~ there is no static: leave the word out, and keep in a global what lives from call to call
 const~static~extern~inline~register~volatile~restrict~unsafe ~~ any ~~ any ~~ there is no const, static, extern, inline, register, volatile or restrict: leave the word out
-any ~~ typedef ~~ any ~~ there is no typedef: write struct P { .. };, and the type is struct P
-typedef ~~ any ~~ any ~~ there is no typedef: write struct P { .. };, and the type is struct P
+any ~~ string~String~str ~~ a declaration ~~ there are no strings: a text is an array of chars, as char ?s = new {for i < 3 : char(0)};
+string~String~str ~~ any ~~ any ~~ there are no strings: a text is an array of chars, as char ?s = new {for i < 3 : char(0)};
+any ~~ typedef ~~ any ~~ there is no typedef: write the type itself, which is struct P behind struct P { .. };
+typedef ~~ any ~~ any ~~ there is no typedef: write the type itself, which is struct P behind struct P { .. };
 any ~~ enum ~~ any ~~ there is no enum: write int RED = 0; int GREEN = 1;
 enum ~~ any ~~ any ~~ there is no enum: write int RED = 0; int GREEN = 1;
 any ~~ union ~~ any ~~ there is no union: write a struct with a field for each, and one that tells which
@@ -112,6 +116,7 @@ union ~~ any ~~ any ~~ there is no union: write a struct with a field for each, 
 switch ..~match ..~match~when .. ~~ any ~~ any ~~ there is no switch: write if (c == 1) f(); else if (c == 2) g(); else h();
 do ~~ any ~~ any ~~ there is no do: write while (1) { ..; if (!(i < n)) break; }
 goto ~~ any ~~ any ~~ there is no goto: leave loops by break, a function by return, and several blocks by throw
+: ~~ : ~~ any ~~ there is no ::, as all names stand side by side: std::cout << c is putchar(c)
 : ~~ any ~~ any ~~ a label stands before a block alone, and there is no goto
 new ~~ struct ~~ any ~~ write new P{1, 2}, without the word struct
 new ~~ int ~~ any ~~ new takes a value, as new 5; an array is new {for i < 10 : 0}

@@ -4,13 +4,19 @@
 
 pub use advice::{Ending, image_fault, meaning};
 pub use arguments::{Request, read_request};
-pub use excerpt::{Excerpt, Shown, excerpt_at};
+pub use excerpt::{Excerpt, FileName, Lines, Shown, excerpt_at};
 pub use habits::{hint_at, is_in_name};
+pub use json::{Edit, Entry, Range, Related};
 pub use limits::GivenLimits;
+pub use pages::page;
 
 mod advice;
 mod arguments;
+mod codes;
 mod excerpt;
 mod habits;
+mod json;
 mod limits;
 mod number;
+mod pages;
+mod version;

@@ -2,7 +2,7 @@
 
 ghost use Rattle.std.specs.Prelude.{◌≡◌, IfSome};
 ghost use Rattle.cyc_machine.specs.Bounds.{AreAllowed};
-ghost use Rattle.cyc_terminal.specs.inside.Limits.{carried_by, limits_by};
+ghost use Rattle.cyc_terminal.specs.inside.Limits.{capped, capped_by, carried_by, limits_by};
 
 use cyc_machine::Limits;
 use std::marker::Model;
@@ -33,6 +33,16 @@ impl Model for GivenLimits {
     ghost inverse = { λ g. record { pages = g.pages; calls = g.calls } };
 }
 
+/// A number, and no more than a cap, where there is one.
+fn capped(number: u32, cap: Option<u32>) -> u32
+    ensures { result ≡ capped cap number }
+{
+    match cap {
+        Some(most) => number.min(most),
+        None => number,
+    }
+}
+
 impl GivenLimits {
     /// What an image carries that is compiled with these: both limits, the one that is left out by its default; none where neither is
     /// given.
@@ -47,14 +57,15 @@ impl GivenLimits {
         Some((pages, self.calls.unwrap_or(DEFAULT_CALLS)))
     }
 
-    /// The limits of a run of an image that carries `note`: each is the one that is given here, else the image's, else the default.
-    pub fn of_run(self, note: Option<(u32, u32)>) -> Limits
+    /// The limits of a run of an image that carries `note`: each is the one that is given here, else the image's, else the default, but
+    /// none is above that of `caps`.
+    pub fn of_run(self, caps: GivenLimits, note: Option<(u32, u32)>) -> Limits
         requires { IfSome note (λ limits. AreAllowed limits.0 limits.1) }
-        ensures { result ≡ limits_by self note }
+        ensures { result ≡ capped_by caps (limits_by self note) }
     {
         let (pages, calls) = note.unwrap_or((DEFAULT_PAGES, DEFAULT_CALLS));
-        let pages = self.pages.unwrap_or(pages);
-        let calls = self.calls.unwrap_or(calls);
+        let pages = capped(self.pages.unwrap_or(pages), caps.pages);
+        let calls = capped(self.calls.unwrap_or(calls), caps.calls);
         Limits::new(pages, calls).unwrap()
     }
 }

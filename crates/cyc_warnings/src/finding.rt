@@ -1,12 +1,13 @@
 //! The warnings of a program.
 use crate::finder::Finder;
-use crate::warning::Found;
+use crate::hidden::find_hidden;
+use crate::warning::{Found, Warning};
 use cyc_syntax::{Declaration, Tree};
 use std::alloc::Global;
 
-/// What a program is warned of, which is accepted: in the order of the places, the first ones, and one more than are said. Where memory
+/// What a program is warned of, whose text is accepted: in the order of the places, the first ones, and one more than are said. Where memory
 /// runs out there is nothing.
-pub fn find_warnings(alloc: Global, tree: &Tree) -> Vec<Found> {
+pub fn find_warnings(alloc: Global, tree: &Tree, text: &[u8]) -> Vec<Found> {
     let mut finder = Finder::new(alloc, tree);
     for declaration in &tree.declarations {
         if let Declaration::Function {
@@ -17,6 +18,9 @@ pub fn find_warnings(alloc: Global, tree: &Tree) -> Vec<Found> {
         {
             finder.look_over(parameters, body);
         }
+    }
+    if let Some(span) = find_hidden(text) {
+        finder.warn(span, Warning::HiddenCharacter);
     }
     finder.take_found()
 }

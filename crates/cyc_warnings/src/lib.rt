@@ -9,6 +9,7 @@ mod constants;
 mod expressions;
 mod finder;
 mod finding;
+mod hidden;
 mod known;
 mod locals;
 mod places;

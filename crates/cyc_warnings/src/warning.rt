@@ -38,6 +38,8 @@ pub enum Warning {
     NeverRead,
     /// A local that is a unique pointer.
     NeverGivenBack,
+    /// The first character in the text that is not seen, or turns the direction of writing.
+    HiddenCharacter,
 }
 
 /// What is said of it.
@@ -68,6 +70,8 @@ pub fn text_of(warning: Warning) -> &'static str {
         Warning::NeverRead => "this variable is never read",
         Warning::NeverGivenBack =>
             "no path gives back what this unique pointer leads to: free it by ufree, or hand it on",
+        Warning::HiddenCharacter =>
+            "a character that is not seen or turns the direction of writing: what is shown from here on may not be what is compiled",
     }
 }
 

@@ -1,6 +1,10 @@
 -- what the program answers: its last line, its exit status, and what they stand for
 pub mod Answer
 pub mod Work
+pub mod Page
+-- what `run --report` writes, and what `info` says
+pub mod Report
+pub mod Info
 pub mod Refusal
 -- the two devices of a run
 pub mod Console

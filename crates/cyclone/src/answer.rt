@@ -42,7 +42,7 @@ pub enum Answer {
 const OUTSIDE: u32 = 8;
 
 /// The words of the last line for the cause of a trap.
-fn cause_words(cause: Cause) -> &'static str
+pub fn cause_words(cause: Cause) -> &'static str
     ensures { result.now ≡ cause_words cause }
 {
     match cause {

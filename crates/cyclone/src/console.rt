@@ -1,6 +1,6 @@
 //! The standard input and the standard output of a run, as devices. What the run prints is held in a buffer, which is passed on before the
 //! run waits for input, so that a person sees a question before it is to be answered; on a terminal also at the end of each line.
-ghost use Rattle.std.specs.Prelude.{◌≡◌, [], IfOk, OnOk};
+ghost use Rattle.std.specs.Prelude.{◌≡◌, [], false, IfOk, IsTrue, OnOk};
 ghost use Rattle.std.specs.Io.{ReadsAtMost};
 ghost use Rattle.std.specs.Io.KnownBytes.{Keeps, ReadConsumes};
 
@@ -23,7 +23,7 @@ pub struct Screen<W: Write + Drop> {
 }
 
 impl<W: Write + Drop> Screen<W> {
-    ghost use Rattle.cyclone.specs.inside.Console.{screen_written, screen_held};
+    ghost use Rattle.cyclone.specs.inside.Console.{screen_written, screen_held, screen_is_stuck};
 
     /// A screen that holds nothing back yet; with `by_lines` each line is passed on as it ends. It fails where there is no memory.
     pub fn new(alloc: Global, output: W, by_lines: bool) -> io::Result<Self>
@@ -43,17 +43,27 @@ impl<W: Write + Drop> Screen<W> {
         self.by_lines && self.is_within_line
     }
 
-    /// Passes on all that is held back. Where it works, nothing is.
+    /// Passes on all that is held back. Where it works, nothing is, and it always was passed on when it had to be.
     pub fn finish(&mut self) -> io::Result<()>
         ensures bytes { Keeps (screen_written W.contents self.old) (screen_written W.contents self.new) }
         ensures whole { OnOk result (screen_held self.new ≡ []) }
+        ensures never_stuck { OnOk result ((screen_is_stuck self.old ≡ false) × (screen_is_stuck self.new ≡ false)) }
     {
-        self.output.flush()
+        if self.is_stuck {
+            return Err(io::Error::from(ErrorKind::WriteZero));
+        }
+        match self.output.flush() {
+            Ok(()) => Ok(()),
+            Err(error) => {
+                self.is_stuck = true;
+                Err(error)
+            }
+        }
     }
 }
 
 impl<W: Write + Drop> ByteOut for Screen<W> {
-    ghost use Rattle.cyclone.specs.inside.Console.{screen_written};
+    ghost use Rattle.cyclone.specs.inside.Console.{screen_written, screen_is_stuck};
 
     ghost written = { screen_written W.contents };
 
@@ -78,8 +88,15 @@ impl<W: Write + Drop> ByteOut for Screen<W> {
         Ok(())
     }
 
-    fn pass_on(&mut self) {
-        self.is_stuck = self.output.flush().is_err();
+    fn pass_on(&mut self)
+        ensures bytes { Keeps (screen_written W.contents self.old) (screen_written W.contents self.new) }
+        ensures fails { self.new.has_failed ≡ self.old.has_failed }
+        // What could not be passed on once is a failure, whatever comes after.
+        ensures sticks { IsTrue (screen_is_stuck self.old) → IsTrue (screen_is_stuck self.new) }
+    {
+        if self.output.flush().is_err() {
+            self.is_stuck = true;
+        }
     }
 }
 
@@ -93,6 +110,20 @@ pub struct Keyboard<R> {
     has_failed: bool,
     has_ended: bool,
     was_asked_past_end: bool,
+    /// What was read, where that is kept.
+    kept: Option<Vec<u8>>,
+}
+
+/// The most bytes of an input that are kept.
+const MOST_KEPT: usize = 67_108_864;
+
+/// What is kept of an input with one byte more: nothing where that is too much.
+fn kept_with(kept: Option<Vec<u8>>, byte: u8) -> Option<Vec<u8>> {
+    let mut bytes = kept?;
+    if bytes.len() >= MOST_KEPT || bytes.push(byte).is_err() {
+        return None;
+    }
+    Some(bytes)
 }
 
 /// Reads a byte, and tries again where a signal cut that short.
@@ -122,7 +153,23 @@ impl<R: Read + Drop> Keyboard<R> {
             has_failed: false,
             has_ended: false,
             was_asked_past_end: false,
+            kept: None,
         })
+    }
+
+    /// From now on what is read is kept, so that a run can be followed once more.
+    pub fn keep(&mut self, alloc: Global)
+        ensures { keyboard_remaining R.remaining self.new ≡ keyboard_remaining R.remaining self.old }
+    {
+        self.kept = Some(Vec::new(alloc));
+    }
+
+    /// What was read since then; nothing where that is too much to be kept.
+    pub fn kept(&self) -> Option<&[u8]> {
+        match &self.kept {
+            Some(bytes) => Some(bytes.as_slice()),
+            None => None,
+        }
     }
 }
 
@@ -148,7 +195,10 @@ impl<R: Read> ByteIn for Keyboard<R> {
                 self.has_ended = true;
                 Ok(None)
             }
-            Ok(_) => Ok(Some(byte[0])),
+            Ok(_) => {
+                self.kept = kept_with(self.kept.take(), byte[0]);
+                Ok(Some(byte[0]))
+            }
             Err(_) => {
                 self.has_failed = true;
                 Err(Failed)

@@ -1,61 +1,118 @@
 //! What could stand where a token is unexpected, or where the text ends too early.
 //!
 //! It is found by trial: the text up to that place is read once more with each candidate on a line behind it. What stands before such a
-//! place may begin a program, so a candidate can stand there where it is not itself what the text is refused for then.
+//! place may begin a program, so a candidate can stand there where it is not itself what the text is refused for then. Where what stands
+//! before the declaration is a program by itself, the declaration alone is read.
+use crate::declarations::{extent_of, starts_of};
 use crate::refusal::tree_of;
 use cyc_words::{Code, Fault};
 use std::alloc::{AllocError, Global};
+use std::mem::ManuallyDrop;
 
 /// How many are said.
 const MOST: usize = 3;
 
-/// What is tried, in the order in which it is said: a token, how what it begins is called, and what else that is a part of, behind which
-/// it is not said.
-const CANDIDATES: [(&str, &str, &str); 31] = [
-    ("datatype", "a declaration", ""),
-    ("while", "a statement", ""),
-    ("struct", "a type", "a declaration"),
-    ("int", "`int`", "a declaration~a type"),
-    ("!", "an expression", "a statement"),
-    ("0", "a constant", "an expression~a statement"),
-    ("x", "a name", "an expression~a statement"),
-    (")", "`)`", ""),
-    ("]", "`]`", ""),
-    (",", "`,`", ""),
-    (";", "`;`", "a statement"),
-    ("/", "an operator", ""),
-    ("=", "`=`", "an operator"),
-    ("{", "`{`", "a statement"),
-    ("}", "`}`", ""),
-    ("(", "`(`", "an expression~a statement~an operator"),
-    (":", "`:`", ""),
-    ("`r", "a region", ""),
-    ("<", "`<`", "an operator"),
-    (">", "`>`", "an operator"),
-    ("case", "`case`", "a statement"),
-    ("default", "`default`", "a statement"),
-    ("&", "`&`", "an expression~a statement~an operator"),
-    ("new", "`new`", "an expression~a statement"),
-    ("catch", "`catch`", ""),
-    ("for", "`for`", ""),
-    ("exn", "`exn`", ""),
-    ("alias", "`alias`", ""),
-    ("NewDynamicRegion", "`NewDynamicRegion`", ""),
-    ("open", "`open`", ""),
-    ("new_ukey", "`new_ukey`", ""),
-];
+/// A token, and how what it begins is called.
+type Candidate = (&'static str, &'static str);
 
-/// Whether one of the names is said already.
-fn is_said(names: &str, said: &[&'static str]) -> bool {
-    for whole in names.split('~') {
-        for name in said {
-            if *name == whole {
-                return true;
-            }
-        }
-    }
-    false
+/// What can stand beside each other at one place, in the order in which it is said.
+#[derive(Clone, Copy)]
+struct Group {
+    /// A token that stands at each such place and at none of another group; where it is empty, there is none.
+    token: &'static str,
+    candidates: &'static [Candidate],
 }
+
+/// The groups, in the order in which they are tried. What is a part of something that is said is not said beside it, as a name where an
+/// expression can stand.
+const GROUPS: &[Group] = &[
+    Group {
+        token: "/",
+        candidates: &[
+            (")", "`)`"),
+            ("]", "`]`"),
+            (",", "`,`"),
+            (";", "`;`"),
+            ("/", "an operator"),
+            ("{", "`{`"),
+            ("}", "`}`"),
+            (":", "`:`"),
+        ],
+    },
+    Group {
+        token: "while",
+        candidates: &[("while", "a statement"), ("struct", "a type"), ("}", "`}`")],
+    },
+    Group {
+        token: "!",
+        candidates: &[
+            ("!", "an expression"),
+            (")", "`)`"),
+            (";", "`;`"),
+            ("{", "`{`"),
+            ("`r", "a region"),
+        ],
+    },
+    Group {
+        token: "datatype",
+        candidates: &[("datatype", "a declaration")],
+    },
+    Group {
+        token: "struct",
+        candidates: &[
+            ("struct", "a type"),
+            (")", "`)`"),
+            (";", "`;`"),
+            ("}", "`}`"),
+            (":", "`:`"),
+        ],
+    },
+    Group {
+        token: "x",
+        candidates: &[
+            ("x", "a name"),
+            ("{", "`{`"),
+            ("}", "`}`"),
+            ("(", "`(`"),
+            ("`r", "a region"),
+            ("<", "`<`"),
+        ],
+    },
+    Group {
+        token: "",
+        candidates: &[
+            (")", "`)`"),
+            (",", "`,`"),
+            (";", "`;`"),
+            ("=", "`=`"),
+            ("{", "`{`"),
+            ("}", "`}`"),
+            ("(", "`(`"),
+            (":", "`:`"),
+            ("`r", "a region"),
+            ("<", "`<`"),
+            (">", "`>`"),
+        ],
+    },
+    Group {
+        token: "",
+        candidates: &[
+            ("0", "a constant"),
+            ("int", "`int`"),
+            ("case", "`case`"),
+            ("default", "`default`"),
+            ("&", "`&`"),
+            ("new", "`new`"),
+            ("catch", "`catch`"),
+            ("for", "`for`"),
+            ("exn", "`exn`"),
+            ("alias", "`alias`"),
+            ("NewDynamicRegion", "`NewDynamicRegion`"),
+            ("open", "`open`"),
+            ("new_ukey", "`new_ukey`"),
+        ],
+    },
+];
 
 /// The bytes of a text before a place.
 pub fn text_before(text: &[u8], line: u32, column: u32) -> &[u8] {
@@ -70,35 +127,95 @@ pub fn text_before(text: &[u8], line: u32, column: u32) -> &[u8] {
     text
 }
 
-/// Whether a text is not refused for the token with which its line of this number, the last one, begins.
-fn goes_on(alloc: Global, text: &[u8], line: u32) -> bool {
-    match tree_of(alloc, text) {
-        Ok(_) => true,
-        Err(fault) => {
-            fault.code != Code::Memory
-                && (fault.line > line || fault.line == line && fault.column > 1)
+/// The part of a text before a fault that is read in each trial: what stands before it is a program by itself, or nothing at all.
+fn part_before<'a>(alloc: Global, before: &'a [u8]) -> Result<&'a [u8], AllocError> {
+    let starts = starts_of(alloc, before)?;
+    let start = extent_of(&starts, before.len(), before.len()).start;
+    let apart = &before[..start.min(before.len())];
+    if apart.trim_ascii().is_empty() {
+        return Ok(&before[apart.len()..]);
+    }
+    match tree_of(alloc, apart) {
+        Ok(tree) => {
+            let _ = ManuallyDrop::new(tree);
+            Ok(&before[apart.len()..])
         }
+        Err(_) => Ok(before),
+    }
+}
+
+/// A text that is read again and again, each time with another token on a line behind it.
+#[derive(Drop)]
+struct Trial {
+    alloc: Global,
+    text: Vec<u8>,
+    /// Its length without the token.
+    length: usize,
+    /// The line of the token.
+    line: u32,
+}
+
+impl Trial {
+    fn new(alloc: Global, before: &[u8]) -> Result<Trial, AllocError> {
+        let mut text = Vec::from_slice(alloc, part_before(alloc, before)?)?;
+        // What stands before the place may end in a comment up to the end of its line.
+        text.push(b'\n')?;
+        let mut line = 1_u32;
+        for byte in &text {
+            if *byte == b'\n' {
+                line = line.saturating_add(1);
+            }
+        }
+        let length = text.len();
+        Ok(Trial {
+            alloc,
+            text,
+            length,
+            line,
+        })
+    }
+
+    /// Whether the text is not refused for this token behind it.
+    fn goes_on(&mut self, token: &str) -> Result<bool, AllocError> {
+        self.text.truncate(self.length);
+        self.text.extend_from_slice(token.as_bytes())?;
+        match tree_of(self.alloc, &self.text) {
+            Ok(tree) => {
+                let _ = ManuallyDrop::new(tree);
+                Ok(true)
+            }
+            Err(fault) => Ok(
+                fault.code != Code::Memory
+                    && (fault.line > self.line || fault.line == self.line && fault.column > 1),
+            ),
+        }
+    }
+
+    /// What of a group can stand behind the text.
+    fn names_of(&mut self, group: &Group) -> Result<Vec<&'static str>, AllocError> {
+        let mut names = Vec::new(self.alloc);
+        if !group.token.is_empty() && !self.goes_on(group.token)? {
+            return Ok(names);
+        }
+        for (token, name) in group.candidates {
+            if names.len() < MOST && self.goes_on(token)? {
+                names.push(*name)?;
+            }
+        }
+        Ok(names)
     }
 }
 
 /// What can stand at the place of a text's fault.
 fn names_at(alloc: Global, text: &[u8], fault: Fault) -> Result<Vec<&'static str>, AllocError> {
-    let mut trial = Vec::new(alloc);
-    trial.extend_from_slice(text_before(text, fault.line, fault.column))?;
-    // What stands before the place may end in a comment up to the end of its line.
-    trial.push(b'\n')?;
-    let (length, line) = (trial.len(), fault.line.saturating_add(1));
-    let mut said = Vec::new(alloc);
-    for (token, name, wholes) in CANDIDATES {
-        if said.len() < MOST && !is_said(wholes, said.as_slice()) {
-            trial.truncate(length);
-            trial.extend_from_slice(token.as_bytes())?;
-            if goes_on(alloc, trial.as_slice(), line) {
-                said.push(name)?;
-            }
+    let mut trial = Trial::new(alloc, text_before(text, fault.line, fault.column))?;
+    for group in GROUPS {
+        let names = trial.names_of(group)?;
+        if !names.is_empty() {
+            return Ok(names);
         }
     }
-    Ok(said)
+    Ok(Vec::new(alloc))
 }
 
 /// The names as a line.

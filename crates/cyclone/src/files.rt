@@ -1,10 +1,12 @@
 //! The files that a command line names.
 use crate::answer::Answer;
+use crate::system::file_limit;
 use crate::work::read_up_to;
-use cyc_terminal::Shown;
+use cyc_terminal::FileName;
 use std::alloc::AllocError;
-use std::fs::{File, OpenFile};
+use std::fs::{File, Metadata, TryLockError};
 use std::io::Write;
+use std::os::unix::fs::{MetadataExt, PermissionsExt};
 use std::rt::Files;
 use std::{fs, io};
 
@@ -13,6 +15,9 @@ const MOST_TEXT: u64 = 1_048_577;
 
 const MOST_IMAGE: u64 = 33_554_432;
 
+/// More bytes than any file of places has.
+const MOST_PLACES: u64 = 268_435_456;
+
 /// The answer where something could not be read, with its reason on standard error.
 fn report_read_failure<R: Eprint>(rt: &R, name: &str, error: &io::Error) -> Answer {
     if error.kind() == io::ErrorKind::OutOfMemory {
@@ -20,7 +25,7 @@ fn report_read_failure<R: Eprint>(rt: &R, name: &str, error: &io::Error) -> Answ
     }
     let _ = eprintln!(rt;
         "cyclone: {} cannot be read: {error}",
-        Shown(name.as_bytes())
+        FileName(name.as_bytes())
     );
     Answer::ReadFault
 }
@@ -29,7 +34,7 @@ fn report_read_failure<R: Eprint>(rt: &R, name: &str, error: &io::Error) -> Answ
 fn report_write_failure<R: Eprint>(rt: &R, name: &str, error: &io::Error) -> Answer {
     let _ = eprintln!(rt;
         "cyclone: {} cannot be written: {error}",
-        Shown(name.as_bytes())
+        FileName(name.as_bytes())
     );
     Answer::WriteFault
 }
@@ -61,72 +66,191 @@ pub fn read_image<R: Files + AllocGlobal + Eprint>(rt: &R, path: &str) -> Result
     if bytes.len() as u64 > MOST_IMAGE {
         let _ = eprintln!(rt;
             "cyclone: {} is larger than any image",
-            Shown(path.as_bytes())
+            FileName(path.as_bytes())
         );
         return Err(Answer::ReadFault);
     }
     Ok(bytes)
 }
 
-/// The most names that are tried for a file beside another.
-const MOST_NAMES: u32 = 100;
+/// A file of places.
+pub fn read_places<R: Files + AllocGlobal + Eprint>(rt: &R, path: &str) -> Result<Vec<u8>, Answer> {
+    read_file(rt, path, MOST_PLACES)
+}
 
-/// Whether a new file may take the place of what has this name: of a regular file, or of nothing. A link, a device and a pipe stay
-/// what they are, and are written to.
-fn is_replaced<R: Files>(rt: &R, path: &str) -> bool {
-    match fs::symlink_metadata(rt, path) {
-        Ok(metadata) => metadata.is_file(),
-        Err(error) => error.kind() == io::ErrorKind::NotFound,
+/// Whether two files are one, by the numbers that the system has for them.
+fn is_one(first: &Metadata, second: &Metadata) -> bool {
+    first.dev() == second.dev() && first.ino() == second.ino()
+}
+
+/// Whether two names lead to one regular file: by the same name, by links, or by the number of an open file.
+pub fn is_one_file<R: Files>(rt: &R, first: &str, second: &str) -> bool {
+    match (fs::metadata(rt, first), fs::metadata(rt, second)) {
+        (Ok(first), Ok(second)) => first.is_file() && is_one(&first, &second),
+        _ => false,
     }
 }
 
-/// A new file with its name.
+/// What the image's file is to become of what has its name.
+#[derive(Clone, Copy)]
+enum Place {
+    /// Nothing is there: a new file.
+    Free,
+    /// A regular file with these permissions: a new file in its place, which has them too.
+    Taken(u32),
+    /// A link, a device or a pipe, which stays what it is and is written to.
+    Kept,
+}
+
+/// The permissions for the owner, the group and others. A mode has bits beside them, which a write to a file takes away.
+const PERMISSIONS: u32 = 0o777;
+
+fn place_of<R: Files>(rt: &R, path: &str) -> Place {
+    match fs::symlink_metadata(rt, path) {
+        Ok(metadata) if metadata.is_file() => Place::Taken(metadata.mode() & PERMISSIONS),
+        Err(error) if error.kind() == io::ErrorKind::NotFound => Place::Free,
+        _ => Place::Kept,
+    }
+}
+
+/// The most names that are tried for a file beside another.
+const MOST_NAMES: u32 = 100;
+
+/// A new file beside the place of an image, with its name. It is locked, which says that its compilation still goes on.
 #[derive(Drop)]
-struct Beside<F> {
-    file: F,
+struct Part {
+    file: File,
     name: String,
 }
 
+/// Whether a name leads to this open file, and not by a link.
+fn leads_to<R: Files>(rt: &R, name: &str, file: &File) -> bool {
+    match (fs::symlink_metadata(rt, name), file.metadata()) {
+        (Ok(named), Ok(opened)) => named.is_file() && is_one(&named, &opened),
+        _ => false,
+    }
+}
+
+/// Takes away the part that a compilation left which was ended: nobody has it locked. Whether that was done.
+fn take_away<R: Files<File = File>>(rt: &R, name: &str) -> bool {
+    match fs::symlink_metadata(rt, name) {
+        Ok(metadata) if metadata.is_file() => {}
+        _ => return false,
+    }
+    let Ok(left) = fs::open(rt, name) else {
+        return false;
+    };
+    left.try_lock().is_ok() && leads_to(rt, name, &left) && fs::remove_file(rt, name).is_ok()
+}
+
+/// A new file of this name, or nothing where another compilation has it.
+fn create_part<R: Files<File = File>>(rt: &R, name: &str) -> io::Result<Option<File>> {
+    let created = match File::create_new(rt, name) {
+        Err(error) if error.kind() == io::ErrorKind::AlreadyExists && take_away(rt, name) => {
+            File::create_new(rt, name)
+        }
+        created => created,
+    };
+    match created {
+        Ok(file) => match file.try_lock() {
+            // Another may have taken it away before it was locked.
+            Ok(()) if leads_to(rt, name, &file) => Ok(Some(file)),
+            Ok(()) | Err(TryLockError::WouldBlock) => Ok(None),
+            // Where there are no locks, nobody takes anything away.
+            Err(TryLockError::Error(_)) => Ok(Some(file)),
+        },
+        Err(error) if error.kind() == io::ErrorKind::AlreadyExists => Ok(None),
+        Err(error) => Err(error),
+    }
+}
+
 /// A new file beside the one of this name, if there can be one.
-fn create_beside<R: Files + AllocGlobal>(
+fn create_beside<R: Files<File = File> + AllocGlobal>(
     rt: &R,
     path: &str,
-) -> Result<Option<Beside<R::File>>, AllocError> {
+) -> Result<Option<Part>, AllocError> {
     for number in 0..MOST_NAMES {
-        let name = format!(in rt.alloc(); "{path}.part{number}")?;
-        match File::create_new(rt, name.as_str()) {
-            Ok(file) => return Ok(Some(Beside { file, name })),
-            Err(error) if error.kind() == io::ErrorKind::AlreadyExists => {}
+        let name = format!(in rt.alloc(); "{path}.cyclone-part{number}")?;
+        match create_part(rt, name.as_str()) {
+            Ok(Some(file)) => return Ok(Some(Part { file, name })),
+            Ok(None) => {}
             Err(_) => return Ok(None),
         }
     }
     Ok(None)
 }
 
+/// Of the number of a device, what tells its driver. The files of another machine, and of a program, are on devices with none.
+const DRIVER: u64 = 0xffff_f000_000f_ff00;
+
+/// Whether a file is on a device with no driver: there it can be known as late as when the file is closed that not all was written.
+fn is_elsewhere(metadata: &Metadata) -> bool {
+    metadata.is_file() && metadata.dev() & DRIVER == 0
+}
+
+/// Writes all of these bytes to an open file, from its beginning. What a close would say of them is asked, since std closes in silence.
+fn fill(file: &mut File, bytes: &[u8]) -> io::Result<()> {
+    file.write_all(bytes)?;
+    if is_elsewhere(&file.metadata()?) {
+        file.sync_all()?;
+    }
+    Ok(())
+}
+
+/// Whether this name is, or is to be, that of a file which would get longer than the system allows: it ends a program that writes so much.
+fn is_too_long<R: Files>(rt: &R, path: &str, length: usize) -> bool {
+    let is_file = match fs::metadata(rt, path) {
+        Ok(metadata) => metadata.is_file(),
+        Err(_) => true,
+    };
+    is_file && length as u64 > file_limit(rt)
+}
+
+/// Gives a file these permissions, where it has others.
+fn permit(file: &File, mode: u32) -> io::Result<()> {
+    let mut permissions = file.metadata()?.permissions();
+    if permissions.mode() & PERMISSIONS == mode {
+        return Ok(());
+    }
+    permissions.set_mode(mode);
+    file.set_permissions(permissions)
+}
+
+/// Writes bytes to a new file with the permissions that are wanted, and gives it this name. The file is closed behind that, so that nobody
+/// takes it for one that was left.
+fn fill_part<R: Files>(
+    rt: &R,
+    path: &str,
+    mode: Option<u32>,
+    part: &mut Part,
+    bytes: &[u8],
+) -> io::Result<()> {
+    if let Some(mode) = mode {
+        permit(&part.file, mode)?;
+    }
+    fill(&mut part.file, bytes)?;
+    fs::rename(rt, part.name.as_str(), path)
+}
+
 /// Writes bytes to a new file, and gives it this name, so that they stand there whole or not at all.
 fn write_beside<R: Files>(
     rt: &R,
     path: &str,
-    beside: Beside<R::File>,
+    mode: Option<u32>,
+    mut part: Part,
     bytes: &[u8],
 ) -> io::Result<()> {
-    let Beside { mut file, name } = beside;
-    let written = file.write_all(bytes);
-    drop(file);
-    let result = match written {
-        Ok(()) => fs::rename(rt, name.as_str(), path),
-        Err(error) => Err(error),
-    };
+    let result = fill_part(rt, path, mode, &mut part, bytes);
     if result.is_err() {
-        let _ = fs::remove_file(rt, name.as_str());
+        let _ = fs::remove_file(rt, part.name.as_str());
     }
     result
 }
 
 /// Writes bytes to what has this name. A file is made there, or emptied first.
-fn write_there<R: Files>(rt: &R, path: &str, bytes: &[u8]) -> io::Result<()> {
+fn write_there<R: Files<File = File>>(rt: &R, path: &str, bytes: &[u8]) -> io::Result<()> {
     let mut file = fs::create(rt, path)?;
-    let result = file.write_all(bytes);
+    let result = fill(&mut file, bytes);
     if result.is_err() {
         // A part of an image is not left to be taken for a whole one.
         let _ = file.set_len(0);
@@ -136,25 +260,35 @@ fn write_there<R: Files>(rt: &R, path: &str, bytes: &[u8]) -> io::Result<()> {
 
 /// Writes bytes beside a file, and then puts them in its place; or straight to it, where that is no regular file or no other can be made
 /// beside it.
-fn write_all<R: Files + AllocGlobal>(
+fn write_all<R: Files<File = File> + AllocGlobal>(
     rt: &R,
     path: &str,
     bytes: &[u8],
 ) -> Result<io::Result<()>, AllocError> {
-    if is_replaced(rt, path) {
-        if let Some(beside) = create_beside(rt, path)? {
-            return Ok(write_beside(rt, path, beside, bytes));
-        }
+    if is_too_long(rt, path, bytes.len()) {
+        return Ok(Err(io::Error::from(io::ErrorKind::FileTooLarge)));
     }
-    Ok(write_there(rt, path, bytes))
+    let mode = match place_of(rt, path) {
+        Place::Free => None,
+        Place::Taken(mode) => Some(mode),
+        Place::Kept => return Ok(write_there(rt, path, bytes)),
+    };
+    match create_beside(rt, path)? {
+        Some(part) => Ok(write_beside(rt, path, mode, part, bytes)),
+        None => Ok(write_there(rt, path, bytes)),
+    }
 }
 
-/// Writes an image to its file. Where that is a regular file, or nothing yet, it holds the whole image after `Done`, and else what it
-/// held, if files can be made in its folder.
-pub fn write_image<R: Files + AllocGlobal + Eprint>(rt: &R, path: &str, image: &[u8]) -> Answer {
+/// Writes an image, or what is reported of a run, to its file. Where that is a regular file, or nothing yet, it holds all of the bytes
+/// after `Done`, and else what it held, if files can be made in its folder. A file that was there keeps its permissions.
+pub fn write_file<R: Files<File = File> + AllocGlobal + Eprint>(
+    rt: &R,
+    path: &str,
+    bytes: &[u8],
+) -> Answer {
     // The file is closed before anything is said: where standard error is closed, its number may
     // have become the file's.
-    match write_all(rt, path, image) {
+    match write_all(rt, path, bytes) {
         Ok(Ok(())) => Answer::Done,
         Ok(Err(error)) => report_write_failure(rt, path, &error),
         Err(_) => Answer::NoMemory,

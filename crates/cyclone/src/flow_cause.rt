@@ -3,7 +3,7 @@ use crate::expected::text_before;
 use crate::refusal::tree_of;
 use cyc_check::check;
 use cyc_flow::{Cause, Change, explain};
-use cyc_terminal::{Shown, excerpt_at, is_in_name, meaning};
+use cyc_terminal::{FileName, Shown, excerpt_at, is_in_name, meaning};
 use cyc_words::{Code, Fault, Span};
 use std::alloc::Global;
 use std::fmt;
@@ -183,12 +183,32 @@ impl fmt::Display for Headline<'_> {
         let span = self.cause.span;
         write!(
             f,
-            "{}: {} {} {}:{}\n",
+            "{}: {} {} {}:{}",
             title_of(self.text, self.fault, self.cause),
             Shown(name_at(self.text, span.line, span.column)),
             deed_of(self.text, self.fault.code, self.cause),
             span.line,
             span.column
+        )
+    }
+}
+
+/// What was done to the variable, with its name.
+#[derive(Drop)]
+pub struct Deed<'a> {
+    pub text: &'a [u8],
+    pub code: Code,
+    pub cause: Cause,
+}
+
+impl fmt::Display for Deed<'_> {
+    fn fmt<W: fmt::Write>(&self, f: &mut fmt::Formatter<W>) -> fmt::Result {
+        let span = self.cause.span;
+        write!(
+            f,
+            "`{}` {}",
+            Shown(name_at(self.text, span.line, span.column)),
+            words_of(self.cause.change, self.code)
         )
     }
 }
@@ -206,15 +226,17 @@ pub struct Note<'a> {
 impl fmt::Display for Note<'_> {
     fn fmt<W: fmt::Write>(&self, f: &mut fmt::Formatter<W>) -> fmt::Result {
         let span = self.cause.span;
-        let variable = name_at(self.text, span.line, span.column);
         write!(
             f,
-            "{}:{}:{}: `{}` {}\n",
-            Shown(self.name.as_bytes()),
+            "{}:{}:{}: {}\n",
+            FileName(self.name.as_bytes()),
             span.line,
             span.column,
-            Shown(variable),
-            words_of(self.cause.change, self.code)
+            Deed {
+                text: self.text,
+                code: self.code,
+                cause: self.cause
+            }
         )?;
         write!(f, "{}", excerpt_at(self.text, span.line, span.column))
     }

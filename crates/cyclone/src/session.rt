@@ -1,24 +1,53 @@
 //! From the words of the command line to the answer, over files and the standard streams.
-ghost use Rattle.std.specs.Prelude.{◌≡◌};
+ghost use Rattle.std.specs.Prelude.{◌≡◌, ◌⊎◌};
 ghost use Rattle.cyclone.specs.inside.Answer.{answer_of_fault};
+ghost use Rattle.cyclone.specs.declared.answer.Answer.TheVariants.{WriteFault};
 
 use crate::answer::{Answer, ending, explanation};
 use crate::console::{Keyboard, Screen};
-use crate::expected::expected_at;
-use crate::files::{read_image, read_text, write_image};
-use crate::flow_cause::cause_of;
+use crate::files::{is_one_file, read_image, read_places, read_text, write_file};
+use crate::further::refusals_behind;
+use crate::json::{line_of_refusal, line_of_warning};
 use crate::message::Message;
-use crate::refusal::words_for;
+use crate::output::Output;
+use crate::page::print_page;
+use crate::places::{PlacesText, Table, Unread, sum_of, table_in};
+use crate::report::RunReport;
+use crate::said::{say, within_bounds};
+use crate::system::{STACK, is_enough_stack, stack_limit};
+use crate::told::refusal_of;
 use crate::warnings::Warnings;
-use crate::work::{check, compile, limits_of_run, list_image, run_image, widen_heap};
+use crate::whereabouts::Whereabouts;
+use crate::work::{
+    check, compile, compile_placed, describe_image, limits_of_run, list_image, run_image,
+    widen_heap,
+};
 use clap::error::ErrorKind;
-use cyc_terminal::{GivenLimits, Request, Shown, read_request};
-use cyc_warnings::{Found, find_warnings};
-use cyc_words::Fault;
+use cyc_machine::Limits;
+use cyc_system::{Report, follow};
+use cyc_terminal::{FileName, GivenLimits, Lines, Request, read_request};
+use cyc_warnings::{Found, MOST_WARNINGS, find_warnings};
+use cyc_words::{Code, Fault};
 use std::env::{Env, FillError};
-use std::io::IsTerminal;
+use std::io::{IsTerminal, Write};
 use std::mem::ManuallyDrop;
 use std::{env, io};
+
+/// Says to a person what a program is refused for behind its first fault, if that is mended.
+fn report_behind(rt: &HostRuntime, name: &str, text: &[u8], first: Fault) {
+    let refusals = refusals_behind(rt.alloc(), text, first);
+    if !refusals.is_empty() {
+        let _ = rt.eprintln("further, if that is mended:");
+    }
+    for refusal in &refusals {
+        let message = Message {
+            name,
+            text,
+            refusal,
+        };
+        say(rt, message);
+    }
+}
 
 /// The answer to a refused program, whose message for a person goes to standard error.
 fn report_refusal(rt: &HostRuntime, name: &str, text: &[u8], fault: Fault) -> Answer
@@ -27,18 +56,14 @@ fn report_refusal(rt: &HostRuntime, name: &str, text: &[u8], fault: Fault) -> An
 {
     let answer = Answer::from(fault);
     if let Answer::Refused(fault) = answer {
+        let refusal = refusal_of(rt.alloc(), text, fault);
         let message = Message {
             name,
             text,
-            fault,
-            words: words_for(rt.alloc(), text, fault).or_else(|| expected_at(
-                rt.alloc(),
-                text,
-                fault,
-            )),
-            cause: cause_of(rt.alloc(), text, fault),
+            refusal: &refusal,
         };
-        let _ = rt.eprint(message);
+        say(rt, message);
+        report_behind(rt, name, text, fault);
     }
     answer
 }
@@ -48,19 +73,150 @@ fn report_warnings(rt: &HostRuntime, name: &str, text: &[u8], found: &[Found]) {
     let _ = rt.eprint(Warnings { name, text, found });
 }
 
+/// Prints a refusal as an object on a line.
+fn print_refusal(
+    rt: &HostRuntime,
+    output: &mut Output<'_>,
+    message: &Message<'_>,
+    is_first: bool,
+) -> io::Result<()> {
+    let line = line_of_refusal(rt.alloc(), message, is_first)?;
+    output.write_all(line.as_bytes())
+}
+
+/// Prints what a program is refused for, first and behind that, as objects.
+fn print_all(rt: &HostRuntime, name: &str, text: &[u8], first: Fault) -> io::Result<()> {
+    let mut output = Output::new(rt);
+    let refusal = refusal_of(rt.alloc(), text, first);
+    let message = Message {
+        name,
+        text,
+        refusal: &refusal,
+    };
+    print_refusal(rt, &mut output, &message, true)?;
+    let refusals = refusals_behind(rt.alloc(), text, first);
+    for refusal in &refusals {
+        let message = Message {
+            name,
+            text,
+            refusal,
+        };
+        print_refusal(rt, &mut output, &message, false)?;
+    }
+    output.flush()
+}
+
+/// The answer to objects that were to be printed, of which none is left out but for want of memory.
+fn answer_printed(answer: Answer, printed: io::Result<()>) -> Answer
+    ensures { (result ≡ answer) ⊎ (result ≡ WriteFault) }
+{
+    match printed {
+        Err(error) if error.kind() != io::ErrorKind::OutOfMemory => Answer::WriteFault,
+        _ => answer,
+    }
+}
+
+/// The answer to a refused program, whose refusals go to standard output as objects.
+fn print_refusals(rt: &HostRuntime, name: &str, text: &[u8], fault: Fault) -> Answer
+    ensures { (result ≡ answer_of_fault fault) ⊎ (result ≡ WriteFault) }
+{
+    let answer = Answer::from(fault);
+    match answer {
+        Answer::Refused(fault) => answer_printed(answer, print_all(rt, name, text, fault)),
+        _ => answer,
+    }
+}
+
+/// Prints what an accepted program is warned of as objects, at most as many as are told a person.
+fn print_warnings(rt: &HostRuntime, name: &str, text: &[u8], found: &[Found]) -> io::Result<()> {
+    let mut output = Output::new(rt);
+    for found in found.iter().take(MOST_WARNINGS) {
+        let line = line_of_warning(rt.alloc(), name, text, found)?;
+        output.write_all(line.as_bytes())?;
+    }
+    output.flush()
+}
+
+/// A source file, and how what is found in it is told.
+#[derive(Clone, Copy)]
+struct Source<'a> {
+    name: &'a str,
+    text: &'a [u8],
+    /// As objects on standard output, or to a person on standard error.
+    is_json: bool,
+}
+
+/// Tells why a program is refused: the answer to that.
+fn tell_refusal(rt: &HostRuntime, source: Source<'_>, fault: Fault) -> Answer
+    ensures { (result ≡ answer_of_fault fault) ⊎ (result ≡ WriteFault) }
+{
+    if source.is_json {
+        print_refusals(rt, source.name, source.text, fault)
+    } else {
+        report_refusal(rt, source.name, source.text, fault)
+    }
+}
+
+/// Tells what an accepted program is warned of: whether it could be told.
+fn tell_warnings(rt: &HostRuntime, source: Source<'_>, found: &[Found]) -> Result<(), Answer> {
+    let Source {
+        name,
+        text,
+        is_json,
+    } = source;
+    if !is_json {
+        report_warnings(rt, name, text, found);
+        return Ok(());
+    }
+    match answer_printed(Answer::Done, print_warnings(rt, name, text, found)) {
+        Answer::Done => Ok(()),
+        answer => Err(answer),
+    }
+}
+
 /// `check SOURCE`.
-fn check_file(rt: &HostRuntime, source: &str) -> Result<Answer, Answer> {
+fn check_file(rt: &HostRuntime, source: &str, is_json: bool) -> Result<Answer, Answer> {
     let text = read_text(rt, source)?;
-    let text = text.as_slice();
+    let source = Source {
+        name: source,
+        text: text.as_slice(),
+        is_json,
+    };
     widen_heap(rt.alloc());
-    match check(rt.alloc(), text) {
+    match check(rt.alloc(), source.text) {
         Ok(phases) => {
-            let found = find_warnings(rt.alloc(), &phases.tree);
-            report_warnings(rt, source, text, found.as_slice());
+            let found = find_warnings(rt.alloc(), &phases.tree, source.text);
+            tell_warnings(rt, source, found.as_slice())?;
             Ok(Answer::Done)
         }
-        Err(fault) => Err(report_refusal(rt, source, text, fault)),
+        Err(fault) => Err(tell_refusal(rt, source, fault)),
     }
+}
+
+/// Refuses a program's file as that of its image, which would take its place.
+fn refuse_one_file(rt: &HostRuntime, source: &str, image: &str) -> Result<(), Answer> {
+    if !is_one_file(rt, source, image) {
+        return Ok(());
+    }
+    let _ = eprintln!(rt;
+        "cyclone: {} is the file of the program itself, and its image would take its place: give -o another name",
+        FileName(image.as_bytes())
+    );
+    Err(Answer::Usage)
+}
+
+/// The same of a file of places, which is also not to be that of the image.
+fn refuse_places(rt: &HostRuntime, source: &str, image: &str, places: &str) -> Result<(), Answer> {
+    let is_image = places == image || is_one_file(rt, image, places);
+    if !is_image && !is_one_file(rt, source, places) {
+        return Ok(());
+    }
+    let of = if is_image { "the image" } else { "the program" };
+    let _ = eprintln!(rt;
+        "cyclone: {} is the file of {of} itself, and the places would take its place: give --places another name",
+        FileName(places.as_bytes())
+    );
+    Err(Answer::Usage)
 }
 
 /// `compile SOURCE -o IMAGE`. The image's file is opened only where there is an image to write.
@@ -69,42 +225,157 @@ fn compile_file(
     source: &str,
     image: &str,
     limits: GivenLimits,
+    places: Option<&str>,
+    is_json: bool,
 ) -> Result<Answer, Answer> {
+    refuse_one_file(rt, source, image)?;
+    if let Some(path) = places {
+        refuse_places(rt, source, image, path)?;
+    }
     let text = read_text(rt, source)?;
-    let text = text.as_slice();
+    let source = Source {
+        name: source,
+        text: text.as_slice(),
+        is_json,
+    };
     widen_heap(rt.alloc());
-    match compile(rt.alloc(), text, limits) {
+    if let Some(path) = places {
+        return compile_with_file(rt, source, image, limits, path);
+    }
+    match compile(rt.alloc(), source.text, limits) {
         Ok(made) => {
             // The program ends behind this, so what was made is not given back, as in `check`.
             let made = ManuallyDrop::new(made);
-            report_warnings(rt, source, text, made.warnings.as_slice());
-            Ok(write_image(rt, image, made.image.as_slice()))
+            tell_warnings(rt, source, made.warnings.as_slice())?;
+            Ok(write_file(rt, image, made.image.as_slice()))
         }
-        Err(fault) => Err(report_refusal(rt, source, text, fault)),
+        Err(fault) => Err(tell_refusal(rt, source, fault)),
     }
 }
 
-/// `run IMAGE`, on the standard input.
-fn run_file(
+/// The same with `--places FILE`, which is written where the image was.
+fn compile_with_file(
     rt: &HostRuntime,
+    source: Source<'_>,
     image: &str,
     limits: GivenLimits,
-    budget: u64,
+    path: &str,
 ) -> Result<Answer, Answer> {
+    match compile_placed(rt.alloc(), source.text, limits) {
+        Ok(made) => {
+            let made = ManuallyDrop::new(made);
+            let compiled = &made.compilation;
+            tell_warnings(rt, source, compiled.warnings.as_slice())?;
+            let places = PlacesText {
+                name: source.name,
+                text: source.text,
+                tokens: compiled.tokens.as_slice(),
+                image: compiled.image.as_slice(),
+                places: &made.places,
+            };
+            let Ok(places) = format!(in rt.alloc(); "{places}") else {
+                return Err(Answer::NoMemory);
+            };
+            match write_file(rt, image, compiled.image.as_slice()) {
+                Answer::Done => Ok(write_file(rt, path, places.as_bytes())),
+                answer => Err(answer),
+            }
+        }
+        Err(fault) => Err(tell_refusal(rt, source, fault)),
+    }
+}
+
+/// What the file of places says that is given for an image, which it must be of.
+fn read_table(rt: &HostRuntime, path: &str, image: &[u8]) -> Result<Table, Answer> {
+    let file = read_places(rt, path)?;
+    match table_in(rt.alloc(), file.as_slice()) {
+        Ok(table) if table.sum == sum_of(image) => Ok(table),
+        Err(Unread::Memory) => Err(Answer::NoMemory),
+        Ok(_) | Err(Unread::Malformed) => {
+            let _ = eprintln!(rt;
+                "cyclone: {} is not this image's file of places: write it anew by cyclone compile",
+                FileName(path.as_bytes())
+            );
+            Err(Answer::ReadFault)
+        }
+    }
+}
+
+/// Says where in its program a run of this image stopped, where it ended before that did. What it read is at hand, if that was kept.
+fn report_place(rt: &HostRuntime, table: &Table, image: &[u8], input: Option<&[u8]>, run: Ran) {
+    match run.answer {
+        Answer::Uncaught(_, _) | Answer::Full | Answer::Trapped(_) | Answer::Spent => {}
+        _ => return,
+    }
+    let Some(input) = input else {
+        let _ = rt.eprintln("cyclone: what the run read is too much to follow it once more");
+        return;
+    };
+    let followed = follow(
+        rt.alloc(),
+        image,
+        table.stretches.as_slice(),
+        run.limits,
+        run.report.count,
+        input,
+    );
+    if let Ok(Some(trail)) = followed {
+        let _ = rt.eprint(Whereabouts {
+            table,
+            answer: run.answer,
+            report: run.report,
+            trail: &trail,
+        });
+    }
+}
+
+/// A run that is over.
+#[derive(Clone, Copy)]
+struct Ran {
+    limits: Limits,
+    answer: Answer,
+    report: Report,
+}
+
+/// How a run may go.
+#[derive(Clone, Copy)]
+struct Allowance {
+    limits: GivenLimits,
+    caps: GivenLimits,
+    budget: u64,
+    counting: bool,
+}
+
+/// Runs an image on the standard streams, and says to a person why it ended before its program did. What was reported stands beside the
+/// answer. A file of places, where one is named, tells where it ended.
+fn run_on_streams(
+    rt: &HostRuntime,
+    image: &str,
+    allowed: Allowance,
+    places: Option<&str>,
+) -> Result<(Answer, Option<Report>), Answer> {
     let image = read_image(rt, image)?;
-    let limits = limits_of_run(rt.alloc(), image.as_slice(), limits)?;
+    let table = match places {
+        Some(path) => Some(read_table(rt, path, image.as_slice())?),
+        None => None,
+    };
+    let limits = limits_of_run(rt.alloc(), image.as_slice(), allowed.limits, allowed.caps)?;
     let by_lines = rt.stdout().is_terminal();
-    let Ok(mut screen) = Screen::new(rt.alloc(), rt.stdout(), by_lines) else {
+    let Ok(mut screen) = Screen::new(rt.alloc(), Output::new(rt), by_lines) else {
         return Err(Answer::NoMemory);
     };
     let Ok(mut keyboard) = Keyboard::new(rt.alloc(), rt.stdin()) else {
         return Err(Answer::NoMemory);
     };
+    if table.is_some() {
+        keyboard.keep(rt.alloc());
+    }
     let (answer, report) = run_image(
         rt.alloc(),
         image.as_slice(),
         limits,
-        budget,
+        allowed.budget,
+        allowed.counting,
         &mut keyboard,
         &mut screen,
     );
@@ -112,51 +383,141 @@ fn run_file(
     if screen.is_within_line() && rt.stderr().is_terminal() {
         let _ = rt.eprintln("");
     }
-    if let Some(ending) = ending(&answer, report, limits, budget) {
+    if let (Some(table), Some(report)) = (&table, report) {
+        let run = Ran {
+            limits,
+            answer,
+            report,
+        };
+        report_place(rt, table, image.as_slice(), keyboard.kept(), run);
+    }
+    if let Some(ending) = ending(&answer, report, limits, allowed.budget) {
         let _ = eprintln!(rt; "cyclone: {ending}");
     }
-    Ok(answer)
+    Ok((answer, report))
+}
+
+/// Writes what is reported of a run to its file. The answer stays, if that can be done.
+fn write_report(
+    rt: &HostRuntime,
+    path: &str,
+    answer: Answer,
+    report: Option<Report>,
+) -> Result<Answer, Answer> {
+    let Ok(text) = (RunReport { answer, report }).text(rt.alloc()) else {
+        return Err(Answer::NoMemory);
+    };
+    match write_file(rt, path, text.as_bytes()) {
+        Answer::Done => Ok(answer),
+        fault => Err(fault),
+    }
+}
+
+/// `run IMAGE`, on the standard input. With a file for what is reported, that is written however the run ends, also where there was none.
+fn run_file(
+    rt: &HostRuntime,
+    image: &str,
+    allowed: Allowance,
+    report: Option<&str>,
+    places: Option<&str>,
+) -> Result<Answer, Answer> {
+    let outcome = run_on_streams(rt, image, allowed, places);
+    let Some(path) = report else {
+        return Ok(outcome?.0);
+    };
+    match outcome {
+        Ok((answer, report)) => write_report(rt, path, answer, report),
+        Err(answer) => write_report(rt, path, answer, None),
+    }
 }
 
 /// `disasm IMAGE`.
 fn list_file(rt: &HostRuntime, image: &str) -> Result<Answer, Answer> {
     let image = read_image(rt, image)?;
-    let Ok(mut screen) = Screen::new(rt.alloc(), rt.stdout(), false) else {
+    let Ok(mut screen) = Screen::new(rt.alloc(), Output::new(rt), false) else {
         return Err(Answer::NoMemory);
     };
     Ok(list_image(rt.alloc(), image.as_slice(), &mut screen))
 }
 
+/// `explain CODE`.
+fn explain_code(rt: &HostRuntime, code: Code) -> Result<Answer, Answer> {
+    let Ok(mut screen) = Screen::new(rt.alloc(), Output::new(rt), false) else {
+        return Err(Answer::NoMemory);
+    };
+    Ok(print_page(code, &mut screen))
+}
+
+/// `info IMAGE`.
+fn describe_file(rt: &HostRuntime, image: &str) -> Result<Answer, Answer> {
+    let image = read_image(rt, image)?;
+    let Ok(mut screen) = Screen::new(rt.alloc(), Output::new(rt), false) else {
+        return Err(Answer::NoMemory);
+    };
+    Ok(describe_image(rt.alloc(), image.as_slice(), &mut screen))
+}
+
 /// What came of a request.
-fn carry_out(rt: &HostRuntime, request: Request<'_>) -> Answer {
+fn carry_out(rt: &HostRuntime, request: &Request<'_>) -> Answer {
     let result = match request {
-        Request::Check { source } => check_file(rt, source),
+        Request::Check { source, is_json } => check_file(rt, source, *is_json),
         Request::Compile {
             source,
             image,
             limits,
-        } => compile_file(rt, source, image, limits),
+            places,
+            is_json,
+        } => compile_file(rt, source, image, *limits, *places, *is_json),
         Request::Run {
             image,
             limits,
+            caps,
             budget,
-        } => run_file(rt, image, limits, budget),
+            report,
+            peaks,
+            places,
+        } => {
+            let allowed = Allowance {
+                limits: *limits,
+                caps: *caps,
+                budget: *budget,
+                counting: *peaks,
+            };
+            run_file(rt, image, allowed, *report, *places)
+        }
         Request::Disassemble { image } => list_file(rt, image),
+        Request::Explain { code } => explain_code(rt, *code),
+        Request::Describe { image } => describe_file(rt, image),
     };
     match result {
         Ok(answer) | Err(answer) => answer,
     }
 }
 
+/// Writes help or the version to the standard output.
+fn print_help(rt: &HostRuntime, help: &clap::Error) -> io::Result<()> {
+    let mut output = Output::new(rt);
+    write!(output, "{help}")?;
+    output.flush()
+}
+
 /// The answer to words that ask for no work: a wrong command line, or help or the version, which have no answer
 /// where their text could be written.
 fn print_usage(rt: &HostRuntime, error: &clap::Error) -> Option<Answer> {
-    let written = error.print(rt);
     match error.kind() {
-        ErrorKind::DisplayHelp | ErrorKind::DisplayVersion if written.is_ok() => None,
-        ErrorKind::DisplayHelp | ErrorKind::DisplayVersion => Some(Answer::WriteFault),
-        ErrorKind::OutOfMemory => Some(Answer::NoMemory),
-        _ => Some(Answer::Usage),
+        ErrorKind::DisplayHelp | ErrorKind::DisplayVersion => match print_help(rt, error) {
+            Ok(()) => None,
+            Err(_) => Some(Answer::WriteFault),
+        },
+        kind => {
+            // What is wrong is said with the words of the command line, which may have any characters.
+            let text = within_bounds(error);
+            say(rt, Lines(text.as_str()));
+            Some(match kind {
+                ErrorKind::OutOfMemory => Answer::NoMemory,
+                _ => Answer::Usage,
+            })
+        }
     }
 }
 
@@ -172,7 +533,7 @@ fn report_word(rt: &HostRuntime) {
             Ok(length) if str::from_utf8(&word[..length]).is_err() => {
                 let _ = eprintln!(rt;
                     "cyclone: the name {} is not UTF-8: open its file by the shell, as in cyclone check /dev/fd/3 3< FILE",
-                    Shown(&word[..length])
+                    FileName(&word[..length])
                 );
                 return;
             }
@@ -202,14 +563,36 @@ fn read_words(rt: &HostRuntime) -> Result<Vec<String>, Answer> {
 /// person stands on standard error.
 fn answer_words(rt: &HostRuntime, words: &[String]) -> Option<Answer> {
     match read_request(rt.alloc(), words) {
-        Ok(request) => Some(carry_out(rt, request)),
+        Ok(request) => Some(carry_out(rt, &request)),
         Err(error) => print_usage(rt, &error),
     }
 }
 
-/// Does what the command line asks for. What the program answers, or nothing where help or the version was
-/// asked for and given.
+/// Refuses a stack on which some text or image would end the program by a signal.
+fn ask_for_stack(rt: &HostRuntime) -> Result<(), Answer> {
+    let limit = stack_limit(rt);
+    if is_enough_stack(limit) {
+        return Ok(());
+    }
+    let (wanted, given) = (STACK / 1024, limit / 1024);
+    let _ = eprintln!(rt;
+        "cyclone: a stack of {wanted} KB is wanted, and {given} KB are allowed: ulimit -s {wanted} allows it"
+    );
+    Err(Answer::NoMemory)
+}
+
+/// Does what the command line asks for, where there is the stack for it. What the program answers, or nothing where help or the version
+/// was asked for and given.
 pub fn serve(rt: &HostRuntime) -> Option<Answer> {
+    match ask_for_stack(rt) {
+        Ok(()) => serve_words(rt),
+        Err(answer) => Some(answer),
+    }
+}
+
+/// Does what the command line asks for. It has a frame of its own, so that a stack which is too small is told on it.
+#[inline(never)]
+fn serve_words(rt: &HostRuntime) -> Option<Answer> {
     let answer = match read_words(rt) {
         Ok(words) => answer_words(rt, words.as_slice())?,
         Err(answer) => answer,

@@ -1,5 +1,5 @@
 //! The warnings about an accepted text, for a person.
-use cyc_terminal::{Shown, excerpt_at};
+use cyc_terminal::{FileName, excerpt_at};
 use cyc_warnings::{Found, MOST_WARNINGS, text_of};
 use std::fmt;
 
@@ -19,11 +19,11 @@ impl fmt::Display for Warnings<'_> {
         let name = self.name.as_bytes();
         for (n, found) in self.found.iter().enumerate() {
             if n >= MOST_WARNINGS {
-                return write!(f, "{}: further warnings are not shown\n", Shown(name));
+                return write!(f, "{}: further warnings are not shown\n", FileName(name));
             }
             let (line, column) = (found.span.line, found.span.column);
             let words = text_of(found.warning);
-            write!(f, "{}:{line}:{column}: warning: {words}\n", Shown(name))?;
+            write!(f, "{}:{line}:{column}: warning: {words}\n", FileName(name))?;
             write!(f, "{}", excerpt_at(self.text, line, column))?;
         }
         Ok(())

@@ -1,18 +1,22 @@
 //! The works of the program, over bytes, a reader and a writer.
-ghost use Rattle.std.specs.Prelude.{◌≡◌, ◌⊎◌, IfOk, IfErr, IfSome, MatchResult, take};
+ghost use Rattle.std.specs.Prelude.{◌≡◌, ◌⊎◌, false, is_some, IfOk, IfErr, IfSome, MatchResult, take};
 ghost use Rattle.std.specs.Io.KnownBytes.{Keeps};
 ghost use Rattle.cyc_words.specs.Fault.{memory_fault};
 ghost use Rattle.cyc_system.specs.Compiled.{HasFaultAtLast};
+ghost use Rattle.cyc_elf.specs.Reading.{reading};
+ghost use Rattle.cyc_system.specs.Engine.{AnswersAnew};
 ghost use Rattle.cyc_system.specs.Front.{HasFault};
-ghost use Rattle.cyclone.specs.inside.Console.{keyboard_remaining, screen_held, screen_written};
-ghost use Rattle.cyclone.specs.inside.Work.{AnswersCheck, AnswersCompile, AnswersListing, AnswersNoImage, AnswersRun, AreLimitsFor, EndsAs, EndsListing, EndsRun};
+ghost use Rattle.cyclone.specs.inside.Console.{keyboard_remaining, screen_held, screen_written, screen_is_stuck};
+ghost use Rattle.cyclone.specs.inside.Work.{AnswersCheck, AnswersCompile, AnswersInfo, AnswersListing, AnswersNoImage, AnswersRun, AreLimitsFor, EndsAs, EndsInfo, EndsListing, EndsRun};
 
 use crate::answer::Answer;
 use crate::console::{Keyboard, Screen};
+use crate::info::Description;
+use cyc_elf::read_outline;
 use cyc_machine::Limits;
 use cyc_system::{
-    Compilation, Phases, Report, RunFault, compile_with_tokens, disassemble, note_of, run,
-    run_phases,
+    Compilation, Phases, Placed, Report, RunFault, compile_with_places, compile_with_tokens,
+    disassemble, note_of, run, run_counting, run_phases,
 };
 use cyc_terminal::GivenLimits;
 use cyc_words::{ByteIn, ByteOut, Fault};
@@ -61,9 +65,18 @@ pub fn compile(alloc: Global, text: &[u8], limits: GivenLimits) -> Result<Compil
     compile_with_tokens(alloc, text, limits.carried())
 }
 
+/// The same, with where the image comes from in the text.
+pub fn compile_placed(alloc: Global, text: &[u8], limits: GivenLimits) -> Result<Placed, Fault>
+    // A text that has a fault is never compiled.
+    ensures refuses { (fault : Fault) → HasFaultAtLast text.now fault
+        → MatchResult result (λ _. ⊥) (λ f. (f ≡ memory_fault) ⊎ (f ≡ fault)) }
+{
+    compile_with_places(alloc, text, limits.carried())
+}
+
 /// The answer, or a write fault where what was written could not all be passed on.
-fn finish_for<W: Write + Drop>(screen: &mut Screen<W>, answer: Answer) -> Answer
-    ensures answer { EndsAs answer (screen_held screen.new) result }
+pub fn finish_for<W: Write + Drop>(screen: &mut Screen<W>, answer: Answer) -> Answer
+    ensures answer { EndsAs answer (screen_held screen.new) (screen_is_stuck screen.new) result }
     ensures bytes { Keeps (screen_written W.contents screen.old) (screen_written W.contents screen.new) }
 {
     match screen.finish() {
@@ -72,52 +85,83 @@ fn finish_for<W: Write + Drop>(screen: &mut Screen<W>, answer: Answer) -> Answer
     }
 }
 
-/// The limits of a run of an image: each is the one that was given, else the one that the image carries, else the default. The answer
-/// to bytes that are no image is that of a run.
-pub fn limits_of_run(alloc: Global, image: &[u8], given: GivenLimits) -> Result<Limits, Answer>
-    ensures limits { IfOk result (λ limits. AreLimitsFor image.now given limits) }
+/// The limits of a run of an image: each is the one that was given, else the one that the image carries, else the default, but none is
+/// above its cap. The answer to bytes that are no image is that of a run.
+pub fn limits_of_run(
+    alloc: Global,
+    image: &[u8],
+    given: GivenLimits,
+    caps: GivenLimits,
+) -> Result<Limits, Answer>
+    ensures limits { IfOk result (λ limits. AreLimitsFor image.now given caps limits) }
     ensures answer { IfErr result (AnswersNoImage image.now) }
 {
     match note_of(alloc, image) {
-        Ok(note) => Ok(given.of_run(note)),
+        Ok(note) => Ok(given.of_run(caps, note)),
         Err(fault) => Err(Answer::from(RunFault::from(fault))),
     }
 }
 
-/// Runs an image between two devices. What was reported stands beside the answer.
+/// Runs an image between two devices, and counts the most calls under way where `counting` says so.
+fn run_as<R: ByteIn, W: ByteOut>(
+    alloc: Global,
+    image: &[u8],
+    limits: Limits,
+    budget: u64,
+    counting: bool,
+    reader: &mut R,
+    writer: &mut W,
+) -> Result<Report, RunFault>
+    ensures runs { AnswersAnew false (reading image.now) limits budget
+        (record { remaining = R.remaining reader.old; written = W.written writer.old })
+        (record { remaining = R.remaining reader.new; written = W.written writer.new }) result }
+    ensures calls { IfOk result (λ report. is_some report.calls ≡ counting) }
+{
+    if counting {
+        run_counting(alloc, image, limits, budget, reader, writer)
+    } else {
+        run(alloc, image, limits, budget, reader, writer)
+    }
+}
+
+/// Runs an image between two devices, and counts the most calls under way where `counting` says so. What was reported stands beside the
+/// answer.
 fn run_between<R: ByteIn, W: ByteOut>(
     alloc: Global,
     image: &[u8],
     limits: Limits,
     budget: u64,
+    counting: bool,
     reader: &mut R,
     writer: &mut W,
 ) -> (Answer, Option<Report>)
-    ensures { AnswersRun image.now limits budget
+    ensures { AnswersRun image.now limits budget counting
         (record { remaining = R.remaining reader.old; written = W.written writer.old })
         (record { remaining = R.remaining reader.new; written = W.written writer.new }) result.0 result.1 }
 {
-    match run(alloc, image, limits, budget, reader, writer) {
+    match run_as(alloc, image, limits, budget, counting, reader, writer) {
         Ok(report) => (Answer::from(report.stop), Some(report)),
         Err(fault) => (Answer::from(fault), None),
     }
 }
 
-/// Runs an image on the bytes of the keyboard's reader, and writes what it prints to the screen's writer.
+/// Runs an image on the bytes of the keyboard's reader, and writes what it prints to the screen's writer. The most calls under way are
+/// counted where `counting` says so.
 pub fn run_image<R: Read + Drop, W: Write + Drop>(
     alloc: Global,
     image: &[u8],
     limits: Limits,
     budget: u64,
+    counting: bool,
     keyboard: &mut Keyboard<R>,
     screen: &mut Screen<W>,
 ) -> (Answer, Option<Report>)
-    ensures { EndsRun image.now limits budget
+    ensures { EndsRun image.now limits budget counting
         (record { remaining = keyboard_remaining R.remaining keyboard.old; written = screen_written W.contents screen.old })
         (record { remaining = keyboard_remaining R.remaining keyboard.new; written = screen_written W.contents screen.new })
-        (screen_held screen.new) result.0 result.1 }
+        (screen_held screen.new) (screen_is_stuck screen.new) result.0 result.1 }
 {
-    let (answer, report) = run_between(alloc, image, limits, budget, keyboard, screen);
+    let (answer, report) = run_between(alloc, image, limits, budget, counting, keyboard, screen);
     (finish_for(screen, answer), report)
 }
 
@@ -134,8 +178,39 @@ fn list_to<W: ByteOut>(alloc: Global, image: &[u8], writer: &mut W) -> Answer
 /// Lists the instructions of an image to the screen's writer.
 pub fn list_image<W: Write + Drop>(alloc: Global, image: &[u8], screen: &mut Screen<W>) -> Answer
     ensures { EndsListing image.now (screen_written W.contents screen.old) (screen_written W.contents screen.new)
-        (screen_held screen.new) result }
+        (screen_held screen.new) (screen_is_stuck screen.new) result }
 {
     let answer = list_to(alloc, image, screen);
+    finish_for(screen, answer)
+}
+
+/// Says what an image is to a device. That needs no more than its headers.
+#[tactic(auto, using(crate::proofs::Describing::no_memory, crate::proofs::Describing::all_told, crate::proofs::Describing::refused))]
+fn describe_to<W: ByteOut>(alloc: Global, image: &[u8], writer: &mut W) -> Answer
+    ensures { AnswersInfo image.now (W.written writer.old) (W.written writer.new) result }
+{
+    let outline = match read_outline(alloc, image) {
+        Ok(outline) => outline,
+        Err(fault) => return Answer::from(RunFault::from(fault)),
+    };
+    let Ok(text) = Description(&outline).to_string(alloc) else {
+        return Answer::NoMemory;
+    };
+    match writer.put_all(text.as_bytes()) {
+        Ok(()) => Answer::Done,
+        Err(_) => Answer::WriteFault,
+    }
+}
+
+/// Says what an image is to the screen's writer.
+pub fn describe_image<W: Write + Drop>(
+    alloc: Global,
+    image: &[u8],
+    screen: &mut Screen<W>,
+) -> Answer
+    ensures { EndsInfo image.now (screen_written W.contents screen.old) (screen_written W.contents screen.new)
+        (screen_held screen.new) (screen_is_stuck screen.new) result }
+{
+    let answer = describe_to(alloc, image, screen);
     finish_for(screen, answer)
 }

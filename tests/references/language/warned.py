@@ -1,5 +1,7 @@
 """What an accepted text is warned of, read a second time: over the tree as the rules of types leave it, where each name is the variable
 that it stands for and each expression has its type."""
+import re
+
 from .texts import Node
 from .types import CHAR, is_fat, is_unique
 
@@ -7,6 +9,8 @@ COMPARISONS = ("==", "!=", "<", "<=", ">", ">=")
 ORDERS = ("<", "<=", ">", ">=")
 EFFECTS = ("call", "assign", "new", "ufree", "free_ukey")
 WIDTH = 32
+# Beyond ASCII: control characters, marks and embeddings of direction, what has no width, separators of lines, the byte-order mark, tags.
+HIDDEN = re.compile("[\x80-\x9f\u061c\u200b-\u200f\u2028-\u202e\u2060-\u206f\ufeff\U000e0000-\U000e007f]")
 # How many elements of a type are 1,000 words.
 CHARS_AT_MOST, FATS_AT_MOST, CELLS_AT_MOST = 4000, 333, 1000
 
@@ -224,6 +228,16 @@ class Warned:
                     self.warn(above.index.start, "IndexOutside")
 
 
-def warnings_of(program):
+def hidden_in(text):
+    """The first character of a text, a string of its bytes, that is not seen: its place and the warning, if there is one."""
+    for number, line in enumerate(text.split("\n"), 1):
+        line = line.encode("latin-1").decode("utf-8", "surrogateescape")
+        match = HIDDEN.search(line)
+        if match:
+            return [((number, len(line[:match.start()].encode("utf-8", "surrogateescape")) + 1), "HiddenCharacter")]
+    return []
+
+
+def warnings_of(program, text):
     """What a program is warned of: the places, in order, and the names."""
-    return sorted(found for function in program.functions.values() for found in Warned(function).found)
+    return sorted([found for function in program.functions.values() for found in Warned(function).found] + hidden_in(text))

@@ -1,8 +1,9 @@
 -- How a place in a text is shown to a person. All of it is this project's own choice.
-use Rattle.std.specs.Prelude.{◌≡◌, ℕ, ◌+◌, ◌-◌, ◌≤◌, ◌↔◌, ◌==◌, ◌/◌, ◌%◌, ◌&&◌, nat_le, min, nat_lt, List, [], ◌∷◌, ◌++◌, length, replicate, take, slice_index_or, drop, codes, if◌then◌else◌, false}
+use Rattle.std.specs.Prelude.{◌≡◌, ℕ, ◌+◌, ◌-◌, ◌≤◌, ◌↔◌, ◌==◌, ◌/◌, ◌%◌, ◌&&◌, ◌||◌, Bool, nat_le, min, nat_lt, List, [], ◌∷◌, ◌++◌, length, replicate, take, slice_index_or, drop, codes, if◌then◌else◌, false}
 use Rattle.std.specs.List.{flat_map, slice_split}
 use Rattle.std.specs.Fmt.{digit_glyph}
 use Rattle.std.specs.Char.{encode_utf8}
+use Rattle.std.specs.Int.{is_in_range}
 use Rattle.std.specs.Str.{chars, is_utf8}
 use Rattle.cyc_terminal.specs.declared.excerpt.Excerpt.{Excerpt}
 
@@ -34,16 +35,28 @@ shown_byte b = if b == 9 then 9 ∷ []
 abbrev pub blank_byte : ℕ → List ℕ
 blank_byte b = if b == 9 then 9 ∷ [] else replicate (length (shown_byte b)) 32
 
--- A character as it is shown: one of ASCII as its byte, a control character beyond escaped as its two bytes, any other as it is.
+-- The characters beyond ASCII that would not be seen, would end a line or would turn the direction in which a terminal writes: the control
+-- characters of Unicode (Cc), and of its format characters (Cf) the Arabic letter mark, spaces and joiners of no width and the marks of
+-- direction (U+200B to 200F), the separators of lines and the embeddings and overrides of direction (U+2028 to 202E), what is not seen and
+-- the isolates of direction (U+2060 to 206F), the byte-order mark, and the tags.
+abbrev pub is_hidden : ℕ → Bool
+is_hidden c = is_in_range 0x80 0x9f c || c == 0x61c || is_in_range 0x200b 0x200f c || is_in_range 0x2028 0x202e c
+    || is_in_range 0x2060 0x206f c || c == 0xfeff || is_in_range 0xe0000 0xe007f c
+
+-- a character as it is shown: one of ASCII as its byte, one that is not seen by its bytes, which are escaped, any other as it is
 abbrev pub shown_char : ℕ → List ℕ
 shown_char c = if nat_lt c 128 then shown_byte c
-    else (if nat_lt c 160 then escaped_byte 194 ++ escaped_byte c
+    else (if is_hidden c then flat_map shown_byte (encode_utf8 c)
     else encode_utf8 c)
+
+-- the same of a character of lines, whose line feeds stay
+abbrev pub line_char : ℕ → List ℕ
+line_char c = if c == 10 then 10 ∷ [] else shown_char c
 
 -- white space for a character, as wide as `shown_char` where each character that is shown has one column
 abbrev pub blank_char : ℕ → List ℕ
 blank_char c = if nat_lt c 128 then blank_byte c
-    else (if nat_lt c 160 then codes "        "
+    else (if is_hidden c then flat_map blank_byte (encode_utf8 c)
     else 32 ∷ [])
 
 -- bytes as they are shown: by their characters where they are UTF-8, else each by itself
@@ -60,6 +73,14 @@ most_shown = 72
 -- what stands for n bytes that are left out
 abbrev pub dots : ℕ → List ℕ
 dots n = if n == 0 then [] else codes "..."
+
+-- how many bytes of a file's name are shown at most
+abbrev pub most_name : ℕ
+most_name = 512
+
+-- the name of a file as it is shown: the last bytes of it, behind dots for what is left out
+abbrev pub name_text : List ℕ → List ℕ
+name_text name = dots (length name - most_name) ++ shown_bytes (drop (length name - most_name) name)
 
 -- The excerpt of a line round a place that has `place` bytes of it before it: a part of the line in one piece,
 -- the bytes before the place and those from it on; the whole line where it is no longer than `most_shown`;

@@ -1,5 +1,5 @@
 -- The limits that a command line gives, and what becomes of them. This project's own choice.
-use Rattle.std.specs.Prelude.{ℕ, ◌≤◌, Option, Some, None, IfSome, unwrap_or}
+use Rattle.std.specs.Prelude.{ℕ, ◌≤◌, min, Option, Some, None, IfSome, unwrap_or}
 use Rattle.cyc_machine.specs.Bounds.{Bounds}
 use Rattle.cyc_machine.specs.declared.constants.TheConstants.{MIN_PAGES, MAX_PAGES, MIN_CALLS, MAX_CALLS}
 use Rattle.cyc_terminal.specs.declared.limits.TheConstants.{DEFAULT_PAGES, DEFAULT_CALLS}
@@ -24,3 +24,12 @@ carried_by (Some pages) calls = Some (pages, unwrap_or calls DEFAULT_CALLS)
 abbrev pub limits_by : Given → (note : Option (ℕ × ℕ)) → Bounds
 limits_by given None = record { pages = unwrap_or given.pages DEFAULT_PAGES; calls = unwrap_or given.calls DEFAULT_CALLS }
 limits_by given (Some limits) = record { pages = unwrap_or given.pages limits.0; calls = unwrap_or given.calls limits.1 }
+
+-- a number, and no more than a cap, where there is one
+abbrev pub capped : Option ℕ → ℕ → ℕ
+capped None n = n
+capped (Some most) n = min n most
+
+-- limits, each of them no more than its cap
+abbrev pub capped_by : Given → Bounds → Bounds
+capped_by caps limits = record { pages = capped caps.pages limits.pages; calls = capped caps.calls limits.calls }

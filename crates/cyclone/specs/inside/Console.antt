@@ -1,5 +1,5 @@
 -- What the two devices of a run hold.
-use Rattle.std.specs.Prelude.{ℕ, List, Option}
+use Rattle.std.specs.Prelude.{ℕ, Bool, List, Option}
 use Rattle.std.specs.Io.Buffered.{reader_remaining, writer_contents, writer_buffer}
 use Rattle.cyclone.specs.declared.console.Keyboard.{Keyboard}
 use Rattle.cyclone.specs.declared.console.Screen.{Screen}
@@ -15,3 +15,7 @@ screen_written contents s = writer_contents contents s.output
 -- those that are held back
 abbrev pub screen_held : {W : Type 0} → Screen W → List ℕ
 screen_held s = writer_buffer s.output
+
+-- whether bytes that had to be passed on could not be
+abbrev pub screen_is_stuck : {W : Type 0} → Screen W → Bool
+screen_is_stuck s = s.is_stuck

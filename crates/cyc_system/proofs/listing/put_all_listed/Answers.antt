@@ -1,41 +1,74 @@
-use Rattle.std.proofs.Common.{subst, sym, ◌∙◌, ◌<◌, length, take, arith}
+use Rattle.std.proofs.Common.{◌≡◌, ℕ, ◌<◌, List, ap, subst, sym, ◌∙◌, length, take, get_or, arith}
 use Rattle.std.specs.Prelude.{map}
 use Rattle.std.specs.List.{flat_map}
 use Rattle.std.specs.Io.KnownBytes.{Appends}
-use Rattle.std.proofs.lemmas.List.{length-map}
+use Rattle.std.proofs.lemmas.List.{get_or-map, length-map}
 use Rattle.cyc_words.specs.Device.{AppendsPrefix}
 use Rattle.cyc_words.proofs.DeviceLemmas.{Appends-append, TakesText_part_exit}
-use Rattle.cyc_elf.specs.Image.{segment_contents, IsSegment}
+use Rattle.cyc_elf.specs.declared.program_header.ProgramHeader.{ProgramHeader}
+use Rattle.cyc_elf.specs.Image.{IsSegment, SegmentContents}
+use Rattle.cyc_elf.specs.Outline.{fields_of}
+use Rattle.cyc_elf.specs.Reading.{segment_of}
 use Rattle.cyc_system.specs.Listing.{listed_lines}
-use Rattle.cyc_system.proofs.Listings.{item_seen, parts_more}
+use Rattle.cyc_system.proofs.Listings.{parts_more}
 use Rattle.cyc_system.proofs.listing.put_all_listed.Goals as goal
 
-pub put_listed-requires : goal.put_listed-requires
-put_listed-requires g c =
-    let segments = map segment_contents c.args.segments.now in
-    let below : c.loop-segment.segment-index < length segments = omega (arith, length-map c.args.segments.now segment_contents) in
-    subst IsSegment (item_seen segment_contents c.args.segments.now c.loop-segment.segment-index c.segment-item.result c.loop-segment-test.true c.segment-item.is)
-    (c.requires c.loop-segment.segment-index (segment_contents c.segment-item.result) below)
+-- the segments that headers of a file describe
+abbrev described : List ℕ → List ProgramHeader → List SegmentContents
+described file loads = map (segment_of file) (map fields_of loads)
+
+described-all : (file : List ℕ) (loads : List ProgramHeader) → length (described file loads) ≡ length loads
+described-all file loads = length-map (map fields_of loads) (segment_of file) ∙ length-map loads fields_of
+
+-- what is read behind the last header
+abbrev blank : ProgramHeader
+blank = record { kind = 0; offset = 0; vaddr = 0; file_size = 0; memory_size = 0; flags = 0 }
+
+abbrev header_at : List ProgramHeader → (i : ℕ) → ProgramHeader
+header_at loads i = get_or loads i blank
+
+described-seen : (file : List ℕ) (loads : List ProgramHeader) (i : ℕ) → i < length loads
+    → get_or (described file loads) i (segment_of file (fields_of (header_at loads i))) ≡ segment_of file (fields_of (header_at loads i))
+described-seen file loads i below =
+    let all : i < length (map fields_of loads) = omega (arith, below, length-map loads fields_of) in
+    get_or-map (segment_of file) (map fields_of loads) i (fields_of blank) (segment_of file (fields_of (header_at loads i))) all
+    ∙ ap (segment_of file) (get_or-map fields_of loads i blank (fields_of blank) below)
+
+pub put_listed-requires-clause-stored : goal.put_listed-requires-clause-stored
+put_listed-requires-clause-stored g c =
+    let loads = c.args.loads.now in
+    let below : c.loop-number.number < length loads = omega arith in
+    c.requires.stored c.loop-number.number blank below
+
+pub put_listed-requires-clause-segment : goal.put_listed-requires-clause-segment
+put_listed-requires-clause-segment g c =
+    let file = c.args.file.now in let loads = c.args.loads.now in let h = header_at loads c.loop-number.number in
+    let low : c.loop-number.number < length loads = omega arith in
+    let below : c.loop-number.number < length (described file loads) = omega (arith, low, described-all file loads) in
+    subst IsSegment (described-seen file loads c.loop-number.number low)
+    (c.requires.segments c.loop-number.number (segment_of file (fields_of h)) below)
 
 pub returns-in_err-put_listed-clause-bytes : goal.returns-in_err-put_listed-clause-bytes
 returns-in_err-put_listed-clause-bytes g c =
-    let segments = map segment_contents c.args.segments.now in
-    let item = segment_contents c.segment-item.result in
-    let below : c.loop-segment.segment-index < length segments = omega (arith, length-map c.args.segments.now segment_contents) in
-    TakesText_part_exit listed_lines (g.W.ByteOut.written c.args.out.now) (g.W.ByteOut.written c.loop-segment.out) (g.W.ByteOut.written c.put_listed.new.out)
-    segments c.loop-segment.segment-index item c.from_residual.result below c.from_residual.ensures.0 c.loop-segment.invariant.written
-    (subst (λ s. AppendsPrefix (g.W.ByteOut.written c.loop-segment.out) (g.W.ByteOut.written c.put_listed.new.out) (listed_lines s))
-    (sym (item_seen segment_contents c.args.segments.now c.loop-segment.segment-index c.segment-item.result c.loop-segment-test.true c.segment-item.is)) c.in_err-put_listed.ensures.bytes)
+    let file = c.args.file.now in let loads = c.args.loads.now in let h = header_at loads c.loop-number.number in
+    let item = segment_of file (fields_of h) in
+    let low : c.loop-number.number < length loads = omega arith in
+    let below : c.loop-number.number < length (described file loads) = omega (arith, low, described-all file loads) in
+    TakesText_part_exit listed_lines (g.W.ByteOut.written c.args.out.now) (g.W.ByteOut.written c.loop-number.out) (g.W.ByteOut.written c.put_listed.new.out)
+    (described file loads) c.loop-number.number item c.from_residual.result below c.from_residual.ensures.0 c.loop-number.invariant.written
+    (subst (λ s. AppendsPrefix (g.W.ByteOut.written c.loop-number.out) (g.W.ByteOut.written c.put_listed.new.out) (listed_lines s))
+    (sym (described-seen file loads c.loop-number.number low)) c.in_err-put_listed.ensures.bytes)
 
-pub loop-segment-preserved : goal.loop-segment-preserved
-loop-segment-preserved g c =
-    let segments = map segment_contents c.args.segments.now in
-    let item = segment_contents c.segment-item.result in
-    let below : c.loop-segment.segment-index < length segments = omega (arith, length-map c.args.segments.now segment_contents) in
+pub loop-number-preserved : goal.loop-number-preserved
+loop-number-preserved g c =
+    let file = c.args.file.now in let loads = c.args.loads.now in let h = header_at loads c.loop-number.number in
+    let item = segment_of file (fields_of h) in
+    let low : c.loop-number.number < length loads = omega arith in
+    let below : c.loop-number.number < length (described file loads) = omega (arith, low, described-all file loads) in
     record {
       written = subst (Appends (g.W.ByteOut.written c.args.out.now) (g.W.ByteOut.written c.put_listed.new.out))
-          (parts_more listed_lines segments c.loop-segment.segment-index item below (item_seen segment_contents c.args.segments.now c.loop-segment.segment-index c.segment-item.result c.loop-segment-test.true c.segment-item.is))
-          (Appends-append (g.W.ByteOut.written c.args.out.now) (g.W.ByteOut.written c.loop-segment.out) (g.W.ByteOut.written c.put_listed.new.out)
-          (flat_map listed_lines (take c.loop-segment.segment-index segments)) (listed_lines item) c.loop-segment.invariant.written c.in_ok-put_listed.ensures.bytes);
-      works = c.in_ok-put_listed.ensures.works ∙ c.loop-segment.invariant.works;
+          (parts_more listed_lines (described file loads) c.loop-number.number item below (described-seen file loads c.loop-number.number low))
+          (Appends-append (g.W.ByteOut.written c.args.out.now) (g.W.ByteOut.written c.loop-number.out) (g.W.ByteOut.written c.put_listed.new.out)
+          (flat_map listed_lines (take c.loop-number.number (described file loads))) (listed_lines item) c.loop-number.invariant.written c.in_ok-put_listed.ensures.bytes);
+      works = c.in_ok-put_listed.ensures.works ∙ c.loop-number.invariant.works;
     }

@@ -56,4 +56,4 @@ pub returns : goal.returns
 returns c =
     let explained : is_explained c.args.fault.code ≡ true = cc in
     let same : c.in-Some.found ≡ c.args.fault = same_fault _ _ c.if-ne.ensures in
-    said _ (refused c.args.text.now c.in-Ok.tree c.in-Some.found c.args.fault explained c.in-Ok.ensures c.in-Some.ensures same)
+    said _ (refused c.args.text.now c.in-Ok.tree c.in-Some.found c.args.fault explained c.in-Ok.ensures.tree c.in-Some.ensures same)

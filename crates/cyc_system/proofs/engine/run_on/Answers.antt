@@ -6,7 +6,7 @@ use Rattle.cyc_elf.specs.Outline.{outlined}
 use Rattle.cyc_elf.specs.Reading.{reading}
 use Rattle.cyc_machine.specs.Start.{has_outside, start_state}
 use Rattle.cyc_system.proofs.Engines.{answers_run, answers_memory, answers_outside, seen_outside, seen_inside}
-use Rattle.cyc_system.proofs.engine.run_with.Goals as goal
+use Rattle.cyc_system.proofs.engine.run_on.Goals as goal
 
 pub returns-then-not-has_place-clause-runs : goal.returns-then-not-has_place-clause-runs
 returns-then-not-has_place-clause-runs g c =
@@ -26,4 +26,4 @@ returns-clause-runs g c =
     answers_run _ _ _ image _ _ _ _ _ _ c.in_ok-outline.ensures.exact
     (seen_inside (has_outside image) c.has_place.result (c.has_place.ensures c.args.image.now) c.if-not-has_place.false)
     (c.in_ok-machine.ensures.loaded ∙ ap (λ (i : ImageContents). start_state i c.args.limits (g.S.Store.held c.args.store)) c.in_ok-contents.ensures)
-    c.drive.ensures.runs
+    c.drive_as.ensures.runs

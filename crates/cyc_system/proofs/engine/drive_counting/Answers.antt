@@ -1,0 +1,65 @@
+use Rattle.std.proofs.Common.{◌≡◌, ◌∙◌, [], false, true, refl, arith}
+use Rattle.std.proofs.lemmas.Result.{err_from_is_err_and}
+use Rattle.cyc_words.proofs.DeviceLemmas.{Appends-nil, Consumes-nil, Keeps-refl}
+use Rattle.cyc_machine.specs.Held.{state_of}
+use Rattle.cyc_system.proofs.Engines.{Progress-turn, told_step, spends, stops_at, fails_at, wants_at}
+use Rattle.cyc_system.proofs.engine.drive_counting.Goals as goal
+
+pub returns-in-NoMemory-clause-runs : goal.returns-in-NoMemory-clause-runs
+returns-in-NoMemory-clause-runs g c =
+    wants_at _ _ _ _ _ _ _ _ _ _ c.loop-count.invariant.progress c.loop-count-test.true (rw c.in-NoMemory.is at c.step.ensures)
+
+pub returns-in_err-end-in_default-clause-runs : goal.returns-in_err-end-in_default-clause-runs
+returns-in_err-end-in_default-clause-runs g c =
+    let p = err_from_is_err_and c.from_residual.result c.from_residual.ensures.1 in
+    rw (p.1, p.2) (fails_at g.S.Store.GROWS _ _ _ _ _ _ _ c.respond.new.exchanged _ _ (state_of g.S.Store.held c.respond.new.machine) _ c.loop-count.invariant.progress c.loop-count-test.true
+    (c.in_err-end-in_default.ensures.turned (state_of g.S.Store.held c.loop-count.machine) (told_step g.S.Store.GROWS (state_of g.S.Store.held c.loop-count.machine) c.step.result (state_of g.S.Store.held c.step.new.self) c.in_default.not-NoMemory c.step.ensures)))
+
+pub returns-in-Some-clause-runs : goal.returns-in-Some-clause-runs
+returns-in-Some-clause-runs g c =
+    let turned = c.in_ok-end-in_default.ensures.turned (state_of g.S.Store.held c.loop-count.machine) (told_step g.S.Store.GROWS (state_of g.S.Store.held c.loop-count.machine) c.step.result (state_of g.S.Store.held c.step.new.self) c.in_default.not-NoMemory c.step.ensures) in
+    rw (c.report_of.ensures, c.most_calls-calls.ensures) (stops_at _ _ _ _ _ c.args.budget _ c.respond.new.exchanged _ _ (state_of g.S.Store.held c.respond.new.machine) _ c.loop-count.invariant.progress (omega arith) (rw c.in-Some.is at turned))
+
+pub loop-count-preserved : goal.loop-count-preserved
+loop-count-preserved g c =
+    let turned = c.in_ok-end-in_default.ensures.turned (state_of g.S.Store.held c.loop-count.machine) (told_step g.S.Store.GROWS (state_of g.S.Store.held c.loop-count.machine) c.step.result (state_of g.S.Store.held c.step.new.self) c.in_default.not-NoMemory c.step.ensures) in record {
+      progress = rw c.most_calls-calls.ensures (Progress-turn _ _ _ _ _ _ _ _ _ _ c.loop-count.invariant.progress (rw c.in_default-end.is at turned));
+      reader = c.in_ok-end-in_default.ensures.reader ∙ c.loop-count.invariant.reader;
+      writer = c.in_ok-end-in_default.ensures.writer ∙ c.loop-count.invariant.writer;
+      past_end = λ goes_on.
+          let before = c.loop-count.invariant.past_end goes_on in
+          let behind = c.in_ok-end-in_default.ensures.past_end before.0 in
+          (behind.0, behind.1 ∙ before.1);
+      few = omega arith;
+      fits = omega (arith, c.loop-count.invariant.fits, c.in_ok-end-in_default.ensures.few);
+    }
+
+pub returns-clause-runs : goal.returns-clause-runs
+returns-clause-runs g c = rw c.report_of-2.ensures (spends _ _ _ _ c.args.budget _ _ _ c.loop-count.invariant.progress (omega arith))
+
+pub returns-in-Some-clause-past_end : goal.returns-in-Some-clause-past_end
+returns-in-Some-clause-past_end g c = λ goes_on.
+    let before = c.loop-count.invariant.past_end goes_on in
+    (c.in_ok-end-in_default.ensures.past_end before.0).1 ∙ before.1
+
+pub loop-count-init : goal.loop-count-init
+loop-count-init g c =
+    let told = g.R.ByteIn.remaining c.args.reader.now in
+    let written = g.W.ByteOut.written c.args.writer.now in record {
+      progress = record {
+        read = [];
+        output = [];
+        consumed = Consumes-nil told told (Keeps-refl told);
+        printed = Appends-nil written written (Keeps-refl written);
+        reads = refl;
+        writes = refl;
+        at_end = λ ended. absurd (let never : false ≡ true = ended in cc);
+        running = c.requires;
+        runs = λ rest ends. (refl, (refl, c.calls_at-calls.ensures));
+      };
+      reader = refl;
+      writer = refl;
+      past_end = λ goes_on. ((λ e. goes_on), refl);
+      few = omega arith;
+      fits = (omega arith, omega arith);
+    }

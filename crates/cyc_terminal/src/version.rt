@@ -1,0 +1,13 @@
+//! What the program says of itself.
+
+/// What `--version` says behind the program's name: the version, as in the file `VERSION` of the repository; the product; the logic of the
+/// toolchain that proves and builds it, which its kits share; and what is proved. It says that all was: so does the gate, and so does
+/// `make build`, before there is a program. `tools/unproved`, which proves nothing, turns the paragraph that begins so in the copy that it
+/// builds of.
+pub(crate) const VERSION: &str =
+    "1.0.0 (Hengvuol), of sources for Rattle with logic dac8208d650f15bf
+
+Built with its proofs: each function was proved before the program was built.
+An image that it makes prints what its program means, and nothing else, and ends
+alike; no program that it accepts reaches what is freed. Trusted: the toolchain
+and the C library. docs/GUARANTEES.md in the repository says all of it.";

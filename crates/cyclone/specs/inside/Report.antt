@@ -1,0 +1,89 @@
+-- What `run --report` writes of a run: one JSON object on a line, with the same fields for each run. This project's own choice.
+use Rattle.std.specs.Prelude.{ℕ, ℤ, List, ◌++◌, Option, Some, None, codes}
+use Rattle.std.specs.Fmt.{decimal, signed_decimal}
+use Rattle.cyc_system.specs.declared.report.Limit.{Limit}
+use Rattle.cyc_system.specs.declared.report.Limit.TheVariants as Limit
+use Rattle.cyc_system.specs.declared.report.Report.{Report}
+use Rattle.cyclone.specs.inside.Answer.{cause_words}
+use Rattle.cyclone.specs.declared.answer.Answer.{Answer}
+use Rattle.cyclone.specs.declared.answer.Answer.TheVariants.{Done, Returned, Refused, BadImage, Uncaught, Full, Trapped, Spent, ReadFault, WriteFault, NoMemory, Usage}
+
+abbrev pub number_or_null : Option ℕ → List ℕ
+number_or_null (Some n) = decimal n
+number_or_null None = codes "null"
+
+abbrev pub int_or_null : Option ℤ → List ℕ
+int_or_null (Some n) = signed_decimal n
+int_or_null None = codes "null"
+
+-- words between quotes
+abbrev pub words_or_null : Option (List ℕ) → List ℕ
+words_or_null (Some words) = codes "\"" ++ (words ++ codes "\"")
+words_or_null None = codes "null"
+
+-- how a run ended: the words with which its last line begins
+abbrev pub end_words : Answer → List ℕ
+end_words Done = codes "done"
+end_words (Returned value) = codes "returned"
+end_words (Refused fault) = codes "fault"
+end_words (BadImage number) = codes "image fault"
+end_words (Uncaught exception value) = codes "uncaught"
+end_words Full = codes "full"
+end_words (Trapped cause) = codes "trap"
+end_words Spent = codes "budget spent"
+end_words ReadFault = codes "read fault"
+end_words WriteFault = codes "write fault"
+end_words NoMemory = codes "no memory"
+end_words Usage = codes "usage"
+
+-- what `main` returned, or the int of the exception that was not caught
+abbrev pub value_in : Answer → Option ℤ
+value_in (Returned value) = Some value
+value_in (Uncaught exception value) = Some value
+value_in answer = None
+
+-- the number of the exception that was not caught
+abbrev pub exception_in : Answer → Option ℕ
+exception_in (Uncaught exception value) = Some exception
+exception_in answer = None
+
+-- why the machine refused an instruction
+abbrev pub cause_in : Answer → Option (List ℕ)
+cause_in (Trapped cause) = Some (cause_words cause)
+cause_in answer = None
+
+-- the rule of images that is broken
+abbrev pub fault_in : Answer → Option ℕ
+fault_in (BadImage number) = Some number
+fault_in answer = None
+
+-- of which limit more was wanted
+abbrev pub limit_words : Option Limit → Option (List ℕ)
+limit_words (Some Limit.Calls) = Some (codes "calls")
+limit_words (Some Limit.Pages) = Some (codes "pages")
+limit_words None = None
+
+-- how it ended
+abbrev pub end_fields : Answer → List ℕ
+end_fields answer = codes "{\"end\":\"" ++ (end_words answer ++ (codes "\",\"value\":" ++ (int_or_null (value_in answer)
+    ++ (codes ",\"exception\":" ++ (number_or_null (exception_in answer) ++ (codes ",\"cause\":" ++ (words_or_null (cause_in answer)
+    ++ (codes ",\"image_fault\":" ++ (number_or_null (fault_in answer) ++ codes ",")))))))))
+
+-- Where it stopped: the limit of which more was wanted, the instructions that were executed, and the address of the one that ended it or of
+-- the next one.
+abbrev pub place_fields : Report → List ℕ
+place_fields report = codes "\"limit\":" ++ (words_or_null (limit_words report.limit)
+    ++ (codes ",\"instructions\":" ++ (decimal report.count ++ (codes ",\"counter\":" ++ (decimal report.counter ++ codes ",")))))
+
+-- What it used: the most calls under way at once, where they were counted, and the bytes that were read and written.
+abbrev pub amount_fields : Report → List ℕ
+amount_fields report = codes "\"most_calls\":" ++ (number_or_null report.calls
+    ++ (codes ",\"read\":" ++ (decimal report.read ++ (codes ",\"written\":" ++ (decimal report.written ++ codes "}\n")))))
+
+-- its figures; without a report each is null
+abbrev pub figure_fields : Option Report → List ℕ
+figure_fields (Some report) = place_fields report ++ amount_fields report
+figure_fields None = codes "\"limit\":null,\"instructions\":null,\"counter\":null,\"most_calls\":null,\"read\":null,\"written\":null}\n"
+
+abbrev pub report_text : Answer → Option Report → List ℕ
+report_text answer report = end_fields answer ++ figure_fields report

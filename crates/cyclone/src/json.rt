@@ -1,0 +1,297 @@
+//! Refusals and warnings for a program that reads them: what the objects of `--json` have.
+use crate::expected::text_before;
+use crate::flow_cause::Deed;
+use crate::message::{Advice, Lines, Message, Summary};
+use cyc_terminal::{Edit, Entry, Range, Related, Shown, is_in_name};
+use cyc_warnings::{Found, Warning, text_of};
+use cyc_words::{Code, Fault, Span};
+use std::alloc::{AllocError, Global};
+
+// ---- ranges
+
+/// The signs of more than one byte, the longest first, and the beginning of a comment.
+const SIGNS: &str = ":=:~&&~||~==~!=~<=~>=~<<~>>~->~/*";
+
+/// How many bytes at the beginning of a text are those of names and numbers.
+fn name_length(text: &[u8]) -> usize {
+    match text.iter().position(|byte| !is_in_name(*byte)) {
+        Some(end) => end,
+        None => text.len(),
+    }
+}
+
+/// How many bytes at the beginning of a text are those of a number.
+fn number_length(text: &[u8]) -> usize {
+    if let [b'0', b'x' | b'X', digits @ ..] = text {
+        let end = digits.iter().position(|byte| !byte.is_ascii_hexdigit());
+        let length = end.unwrap_or(digits.len());
+        if length > 0 {
+            return length.saturating_add(2);
+        }
+    }
+    let end = text.iter().position(|byte| !byte.is_ascii_digit());
+    end.unwrap_or(text.len())
+}
+
+/// How many bytes the token has that begins a text. A byte that begins none has one, and so has each sign that is not listed.
+fn token_length(text: &[u8]) -> usize {
+    match text {
+        [] | [b'\n', ..] => return 0,
+        [b'0'..=b'9', ..] => return number_length(text),
+        [b'`', b'0'..=b'9', ..] | [b'\'', b'\'', ..] => return 1,
+        [b'`', name @ ..] => return name_length(name).saturating_add(1),
+        [b'\'', b'\\', _, b'\'', ..] => return 4,
+        [b'\'', _, b'\'', ..] => return 3,
+        _ => {}
+    }
+    for sign in SIGNS.split('~') {
+        if text.starts_with(sign.as_bytes()) {
+            return sign.len();
+        }
+    }
+    name_length(text).max(1)
+}
+
+/// The bytes of a text from a place on.
+fn text_from(text: &[u8], line: u32, column: u32) -> &[u8] {
+    let start = text_before(text, line, column).len();
+    text.get(start..).unwrap_or(&[])
+}
+
+/// The token at a place.
+fn token_at(text: &[u8], line: u32, column: u32) -> &[u8] {
+    let rest = text_from(text, line, column);
+    rest.get(..token_length(rest)).unwrap_or(rest)
+}
+
+/// A range at a place with so many bytes of its line.
+fn range_of(line: u32, column: u32, length: usize) -> Range {
+    let length = u32::try_from(length).unwrap_or(0);
+    Range {
+        line,
+        column,
+        end_line: line,
+        end_column: column.saturating_add(length),
+    }
+}
+
+/// From where to where the token at a place goes.
+fn range_at(text: &[u8], span: Span) -> Range {
+    let token = token_at(text, span.line, span.column);
+    range_of(span.line, span.column, token.len())
+}
+
+/// The same of a fault. A `main` that stands nowhere has no token.
+fn range_of_fault(text: &[u8], fault: Fault) -> Range {
+    let Fault { code, line, column } = fault;
+    if code == Code::BadMain && (line, column) == (1, 1) {
+        return range_of(line, column, 0);
+    }
+    range_at(text, Span { line, column })
+}
+
+// ---- edits
+
+/// What stands in place of the token at a refusal, if its hint is that. What is put before it has an empty range there.
+#[derive(Clone, Copy)]
+struct Change<'a> {
+    is_before: bool,
+    text: &'a str,
+}
+
+/// Whether a byte stands in a text.
+fn has_byte(text: &str, byte: u8) -> bool {
+    text.as_bytes().iter().position(|b| *b == byte).is_some()
+}
+
+/// A change of the token at a refusal.
+fn in_place(text: &str) -> Option<Change<'_>> {
+    Some(Change {
+        is_before: false,
+        text,
+    })
+}
+
+/// How a hint on a word begins, the word, and what stands in its place.
+const WORDS: [(&str, &str, &str); 9] = [
+    ("and is written", "and", "&&"),
+    ("or is written", "or", "||"),
+    ("there is no const", "const", ""),
+    ("there is no const", "static", ""),
+    ("there is no const", "extern", ""),
+    ("there is no const", "inline", ""),
+    ("there is no const", "register", ""),
+    ("there is no const", "volatile", ""),
+    ("there is no const", "restrict", ""),
+];
+
+/// What a hint says to write in the place of a token, or before it.
+fn change_by<'a>(hint: &'a str, token: &str) -> Option<Change<'a>> {
+    if let Some(rest) = hint.strip_prefix("did you mean `") {
+        let name = rest.strip_suffix("`?")?;
+        return if has_byte(name, b'`') || has_byte(token, b'`') {
+            None
+        } else {
+            in_place(name)
+        };
+    }
+    if let Some(number) = hint.strip_prefix("an int has 32 bits and a sign: write ") {
+        return if has_byte(number, b' ') {
+            None
+        } else {
+            in_place(number)
+        };
+    }
+    if hint.starts_with("write ; before it") {
+        return Some(Change {
+            is_before: true,
+            text: ";",
+        });
+    }
+    for (beginning, word, text) in WORDS {
+        if hint.starts_with(beginning) && token == word {
+            return in_place(text);
+        }
+    }
+    None
+}
+
+/// The edit that a hint is, of the token that has this range.
+fn edit_by<'a>(hint: &'a str, token: &[u8], range: Range) -> Option<Edit<'a>> {
+    let change = change_by(hint, str::from_utf8(token).ok()?)?;
+    let range = if change.is_before {
+        range_of(range.line, range.column, 0)
+    } else {
+        range
+    };
+    Some(Edit {
+        range,
+        text: change.text,
+    })
+}
+
+// ---- lines
+
+/// A text, where it is not empty.
+fn if_any(text: &str) -> Option<&str> {
+    if text.is_empty() { None } else { Some(text) }
+}
+
+/// Another place of a refusal, where there is one.
+fn other_place(message: &Message<'_>) -> Option<Span> {
+    match message.refusal.cause {
+        Some(cause) => Some(cause.span),
+        None => message.refusal.place,
+    }
+}
+
+/// What is said of that place.
+fn words_on_place(alloc: Global, message: &Message<'_>) -> Result<String, AllocError> {
+    let Message { text, refusal, .. } = *message;
+    match refusal.cause {
+        Some(cause) => format!(in alloc;
+            "{}",
+            Deed {
+                text,
+                code: refusal.fault.code,
+                cause
+            }
+        ),
+        None => format!(in alloc; "{}", Lines(message.said())),
+    }
+}
+
+/// A refusal as an object, and a line feed. Its strings are what a person reads: a byte of the source file that is no part of UTF-8, and a
+/// control character, stand there as `\x` and two hexadecimal digits.
+pub fn line_of_refusal(
+    alloc: Global,
+    message: &Message<'_>,
+    is_first: bool,
+) -> Result<String, AllocError> {
+    let Message {
+        name,
+        text,
+        refusal,
+    } = *message;
+    let fault = refusal.fault;
+    let rule = format!(in alloc; "{:?}", fault.code)?;
+    let file = format!(in alloc; "{}", Shown(name.as_bytes()))?;
+    let summary = format!(in alloc; "{}", Summary(message))?;
+    let detail = format!(in alloc; "{}", Lines(message.detail()))?;
+    let hint = format!(in alloc; "{}", Advice(message))?;
+    let other = words_on_place(alloc, message)?;
+    let range = range_of_fault(text, fault);
+    let token = token_at(text, fault.line, fault.column);
+    let entry = Entry {
+        kind: "refusal",
+        rule: rule.as_str(),
+        code: Some(fault.code.number()),
+        is_first,
+        file: file.as_str(),
+        range,
+        message: summary.as_str(),
+        detail: if_any(detail.as_str()),
+        hint: Some(hint.as_str()),
+        edit: edit_by(hint.as_str(), token, range),
+        related: match other_place(message) {
+            Some(span) => Some(Related {
+                range: range_at(text, span),
+                message: other.as_str(),
+            }),
+            None => None,
+        },
+    };
+    format!(in alloc; "{entry}\n")
+}
+
+/// The name of a warning.
+fn name_of(warning: Warning) -> &'static str {
+    match warning {
+        Warning::DoubleMinus => "DoubleMinus",
+        Warning::AddedMinus => "AddedMinus",
+        Warning::ConditionAssigns => "ConditionAssigns",
+        Warning::ShiftCount => "ShiftCount",
+        Warning::CharCompared => "CharCompared",
+        Warning::EmptyIf => "EmptyIf",
+        Warning::EmptyWhile => "EmptyWhile",
+        Warning::NoEffect => "NoEffect",
+        Warning::OrderChain => "OrderChain",
+        Warning::ComparedFirst => "ComparedFirst",
+        Warning::DivisionByZero => "DivisionByZero",
+        Warning::ArraySize => "ArraySize",
+        Warning::IndexOutside => "IndexOutside",
+        Warning::Unreachable => "Unreachable",
+        Warning::NeverRead => "NeverRead",
+        Warning::NeverGivenBack => "NeverGivenBack",
+        Warning::HiddenCharacter => "HiddenCharacter",
+    }
+}
+
+/// What an object says of a warning in this file.
+fn entry_of_warning<'a>(file: &'a str, text: &[u8], found: &Found) -> Entry<'a> {
+    Entry {
+        kind: "warning",
+        rule: name_of(found.warning),
+        code: None,
+        is_first: false,
+        file,
+        range: range_at(text, found.span),
+        message: text_of(found.warning),
+        detail: None,
+        hint: None,
+        edit: None,
+        related: None,
+    }
+}
+
+/// A warning as an object, and a line feed.
+pub fn line_of_warning(
+    alloc: Global,
+    name: &str,
+    text: &[u8],
+    found: &Found,
+) -> Result<String, AllocError> {
+    let file = format!(in alloc; "{}", Shown(name.as_bytes()))?;
+    let entry = entry_of_warning(file.as_str(), text, found);
+    format!(in alloc; "{entry}\n")
+}

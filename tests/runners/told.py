@@ -1,0 +1,285 @@
+#!/usr/bin/env python3
+"""What is told of a refused text behind its first fault, and what `--json` prints, beside what a person reads.
+
+    python3 tests/runners/told.py [--program PATH] [--count N]
+
+The texts are those of the cases that stand on one line (`? fault .. | TEXT`), the smallest ones of docs/codes.txt and those of
+docs/warnings.txt. Two texts that are refused stand below each other, the names of each made its own, with a `main` behind them: that is
+a text with two mistakes. The line of the first one is made blank, as by hand, and what is refused then is what must be told behind the
+first, word for word. Where nothing is told behind the first, that has to be one of a head or a token.
+
+Each text is checked with `--json` too. The objects are those of the refusals and warnings that a person reads, with the same words, the
+code's name in docs/codes.txt or the warning's in docs/warnings.txt, and the end of the token that stands there, by the reference's tokens
+(tests/references). An edit mends the text: it is refused no more, or elsewhere. --count N takes N texts of each kind from all over;
+all, where it is left out. The last line is `N passed, M failed`, of texts.
+"""
+import json
+import os
+import re
+import tempfile
+
+import suite  # first: it says where the references and the generators are
+import codes
+import run
+import warned
+
+CASES = os.path.join(suite.TESTS, "cases")
+ROW = re.compile(r"^\? fault (\d+) at \d+:\d+ \| (.*)$")
+KEYWORDS = set("""int char void struct datatype exn region region_t uregion_key_t open let alias NewDynamicRegion new_ukey new rnew for if else
+while return break continue throw try catch case default NULL numelts ufree free_ukey unique_region heap_region""".split())
+BEFORE = {"putchar", "getchar", "Null_Exception", "Array_bounds", "Array_size", "Div_zero"}
+# A name or a region name, or a number or a character, in which no name stands.
+WORD = re.compile(r"'(?:\\.|[^'])'|[0-9][A-Za-z0-9_]*|`?[A-Za-z_][A-Za-z0-9_]*")
+HEADLINE = re.compile(r"^text\.cyc:(\d+):(\d+): (.*)$")
+FURTHER = "further, if that is mended:"
+MEMBERS = ["kind", "rule", "code", "first", "file", "line", "column", "endLine", "endColumn", "message", "detail", "hint", "edit", "related"]
+BODIES = set(range(20, 44)) - {30}
+# The tokens of the language, as docs/LANGUAGE.md has them, and what begins none.
+TOKEN = re.compile(rb"`?[A-Za-z_][A-Za-z0-9_]*|0[xX][0-9a-fA-F]+|[0-9]+|'(?:\\.|[^'])'|:=:|&&|\|\||[=!<>]=|<<|>>|->|/\*|.", re.DOTALL)
+
+
+def rows():
+    """The texts of the cases that stand on one line, and the smallest texts of codes, each with its code."""
+    found = {}
+    for name in sorted(os.listdir(CASES)):
+        with open(os.path.join(CASES, name), encoding="utf-8") as file:
+            for line in file:
+                match = ROW.match(line.rstrip("\n"))
+                if match and "$" not in match.group(2):
+                    found.setdefault(run.unescaped(match.group(2)).decode("latin-1"), int(match.group(1)))
+    for code in codes.codes():
+        if code.parts() is not None and code.by == "check" and len(code.source()) < 2000:
+            found.setdefault(code.source().decode("ascii"), code.number)
+    return list(found.items())
+
+
+def own(text, mark):
+    """A text whose names are its own, so that it stands beside another one. The words of the language stay."""
+    def renamed(match):
+        name = match.group(0)
+        stays = name[0] in "'0123456789" or name in KEYWORDS or name in BEFORE or name in ("`H", "`U")
+        return name if stays else name + mark
+    return WORD.sub(renamed, text)
+
+
+def said_of(program, text):
+    """The lines on standard error of `check`."""
+    with open("text.cyc", "w", encoding="latin-1") as file:
+        file.write(text)
+    return suite.said([program, "check", "text.cyc"])
+
+
+class Message:
+    """A message for a person."""
+
+    def __init__(self, lines):
+        match = HEADLINE.match(lines[0])
+        self.lines = lines
+        self.place = (int(match.group(1)), int(match.group(2)))
+        self.words = match.group(3)
+
+    def hint(self):
+        hints = [line for line in self.lines if line.startswith("    hint: ")]
+        return hints[-1].removeprefix("    hint: ") if hints else None
+
+
+def messages_of(lines):
+    """The messages of a refused text: the first one, and those behind it."""
+    found, is_noted = [], False
+    for line in lines[:-1]:
+        if HEADLINE.match(line) and not is_noted:
+            found.append([line])
+            is_noted = True
+        elif line != FURTHER:
+            found[-1].append(line)
+        # A place within a message belongs to it: the hint ends it.
+        is_noted = is_noted and not line.startswith("    hint: ")
+    return [Message(block) for block in found]
+
+
+# ---- behind the first
+
+
+class Pair:
+    """Two texts that are refused, below each other."""
+
+    def __init__(self, one, other):
+        self.codes = one[1], other[1]
+        self.lines = [own(one[0], "_one"), own(other[0], "_two"), "int main(){ return 0; }"]
+        self.name = f"codes {one[1]} and {other[1]}: {one[0]!r} and {other[0]!r}"
+
+    def faults(self, program):
+        lines = said_of(program, "\n".join(self.lines))
+        found = messages_of(lines)
+        # A mistake that hangs on a name of the language is none under a name of its own.
+        first = found[0].place[0] if found else 3
+        if first > 2:
+            return [], False
+        mended = [line if number != first else "" for number, line in enumerate(self.lines, 1)]
+        wanted = messages_of(said_of(program, "\n".join(mended)))
+        # The first one's line has further mistakes, which are gone with it.
+        behind = [message for message in found[1:] if message.place[0] != first]
+        said, due = ([self.compared(message) for message in messages] for messages in (behind, wanted))
+        if not said and (self.codes[first - 1] not in BODIES or not self.is_in_body(found[0])):
+            return [], False
+        return ([] if said == due else [suite.difference("behind the first", due, said)]), bool(said)
+
+    def compared(self, message):
+        """The lines of a message. The hint on a token goes by what stands before it too, which may be what was made blank."""
+        of_body = any(code in BODIES for code in self.codes)
+        return message.lines if of_body else [line for line in message.lines if not line.startswith("    hint: ")]
+
+    def is_in_body(self, message):
+        """Whether a refusal stands in the body of a function: in braces that no struct and no effect has before it."""
+        line, column = message.place
+        before = self.lines[line - 1][:column - 1]
+        return re.search(r"\)\s*\{(?:[^{}]|\{[^{}]*\})*$", before) is not None
+
+
+def spread(things, count):
+    """So many of the things, from all of them; all, where no number is given."""
+    return things if count is None else things[::max(1, len(things) // count)][:count]
+
+
+def pairs(texts, count):
+    """Each text with the one behind it, of those that stand on one line, have a declaration and have no `main` to miss."""
+    kept = [text for text in texts if not re.search("\n|//", text[0]) and re.search("[;{]", text[0]) and text[1] not in (4, 5, 6, 11, 30)]
+    of_bodies = [text for text in kept if text[1] in BODIES]
+    others = [text for text in kept if text[1] not in BODIES]
+    return [Pair(*two) for kind in (of_bodies, others) for two in spread(list(zip(kind, kind[1:] + kind[:1])), count)]
+
+
+# ---- JSON
+
+
+def end_of(text, place):
+    """Where the token at a place of a text ends, by a second reading of tokens."""
+    line, column = place
+    row = text.split("\n")[line - 1].encode("latin-1") if line <= text.count("\n") + 1 else b""
+    match = TOKEN.match(row, column - 1)
+    return line, (match.end() + 1 if match else column)
+
+
+def mended(text, edit):
+    """A text with an edit made."""
+    lines = text.split("\n")
+    line = lines[edit["line"] - 1]
+    lines[edit["line"] - 1] = line[:edit["column"] - 1] + edit["text"] + line[edit["endColumn"] - 1:]
+    return "\n".join(lines)
+
+
+class Told:
+    """A text, and what is told of it."""
+
+    def __init__(self, text, names):
+        self.name, self.text, self.names = repr(text), text, names
+
+    def faults(self, program):
+        lines = said_of(program, self.text)
+        done = suite.answer([program, "check", "--json", "text.cyc"])
+        faults = [] if done[1] == lines[-1] else [suite.difference("the last line", lines[-1], done[1])]
+        told = [json.loads(line) for line in done[0].decode("utf-8").split("\n")[:-1]]
+        wrong = [entry for entry in told if list(entry) != MEMBERS]
+        if wrong:
+            return faults + [suite.difference("members", MEMBERS, list(wrong[0]))]
+        if lines[-1] == "done":
+            return faults + self.faults_of_warnings(lines, told)
+        found = messages_of(lines)
+        if len(found) != len(told):
+            return faults + [suite.difference("how many", len(found), len(told))]
+        for number, (message, entry) in enumerate(zip(found, told)):
+            faults += self.faults_of_refusal(message, entry, number == 0)
+        code, place = re.fullmatch(r"fault (\d+) at (\d+:\d+)", lines[-1]).groups()
+        first = (told[0]["code"], f"{told[0]['line']}:{told[0]['column']}")
+        faults += [] if first == (int(code), place) else [suite.difference("the first", lines[-1], first)]
+        return faults + [fault for entry in told[:1] for fault in self.faults_of_edit(program, entry)]
+
+    def faults_of_refusal(self, message, entry, is_first):
+        place = (entry["line"], entry["column"])
+        end = (entry["endLine"], entry["endColumn"])
+        is_main = entry["code"] == 30 and place == (1, 1)
+        detail = [f"    {line}" for line in (entry["detail"] or "").split("\n") if line]
+        related = entry["related"]
+        pairs_of = [
+            ("kind", "refusal", entry["kind"]),
+            ("file", "text.cyc", entry["file"]),
+            ("place", message.place, place),
+            ("end", place if is_main else end_of(self.text, place), end),
+            ("message", message.words, entry["message"]),
+            ("hint", message.hint(), entry["hint"]),
+            ("rule", self.names.get(entry["code"]), entry["rule"]),
+            ("first", is_first, entry["first"]),
+            ("detail", [], [line for line in detail if line not in message.lines]),
+        ]
+        faults = [suite.difference(*pair) for pair in pairs_of if pair[1] != pair[2]]
+        for other in related:
+            there = f"{other['line']}:{other['column']}"
+            if there not in "\n".join(message.lines):
+                faults.append(suite.difference("a second place", message.lines, there))
+            if (other["endLine"], other["endColumn"]) != end_of(self.text, (other["line"], other["column"])):
+                faults.append(suite.difference("its end", end_of(self.text, (other["line"], other["column"])), other))
+        noted = [line for line in message.lines[1:] if HEADLINE.match(line)]
+        said = re.findall(r"\b(\d+:\d+)\b", message.words)
+        if bool(noted or said) and not related and "expected" not in message.words:
+            faults.append(suite.difference("second places", noted or said, related))
+        return faults
+
+    def faults_of_edit(self, program, entry):
+        if entry["edit"] is None:
+            return []
+        lines = said_of(program, mended(self.text, entry["edit"]))
+        place = f"fault {entry['code']} at {entry['line']}:{entry['column']}"
+        return [suite.difference("what the edit mends", "not " + place, lines[-1])] if lines[-1] == place else []
+
+    def faults_of_warnings(self, lines, told):
+        wanted = [HEADLINE.match(line) for line in lines if HEADLINE.match(line)]
+        wanted = [(int(match.group(1)), int(match.group(2)), match.group(3).removeprefix("warning: ")) for match in wanted]
+        got = [(entry["line"], entry["column"], entry["message"]) for entry in told]
+        faults = [] if got == wanted else [suite.difference("warnings", wanted, got)]
+        for entry in told:
+            plain = (entry["kind"], entry["code"], entry["first"], entry["hint"], entry["edit"], entry["related"])
+            if plain != ("warning", None, False, None, None, []) or self.names.get(entry["message"]) != entry["rule"]:
+                faults.append(suite.difference("a warning", self.names.get(entry["message"]), entry))
+            end = (entry["endLine"], entry["endColumn"])
+            if end != end_of(self.text, (entry["line"], entry["column"])):
+                faults.append(suite.difference("its end", end_of(self.text, (entry["line"], entry["column"])), end))
+        return faults
+
+
+class Share:
+    """How many pairs told something behind the first: so many at least."""
+
+    name = "the share of pairs of which a second refusal is told"
+
+    def __init__(self, told, count):
+        self.told, self.count = told, count
+
+    def faults(self, _):
+        return [] if self.told * 3 >= self.count * 2 else [f"{self.told} of {self.count}, and not two of three"]
+
+
+def main():
+    parser = suite.command_line(__doc__)
+    parser.add_argument("--count", type=int, default=None)
+    options = parser.parse_args()
+    program = suite.program_of(options, 1)
+    names = {code.number: code.name for code in codes.codes()} | {row.words: row.name for row in warned.rows()}
+    texts = rows()
+    told = [Told(text, names) for text, _ in spread(texts, options.count)] + [Told(row.text, names) for row in warned.rows()]
+    seconds = []
+
+    def tried(pair):
+        faults, is_told = pair.faults(program)
+        seconds.append(is_told)
+        return faults
+
+    with tempfile.TemporaryDirectory() as folder:
+        os.chdir(folder)
+        things = [(pair.name, pair, tried) for pair in pairs(texts, options.count)]
+        things += [(thing.name, thing, lambda it: it.faults(program)) for thing in told]
+        things.append((Share.name, None, lambda _: Share(sum(seconds), len(seconds)).faults(program)))
+        suite.try_each(things, lambda thing: thing[0], lambda thing: thing[2](thing[1]))
+
+
+if __name__ == "__main__":
+    main()

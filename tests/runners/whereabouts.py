@@ -1,0 +1,217 @@
+#!/usr/bin/env python3
+"""Where runs end before their programs do, beside what a second reading says (tests/references/language/placed.py).
+
+    python3 tests/runners/whereabouts.py [--program PATH] [--count N] [--seed N]
+
+Into each example, and into N random programs, 300 where it is left out, a mistake is planted: before a statement that runs, on its line,
+stands one that throws, or that the language throws for. What `run --places` says before its last lines is what the second reading says:
+the place, the exception by its name, and the calls under way, each with its function and its place. So it is of each random program's own
+end, where it is one, and with one call fewer than it needs. A run whose budget is spent tells calls that the text has at their places. The
+image is the same as without the file of places. The same seed gives the same programs. The last line is `N passed, M failed`, of programs.
+"""
+import os
+import random
+import re
+import tempfile
+
+import suite  # first: it says where the references and the generators are
+import makers
+import reference
+from language import placed, runs
+
+EXAMPLES = os.path.join(suite.ROOT, "examples")
+STEPS_AT_MOST = 10_000
+# In how many places of a program a mistake is planted.
+PLANTED = 2
+# Statements that throw, each of another cause.
+MISTAKES = (
+    "{ int *planted = NULL; *planted = 1; }",
+    "{ int ?planted = new {for planted_at < 3 : 0}; planted[3] = 1; }",
+    "{ int planted = 0; planted = 7 / planted; }",
+    "{ int ?planted = new {for planted_at < 0 - 1 : 0}; }",
+    "throw new Array_bounds;",
+)
+CALL = re.compile(r"main\.cyc:(\d+):(\d+): called here, in (\w+)")
+STOP = re.compile(r"main\.cyc:(\d+):(\d+): .*, in (\w+)")
+
+
+def statements_in(node, found):
+    """The places of statements that stand in blocks."""
+    for name in ("items", "body", "other", "clauses"):
+        inner = getattr(node, name, None)
+        for part in inner if isinstance(inner, list) else [inner] if inner is not None else []:
+            if name == "items" and part.kind in ("expression", "if", "while", "return", "swap"):
+                found.append(part.start)
+            statements_in(part, found)
+    return found
+
+
+def planted(text, place, mistake):
+    """The text with a mistake before the statement at a place, on its line."""
+    lines = text.split("\n")
+    line, column = place
+    before = lines[line - 1]
+    lines[line - 1] = before[: column - 1] + mistake + " " + before[column - 1 :]
+    return "\n".join(lines)
+
+
+class Ended:
+    """A run as the second reading has it."""
+
+    def __init__(self, text, given, calls=reference.CALLS, steps=STEPS_AT_MOST):
+        program = reference.Program(text)
+        program.hold_to_sizes()
+        self.text, self.given, self.calls = text, given, calls
+        self.run = placed.PlacedRun(program, given, calls, steps)
+        self.line, self.status = self.run.end()
+
+    def is_told(self):
+        return self.run.stop is not None and self.line != "budget spent"
+
+    def lines(self):
+        return placed.told(self.run, "main.cyc")
+
+
+def ended(text, given, **options):
+    """The run of a text, or None where it is of no use."""
+    try:
+        found = Ended(text, given, **options)
+    except (reference.Refused, runs.Dead, runs.Wrong, RecursionError):
+        return None
+    return found if found.is_told() else None
+
+
+class Subject:
+    """A program, and the runs of it and of others like it that end before they do."""
+
+    def __init__(self, name, text, given, numbers):
+        self.name, self.text, self.given, self.ends = name, text, given, []
+        program = reference.Program(text)
+        places = [place for function in program.functions.values() for place in statements_in(function.body, [])]
+        for place in numbers.sample(places, min(len(places), 4 * PLANTED)):
+            if len(self.ends) < PLANTED:
+                self.keep(ended(planted(text, place, numbers.choice(MISTAKES)), given))
+        whole = placed.PlacedRun(program, given, steps=STEPS_AT_MOST)
+        whole.end()
+        self.keep(ended(text, given))
+        if whole.deepest > 1:
+            self.keep(ended(text, given, calls=whole.deepest - 1))
+
+    def keep(self, found):
+        if found:
+            self.ends.append(found)
+
+
+class Tried:
+    """A subject's runs by the program."""
+
+    def __init__(self, program, numbers):
+        self.program, self.numbers = program, numbers
+
+    def faults(self, subject):
+        with tempfile.TemporaryDirectory(prefix="whereabouts-") as folder:
+            self.folder = folder
+            found = [self.fault(end) for end in subject.ends] + [self.spent(subject)]
+        return [fault for fault in found if fault]
+
+    def at(self, name):
+        return os.path.join(self.folder, name)
+
+    def compile(self, text):
+        with open(self.at("main.cyc"), "w", encoding="latin-1") as file:
+            file.write(text)
+        return suite.answer([self.program, "compile", self.at("main.cyc"), "-o", self.at("main.elf"), "--places", self.at("main.places")])
+
+    def is_same_image(self):
+        suite.answer([self.program, "compile", self.at("main.cyc"), "-o", self.at("other.elf")])
+        with open(self.at("main.elf"), "rb") as one, open(self.at("other.elf"), "rb") as other:
+            return one.read() == other.read()
+
+    def said(self, given, *options):
+        """The lines on where a run ended, and its last line."""
+        words = [self.program, "run", self.at("main.elf"), "--places", self.at("main.places"), *options]
+        lines = suite.said(words, given)
+        name = self.at("main.cyc")
+        return [line.replace(name, "main.cyc") for line in lines if line.startswith((name, "    .. and"))], lines[-1]
+
+    def fault(self, end):
+        answer = self.compile(end.text)
+        if answer != (b"", "done", 0):
+            return f"{end.text}\nis not compiled: {answer}"
+        if not self.is_same_image():
+            return f"{end.text}\nhas another image with its places"
+        got = self.said(end.given, "--calls", str(end.calls))
+        wanted = end.lines(), end.line
+        return None if got == wanted else suite.difference(f"{end.text}\non {end.given}, {end.calls} calls", wanted, got)
+
+    def spent(self, subject):
+        """What is wrong with what is told of a budget that is spent: each call stands at its place, by the name of the function inside."""
+        if self.compile(subject.text) != (b"", "done", 0):
+            return f"{subject.text}\nis not compiled"
+        lines, last = self.said(subject.given, "--steps", str(self.numbers.randint(1, 2000)))
+        if last != "budget spent":
+            return None
+        text, inside = subject.text.split("\n"), None
+        for number, line in enumerate(lines):
+            found = (CALL if number else STOP).fullmatch(line)
+            if not found:
+                return None if line.startswith("    .. and") else f"{subject.text}\nsays {line}"
+            row, column, function = int(found[1]), int(found[2]), found[3]
+            if number and not re.match(rf"{inside}\s*\(", text[row - 1][column - 1 :]):
+                return f"{subject.text}\nhas no call of {inside} at {row}:{column}"
+            inside = function
+        return None if not lines or inside == "main" else f"{subject.text}\nis told up to {inside}"
+
+
+def examples(numbers):
+    for name in sorted(name[:-4] for name in os.listdir(EXAMPLES) if name.endswith(".out")):
+        with open(os.path.join(EXAMPLES, f"{name}.cyc"), encoding="latin-1") as file:
+            text = file.read()
+        path, given = os.path.join(EXAMPLES, f"{name}.in"), b""
+        if os.path.exists(path):
+            with open(path, "rb") as file:
+                given = file.read()
+        yield Subject(f"examples/{name}.cyc", text, given, numbers)
+
+
+def random_programs(seed, count):
+    profiles, made = list(makers.PROFILES), 0
+    numbers = random.Random(f"whereabouts {seed}")
+    while made < count:
+        profile = profiles[made % len(profiles)]
+        text = makers.PROFILES[profile](numbers).text()
+        given = bytes(numbers.choice([0, 1, 10, 48, 65, 255]) for _ in range(numbers.randint(0, 12)))
+        try:
+            reference.Program(text).hold_to_sizes()
+            subject = Subject(f"{profile} {seed} {made}", text, given, numbers)
+        except (reference.Refused, runs.Dead, runs.Wrong):
+            continue
+        made += 1
+        yield subject
+
+
+def main():
+    parser = suite.command_line(__doc__)
+    parser.add_argument("--count", type=int, default=300)
+    parser.add_argument("--seed", type=int, default=1)
+    options = parser.parse_args()
+    program = suite.program_of(options, options.count)
+    numbers = random.Random(options.seed)
+
+    def all_faults():
+        passed, failed = 0, 0
+        tried = Tried(program, numbers)
+        for subject in [*examples(numbers), *random_programs(options.seed, options.count)]:
+            faults = tried.faults(subject)
+            failed += bool(faults)
+            passed += not faults
+            if faults:
+                print(f"FAILED {subject.name}")
+                print("\n".join("  " + line for fault in faults for line in fault.split("\n")))
+        suite.end(passed, failed)
+
+    reference.with_room(all_faults)
+
+
+if __name__ == "__main__":
+    main()
