@@ -1,0 +1,95 @@
+#!/usr/bin/env python3
+"""What the dearest steps of a run cost, beside those of arithmetic. Not a test: it prints figures.
+
+    make bench
+    python3 bench/steps.py [--program PATH]
+
+Each case is a loop that does one kind of step again and again, with as few others as there can be. It is run under two budgets, in turn, five
+times each; the least processor time under each counts, and the difference of the two is what the further steps took. Behind the
+nanoseconds for a step of the loop, the others in it among them, stands what a run of the default budget takes so, in seconds.
+"""
+import argparse
+import os
+import tempfile
+
+from machine import (DATA, PROGRAM, SYSCALL, TEXT, NOP, addiu, addu, allocate, executable, jump, lui, lw, processor_time, registers,
+                     immediate, sw)
+
+FEW, MANY = 2_000_000, 42_000_000
+DEFAULT = 1_000_000_000
+TIMES = 5
+COPIES = 32
+SPENT = 7
+
+
+def service(number):
+    """Asks for a service; where register 2 has the number already, `SYSCALL` alone does."""
+    return [addiu(2, 0, number), SYSCALL]
+
+
+def lb(t, i, s):
+    return immediate(36, t, s, i)
+
+
+def sb(t, i, s):
+    return immediate(40, t, s, i)
+
+
+TO_TEXT, TO_DATA, TO_STACK = [lui(9, TEXT >> 16)], [lui(9, DATA >> 16)], [addiu(9, 29, -256)]
+FAR_STACK = [lui(10, 0x30), registers(35, 9, 29, 10)]  # 3 MB below the end of the stack
+
+# what is done once, and what again and again
+CASES = {
+    "arithmetic": ([], [addu(11, 11, 10)]),
+    "products": ([], [registers(24, 0, 11, 10)]),
+    "divisions": ([addiu(10, 0, 7)], [registers(26, 0, 11, 10)]),
+    "loads of the stack": (TO_STACK + [sw(0, 0, 9)], [lw(10, 0, 9)]),
+    "loads of a block of the heap": (allocate(1, 4), [lw(10, 0, 9)]),
+    "loads of a unique block": (allocate(2, 4), [lw(10, 0, 9)]),
+    "bytes stored in a unique block": (allocate(2, 4), [sb(10, 1, 9)]),
+    "loads of text": (TO_TEXT, [lw(10, 0, 9)]),
+    "bytes loaded of text": (TO_TEXT, [lb(10, 1, 9)]),
+    "loads of the data range, of a word never written": (TO_DATA, [lw(10, 0x4000, 9)]),
+    "loads of the stack, of a word never written": (FAR_STACK, [lw(10, 0, 9)]),
+    "a byte printed": (service(2), [addiu(2, 0, 2), SYSCALL]),
+    "a byte asked for at the end of the input": ([], service(1)),
+    "blocks of 1,000 words made unique and freed": (
+        [addiu(5, 0, 1000)], [addiu(4, 0, 2)] + service(9) + [addu(4, 2, 0)] + service(10)),
+    "blocks of 512 words made unique and freed": (
+        [addiu(5, 0, 512)], [addiu(4, 0, 2)] + service(9) + [addu(4, 2, 0)] + service(10)),
+    "regions with a block of 1,000 words opened and closed": (
+        [addiu(5, 0, 1000)], service(5) + [addu(4, 2, 0)] + service(9) + [addu(4, 0, 0)] + service(6)),
+}
+
+
+def looped(once, again):
+    """The words that do the one, and then the other for ever."""
+    return once + again * COPIES + [jump(2, len(once)), NOP]
+
+
+def steps_price(program, folder, once, again):
+    """The nanoseconds for a step of such a loop."""
+    path = os.path.join(folder, "loop.elf")
+    with open(path, "wb") as file:
+        file.write(executable(looped(once, again)))
+    taken = {}
+    for _ in range(TIMES):
+        for budget in (FEW, MANY):
+            time = processor_time([program, "run", "--steps", str(budget), path], SPENT)
+            taken[budget] = min(taken.get(budget, time), time)
+    return (taken[MANY] - taken[FEW]) / (MANY - FEW) * 1e9
+
+
+def main():
+    parser = argparse.ArgumentParser(description=__doc__.split("\n")[0])
+    parser.add_argument("--program", default=PROGRAM)
+    program = parser.parse_args().program
+    print("nanoseconds for a step of a loop of each, and seconds for a run of the default budget")
+    with tempfile.TemporaryDirectory() as folder:
+        for name, (once, again) in CASES.items():
+            price = steps_price(program, folder, once, again)
+            print(f"{name}: {price:.1f}, {price * DEFAULT / 1e9:.0f}", flush=True)
+
+
+if __name__ == "__main__":
+    main()
