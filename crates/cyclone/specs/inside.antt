@@ -5,6 +5,5 @@ pub mod Page
 -- what `run --report` writes, and what `info` says
 pub mod Report
 pub mod Info
-pub mod Refusal
 -- the two devices of a run
 pub mod Console

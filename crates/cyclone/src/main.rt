@@ -3,24 +3,15 @@
 
 mod answer;
 mod console;
-mod declarations;
-mod expected;
 mod files;
-mod flow_cause;
-mod further;
 mod info;
-mod json;
-mod message;
 mod output;
 mod page;
 mod places;
-mod refusal;
 mod report;
 mod said;
 mod session;
 mod system;
-mod told;
-mod warnings;
 mod whereabouts;
 mod work;
 

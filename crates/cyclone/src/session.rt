@@ -6,17 +6,12 @@ ghost use Rattle.cyclone.specs.declared.answer.Answer.TheVariants.{WriteFault};
 use crate::answer::{Answer, ending, explanation};
 use crate::console::{Keyboard, Screen};
 use crate::files::{is_one_file, read_image, read_places, read_text, write_file};
-use crate::further::refusals_behind;
-use crate::json::{line_of_refusal, line_of_warning};
-use crate::message::Message;
 use crate::output::Output;
 use crate::page::print_page;
 use crate::places::{PlacesText, Table, Unread, sum_of, table_in};
 use crate::report::RunReport;
 use crate::said::{say, within_bounds};
 use crate::system::{STACK, is_enough_stack, stack_limit};
-use crate::told::refusal_of;
-use crate::warnings::Warnings;
 use crate::whereabouts::Whereabouts;
 use crate::work::{
     check, compile, compile_placed, describe_image, limits_of_run, list_image, run_image,
@@ -24,6 +19,7 @@ use crate::work::{
 };
 use clap::error::ErrorKind;
 use cyc_machine::Limits;
+use cyc_messages::{Message, Warnings, line_of_refusal, line_of_warning, refusal_of, refusals_behind};
 use cyc_system::{Report, follow};
 use cyc_terminal::{FileName, GivenLimits, Lines, Request, read_request};
 use cyc_warnings::{Found, MOST_WARNINGS, find_warnings};

@@ -4,7 +4,7 @@ use Rattle.std.proofs.Common.{◌≡◌, ◌⊎◌, inl, inr, ℕ, false, List, 
 use Rattle.cyc_words.specs.declared.fault.Fault.{Fault}
 use Rattle.cyc_words.specs.Fault.{memory_fault}
 use Rattle.cyc_system.specs.Front.{IsRefusedText}
-use Rattle.cyclone.proofs.further.refused_reading.Goals as goal
+use Rattle.cyc_messages.proofs.further.refused_reading.Goals as goal
 
 -- a fault whose code is another is not want of memory
 left_over : (text : List ℕ) (f : Fault) → false ≡ sameb the_type f.code memory_fault.code → (f ≡ memory_fault) ⊎ IsRefusedText text f → IsRefusedText text f

@@ -11,8 +11,8 @@ use Rattle.cyc_lex.specs.Refusals as lexer
 use Rattle.cyc_parse.specs.Acceptance as parser
 use Rattle.cyc_syntax.specs.inside.TreeView.{declarations_of}
 use Rattle.cyc_system.specs.Front.{names_in, IsRefusedText}
-use Rattle.cyclone.specs.inside.Refusal.{HasTree}
-use Rattle.cyclone.proofs.refusal.tree_of.Goals as goal
+use Rattle.cyc_messages.specs.inside.Refusal.{HasTree}
+use Rattle.cyc_messages.proofs.refusal.tree_of.Goals as goal
 
 -- the code's tokens, held elsewhere, are those of the text
 lexed : (text : List ℕ) (ts us : List TokenCode) → us ≡ ts

@@ -12,8 +12,8 @@ use Rattle.cyc_syntax.specs.declared.tree.Tree.{Tree}
 use Rattle.cyc_syntax.specs.inside.TreeView.{declarations_of}
 use Rattle.cyc_types.specs.typing.Programs.{IsRefusedProgram}
 use Rattle.cyc_system.specs.Front.{names_in, IsRefusedText}
-use Rattle.cyclone.specs.inside.Refusal.{HasTree, is_explained}
-use Rattle.cyclone.proofs.refusal.words_for.Goals as goal
+use Rattle.cyc_messages.specs.inside.Refusal.{HasTree, is_explained}
+use Rattle.cyc_messages.proofs.refusal.words_for.Goals as goal
 
 -- the test of two faults
 not_false : (x : Bool) → false ≡ not x → x ≡ true

@@ -2,7 +2,7 @@
 ghost use Rattle.std.specs.Prelude.{◌≡◌, ◌⊎◌, IfOk, IfErr, IfSome};
 ghost use Rattle.cyc_words.specs.Fault.{memory_fault};
 ghost use Rattle.cyc_system.specs.Front.{IsRefusedText};
-ghost use Rattle.cyclone.specs.inside.Refusal.{HasTree, is_explained};
+ghost use Rattle.cyc_messages.specs.inside.Refusal.{HasTree, is_explained};
 
 use cyc_check::refusal;
 use cyc_explain::{Explanation, explain};
