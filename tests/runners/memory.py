@@ -8,8 +8,8 @@ until no page is left, and crates/cyc_bench makes, fills and drops three such st
 each has no memory before it begins.
 
 Images whose headers name far more bytes than they have, or that fill the whole text range, are run for an instruction: each
-under 5 times its length, what the program takes of any image, and, where it is loaded, 180 MB: of these 140 are for its text, 32
-for the bytes of its segments, and 8 for its data range and stack. The program is asked what they are, too, under the same limits but
+under 5 times its length, what the program takes of any image, and, where it is loaded, 160 MB: of these 140 are for its text, and 8
+for its data range and stack. The program is asked what they are, too, under the same limits but
 that it loads none; those that are not loaded have no word to list, and are listed so. Each takes no more than PROCESSOR_SECONDS. The
 last line is `N passed, M failed`; each command is one.
 """
@@ -32,7 +32,7 @@ ENOUGH, TOO_LITTLE = 304, 256
 # What the program takes of any image, in MB: its own code and stack, and a store of 1,024 pages.
 ANY, PROCESSOR_SECONDS = 16, 2
 # What loading an image takes beside, in MB, where the whole text range is filled.
-LOADED = 180
+LOADED = 160
 TEXT, TEXT_SIZE, ELSEWHERE, ADDRESSES = 0x400000, 0x1C00000, 0x20000000, 1 << 32
 
 

@@ -3,7 +3,7 @@
 
 mod image;
 
-use cyc_elf::read_image;
+use cyc_elf::read_outline;
 use cyc_machine::{Event, Limits, Machine};
 use cyc_pagestore::PageStore;
 use cyc_plainstore::PlainStore;
@@ -157,15 +157,19 @@ fn paged_of(alloc: Global, pages: u32) -> Option<PageStore> {
 /// A machine over a store in memory that has loaded the image of a file.
 fn machine_plain(alloc: Global, file: &[u8], limits: Limits) -> Option<Machine<PlainStore>> {
     let store = PlainStore::new(alloc, limits.pages()).ok()?;
-    let image = read_image(alloc, file).ok()?;
-    Machine::load(alloc, &image, limits, store).ok()
+    let Ok(outline) = read_outline(alloc, file) else {
+        return None;
+    };
+    Machine::load(alloc, &outline, file, limits, store).ok()
 }
 
 /// A machine over a store on a pool that has loaded the image of a file.
 fn machine_paged(alloc: Global, file: &[u8], limits: Limits) -> Option<Machine<PageStore>> {
     let store = PageStore::new(alloc, limits.pages()).ok()?;
-    let image = read_image(alloc, file).ok()?;
-    Machine::load(alloc, &image, limits, store).ok()
+    let Ok(outline) = read_outline(alloc, file) else {
+        return None;
+    };
+    Machine::load(alloc, &outline, file, limits, store).ok()
 }
 
 /// The place of the block that a number names.

@@ -21,4 +21,3 @@ pub use event::{Cause, End, Event, Stretch};
 pub use fault::LoadFault;
 pub use limits::Limits;
 pub use machine::Machine;
-pub use start::has_place;

@@ -2,7 +2,7 @@
 //! `qemu-mips`, the others follow from the architecture manual.
 
 use crate::expect::{expect, expect_number, expect_text};
-use cyc_elf::read_image;
+use cyc_elf::read_outline;
 use cyc_machine::{Event, Limits, LoadFault};
 use cyc_plainstore::PlainStore;
 use cyc_rows::rows::{decimal, hexadecimal, put_numbers, put_words};
@@ -154,8 +154,8 @@ type Machine = cyc_machine::Machine<PlainStore>;
 /// What loading the image of a file comes to, if it is one.
 fn load(alloc: Global, file: &[u8], limits: Limits) -> Option<Result<Machine, LoadFault>> {
     let store = PlainStore::new(alloc, limits.pages()).ok()?;
-    let image = read_image(alloc, file).ok()?;
-    Some(Machine::load(alloc, &image, limits, store))
+    let outline = read_outline(alloc, file).ok()?;
+    Some(Machine::load(alloc, &outline, file, limits, store))
 }
 
 /// A machine with an image of these segments loaded.

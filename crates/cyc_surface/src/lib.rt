@@ -12,6 +12,7 @@ ghost use Rattle.cyc_lower.specs.inside.Lowered.{CanBeLowered};
 ghost use Rattle.cyc_frame.specs.inside.Layout.{AreFrames};
 ghost use Rattle.cyc_elf.specs.Image.{contents_of, IsWellFormed};
 ghost use Rattle.cyc_elf.specs.Layout.{FitsFields};
+ghost use Rattle.cyc_elf.specs.Outline.{outlined};
 ghost use Rattle.cyc_rawpages.specs.inside.Lists.{chain_at};
 ghost use Rattle.cyc_rawpages.specs.inside.Pool.{IsHead};
 
@@ -23,7 +24,7 @@ use cyc_frame::{Frames, layout};
 use cyc_isa::{Instr, decode, encode, reads, write_text, writes};
 use cyc_lex::lex;
 use cyc_lower::{Marks, lower, marks_of};
-use cyc_machine::{Cause, End, Event, Limits, LoadFault, Machine, has_place};
+use cyc_machine::{Cause, End, Event, Limits, LoadFault, Machine};
 use cyc_pagestore::PageStore;
 use cyc_parse::parse;
 use cyc_plain::{Plain, well_formed};
@@ -349,20 +350,18 @@ pub fn limits(pages: u32, calls: u32) -> Option<(u32, u32)> {
     Some((limits.pages(), limits.calls()))
 }
 
-pub fn is_placed(outline: &Outline) -> bool {
-    has_place(outline)
-}
-
 pub fn loaded<S: Store + Drop>(
     alloc: Global,
-    image: &Image,
+    outline: &Outline,
+    file: &[u8],
     limits: Limits,
     store: S,
 ) -> Result<Machine<S>, LoadFault>
-    requires image { IsWellFormed (contents_of image.now) }
+    requires image { IsWellFormed (outlined file.now outline.now) }
+    requires stored { All (λ h. h.offset + h.file_size ≤ length file.now) outline.now.loads.items }
     requires pages { (S.held store).pages ≡ limits.pages }
 {
-    Machine::load(alloc, image, limits, store)
+    Machine::load(alloc, outline, file, limits, store)
 }
 
 pub fn step<S: Store + Drop>(machine: &mut Machine<S>, byte: Option<u8>) -> Event {

@@ -1,7 +1,7 @@
 -- The loop of the engine: what it has done so far is a run of the machine on every input that goes on from what was
 -- read.
 use Rattle.std.proofs.Common.{◌≡◌, ℕ, zero, suc, ◌+◌, ◌-◌, ◌<◌, ◌≤◌, List, [], ◌∷◌, ◌++◌, drop, Bool, true, false, Option, None, Some, Result, Ok, Err, refl, sym, ap, subst, ◌∙◌, arith, append_assoc, append-nil, inl, inr}
-use Rattle.std.specs.Prelude.{unwrap_or, is_none, not, slice_get, MatchBool, length, max, IfSome}
+use Rattle.std.specs.Prelude.{unwrap_or, is_none, slice_get, MatchBool, length, max, IfSome}
 use Rattle.std.specs.Io.KnownBytes.{Keeps, Appends, Consumes, IsAtEnd}
 use Rattle.std.proofs.lemmas.List.{length-append}
 use Rattle.cyc_words.proofs.DeviceLemmas.{Keeps-refl, Appends-nil, Appends-append, Consumes-nil, Consumes-append}
@@ -375,21 +375,6 @@ answers_run grows store read image limits budget machine old new result is insid
     (loaded (has_outside image) (Refuses (Load load.Outside) old new result) (Starts grows (start_world image limits store) budget old new result) inside
     (inr (subst (λ m. Runs grows (λ input. record { machine = m; output = []; input = input }) budget old new result) begins runs)))
 
--- the machine has no place for an image, as its outline tells
-pub seen_outside : (outside place : Bool) → place ≡ not outside → place ≡ false → outside ≡ true
-seen_outside true place is none = refl
-seen_outside false place is none = let both : true ≡ false = sym is ∙ none in cc
-
-pub seen_inside : (outside place : Bool) → place ≡ not outside → place ≡ true → outside ≡ true → ⊥
-seen_inside true place is some so = let both : false ≡ true = sym is ∙ some in cc
-seen_inside false place is some so = cc
-
-pub answers_outside : (grows : Bool) (store : StoreState) (read : Result ImageContents ElfFault) (image : ImageContents) (limits : Bounds) (budget : ℕ) (old new : Devices) (result : Result Report RunFault)
-    → read ≡ Ok image → has_outside image ≡ true → Refuses (Load load.Outside) old new result → Answers grows store read limits budget old new result
-answers_outside grows store read image limits budget old new result is outside refuses =
-    subst (λ r. Answers grows store r limits budget old new result) (sym is)
-    (subst (λ b. MatchBool b (Refuses (Load load.Outside) old new result) (Starts grows (start_world image limits store) budget old new result)) (sym outside) refuses)
-
 -- want of memory before an image is read
 refuses_memory : (fault : RunFault) (old new : Devices) → Rests old new → Refuses fault old new (Err Memory)
 refuses_memory fault old new rests = (inr refl, rests)
@@ -399,7 +384,7 @@ answers_inside : (outside : Bool) (grows : Bool) (start : List ℕ → World) (b
 answers_inside true grows start budget old new rests = refuses_memory (Load load.Outside) old new rests
 answers_inside false grows start budget old new rests = inl (refl, rests)
 
-pub answers_memory : (grows : Bool) (store : StoreState) (read : Result ImageContents ElfFault) (limits : Bounds) (budget : ℕ) (old new : Devices) → Rests old new
+answers_memory : (grows : Bool) (store : StoreState) (read : Result ImageContents ElfFault) (limits : Bounds) (budget : ℕ) (old new : Devices) → Rests old new
     → Answers grows store read limits budget old new (Err Memory)
 answers_memory grows store (Err f) limits budget old new rests = refuses_memory (Elf f) old new rests
 answers_memory grows store (Ok image) limits budget old new rests = answers_inside (has_outside image) grows (start_world image limits store) budget old new rests

@@ -6,7 +6,7 @@
 
 use crate::places::{Source, Stretch};
 use crate::report::RunFault;
-use cyc_elf::read_image;
+use cyc_elf::read_outline;
 use cyc_machine::constants::{RETURN_ADDRESS, STACK_END, STACK_POINTER, WORDS_PER_CALL};
 use cyc_machine::{Event, Limits, Machine};
 use cyc_pagestore::PageStore;
@@ -395,7 +395,7 @@ pub fn follow(
     count: u64,
     input: &[u8],
 ) -> Result<Option<Trail>, RunFault> {
-    let image = read_image(alloc, image)?;
+    let outline = read_outline(alloc, image)?;
     let entries = entries_of(alloc, stretches)?;
     let map = Map {
         stretches,
@@ -404,7 +404,7 @@ pub fn follow(
     let mut window = FIRST_WINDOW;
     for _ in 0..16 {
         let store = PageStore::new(alloc, limits.pages())?;
-        let machine = Machine::load(alloc, &image, limits, store)?;
+        let machine = Machine::load(alloc, &outline, image, limits, store)?;
         let found = follow_last(alloc, map, machine, count, window, input)?;
         if found.is_some() || window >= count {
             return Ok(found);
