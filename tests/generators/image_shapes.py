@@ -107,8 +107,9 @@ IMAGES = {
     "segments from the last to the first": Image(lambda count: of_segments(count, lambda number, all: all - 1 - number), ENTRY_BYTES + 4),
     "segments by turns from both ends": Image(
         lambda count: of_segments(count, lambda number, all: number // 2 if number % 2 == 0 else all - 1 - number // 2), ENTRY_BYTES + 4),
+    # one alone is no fault, and is run
     "segments at one address": Image(
-        lambda count: of_segments(count, lambda number, all: 0), ENTRY_BYTES + 4, "image fault", "image fault"),
+        lambda count: of_segments(count + 1, lambda number, all: 0), ENTRY_BYTES + 4, "image fault", "image fault"),
     "segments of data": Image(of_data, ENTRY_BYTES + 4),
     "empty segments": Image(of_empty_segments, ENTRY_BYTES),
     "headers of no segment": Image(of_others(0), ENTRY_BYTES),
