@@ -13,3 +13,4 @@ pub mod Cutting
 pub mod First
 pub mod Beginning
 pub mod Finding
+pub mod Counting

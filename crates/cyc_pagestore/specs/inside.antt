@@ -2,3 +2,4 @@ pub mod Links
 pub mod Live
 pub mod Table
 pub mod Stored
+pub mod Usage

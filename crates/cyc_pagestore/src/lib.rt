@@ -9,5 +9,6 @@ mod paged;
 mod serial;
 mod step;
 mod table;
+mod usage;
 
 pub use paged::PageStore;

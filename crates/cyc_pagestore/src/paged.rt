@@ -4,13 +4,14 @@ ghost use Rattle.std.specs.Prelude.{◌≡◌, ◌≢◌, ◌+◌, ◌*◌, ◌%
 ghost use Rattle.cyc_words.specs.Demand.{class_of};
 ghost use Rattle.cyc_store.specs.Answers.{Responds, allocated};
 ghost use Rattle.cyc_store.specs.Ledger.{Unwinds, held_of, memory_of};
-ghost use Rattle.cyc_store.specs.State.{lookup, AreWords, start, homes, holder, address_of, handle_of, lexical_count, word_at};
+ghost use Rattle.cyc_store.specs.State.{lookup, AreWords, start, demand, homes, holder, address_of, handle_of, lexical_count, word_at};
 ghost use Rattle.cyc_store.specs.Services.{Allocate, Free, Done, Serves};
 ghost use Rattle.cyc_store.specs.inside.Kept.{next_slot_of};
 ghost use Rattle.cyc_store.specs.Ordered.{IsOrdered};
 ghost use Rattle.cyc_store.specs.Slots.{HasSlot, IsSpent, Stocks, Fills};
 
 use super::table::PoolTable;
+use super::usage::Usage;
 use cyc_store::{
     BadHandle, BadMark, Change, ClassSlots, LEAST_PAGES, Ledger, MOST_BLOCK_WORDS, MOST_PAGES,
     NONE, No, NotABlock, PAGE_WORDS, Role, STORE_BASE, Store, UNIQUE, address_at, class_of,
@@ -27,6 +28,7 @@ pub struct PageStore {
     /// The handles of the open lexical regions, oldest first.
     lexicals: Vec<u32>,
     classes: [ClassSlots; 11],
+    usage: Usage,
     ledger: Ledger,
 }
 
@@ -38,7 +40,7 @@ impl Model for PageStore {
 
     ghost view = { λ s. record { pages = s.table.most; words = s.table.words; blocks = s.ledger.blocks; room = s.table.most } };
 
-    ghost invariant = { λ s. IsPagedStore s.table s.lexicals s.classes s.ledger.blocks };
+    ghost invariant = { λ s. IsPagedStore s.table s.lexicals s.classes s.ledger.blocks s.usage };
 }
 
 /// The number of the word at an address, where it is one of so many of the store's first. One test is for all else that an address may
@@ -93,6 +95,7 @@ impl PageStore {
     {
         let lexicals = Vec::with_capacity(alloc, pages as usize)?;
         let table = PoolTable::new(alloc, pages)?;
+        let usage = Usage::new(alloc, pages)?;
         let none = ClassSlots {
             dead: NONE,
             fresh: 0,
@@ -102,6 +105,7 @@ impl PageStore {
             table,
             lexicals,
             classes: [none; 11],
+            usage,
             ledger: Ledger::new(),
         })
     }
@@ -113,6 +117,13 @@ impl PageStore {
         ensures { IsOrdered (held_of self.now) }
     {
         let _table = &self.table;
+    }
+
+    /// How many pages are in use: as many as the blocks ask for.
+    pub fn pages_in_use(&self) -> u32
+        ensures { result ≡ demand (held_of self.now) }
+    {
+        self.usage.pages()
     }
 
     /// Leaves one serial before the last, as if so many regions had been opened and closed: a test cannot do that. What the store holds
@@ -182,6 +193,7 @@ impl PageStore {
             return;
         };
         self.table.close(handle / 2);
+        self.usage.note_closed(handle / 2);
         self.ledger = Ledger::with(&self.ledger, &Change::Closed(handle));
     }
 
@@ -203,6 +215,7 @@ impl PageStore {
         let Some(page) = self.table.add(root, words) else {
             return Err(No::Full);
         };
+        self.usage.note_added(root);
         let address = address_at(1024 * page);
         self.ledger = Ledger::with(&self.ledger, &Change::Made(2 * root + 1, address, words));
         Ok(address)
@@ -220,6 +233,7 @@ impl PageStore {
         let Some(page) = self.table.cut(class) else {
             return Err(No::Full);
         };
+        self.usage.note_cut();
         self.classes[class as usize] = ClassSlots {
             dead: NONE,
             fresh: 1024 * page,
@@ -310,6 +324,7 @@ impl Store for PageStore {
         let Some(page) = self.table.open(Role::Lexical) else {
             return Err(No::Full);
         };
+        self.usage.note_opened(page);
         let handle = 2 * page + 1;
         let mark = self.lexicals.len() as u32;
         self.lexicals.push_reserved(handle);
@@ -331,6 +346,7 @@ impl Store for PageStore {
         let Some(page) = self.table.open(Role::Dynamic) else {
             return Err(No::Full);
         };
+        self.usage.note_opened(page);
         let handle = 2 * page + 1;
         self.ledger = Ledger::with(&self.ledger, &Change::OpenedDynamic(handle));
         Ok(handle)
@@ -344,6 +360,7 @@ impl Store for PageStore {
             return Err(BadHandle);
         };
         self.table.close(root);
+        self.usage.note_closed(root);
         self.ledger = Ledger::with(&self.ledger, &Change::Closed(handle));
         Ok(())
     }

@@ -7,6 +7,7 @@ use Rattle.cyc_store.specs.inside.Kept.{IsKept}
 use Rattle.cyc_store.specs.declared.row.PageTable.{PageTable}
 use Rattle.cyc_store.specs.declared.row.ClassSlots.{ClassSlots}
 use Rattle.cyc_pagestore.specs.inside.Table.{TableState}
+use Rattle.cyc_pagestore.specs.inside.Usage.{Counts, IsUsage}
 
 -- this table in memory says the same
 pub record Reads (t : PageTable) (x : TableState) : Type 0 where
@@ -22,7 +23,8 @@ pub record IsStored (x : TableState) (lexicals : List ℕ) (classes : List Class
   pub whole : length x.rows ≡ x.most
   pub kept : IsKept table lexicals classes b
 
--- a store: the lexical regions have room for as many as there are pages
-pub record IsPagedStore (x : TableState) (lexicals : Vec ℕ) (classes : List ClassSlots) (b : Blocks) : Type 0 where
+-- a store: the lexical regions have room for as many as there are pages, and those in use are counted
+pub record IsPagedStore (x : TableState) (lexicals : Vec ℕ) (classes : List ClassSlots) (b : Blocks) (counts : Counts) : Type 0 where
   pub room : x.most ≤ vec_capacity lexicals
   pub stored : IsStored x lexicals.items classes b
+  pub usage : IsUsage counts x.most b

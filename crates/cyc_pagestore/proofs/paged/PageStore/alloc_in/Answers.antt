@@ -1,11 +1,15 @@
-use Rattle.std.proofs.Common.{◌≡◌, ◌+◌, ◌*◌, ◌<◌, ◌≤◌, sym, ap, subst, ◌∙◌, arith}
+use Rattle.std.proofs.Common.{◌≡◌, ◌+◌, ◌*◌, ◌<◌, ◌≤◌, refl, sym, ap, subst, ◌∙◌, arith}
 use Rattle.std.specs.Vec.{vec_capacity}
-use Rattle.cyc_store.specs.Ledger.{Stored, held_of, store_of}
+use Rattle.cyc_store.specs.Ledger.{Blocks, Stored, held_of, store_of, plain_store, blocks_of}
+use Rattle.cyc_store.specs.State.{Block, made_in}
+use Rattle.cyc_store.specs.inside.Kept.{handle_of_page}
 use Rattle.cyc_store.specs.Services.{Allocate, Allocated, Refused, Full, Serves}
 use Rattle.cyc_pagestore.specs.inside.Table.{TableState, row_of, Fills}
 use Rattle.cyc_pagestore.proofs.Storing.{root-inside, root-few, root-role, taken-small}
 use Rattle.cyc_pagestore.proofs.Making.{newest-inside, newest-few, last-filled, behind-most, behind-stored, behind-served, after-spent, after-most, after-stored, after-served}
 use Rattle.cyc_pagestore.proofs.Finding.{region-of}
+use Rattle.cyc_pagestore.specs.inside.Usage.{Counts, IsUsage}
+use Rattle.cyc_pagestore.proofs.Counting.{counted-there, counted-some, added-few, usage-behind, usage-added}
 use Rattle.cyc_pagestore.proofs.paged.PageStore.alloc_in.Goals as goal
 
 pub newest-last-requires : goal.newest-last-requires
@@ -98,6 +102,8 @@ invariant_of-self c =
           c.with-self-inside.result.blocks c.with-self-inside.ensures)) c.self.invariant.room;
       stored = behind-stored f.table f.lexicals.items f.classes f.ledger.blocks s c.args.root r named c.args.words c.requires.least c.requires.most fits c.fill.new.self fills c.address_at-address.result (omega (arith, place, at, used))
           c.with-self-inside.result.blocks c.with-self-inside.ensures;
+      usage = usage-behind f.table f.lexicals.items f.classes f.ledger.blocks s f.usage c.self.invariant.usage c.args.root r named (record { address = c.address_at-address.result; size = c.args.words }) c.with-self-inside.result.blocks c.with-self-inside.ensures c.fill.new.self.most
+          (behind-most f.table f.lexicals.items f.classes f.ledger.blocks s c.args.root r named c.args.words c.requires.least c.requires.most fits c.fill.new.self fills c.address_at-address.result (omega (arith, place, at, used)) c.with-self-inside.result.blocks c.with-self-inside.ensures) fits;
     }
 
 pub returns-then-used-words-le-PAGE_WORDS : goal.returns-then-used-words-le-PAGE_WORDS
@@ -137,6 +143,27 @@ returns-in_default c =
     (subst (λ (v : Stored). Serves (held_of v) (Allocate (2 * c.args.root + 1) c.args.words) (Refused Full) (store_of f.table.most f.table.words f.ledger.blocks)) c.self.view_is
     (after-spent f.table f.lexicals.items f.classes f.ledger.blocks s c.args.root r named c.args.words c.requires.least c.requires.most past c.in_default.ensures.0))
 
+pub note_added-requires-clause-there : goal.note_added-requires-clause-there
+note_added-requires-clause-there c =
+    let f = c.self.inside in let s = c.self.invariant.stored in let (r, named) = region-of _ _ (2 * c.args.root + 1) c.self.view_is c.requires.named in
+    counted-there f.table f.lexicals.items f.classes f.ledger.blocks s f.usage c.self.invariant.usage c.args.root r named
+
+pub note_added-requires-clause-few : goal.note_added-requires-clause-few
+note_added-requires-clause-few c =
+    let f = c.self.inside in let s = c.self.invariant.stored in let (r, named) = region-of _ _ (2 * c.args.root + 1) c.self.view_is c.requires.named in
+    let at : c.newest-last.result ≡ (row_of f.table c.args.root).newest = c.newest-last.ensures in
+    let used : c.filled-used.result ≡ (row_of f.table (row_of f.table c.args.root).newest).filled = c.filled-used.ensures ∙ ap (λ p. (row_of f.table p).filled) at in
+    let past = subst (λ k. 1024 < k + c.args.words) used c.if-used-words-le-PAGE_WORDS.false in
+    let made : Block = record { address = 536870912 + 4 * (1024 * c.in-Some.page); size = c.args.words } in
+    let now : Blocks = blocks_of (made_in (plain_store f.ledger.blocks) (handle_of_page c.args.root) made) in
+    added-few f.table f.lexicals.items f.classes f.ledger.blocks s f.usage c.self.invariant.usage c.args.root r named made now refl past c.add.new.self f.lexicals.items
+    (after-stored f.table f.lexicals.items f.classes f.ledger.blocks s c.args.root r named c.args.words c.requires.least c.requires.most past c.add.new.self c.in-Some.page c.in-Some.ensures made.address refl now refl)
+
+pub note_added-requires-clause-some : goal.note_added-requires-clause-some
+note_added-requires-clause-some c =
+    let f = c.self.inside in let s = c.self.invariant.stored in let (r, named) = region-of _ _ (2 * c.args.root + 1) c.self.view_is c.requires.named in
+    counted-some f.table f.lexicals.items f.classes f.ledger.blocks s f.usage c.self.invariant.usage c.args.root r named
+
 pub overflow_mul-page : goal.overflow_mul-page
 overflow_mul-page c =
     let f = c.self.inside in let s = c.self.invariant.stored in let small = taken-small f.table f.lexicals.items f.classes f.ledger.blocks s c.in-Some.ensures.middle c.in-Some.page c.in-Some.ensures.takes in
@@ -170,6 +197,9 @@ invariant_of-self-2 c =
           c.with-self-inside-2.result.blocks c.with-self-inside-2.ensures)) c.self.invariant.room;
       stored = after-stored f.table f.lexicals.items f.classes f.ledger.blocks s c.args.root r named c.args.words c.requires.least c.requires.most past c.add.new.self c.in-Some.page c.in-Some.ensures c.address_at-address-2.result c.address_at-address-2.ensures
           c.with-self-inside-2.result.blocks c.with-self-inside-2.ensures;
+      usage = subst (λ (k : Counts). IsUsage k c.add.new.self.most c.with-self-inside-2.result.blocks) (sym c.note_added.ensures)
+          (usage-added f.table f.lexicals.items f.classes f.ledger.blocks s f.usage c.self.invariant.usage c.args.root r named (record { address = c.address_at-address-2.result; size = c.args.words }) c.with-self-inside-2.result.blocks c.with-self-inside-2.ensures past c.add.new.self.most
+          (after-most f.table f.lexicals.items f.classes f.ledger.blocks s c.args.root r named c.args.words c.requires.least c.requires.most past c.add.new.self c.in-Some.page c.in-Some.ensures c.address_at-address-2.result c.address_at-address-2.ensures c.with-self-inside-2.result.blocks c.with-self-inside-2.ensures));
     }
 
 pub returns : goal.returns

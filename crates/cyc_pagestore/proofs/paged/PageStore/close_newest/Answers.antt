@@ -4,6 +4,8 @@ use Rattle.cyc_store.specs.State.{lexical_count}
 use Rattle.cyc_store.proofs.KeptServices.{kept-lexicals}
 use Rattle.cyc_store.proofs.KeptUnwinding.{newest-named, newest-left, newest-blocks, newest-unwinds}
 use Rattle.cyc_pagestore.proofs.Storing.{root-inside, root-role, closes-most, closed-stored, closed-unwinds}
+use Rattle.cyc_pagestore.specs.inside.Usage.{Counts, IsUsage}
+use Rattle.cyc_pagestore.proofs.Counting.{counted-there, counted-some, usage-closed}
 use Rattle.cyc_pagestore.proofs.paged.PageStore.close_newest.Goals as goal
 
 -- a lexical region is open, so one is there
@@ -36,6 +38,18 @@ close-requires-clause-root c =
     let (r, named) = newest-named s.table f.lexicals.items f.classes f.ledger.blocks s.kept c.pop.new.self.items c.in-Some.handle c.in-Some.ensures.items in
     root-role f.table f.lexicals.items f.classes f.ledger.blocks s (c.in-Some.handle / 2) r named
 
+pub note_closed-requires-clause-there : goal.note_closed-requires-clause-there
+note_closed-requires-clause-there c =
+    let f = c.self.inside in let s = c.self.invariant.stored in
+    let (r, named) = newest-named s.table f.lexicals.items f.classes f.ledger.blocks s.kept c.pop.new.self.items c.in-Some.handle c.in-Some.ensures.items in
+    counted-there f.table f.lexicals.items f.classes f.ledger.blocks s f.usage c.self.invariant.usage (c.in-Some.handle / 2) r named
+
+pub note_closed-requires-clause-some : goal.note_closed-requires-clause-some
+note_closed-requires-clause-some c =
+    let f = c.self.inside in let s = c.self.invariant.stored in
+    let (r, named) = newest-named s.table f.lexicals.items f.classes f.ledger.blocks s.kept c.pop.new.self.items c.in-Some.handle c.in-Some.ensures.items in
+    counted-some f.table f.lexicals.items f.classes f.ledger.blocks s f.usage c.self.invariant.usage (c.in-Some.handle / 2) r named
+
 pub invariant_of-self-2 : goal.invariant_of-self-2
 invariant_of-self-2 c =
     let f = c.self.inside in let s = c.self.invariant.stored in
@@ -45,6 +59,10 @@ invariant_of-self-2 c =
       stored = closed-stored f.table f.lexicals.items f.classes f.ledger.blocks s c.close.new.self (c.in-Some.handle / 2) c.close.ensures r named c.with-self-inside.result.blocks
           (newest-blocks s.table f.lexicals.items f.classes f.ledger.blocks s.kept c.pop.new.self.items c.in-Some.handle c.in-Some.ensures.items c.with-self-inside.result.blocks c.with-self-inside.ensures)
           c.pop.new.self.items (newest-left s.table f.lexicals.items f.classes f.ledger.blocks s.kept c.pop.new.self.items c.in-Some.handle c.in-Some.ensures.items);
+      usage = subst (λ (k : Counts). IsUsage k c.close.new.self.most c.with-self-inside.result.blocks) (sym c.note_closed.ensures)
+          (usage-closed f.table f.lexicals.items f.classes f.ledger.blocks s f.usage c.self.invariant.usage (c.in-Some.handle / 2) r named c.close.new.self.most
+          (closes-most f.table f.lexicals.items f.classes f.ledger.blocks s c.close.new.self (c.in-Some.handle / 2) c.close.ensures r named) c.with-self-inside.result.blocks
+          (newest-blocks s.table f.lexicals.items f.classes f.ledger.blocks s.kept c.pop.new.self.items c.in-Some.handle c.in-Some.ensures.items c.with-self-inside.result.blocks c.with-self-inside.ensures));
     }
 
 pub returns : goal.returns

@@ -1,10 +1,11 @@
 use Rattle.std.proofs.Common.{◌≡◌, ◌+◌, ◌*◌, ◌^◌, ◌≤◌, Some, sym, ap, subst, ◌∙◌, arith}
 use Rattle.std.specs.Vec.{vec_capacity}
-use Rattle.cyc_store.specs.Ledger.{Stored, held_of, store_of}
+use Rattle.cyc_store.specs.Ledger.{Blocks, Stored, held_of, store_of}
 use Rattle.cyc_store.specs.State.{lookup, address_of}
 use Rattle.cyc_store.specs.Services.{Free, Done, Serves}
 use Rattle.cyc_pagestore.specs.inside.Table.{TableState}
 use Rattle.cyc_pagestore.proofs.Cutting.{freed-class, freed-word, freed-small, freed-marks, freed-stored, freed-served}
+use Rattle.cyc_pagestore.proofs.Counting.{usage-same}
 use Rattle.cyc_pagestore.proofs.paged.PageStore.empty.Goals as goal
 
 pub bounds-self-inside-class : goal.bounds-self-inside-class
@@ -54,6 +55,9 @@ invariant_of-self c =
       room = subst (λ n. n ≤ vec_capacity f.lexicals) (sym (ap (λ (z : TableState). z.most) c.mark.ensures.same ∙ ap (λ (z : TableState). z.most) c.set_word.ensures)) c.self.invariant.room;
       stored = freed-stored f.table f.lexicals.items f.classes f.ledger.blocks s c.args.word c.args.class there c.address_at.result c.address_at.ensures c.with-self-inside.result.blocks c.with-self-inside.ensures
           c.set_word.new.self c.set_word.ensures c.mark.new.self c.size_of.result c.size_of.ensures c.mark.ensures;
+      usage = usage-same f.table f.lexicals.items f.classes f.ledger.blocks s f.usage c.self.invariant.usage c.mark.new.self.most
+          (ap (λ (z : TableState). z.most) c.mark.ensures.same ∙ ap (λ (z : TableState). z.most) c.set_word.ensures) c.with-self-inside.result.blocks
+          (ap (λ (k : Blocks). k.regions) c.with-self-inside.ensures) (ap (λ (k : Blocks). k.classes) c.with-self-inside.ensures);
     }
 
 pub returns : goal.returns

@@ -9,6 +9,8 @@ use Rattle.cyc_store.proofs.KeptClosing.{dynamic-named, dynamic-left, dynamic-cl
 use Rattle.cyc_pagestore.specs.inside.Table.{row_of}
 use Rattle.cyc_pagestore.proofs.Storing.{row-read, root-inside, root-role, closes-most, closed-stored, closed-served}
 use Rattle.cyc_pagestore.proofs.Finding.{in-rows, others-unnamed, region-of}
+use Rattle.cyc_pagestore.specs.inside.Usage.{Counts, IsUsage}
+use Rattle.cyc_pagestore.proofs.Counting.{counted-there, counted-some, usage-closed}
 use Rattle.cyc_pagestore.proofs.paged.PageStoreStore.close_dynamic.Goals as goal
 
 pub returns-in_default : goal.returns-in_default
@@ -46,6 +48,18 @@ close-requires-clause-root c =
     let there = root-inside f.table f.lexicals.items f.classes f.ledger.blocks s c.in-Some.root q found in
     root-role f.table f.lexicals.items f.classes f.ledger.blocks s c.in-Some.root q found
 
+pub note_closed-requires-clause-there : goal.note_closed-requires-clause-there
+note_closed-requires-clause-there c =
+    let f = c.self.inside in let s = c.self.invariant.stored in
+    let (q, found) = region-of _ _ (2 * c.in-Some.root + 1) c.self.view_is (subst (λ h. is_some (lookup handle_of c.args.self.now.blocks.regions h) ≡ true) c.in-Some.ensures.0 c.in-Some.ensures.1) in
+    counted-there f.table f.lexicals.items f.classes f.ledger.blocks s f.usage c.self.invariant.usage c.in-Some.root q found
+
+pub note_closed-requires-clause-some : goal.note_closed-requires-clause-some
+note_closed-requires-clause-some c =
+    let f = c.self.inside in let s = c.self.invariant.stored in
+    let (q, found) = region-of _ _ (2 * c.in-Some.root + 1) c.self.view_is (subst (λ h. is_some (lookup handle_of c.args.self.now.blocks.regions h) ≡ true) c.in-Some.ensures.0 c.in-Some.ensures.1) in
+    counted-some f.table f.lexicals.items f.classes f.ledger.blocks s f.usage c.self.invariant.usage c.in-Some.root q found
+
 pub invariant_of-self : goal.invariant_of-self
 invariant_of-self c =
     let f = c.self.inside in let s = c.self.invariant.stored in
@@ -58,6 +72,10 @@ invariant_of-self c =
       stored = closed-stored f.table f.lexicals.items f.classes f.ledger.blocks s c.close.new.self c.in-Some.root c.close.ensures r named c.with-self-inside.result.blocks
           (subst (λ h. c.with-self-inside.result.blocks ≡ record f.ledger.blocks { regions = without handle_of f.ledger.blocks.regions h }) c.in-Some.ensures.0 c.with-self-inside.ensures)
           f.lexicals.items (dynamic-left s.table f.lexicals.items f.classes f.ledger.blocks s.kept (2 * c.in-Some.root + 1) r named sort);
+      usage = subst (λ (k : Counts). IsUsage k c.close.new.self.most c.with-self-inside.result.blocks) (sym c.note_closed.ensures)
+          (usage-closed f.table f.lexicals.items f.classes f.ledger.blocks s f.usage c.self.invariant.usage c.in-Some.root r named c.close.new.self.most
+          (closes-most f.table f.lexicals.items f.classes f.ledger.blocks s c.close.new.self c.in-Some.root c.close.ensures r named) c.with-self-inside.result.blocks
+          (subst (λ h. c.with-self-inside.result.blocks ≡ record f.ledger.blocks { regions = without handle_of f.ledger.blocks.regions h }) c.in-Some.ensures.0 c.with-self-inside.ensures));
     }
 
 pub returns : goal.returns

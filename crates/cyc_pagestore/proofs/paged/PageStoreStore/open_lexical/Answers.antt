@@ -1,13 +1,16 @@
-use Rattle.std.proofs.Common.{◌≤◌, length, refl, sym, subst, arith}
-use Rattle.cyc_store.specs.Ledger.{Stored, held_of, store_of}
+use Rattle.std.proofs.Common.{◌≤◌, [], ◌∷◌, ◌++◌, length, refl, sym, subst, arith}
+use Rattle.cyc_store.specs.Ledger.{Stored, held_of, store_of, plain_store, blocks_of}
 use Rattle.cyc_store.specs.Services.{OpenLexical, OpenedLexical, Refused, Full, Serves}
-use Rattle.cyc_store.specs.State.{StoreState}
+use Rattle.cyc_store.specs.State.{StoreState, opened}
+use Rattle.cyc_store.specs.State as sorts
 use Rattle.cyc_store.specs.inside.Kept.{handle_of_page}
 use Rattle.cyc_store.specs.declared.row.Role.TheVariants.{Lexical}
 use Rattle.cyc_store.proofs.Responses.{lexical-full}
 use Rattle.cyc_store.proofs.KeptServices.{kept-lexicals_few}
 use Rattle.cyc_pagestore.specs.inside.Table.{TableState}
 use Rattle.cyc_pagestore.proofs.Storing.{stored-held, stored-full, taken-small, opened-most, lexical-stored, lexical-served, lexical-room}
+use Rattle.cyc_pagestore.specs.inside.Usage.{Counts, IsUsage}
+use Rattle.cyc_pagestore.proofs.Counting.{taken-there, opened-few, usage-opened}
 use Rattle.cyc_pagestore.proofs.paged.PageStoreStore.open_lexical.Goals as goal
 
 pub returns-in_default : goal.returns-in_default
@@ -43,6 +46,18 @@ push_reserved-requires c =
     let room = c.self.invariant.room in let counted = f.lexicals.ok.0 in
     omega (arith, less, room, counted)
 
+pub note_opened-requires-clause-there : goal.note_opened-requires-clause-there
+note_opened-requires-clause-there c =
+    let f = c.self.inside in let s = c.self.invariant.stored in
+    taken-there f.table f.lexicals.items f.classes f.ledger.blocks s f.usage c.self.invariant.usage c.in-Some.ensures.middle c.in-Some.page c.in-Some.ensures.takes
+
+pub note_opened-requires-clause-few : goal.note_opened-requires-clause-few
+note_opened-requires-clause-few c =
+    let f = c.self.inside in let s = c.self.invariant.stored in
+    opened-few f.table f.lexicals.items f.classes f.ledger.blocks s f.usage c.self.invariant.usage c.open.new.self (f.lexicals.items ++ handle_of_page c.in-Some.page ∷ []) (blocks_of (opened (plain_store f.ledger.blocks) (handle_of_page c.in-Some.page) sorts.Lexical))
+    (lexical-stored f.table f.lexicals.items f.classes f.ledger.blocks s c.open.new.self c.in-Some.page c.in-Some.ensures (blocks_of (opened (plain_store f.ledger.blocks) (handle_of_page c.in-Some.page) sorts.Lexical)) refl (f.lexicals.items ++ handle_of_page c.in-Some.page ∷ []) refl)
+    c.in-Some.page sorts.Lexical (opened-most f.table f.lexicals.items f.classes f.ledger.blocks s c.open.new.self c.in-Some.page Lexical c.in-Some.ensures) (taken-there f.table f.lexicals.items f.classes f.ledger.blocks s f.usage c.self.invariant.usage c.in-Some.ensures.middle c.in-Some.page c.in-Some.ensures.takes) refl
+
 pub invariant_of-self-2 : goal.invariant_of-self-2
 invariant_of-self-2 c =
     let f = c.self.inside in let s = c.self.invariant.stored in
@@ -50,6 +65,10 @@ invariant_of-self-2 c =
       room = let room = c.self.invariant.room in let most = opened-most f.table f.lexicals.items f.classes f.ledger.blocks s c.open.new.self c.in-Some.page Lexical c.in-Some.ensures in let same = c.push_reserved.ensures.capacity in
           omega (arith, room, most, same);
       stored = lexical-stored f.table f.lexicals.items f.classes f.ledger.blocks s c.open.new.self c.in-Some.page c.in-Some.ensures c.with-self-inside.result.blocks c.with-self-inside.ensures c.push_reserved.new.self.items c.push_reserved.ensures.items;
+      usage = subst (λ (k : Counts). IsUsage k c.open.new.self.most c.with-self-inside.result.blocks) (sym c.note_opened.ensures)
+          (usage-opened f.table f.lexicals.items f.classes f.ledger.blocks s f.usage c.self.invariant.usage c.open.new.self c.push_reserved.new.self.items c.with-self-inside.result.blocks
+          (lexical-stored f.table f.lexicals.items f.classes f.ledger.blocks s c.open.new.self c.in-Some.page c.in-Some.ensures c.with-self-inside.result.blocks c.with-self-inside.ensures c.push_reserved.new.self.items c.push_reserved.ensures.items)
+          c.in-Some.page sorts.Lexical (opened-most f.table f.lexicals.items f.classes f.ledger.blocks s c.open.new.self c.in-Some.page Lexical c.in-Some.ensures) (taken-there f.table f.lexicals.items f.classes f.ledger.blocks s f.usage c.self.invariant.usage c.in-Some.ensures.middle c.in-Some.page c.in-Some.ensures.takes) c.with-self-inside.ensures);
     }
 
 pub returns : goal.returns

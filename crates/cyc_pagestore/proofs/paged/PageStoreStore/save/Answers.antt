@@ -1,4 +1,4 @@
-use Rattle.std.proofs.Common.{◌≡◌, ◌+◌, ◌*◌, ◌<◌, ◌≤◌, true, length, sym, ap, subst, arith}
+use Rattle.std.proofs.Common.{◌≡◌, ◌+◌, ◌*◌, ◌<◌, ◌≤◌, true, length, refl, sym, ap, subst, arith}
 use Rattle.std.specs.Prelude.{is_some}
 use Rattle.std.specs.Vec.{vec_capacity}
 use Rattle.cyc_store.specs.Ledger.{Stored, held_of, store_of}
@@ -7,6 +7,7 @@ use Rattle.cyc_store.specs.declared.range.TheConstants.{STORE_BASE, PAGE_WORDS}
 use Rattle.cyc_pagestore.specs.inside.Table.{TableState}
 use Rattle.cyc_pagestore.proofs.Cutting.{words-all}
 use Rattle.cyc_pagestore.proofs.Finding.{word-inside, save-stored, save-held}
+use Rattle.cyc_pagestore.proofs.Counting.{usage-same}
 use Rattle.cyc_pagestore.proofs.paged.PageStoreStore.save.Goals as goal
 
 pub set_word-requires : goal.set_word-requires
@@ -24,6 +25,7 @@ invariant_of-self c =
     record {
       room = subst (λ n. n ≤ vec_capacity f.lexicals) (sym (ap (λ (z : TableState). z.most) c.set_word.ensures)) c.self.invariant.room;
       stored = save-stored f.table f.lexicals.items f.classes f.ledger.blocks s c.args.address c.in-Some.at c.in-Some.ensures.1 inside live c.args.word c.ranges.word.fits c.set_word.new.self c.set_word.ensures;
+      usage = usage-same f.table f.lexicals.items f.classes f.ledger.blocks s f.usage c.self.invariant.usage c.set_word.new.self.most (ap (λ (z : TableState). z.most) c.set_word.ensures) f.ledger.blocks refl refl;
     }
 
 pub returns-clause-saved : goal.returns-clause-saved
