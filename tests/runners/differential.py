@@ -6,7 +6,7 @@
 The profiles are ints, pointers, heap, exceptions, unique and regions, each of which has what those before it have, chars,
 which has ints and chars alone, and bytes, which has all. Each program is made so that it is mostly accepted and ends soon.
 One that is accepted is run on two inputs, with just as many calls and pages as it needs and fewer, and with a small budget
-of steps, which has to give a prefix of the whole output. Each of these runs but the last is made over both stores too
+of steps, which has to give a prefix of the whole output. The first run's report has to name just these calls and pages. Each of these runs but the last is made over both stores too
 (`crates/cyc_runner`, `--runner`), which have to come to the same end after the same count of instructions. One of chars and bytes becomes C too (tests/references/in_c.py),
 which gcc builds; it is run in the same ways and has to answer the same. One of its functions is filled up with locals until
 its frame has 256 words, which changes nothing, and 257, which is refused. Beside it stand texts that were refused, and the
@@ -19,6 +19,7 @@ way, and shown. The last line is `N passed, M failed`, of programs: `--count` of
 --check only asks what `check` says. --texts writes the programs to a folder, and each in C beside it. As `--program
 tests/references/in_c.py` answers like the program itself, the expectations for every profile can be held against gcc.
 """
+import json
 import os
 import random
 import subprocess
@@ -53,6 +54,7 @@ class Wanted:
         for given in self.inputs:
             self.add(given)
         run = self.evaluated(self.inputs[0])
+        self.peaks = {"most_calls": run.deepest, "most_pages": run.store.most}
         for calls in sorted({run.deepest, max(run.deepest - 1, 1), numbers.randint(1, run.deepest)}):
             self.add(self.inputs[0], calls=calls)
         for pages in sorted({max(run.store.most, 3), max(run.store.most - 1, 3)}) if profile not in makers.OF_NUMBERS else []:
@@ -129,7 +131,7 @@ class Tried:
 
     def __init__(self, program, folder, runner=None):
         self.program, self.runner = program, runner
-        self.source, self.image, self.built = (os.path.join(folder, name) for name in ("main.cyc", "main.elf", "main"))
+        self.source, self.image, self.built, self.report = (os.path.join(folder, name) for name in ("main.cyc", "main.elf", "main", "main.json"))
         # the first difference, its kind, the text that shows it, and what asks the same of another text
         self.fault, self.kind, self.text, self.again = None, None, None, None
 
@@ -169,6 +171,27 @@ class Tried:
     def run(self, given, options, expected):
         got = self.answer("run", self.image, *options, given=given)
         self.want(f"run {' '.join(options)} on {given}", expected, got, lambda text: self.run_again(text, given, options))
+
+    def counted(self, given):
+        """The most calls and pages of a run, as its report has them; None of who answers as the program does, but makes no reports."""
+        if self.answer("run", self.image, "--report", self.report, "--peaks", given=given)[1] == "usage":
+            return None
+        with open(self.report, encoding="ascii") as file:
+            report = json.load(file)
+        return {name: report[name] for name in ("most_calls", "most_pages")}
+
+    def count(self, given, peaks):
+        got = self.counted(given)
+        if got is not None and self.fault is None and got != peaks:
+            self.want(f"the peaks of a run on {given}", (b"", str(peaks), 0), (b"", str(got), 0), lambda text: self.count_again(text, given))
+
+    def count_again(self, text, given):
+        self.run_again(text, given, [])
+        program = reference.Program(text)
+        done = reference.Run(program, given, steps=STEPS_AT_MOST)
+        done.end()
+        peaks, got = {"most_calls": done.deepest, "most_pages": done.store.most}, self.counted(given)
+        return (b"", str(peaks), 0), (b"", str(got), 0)
 
     def over_stores(self, given, options):
         """A run over both stores: each has its output, its end and its count of instructions from `cyc_runner`."""
@@ -262,6 +285,7 @@ def try_program(tried, wanted, only_check):
         tried.run_over_stores(given, options)
     given, _, expected = wanted.runs[0]
     tried.run_some(given, wanted.steps, expected)
+    tried.count(given, wanted.peaks)
     if wanted.profile in makers.BESIDE_C:
         tried.run_in_c(wanted.program, wanted.runs)
     tried.compile(wanted.full)

@@ -38,7 +38,7 @@ esac
 # A whole report, and texts that are none.
 REPORT = (
     '{"end":"returned","value":0,"exception":null,"cause":null,"image_fault":null,"limit":null,"instructions":1,"counter":0,"most_calls":null,'
-    '"read":0,"written":0}')
+    '"most_pages":null,"read":0,"written":0}')
 NO_REPORTS = [
     "no JSON", "[]", "{}", "returned", "null", '{"end":"returned","value":0}', REPORT.replace('"returned"', '["returned"]'),
     REPORT.replace("returned", "right"), REPORT.replace("returned", "done"), REPORT[:-1], "[" * 9000, "9" * 9000, "\udcff",
@@ -138,10 +138,11 @@ def try_fields(room):
     run = room.judge(os.path.join(room.submissions, "status.cyc"), os.path.join(INPUTS, "three.in"))["runs"][0]
     yield "a run", ["returned", 5, 5, "3\n", None], [run[it] for it in ("verdict", "value", "status", "output", "difference")]
     size = os.path.getsize(os.path.join(INPUTS, "three.in"))
-    wanted = [None, None, None, None, size, 2]
-    yield "its figures", wanted, [run["figures"][it] for it in ("limit", "cause", "image_fault", "most_calls", "read", "written")]
+    wanted = [None, None, None, None, None, size, 2]
+    yield "its figures", wanted, [run["figures"][it] for it in ("limit", "cause", "image_fault", "most_calls", "most_pages", "read", "written")]
     deep = room.judge("--calls", "20", "--peaks", os.path.join(room.submissions, "deep.cyc"))["runs"][0]
-    yield "the figures of a full run", ["full", "calls", 20], [deep["verdict"], *(deep["figures"][it] for it in ("limit", "most_calls"))]
+    yield "the figures of a full run", ["full", "calls", 20, 1], [
+        deep["verdict"], *(deep["figures"][it] for it in ("limit", "most_calls", "most_pages"))]
     cut = room.judge(os.path.join(room.submissions, "cut.elf"))["runs"][0]
     yield "the figures of no run", ["image fault", True, None], [
         cut["verdict"], cut["figures"]["image_fault"] is not None, cut["figures"]["instructions"]]

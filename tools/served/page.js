@@ -411,7 +411,7 @@ function tellEnded(it, text) {
   showFigures(it.report);
 }
 
-const FIGURES = { instructions: "Instructions", most_calls: "Most calls at once", read: "Bytes read", written: "Bytes printed" };
+const FIGURES = { instructions: "Instructions", most_calls: "Most calls at once", most_pages: "Most pages at once", read: "Bytes read", written: "Bytes printed" };
 
 function showFigures(report) {
   const rows = report ? Object.entries(FIGURES).filter(([name]) => report[name] !== null) : [];

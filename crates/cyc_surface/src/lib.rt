@@ -34,7 +34,7 @@ use cyc_select::{Code, FunctionLines, lines_of, select};
 use cyc_store::{BadHandle, BadMark, No, NotABlock, Store};
 use cyc_syntax::{Name, Names, Span, Token, Tree};
 use cyc_system::{
-    Limit, Placed, Report, RunFault, Source, Stop, Stretch, Trail, compile, compile_with,
+    Limit, Peaks, Placed, Report, RunFault, Source, Stop, Stretch, Trail, compile, compile_with,
     compile_with_places, disassemble, follow, note_of, run, run_counting, run_with, source_at,
 };
 use cyc_types::{Kind, Outlives, Region, TypedTree};
@@ -409,7 +409,7 @@ pub fn reports(end: End, count: u64) -> [Report; 2] {
             limit: Some(Limit::Calls),
             read: 1,
             written: 2,
-            calls: None,
+            peaks: None,
         },
         Report {
             stop: spent,
@@ -418,7 +418,7 @@ pub fn reports(end: End, count: u64) -> [Report; 2] {
             limit: Some(Limit::Pages),
             read: 3,
             written: 4,
-            calls: Some(5),
+            peaks: Some(Peaks { calls: 5, pages: 6 }),
         },
     ]
 }

@@ -1,7 +1,7 @@
 -- The loop of the engine: what it has done so far is a run of the machine on every input that goes on from what was
 -- read.
 use Rattle.std.proofs.Common.{◌≡◌, ℕ, zero, suc, ◌+◌, ◌-◌, ◌<◌, ◌≤◌, List, [], ◌∷◌, ◌++◌, drop, Bool, true, false, Option, None, Some, Result, Ok, Err, refl, sym, ap, subst, ◌∙◌, arith, append_assoc, append-nil, inl, inr}
-use Rattle.std.specs.Prelude.{unwrap_or, is_none, slice_get, MatchBool, length, max, IfSome}
+use Rattle.std.specs.Prelude.{unwrap_or, slice_get, MatchBool, length, IfSome}
 use Rattle.std.specs.Io.KnownBytes.{Keeps, Appends, Consumes, IsAtEnd}
 use Rattle.std.proofs.lemmas.List.{length-append}
 use Rattle.cyc_words.proofs.DeviceLemmas.{Keeps-refl, Appends-nil, Appends-append, Consumes-nil, Consumes-append}
@@ -22,12 +22,15 @@ use Rattle.cyc_machine.specs.Shape.{phase_after}
 use Rattle.cyc_machine.specs.Start.{has_outside, start_state, start_world}
 use Rattle.cyc_machine.proofs.PhaseLaws.{Step-phase}
 use Rattle.cyc_system.specs.declared.engine.Exchanged.{Exchanged}
+use Rattle.cyc_system.specs.declared.report.Peaks.{Peaks}
 use Rattle.cyc_system.specs.declared.report.Report.{Report}
 use Rattle.cyc_system.specs.declared.report.Stop.{Stop}
 use Rattle.cyc_system.specs.declared.report.Stop.TheVariants as stops
 use Rattle.cyc_system.specs.declared.report.RunFault.{RunFault}
 use Rattle.cyc_system.specs.declared.report.RunFault.TheVariants.{Elf, Load, Read, Write, Memory}
-use Rattle.cyc_system.specs.Engine.{Devices, Rests, Tells, Leaves, Counted, Peaks, Executes, Runs, calls_in, Refuses, Starts, Answers, AnswersAnew, IsReported, limit_at}
+use Rattle.cyc_system.specs.Engine.{Devices, Rests, Tells, Leaves, Counted, HasPeaks, Executes, Runs, uses_in, higher, Refuses, Starts, Answers, AnswersAnew, IsReported, limit_at}
+use Rattle.cyc_system.specs.Faults.{is_read, is_write}
+use Rattle.cyc_system.specs.inside.Loading.{Declines, Loads}
 use Rattle.cyc_system.specs.inside.Turn.{Asked, Turned, after_byte, counted_at}
 
 -- one more instruction at the end of a run
@@ -44,19 +47,19 @@ counted_more : (count : ℕ) (u v w : World) → Counted count u v → v.machine
 counted_more count u v w counted running goes =
     subst (λ k. Counted k u w) (let one : suc count ≡ count + 1 = omega arith in one) (v, counted_run count u v counted, ap end_in running, goes)
 
--- So many instructions, with the most calls under way in them, where they are counted.
-abbrev pub Way : (calls : Option ℕ) → ℕ → World → World → Type 0
-Way calls count u v = Counted count u v × IfSome calls (Peaks count u v)
+-- So many instructions, with the most calls and pages in them, where they are counted.
+abbrev pub Way : (peaks : Option Peaks) → ℕ → World → World → Type 0
+Way peaks count u v = Counted count u v × IfSome peaks (HasPeaks count u v)
 
-way_more : (calls : Option ℕ) (count : ℕ) (u v w : World) → Way calls count u v → v.machine.phase ≡ Running → Goes v w → Way (counted_at calls w.machine.core) (count + 1) u w
+way_more : (peaks : Option Peaks) (count : ℕ) (u v w : World) → Way peaks count u v → v.machine.phase ≡ Running → Goes v w → Way (counted_at peaks w.machine) (count + 1) u w
 way_more None count u v w (counted, none) running goes = (counted_more count u v w counted running goes, tt)
 way_more (Some most) count u v w (counted, peaks) running goes = (
   counted_more count u v w counted running goes,
-  subst (λ k. Peaks k u w (max most (calls_in w))) (let one : suc count ≡ count + 1 = omega arith in one) (v, most, peaks, ap end_in running, goes, refl),
+  subst (λ k. HasPeaks k u w (higher most (uses_in w))) (let one : suc count ≡ count + 1 = omega arith in one) (v, most, peaks, ap end_in running, goes, refl),
 )
 
 -- The loop after so many turns: on an input that begins with what was read, and ends with it once the end was seen.
-pub record Progress (start : List ℕ → World) (old now : Devices) (count : ℕ) (x : Exchanged) (calls : Option ℕ) (machine : State) : Type 0 where
+pub record Progress (start : List ℕ → World) (old now : Devices) (count : ℕ) (x : Exchanged) (peaks : Option Peaks) (machine : State) : Type 0 where
   pub read : List ℕ
   pub output : List ℕ
   pub consumed : Consumes old.remaining now.remaining read
@@ -65,7 +68,7 @@ pub record Progress (start : List ℕ → World) (old now : Devices) (count : �
   pub writes : x.written ≡ length output
   pub at_end : x.ended ≡ true → Leaves old.remaining now.remaining []
   pub running : machine.phase ≡ Running
-  pub runs : (rest : List ℕ) → (x.ended ≡ true → rest ≡ []) → Way calls count (start (read ++ rest)) (record { machine = machine; output = output; input = rest })
+  pub runs : (rest : List ℕ) → (x.ended ≡ true → rest ≡ []) → Way peaks count (start (read ++ rest)) (record { machine = machine; output = output; input = rest })
 
 -- Devices that were not used.
 
@@ -91,12 +94,12 @@ end_seen (Some told) (Some left) (Some more) xs h e k = k ∙ e
 -- One more turn, by the event.
 
 -- an instruction that uses no device, or the writer alone
-quiet : (start : List ℕ → World) (old now new : Devices) (count : ℕ) (x x' : Exchanged) (calls : Option ℕ) (machine machine' : State) (event : Event) (s : State) (more : List ℕ)
-    → (p : Progress start old now count x calls machine) → Step machine event s → machine' ≡ s → phase_after event ≡ Running → Keeps now.remaining new.remaining → Appends now.written new.written more
+quiet : (start : List ℕ → World) (old now new : Devices) (count : ℕ) (x x' : Exchanged) (peaks : Option Peaks) (machine machine' : State) (event : Event) (s : State) (more : List ℕ)
+    → (p : Progress start old now count x peaks machine) → Step machine event s → machine' ≡ s → phase_after event ≡ Running → Keeps now.remaining new.remaining → Appends now.written new.written more
     → x'.ended ≡ x.ended → x'.read ≡ x.read → x'.written ≡ x.written + length more
     → ((rest : List ℕ) → told (record { machine = machine; output = p.output; input = rest }) event s ≡ record { machine = s; output = p.output ++ more; input = rest })
-    → Progress start old new (count + 1) x' (counted_at calls machine'.core) machine'
-quiet start old now new count x x' calls machine machine' event s more p step is on kept appends ends reads writes leaves = record {
+    → Progress start old new (count + 1) x' (counted_at peaks machine') machine'
+quiet start old now new count x x' peaks machine machine' event s more p step is on kept appends ends reads writes leaves = record {
   read = p.read;
   output = p.output ++ more;
   consumed = consumes_kept old.remaining now.remaining new.remaining p.read p.consumed kept;
@@ -106,7 +109,7 @@ quiet start old now new count x x' calls machine machine' event s more p step is
   at_end = λ end. leaves_kept old.remaining now.remaining new.remaining [] (p.at_end (sym ends ∙ end)) kept;
   running = ap (λ t. t.phase) is ∙ Step-phase machine event s step ∙ on;
   runs = λ rest ended.
-      way_more calls count (start (p.read ++ rest)) (record { machine = machine; output = p.output; input = rest }) (record { machine = machine'; output = p.output ++ more; input = rest })
+      way_more peaks count (start (p.read ++ rest)) (record { machine = machine; output = p.output; input = rest }) (record { machine = machine'; output = p.output ++ more; input = rest })
       (p.runs rest (λ e. ended (ends ∙ e))) p.running
       (event, s, step, ap (λ m. record { machine = m; output = p.output ++ more; input = rest }) is ∙ sym (leaves rest));
 }
@@ -116,18 +119,18 @@ given_running : (s : State) (byte : Option ℕ) → s.phase ≡ Waiting → (giv
 given_running s byte waiting = ap (λ q. (given_in q s byte).phase) waiting
 
 -- what an input that goes on with rest was before the byte was taken from it
-pub record Took (start : List ℕ → World) (count : ℕ) (calls : Option ℕ) (machine : State) (output read : List ℕ) (byte : Option ℕ) (rest : List ℕ) : Type 0 where
+pub record Took (start : List ℕ → World) (count : ℕ) (peaks : Option Peaks) (machine : State) (output read : List ℕ) (byte : Option ℕ) (rest : List ℕ) : Type 0 where
   pub before : List ℕ
-  pub runs : Way calls count (start (read ++ rest)) (record { machine = machine; output = output; input = before })
+  pub runs : Way peaks count (start (read ++ rest)) (record { machine = machine; output = output; input = before })
   pub first : slice_get before 0 ≡ byte
   pub others : drop 1 before ≡ rest
 
-wanting : (start : List ℕ → World) (old now new : Devices) (count : ℕ) (x x' : Exchanged) (calls : Option ℕ) (machine machine' s : State) (byte : Option ℕ) (read : List ℕ)
-    → (p : Progress start old now count x calls machine) → Step machine WantsByte s → machine' ≡ given s byte → Keeps now.written new.written
+wanting : (start : List ℕ → World) (old now new : Devices) (count : ℕ) (x x' : Exchanged) (peaks : Option Peaks) (machine machine' s : State) (byte : Option ℕ) (read : List ℕ)
+    → (p : Progress start old now count x peaks machine) → Step machine WantsByte s → machine' ≡ given s byte → Keeps now.written new.written
     → Consumes old.remaining new.remaining read → (x'.ended ≡ true → Leaves old.remaining new.remaining []) → x'.read ≡ length read → x'.written ≡ x.written
-    → ((rest : List ℕ) → (x'.ended ≡ true → rest ≡ []) → Took start count calls machine p.output read byte rest)
-    → Progress start old new (count + 1) x' (counted_at calls machine'.core) machine'
-wanting start old now new count x x' calls machine machine' s byte read p step is kept consumed at_end reads writes took = record {
+    → ((rest : List ℕ) → (x'.ended ≡ true → rest ≡ []) → Took start count peaks machine p.output read byte rest)
+    → Progress start old new (count + 1) x' (counted_at peaks machine') machine'
+wanting start old now new count x x' peaks machine machine' s byte read p step is kept consumed at_end reads writes took = record {
   read = read;
   output = p.output;
   consumed = consumed;
@@ -143,59 +146,59 @@ wanting start old now new count x x' calls machine machine' s byte read p step i
       let leads : there ≡ told here WantsByte s =
       ap (λ m. record { machine = m; output = p.output; input = rest }) (is ∙ ap (given s) (sym t.first))
       ∙ ap (λ i. record { machine = given s (slice_get t.before 0); output = p.output; input = i }) (sym t.others) in
-      way_more calls count (start (read ++ rest)) here there t.runs p.running (WantsByte, s, step, leads);
+      way_more peaks count (start (read ++ rest)) here there t.runs p.running (WantsByte, s, step, leads);
 }
 
 -- at the end of the input there is no byte, and nothing is left
-none_left : (start : List ℕ → World) (count : ℕ) (calls : Option ℕ) (machine : State) (output read rest : List ℕ) → rest ≡ [] → Way calls count (start (read ++ rest)) (record { machine = machine; output = output; input = rest }) → Took start count calls machine output read None rest
-none_left start count calls machine output read rest empty runs = record {
+none_left : (start : List ℕ → World) (count : ℕ) (peaks : Option Peaks) (machine : State) (output read rest : List ℕ) → rest ≡ [] → Way peaks count (start (read ++ rest)) (record { machine = machine; output = output; input = rest }) → Took start count peaks machine output read None rest
+none_left start count peaks machine output read rest empty runs = record {
   before = rest;
   runs = runs;
   first = ap (λ xs. slice_get xs 0) empty;
   others = ap (drop 1) empty ∙ sym empty;
 }
 
-asked_turn : (start : List ℕ → World) (old now new : Devices) (count : ℕ) (x : Exchanged) (seen : Bool) (calls : Option ℕ) (machine machine' s : State) (byte : Option ℕ) → x.ended ≡ seen
-    → Progress start old now count x calls machine → Step machine WantsByte s → machine' ≡ given s byte → Asked seen byte now.remaining new.remaining → Keeps now.written new.written
-    → Progress start old new (count + 1) (after_byte x byte) (counted_at calls machine'.core) machine'
-asked_turn start old now new count x true calls machine machine' s byte was p step is (none, kept) silent =
-    subst (λ b. Progress start old new (count + 1) (after_byte x b) (counted_at calls machine'.core) machine') (sym none)
-    (wanting start old now new count x (after_byte x None) calls machine machine' s None p.read p step (is ∙ ap (given s) none) silent
+asked_turn : (start : List ℕ → World) (old now new : Devices) (count : ℕ) (x : Exchanged) (seen : Bool) (peaks : Option Peaks) (machine machine' s : State) (byte : Option ℕ) → x.ended ≡ seen
+    → Progress start old now count x peaks machine → Step machine WantsByte s → machine' ≡ given s byte → Asked seen byte now.remaining new.remaining → Keeps now.written new.written
+    → Progress start old new (count + 1) (after_byte x byte) (counted_at peaks machine') machine'
+asked_turn start old now new count x true peaks machine machine' s byte was p step is (none, kept) silent =
+    subst (λ b. Progress start old new (count + 1) (after_byte x b) (counted_at peaks machine') machine') (sym none)
+    (wanting start old now new count x (after_byte x None) peaks machine machine' s None p.read p step (is ∙ ap (given s) none) silent
     (consumes_kept old.remaining now.remaining new.remaining p.read p.consumed kept)
     (λ end. leaves_kept old.remaining now.remaining new.remaining [] (p.at_end was) kept) p.reads refl
-    (λ rest ended. none_left start count calls machine p.output p.read rest (ended refl) (p.runs rest (λ e. ended refl))))
-asked_turn start old now new count x false calls machine machine' s None was p step is (ends, kept) silent =
-    wanting start old now new count x (after_byte x None) calls machine machine' s None p.read p step is silent
+    (λ rest ended. none_left start count peaks machine p.output p.read rest (ended refl) (p.runs rest (λ e. ended refl))))
+asked_turn start old now new count x false peaks machine machine' s None was p step is (ends, kept) silent =
+    wanting start old now new count x (after_byte x None) peaks machine machine' s None p.read p step is silent
     (consumes_kept old.remaining now.remaining new.remaining p.read p.consumed kept)
     (λ end. end_seen old.remaining now.remaining new.remaining p.read p.consumed ends kept) p.reads refl
-    (λ rest ended. none_left start count calls machine p.output p.read rest (ended refl) (p.runs rest (λ e. ended refl)))
-asked_turn start old now new count x false calls machine machine' s (Some byte) was p step is consumes silent =
-    wanting start old now new count x (after_byte x (Some byte)) calls machine machine' s (Some byte) (p.read ++ byte ∷ []) p step is silent
+    (λ rest ended. none_left start count peaks machine p.output p.read rest (ended refl) (p.runs rest (λ e. ended refl)))
+asked_turn start old now new count x false peaks machine machine' s (Some byte) was p step is consumes silent =
+    wanting start old now new count x (after_byte x (Some byte)) peaks machine machine' s (Some byte) (p.read ++ byte ∷ []) p step is silent
     (Consumes-append old.remaining now.remaining new.remaining p.read (byte ∷ []) p.consumed consumes)
     (λ e. cc) (ap (λ n. n + 1) p.reads ∙ sym (length-append p.read (byte ∷ []))) refl
     (λ rest ended. record {
       before = byte ∷ rest;
-      runs = subst (λ xs. Way calls count (start xs) (record { machine = machine; output = p.output; input = byte ∷ rest })) (sym (append_assoc p.read (byte ∷ []) rest)) (p.runs (byte ∷ rest) (λ e. let never : false ≡ true = sym was ∙ e in cc));
+      runs = subst (λ xs. Way peaks count (start xs) (record { machine = machine; output = p.output; input = byte ∷ rest })) (sym (append_assoc p.read (byte ∷ []) rest)) (p.runs (byte ∷ rest) (λ e. let never : false ≡ true = sym was ∙ e in cc));
       first = refl;
       others = refl;
     })
 
-pub Progress-turn : (start : List ℕ → World) (old now new : Devices) (count : ℕ) (x x' : Exchanged) (calls : Option ℕ) (machine machine' : State)
-    → Progress start old now count x calls machine → Turned machine machine' x x' now new (Ok None) → Progress start old new (count + 1) x' (counted_at calls machine'.core) machine'
-Progress-turn start old now new count x x' calls machine machine' p (Ran, s, step, (is, same, (kept, silent))) =
-    subst (λ y. Progress start old new (count + 1) y (counted_at calls machine'.core) machine') (sym same)
-    (quiet start old now new count x x calls machine machine' Ran s [] p step is refl kept (Appends-nil now.written new.written silent) refl refl (let none : x.written ≡ x.written + 0 = omega arith in none)
+pub Progress-turn : (start : List ℕ → World) (old now new : Devices) (count : ℕ) (x x' : Exchanged) (peaks : Option Peaks) (machine machine' : State)
+    → Progress start old now count x peaks machine → Turned machine machine' x x' now new (Ok None) → Progress start old new (count + 1) x' (counted_at peaks machine') machine'
+Progress-turn start old now new count x x' peaks machine machine' p (Ran, s, step, (is, same, (kept, silent))) =
+    subst (λ y. Progress start old new (count + 1) y (counted_at peaks machine') machine') (sym same)
+    (quiet start old now new count x x peaks machine machine' Ran s [] p step is refl kept (Appends-nil now.written new.written silent) refl refl (let none : x.written ≡ x.written + 0 = omega arith in none)
     (λ rest. ap (λ o. record { machine = s; output = o; input = rest }) (sym (append-nil p.output))))
-Progress-turn start old now new count x x' calls machine machine' p (WantsByte, s, step, (byte, is, ends, asked, silent)) =
-    subst (λ y. Progress start old new (count + 1) y (counted_at calls machine'.core) machine') (sym ends)
-    (asked_turn start old now new count x x.ended calls machine machine' s byte refl p step is asked silent)
-Progress-turn start old now new count x x' calls machine machine' p (Puts byte, s, step, (is, same, kept, printed)) =
-    subst (λ y. Progress start old new (count + 1) y (counted_at calls machine'.core) machine') (sym same)
-    (quiet start old now new count x (record x { written = x.written + 1 }) calls machine machine' (Puts byte) s (byte ∷ []) p step is refl kept printed refl refl refl (λ rest. refl))
-Progress-turn start old now new count x x' calls machine machine' p (Ended end, s, step, none) = absurd none
-Progress-turn start old now new count x x' calls machine machine' p (NoMemory, s, step, none) = absurd none
+Progress-turn start old now new count x x' peaks machine machine' p (WantsByte, s, step, (byte, is, ends, asked, silent)) =
+    subst (λ y. Progress start old new (count + 1) y (counted_at peaks machine') machine') (sym ends)
+    (asked_turn start old now new count x x.ended peaks machine machine' s byte refl p step is asked silent)
+Progress-turn start old now new count x x' peaks machine machine' p (Puts byte, s, step, (is, same, kept, printed)) =
+    subst (λ y. Progress start old new (count + 1) y (counted_at peaks machine') machine') (sym same)
+    (quiet start old now new count x (record x { written = x.written + 1 }) peaks machine machine' (Puts byte) s (byte ∷ []) p step is refl kept printed refl refl refl (λ rest. refl))
+Progress-turn start old now new count x x' peaks machine machine' p (Ended end, s, step, none) = absurd none
+Progress-turn start old now new count x x' peaks machine machine' p (NoMemory, s, step, none) = absurd none
 
--- instructions that only ran, where calls are not counted
+-- instructions that only ran, where nothing is counted
 pub Progress-quiet : (start : List ℕ → World) (old now : Devices) (count more : ℕ) (x : Exchanged) (machine machine' : State)
     → Progress start old now count x None machine → RunsQuietly more machine machine' → Progress start old now (count + more) x None machine'
 Progress-quiet start old now count zero x machine machine' p run =
@@ -258,16 +261,16 @@ nothing_over (Some told) None leaves = absurd leaves
 nothing_over (Some told) (Some left) leaves = leaves
 
 -- the loop has executed so many instructions
-way_of : (start : List ℕ → World) (old now : Devices) (count : ℕ) (x : Exchanged) (calls : Option ℕ) (machine : State) → (p : Progress start old now count x calls machine)
-    → Way calls count (start (p.read ++ rest_of old.remaining now.remaining)) (record { machine = machine; output = p.output; input = rest_of old.remaining now.remaining })
-way_of start old now count x calls machine p = p.runs (rest_of old.remaining now.remaining) (λ end. nothing_over old.remaining now.remaining (p.at_end end))
+way_of : (start : List ℕ → World) (old now : Devices) (count : ℕ) (x : Exchanged) (peaks : Option Peaks) (machine : State) → (p : Progress start old now count x peaks machine)
+    → Way peaks count (start (p.read ++ rest_of old.remaining now.remaining)) (record { machine = machine; output = p.output; input = rest_of old.remaining now.remaining })
+way_of start old now count x peaks machine p = p.runs (rest_of old.remaining now.remaining) (λ end. nothing_over old.remaining now.remaining (p.at_end end))
 
-executes_of : (start : List ℕ → World) (old now : Devices) (count : ℕ) (x : Exchanged) (calls : Option ℕ) (machine : State) → (p : Progress start old now count x calls machine)
+executes_of : (start : List ℕ → World) (old now : Devices) (count : ℕ) (x : Exchanged) (peaks : Option Peaks) (machine : State) → (p : Progress start old now count x peaks machine)
     → Executes start old now count (record { machine = machine; output = p.output; input = rest_of old.remaining now.remaining })
-executes_of start old now count x calls machine p = record {
+executes_of start old now count x peaks machine p = record {
   input = p.read ++ rest_of old.remaining now.remaining;
   told = told_all old.remaining now.remaining p.read p.consumed;
-  counted = (way_of start old now count x calls machine p).0;
+  counted = (way_of start old now count x peaks machine p).0;
   unread = left_over old.remaining now.remaining p.read p.consumed;
   written = p.printed;
 }
@@ -287,27 +290,27 @@ all_read : (taken : ℕ) (read rest : List ℕ) → taken ≡ length read → ta
 all_read taken read rest reads = ap (λ n. n + length rest) reads ∙ sym (length-append read rest)
 
 -- what is reported of a machine that stops so
-abbrev pub reported : Stop → (count : ℕ) → Exchanged → (calls : Option ℕ) → State → Report
-reported stop count x calls machine = record {
+abbrev pub reported : Stop → (count : ℕ) → Exchanged → (peaks : Option Peaks) → State → Report
+reported stop count x peaks machine = record {
   stop = stop;
   count = count;
   counter = machine.core.counter;
   limit = limit_at stop machine.core;
   read = x.read;
   written = x.written;
-  calls = calls;
+  peaks = peaks;
 }
 
 -- the budget is used up
-pub spends : (start : List ℕ → World) (old now : Devices) (count budget : ℕ) (x : Exchanged) (calls : Option ℕ) (machine : State) → Progress start old now count x calls machine → count ≡ budget
-    → IsReported start budget old now (reported stops.Spent budget x calls machine)
-spends start old now count budget x calls machine p is =
-    let here : IsReported start budget old now (reported stops.Spent count x calls machine) = record {
+pub spends : (start : List ℕ → World) (old now : Devices) (count budget : ℕ) (x : Exchanged) (peaks : Option Peaks) (machine : State) → Progress start old now count x peaks machine → count ≡ budget
+    → IsReported start budget old now (reported stops.Spent budget x peaks machine)
+spends start old now count budget x peaks machine p is =
+    let here : IsReported start budget old now (reported stops.Spent count x peaks machine) = record {
       world = record { machine = machine; output = p.output; input = rest_of old.remaining now.remaining };
       executes = record {
         input = p.read ++ rest_of old.remaining now.remaining;
         told = told_all old.remaining now.remaining p.read p.consumed;
-        counted = (way_of start old now count x calls machine p).0;
+        counted = (way_of start old now count x peaks machine p).0;
         unread = left_over old.remaining now.remaining p.read p.consumed;
         written = p.printed;
       };
@@ -316,20 +319,20 @@ spends start old now count budget x calls machine p is =
       stands = (refl, refl);
       read = all_read x.read p.read (rest_of old.remaining now.remaining) p.reads;
       printed = p.writes;
-      calls = (way_of start old now count x calls machine p).1;
+      peaks = (way_of start old now count x peaks machine p).1;
     } in
-    subst (λ (k : ℕ). IsReported start budget old now (reported stops.Spent k x calls machine)) is here
+    subst (λ (k : ℕ). IsReported start budget old now (reported stops.Spent k x peaks machine)) is here
 
 -- the run ends
-pub stops_at : (start : List ℕ → World) (old now new : Devices) (count budget : ℕ) (x x' : Exchanged) (calls : Option ℕ) (machine machine' : State) (end : End) → Progress start old now count x calls machine → count + 1 ≤ budget
+pub stops_at : (start : List ℕ → World) (old now new : Devices) (count budget : ℕ) (x x' : Exchanged) (peaks : Option Peaks) (machine machine' : State) (end : End) → Progress start old now count x peaks machine → count + 1 ≤ budget
     → Turned machine machine' x x' now new (Ok (Some end))
-    → IsReported start budget old new (reported (stops.End end) (count + 1) x' (counted_at calls machine'.core) machine')
-stops_at start old now new count budget x x' calls machine machine' end p few (step, same, (kept, silent)) =
+    → IsReported start budget old new (reported (stops.End end) (count + 1) x' (counted_at peaks machine') machine')
+stops_at start old now new count budget x x' peaks machine machine' end p few (step, same, (kept, silent)) =
     let rest = rest_of old.remaining now.remaining in
     let here : World = record { machine = machine; output = p.output; input = rest } in
     let there : World = record { machine = machine'; output = p.output; input = rest } in
-    let way = way_more calls count (start (p.read ++ rest)) here there (way_of start old now count x calls machine p) p.running (Ended end, machine', step, refl) in
-    let all : IsReported start budget old new (reported (stops.End end) (count + 1) x (counted_at calls machine'.core) machine') = record {
+    let way = way_more peaks count (start (p.read ++ rest)) here there (way_of start old now count x peaks machine p) p.running (Ended end, machine', step, refl) in
+    let all : IsReported start budget old new (reported (stops.End end) (count + 1) x (counted_at peaks machine') machine') = record {
       world = there;
       executes = record {
         input = p.read ++ rest;
@@ -343,37 +346,44 @@ stops_at start old now new count budget x x' calls machine machine' end p few (s
       stands = (refl, refl);
       read = all_read x.read p.read rest p.reads;
       printed = p.writes;
-      calls = way.1;
+      peaks = way.1;
     } in
-    subst (λ y. IsReported start budget old new (reported (stops.End end) (count + 1) y (counted_at calls machine'.core) machine')) (sym same) all
+    subst (λ y. IsReported start budget old new (reported (stops.End end) (count + 1) y (counted_at peaks machine') machine')) (sym same) all
 
 -- a device fails
-pub fails_at : (grows : Bool) (start : List ℕ → World) (old now new : Devices) (count budget : ℕ) (x x' : Exchanged) (calls : Option ℕ) (machine machine' : State) (e : RunFault) → Progress start old now count x calls machine → count < budget
+pub fails_at : (grows : Bool) (start : List ℕ → World) (old now new : Devices) (count budget : ℕ) (x x' : Exchanged) (peaks : Option Peaks) (machine machine' : State) (e : RunFault) → Progress start old now count x peaks machine → count < budget
     → Turned machine machine' x x' now new (Err e) → Runs grows start budget old new (Err e)
-fails_at grows start old now new count budget x x' calls machine machine' Read p below (s, step, rests) =
+fails_at grows start old now new count budget x x' peaks machine machine' Read p below (s, step, rests) =
     let rest = rest_of old.remaining now.remaining in
     let here : World = record { machine = machine; output = p.output; input = rest } in
-    (count, here, executes_kept start old now new count here (executes_of start old now count x calls machine p) rests, below, ap end_in p.running, (s, step))
-fails_at grows start old now new count budget x x' calls machine machine' Write p below (byte, s, step, rests) =
+    (count, here, executes_kept start old now new count here (executes_of start old now count x peaks machine p) rests, below, ap end_in p.running, (s, step))
+fails_at grows start old now new count budget x x' peaks machine machine' Write p below (byte, s, step, rests) =
     let rest = rest_of old.remaining now.remaining in
     let here : World = record { machine = machine; output = p.output; input = rest } in
-    (count, here, executes_kept start old now new count here (executes_of start old now count x calls machine p) rests, below, ap end_in p.running, (byte, s, step))
-fails_at grows start old now new count budget x x' calls machine machine' (Elf f) p below none = absurd none
-fails_at grows start old now new count budget x x' calls machine machine' (Load f) p below none = absurd none
-fails_at grows start old now new count budget x x' calls machine machine' Memory p below none = absurd none
+    (count, here, executes_kept start old now new count here (executes_of start old now count x peaks machine p) rests, below, ap end_in p.running, (byte, s, step))
+fails_at grows start old now new count budget x x' peaks machine machine' (Elf f) p below none = absurd none
+fails_at grows start old now new count budget x x' peaks machine machine' (Load f) p below none = absurd none
+fails_at grows start old now new count budget x x' peaks machine machine' Memory p below none = absurd none
 
 -- a loaded image is run
 loaded : (inside : Bool) (refused runs : Type 0) → (inside ≡ true → ⊥) → runs → MatchBool inside refused runs
 loaded true refused runs not_so go = absurd (not_so refl)
 loaded false refused runs not_so go = go
 
-pub answers_run : (grows : Bool) (store : StoreState) (read : Result ImageContents ElfFault) (image : ImageContents) (limits : Bounds) (budget : ℕ) (machine : State) (old new : Devices) (result : Result Report RunFault)
+answers_run : (grows : Bool) (store : StoreState) (read : Result ImageContents ElfFault) (image : ImageContents) (limits : Bounds) (budget : ℕ) (machine : State) (old new : Devices) (result : Result Report RunFault)
     → read ≡ Ok image → (has_outside image ≡ true → ⊥) → machine ≡ start_state image limits store
     → Runs grows (λ input. record { machine = machine; output = []; input = input }) budget old new result → Answers grows store read limits budget old new result
 answers_run grows store read image limits budget machine old new result is inside begins runs =
     subst (λ r. Answers grows store r limits budget old new result) (sym is)
     (loaded (has_outside image) (Refuses (Load load.Outside) old new result) (Starts grows (start_world image limits store) budget old new result) inside
     (inr (subst (λ m. Runs grows (λ input. record { machine = m; output = []; input = input }) budget old new result) begins runs)))
+
+-- the machine has no place for an image
+answers_outside : (grows : Bool) (store : StoreState) (read : Result ImageContents ElfFault) (image : ImageContents) (limits : Bounds) (budget : ℕ) (old new : Devices) (result : Result Report RunFault)
+    → read ≡ Ok image → has_outside image ≡ true → Refuses (Load load.Outside) old new result → Answers grows store read limits budget old new result
+answers_outside grows store read image limits budget old new result is outside refuses =
+    subst (λ r. Answers grows store r limits budget old new result) (sym is)
+    (subst (λ b. MatchBool b (Refuses (Load load.Outside) old new result) (Starts grows (start_world image limits store) budget old new result)) (sym outside) refuses)
 
 -- want of memory before an image is read
 refuses_memory : (fault : RunFault) (old new : Devices) → Rests old new → Refuses fault old new (Err Memory)
@@ -397,6 +407,44 @@ anew_memory grows read limits budget devices =
       ((λ (address : ℕ). 0), (λ address. omega arith), refl),
       answers_memory grows store read limits budget devices devices (Keeps-refl devices.remaining, Keeps-refl devices.written),
     )
+
+-- An image is loaded, or it is not.
+
+pub seen_within : (outside : Bool) → (outside ≡ true → ⊥) → outside ≡ false
+seen_within true refused = absurd (refused refl)
+seen_within false refused = refl
+
+pub loads_running : (read : Result ImageContents ElfFault) (limits : Bounds) (store : StoreState) (machine : State) → Loads read limits store machine → machine.phase ≡ Running
+loads_running (Err f) limits store machine loads = absurd loads
+loads_running (Ok image) limits store machine (inside, is) = ap (λ (s : State). s.phase) is
+
+pub answers_loaded : (grows : Bool) (store : StoreState) (read : Result ImageContents ElfFault) (limits : Bounds) (budget : ℕ) (machine : State) (old new : Devices) (result : Result Report RunFault)
+    → Loads read limits store machine → Runs grows (λ input. record { machine = machine; output = []; input = input }) budget old new result → Answers grows store read limits budget old new result
+answers_loaded grows store (Err f) limits budget machine old new result loads runs = absurd loads
+answers_loaded grows store (Ok image) limits budget machine old new result (inside, is) runs =
+    answers_run grows store (Ok image) image limits budget machine old new result refl (λ outside. let both : true ≡ false = sym outside ∙ inside in cc) is runs
+
+pub answers_declined : (grows : Bool) (store : StoreState) (read : Result ImageContents ElfFault) (limits : Bounds) (budget : ℕ) (old new : Devices) (fault : RunFault)
+    → Declines read fault → Rests old new → Answers grows store read limits budget old new (Err fault)
+answers_declined grows store (Err f) limits budget old new fault (inl is) rests = (inl (ap (λ e. Err e) is), rests)
+answers_declined grows store (Err f) limits budget old new fault (inr is) rests = (inr (ap (λ e. Err e) is), rests)
+answers_declined grows store (Ok image) limits budget old new fault (inl (outside, is)) rests =
+    answers_outside grows store (Ok image) image limits budget old new (Err fault) refl outside (inl (ap (λ e. Err e) is), rests)
+answers_declined grows store (Ok image) limits budget old new fault (inr is) rests =
+    subst (λ e. Answers grows store (Ok image) limits budget old new (Err e)) (sym is) (answers_memory grows store (Ok image) limits budget old new rests)
+
+-- no device failed then
+pub declined_read : (read : Result ImageContents ElfFault) (fault : RunFault) → Declines read fault → is_read {T = Report} (Err fault) ≡ false
+declined_read (Err f) fault (inl is) = ap (λ e. is_read {T = Report} (Err e)) is
+declined_read (Err f) fault (inr is) = ap (λ e. is_read {T = Report} (Err e)) is
+declined_read (Ok image) fault (inl (outside, is)) = ap (λ e. is_read {T = Report} (Err e)) is
+declined_read (Ok image) fault (inr is) = ap (λ e. is_read {T = Report} (Err e)) is
+
+pub declined_write : (read : Result ImageContents ElfFault) (fault : RunFault) → Declines read fault → is_write {T = Report} (Err fault) ≡ false
+declined_write (Err f) fault (inl is) = ap (λ e. is_write {T = Report} (Err e)) is
+declined_write (Err f) fault (inr is) = ap (λ e. is_write {T = Report} (Err e)) is
+declined_write (Ok image) fault (inl (outside, is)) = ap (λ e. is_write {T = Report} (Err e)) is
+declined_write (Ok image) fault (inr is) = ap (λ e. is_write {T = Report} (Err e)) is
 
 -- Want of memory over a store that does not grow is answered before anything is read or written: no instruction wants any.
 early_inside : (outside : Bool) (start : List ℕ → World) (budget : ℕ) (old new : Devices)
@@ -460,8 +508,8 @@ told_step grows old (Puts byte) new memory step = step
 told_step grows old (Ended end) new memory step = step
 told_step grows old NoMemory new memory step = absurd (memory refl)
 
-pub wants_at : (grows : Bool) (start : List ℕ → World) (old now : Devices) (count budget : ℕ) (x : Exchanged) (calls : Option ℕ) (machine new : State) → Progress start old now count x calls machine → count < budget
+pub wants_at : (grows : Bool) (start : List ℕ → World) (old now : Devices) (count budget : ℕ) (x : Exchanged) (peaks : Option Peaks) (machine new : State) → Progress start old now count x peaks machine → count < budget
     → StepOver grows machine NoMemory new → Runs grows start budget old now (Err Memory)
-wants_at grows start old now count budget x calls machine new p below (wants, same) =
+wants_at grows start old now count budget x peaks machine new p below (wants, same) =
     let here : World = record { machine = machine; output = p.output; input = rest_of old.remaining now.remaining } in
-    (count, here, executes_of start old now count x calls machine p, below, ap end_in p.running, wants)
+    (count, here, executes_of start old now count x peaks machine p, below, ap end_in p.running, wants)

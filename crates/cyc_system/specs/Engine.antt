@@ -1,7 +1,7 @@
 -- What it means to run an image between a reader and a writer. This project's own choice.
 use Rattle.std.specs.Prelude.{◌≡◌, ℕ, zero, suc, ◌+◌, ◌-◌, ◌*◌, ◌/◌, ◌≤◌, ◌<◌, ◌==◌, max, length, IfSome, if◌then◌else◌, Bool, List, Option, None, Some, Result, Ok, Err, MatchBool, ◌⊎◌}
 use Rattle.std.specs.Io.KnownBytes.{Keeps, Appends}
-use Rattle.cyc_store.specs.State.{StoreState, IsNew}
+use Rattle.cyc_store.specs.State.{StoreState, demand, IsNew}
 use Rattle.cyc_elf.specs.declared.fault.ElfFault.{ElfFault}
 use Rattle.cyc_elf.specs.Image.{ImageContents}
 use Rattle.cyc_machine.specs.declared.fault.LoadFault.TheVariants as load
@@ -15,6 +15,7 @@ use Rattle.cyc_machine.specs.Run.{World, Goes, Run, end_of}
 use Rattle.cyc_machine.specs.Start.{has_outside, start_world}
 use Rattle.cyc_system.specs.declared.report.Limit.{Limit}
 use Rattle.cyc_system.specs.declared.report.Limit.TheVariants.{Calls, Pages}
+use Rattle.cyc_system.specs.declared.report.Peaks.{Peaks}
 use Rattle.cyc_system.specs.declared.report.Report.{Report}
 use Rattle.cyc_system.specs.declared.report.Stop.{Stop}
 use Rattle.cyc_system.specs.declared.report.Stop.TheVariants as stops
@@ -51,14 +52,23 @@ Counted (suc count) old new = (mid : World) × Run count old mid × (end_of mid 
 abbrev pub calls_at : Core → ℕ
 calls_at core = (stack_end - register core STACK_POINTER) / (4 * words_per_call)
 
-abbrev pub calls_in : World → ℕ
-calls_in w = calls_at w.machine.core
+-- the calls under way and the pages in use: those that the blocks of the store ask for
+abbrev pub uses_at : State → Peaks
+uses_at s = record { calls = calls_at s.core; pages = demand s.memory.store }
 
--- The same, and the most calls under way in any world from the old one up to the new one, both included, are so many.
-abbrev pub Peaks : ℕ → World → World → (most : ℕ) → Type 0
-Peaks zero old new most = (new ≡ old) × (most ≡ calls_in old)
-Peaks (suc count) old new most =
-    (mid : World) × (before : ℕ) × Peaks count old mid before × (end_of mid ≡ None) × Goes mid new × (most ≡ max before (calls_in new))
+abbrev pub uses_in : World → Peaks
+uses_in w = uses_at w.machine
+
+-- the greater one of each
+abbrev pub higher : Peaks → Peaks → Peaks
+higher p q = record { calls = max p.calls q.calls; pages = max p.pages q.pages }
+
+-- The same, and in any world from the old one up to the new one, both included, no more calls are under way and no more pages are in use
+-- than these, which are reached.
+abbrev pub HasPeaks : ℕ → World → World → (most : Peaks) → Type 0
+HasPeaks zero old new most = (new ≡ old) × (most ≡ uses_in old)
+HasPeaks (suc count) old new most =
+    (mid : World) × (before : Peaks) × HasPeaks count old mid before × (end_of mid ≡ None) × Goes mid new × (most ≡ higher before (uses_in new))
 
 -- So many instructions were executed, on an input of which the reader told all that it tells: what they printed was
 -- written, and what they asked for was read, the rest not.
@@ -85,8 +95,8 @@ abbrev pub StandsAt : Report → World → Type 0
 StandsAt report w = (report.counter ≡ w.machine.core.counter) × (report.limit ≡ limit_at report.stop w.machine.core)
 
 -- A run that begins in this world, on whatever input, and of which this is reported: so many instructions, none beyond the budget, how
--- it stopped, where it stands then, the bytes that it read and printed, and the most calls, where they were counted. All of it is of one
--- run.
+-- it stopped, where it stands then, the bytes that it read and printed, and the most calls and pages, where they were counted. All of it is
+-- of one run.
 pub record IsReported (start : List ℕ → World) (budget : ℕ) (old new : Devices) (report : Report) : Type 0 where
   pub world : World
   pub executes : Executes start old new report.count world
@@ -95,7 +105,7 @@ pub record IsReported (start : List ℕ → World) (budget : ℕ) (old new : Dev
   pub stands : StandsAt report world
   pub read : report.read + length world.input ≡ length executes.input
   pub printed : report.written ≡ length world.output
-  pub calls : IfSome report.calls (Peaks report.count (start executes.input) world)
+  pub peaks : IfSome report.peaks (HasPeaks report.count (start executes.input) world)
 
 -- the next instruction wants a byte, or prints one
 abbrev pub WantsByteNext : World → Type 0

@@ -1,3 +1,4 @@
 -- what the functions inside the crate promise each other
+pub mod Loading
 pub mod Phases
 pub mod Turn

@@ -19,4 +19,4 @@ pub use front::{Phases, accept, run_phases};
 pub use listing::disassemble;
 pub use notes::note_of;
 pub use places::{Declared, Placed, Places, Source, Stretch, compile_with_places};
-pub use report::{Limit, Report, RunFault, Stop};
+pub use report::{Limit, Peaks, Report, RunFault, Stop};

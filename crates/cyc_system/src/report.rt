@@ -25,6 +25,15 @@ pub enum Limit {
     Pages,
 }
 
+/// The most that a run had at once.
+#[derive(Clone, Copy, Debug, PartialEq, Eq)]
+pub struct Peaks {
+    /// The calls that were under way.
+    pub calls: u32,
+    /// The pages that were in use.
+    pub pages: u32,
+}
+
 /// What came of a run: how it stopped, how many instructions were executed, where it stood then, and what it used.
 #[derive(Clone, Copy, Debug, PartialEq, Eq)]
 pub struct Report {
@@ -38,8 +47,8 @@ pub struct Report {
     pub read: u64,
     /// How many bytes were printed.
     pub written: u64,
-    /// The most calls that were under way at once, where they were counted.
-    pub calls: Option<u32>,
+    /// The most calls that were under way at once, and the most pages that were in use, where they were counted.
+    pub peaks: Option<Peaks>,
 }
 
 /// Why an image was not run to a stop, or not listed. Want of memory is `Memory`, wherever it comes from, and a listing

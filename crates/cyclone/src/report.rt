@@ -5,7 +5,7 @@ ghost use Rattle.cyclone.specs.inside.Answer.{cause_words};
 ghost use Rattle.cyclone.specs.inside.Report.{amount_fields, cause_in, end_fields, end_words, exception_in, fault_in, figure_fields, limit_words, place_fields, report_text, value_in};
 
 use crate::answer::{Answer, cause_words};
-use cyc_system::{Limit, Report};
+use cyc_system::{Limit, Peaks, Report};
 use std::alloc::{AllocError, Global};
 use std::fmt;
 
@@ -157,13 +157,34 @@ fn write_place<W: fmt::Write>(report: Report, f: &mut fmt::Formatter<W>) -> fmt:
     )
 }
 
+/// The most calls under way at once, where they were counted.
+fn most_calls(peaks: Option<Peaks>) -> Option<u32>
+    ensures { result ≡ option_map (λ (p : Peaks). p.calls) peaks }
+{
+    match peaks {
+        Some(peaks) => Some(peaks.calls),
+        None => None,
+    }
+}
+
+/// The most pages in use, where they were counted.
+fn most_pages(peaks: Option<Peaks>) -> Option<u32>
+    ensures { result ≡ option_map (λ (p : Peaks). p.pages) peaks }
+{
+    match peaks {
+        Some(peaks) => Some(peaks.pages),
+        None => None,
+    }
+}
+
 fn write_amounts<W: fmt::Write>(report: Report, f: &mut fmt::Formatter<W>) -> fmt::Result
     ensures { WritesOnOk W.write_str_gives f.old result (amount_fields report) f.new }
 {
     write!(
         f,
-        "\"most_calls\":{},\"read\":{},\"written\":{}}}\n",
-        Number(report.calls),
+        "\"most_calls\":{},\"most_pages\":{},\"read\":{},\"written\":{}}}\n",
+        Number(most_calls(report.peaks)),
+        Number(most_pages(report.peaks)),
         report.read,
         report.written
     )
@@ -178,7 +199,7 @@ fn write_figures<W: fmt::Write>(report: Option<Report>, f: &mut fmt::Formatter<W
             write_amounts(report, f)
         }
         None => f.write_str(
-            "\"limit\":null,\"instructions\":null,\"counter\":null,\"most_calls\":null,\"read\":null,\"written\":null}\n",
+            "\"limit\":null,\"instructions\":null,\"counter\":null,\"most_calls\":null,\"most_pages\":null,\"read\":null,\"written\":null}\n",
         ),
     }
 }

@@ -102,7 +102,7 @@ pub fn limits_of_run(
     }
 }
 
-/// Runs an image between two devices, and counts the most calls under way where `counting` says so.
+/// Runs an image between two devices, and counts its peaks where `counting` says so.
 fn run_as<R: ByteIn, W: ByteOut>(
     alloc: Global,
     image: &[u8],
@@ -115,7 +115,7 @@ fn run_as<R: ByteIn, W: ByteOut>(
     ensures runs { AnswersAnew false (reading image.now) limits budget
         (record { remaining = R.remaining reader.old; written = W.written writer.old })
         (record { remaining = R.remaining reader.new; written = W.written writer.new }) result }
-    ensures calls { IfOk result (λ report. is_some report.calls ≡ counting) }
+    ensures peaks { IfOk result (λ report. is_some report.peaks ≡ counting) }
 {
     if counting {
         run_counting(alloc, image, limits, budget, reader, writer)
@@ -124,8 +124,7 @@ fn run_as<R: ByteIn, W: ByteOut>(
     }
 }
 
-/// Runs an image between two devices, and counts the most calls under way where `counting` says so. What was reported stands beside the
-/// answer.
+/// Runs an image between two devices, and counts its peaks where `counting` says so. What was reported stands beside the answer.
 fn run_between<R: ByteIn, W: ByteOut>(
     alloc: Global,
     image: &[u8],
@@ -145,8 +144,8 @@ fn run_between<R: ByteIn, W: ByteOut>(
     }
 }
 
-/// Runs an image on the bytes of the keyboard's reader, and writes what it prints to the screen's writer. The most calls under way are
-/// counted where `counting` says so.
+/// Runs an image on the bytes of the keyboard's reader, and writes what it prints to the screen's writer. Its peaks are counted where
+/// `counting` says so.
 pub fn run_image<R: Read + Drop, W: Write + Drop>(
     alloc: Global,
     image: &[u8],

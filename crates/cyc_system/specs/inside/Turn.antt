@@ -1,15 +1,16 @@
 -- One instruction of a machine that stands between two devices, as the code executes it.
-use Rattle.std.specs.Prelude.{◌≡◌, ℕ, ◌+◌, max, List, [], ◌∷◌, Bool, true, false, Option, None, Some, Result, Ok, Err}
+use Rattle.std.specs.Prelude.{◌≡◌, ℕ, ◌+◌, List, [], ◌∷◌, Bool, true, false, Option, None, Some, Result, Ok, Err}
 use Rattle.std.specs.Io.KnownBytes.{Keeps, Appends}
 use Rattle.cyc_words.specs.Device.{Gives}
 use Rattle.cyc_words.specs.declared.device.Failed.{Failed}
 use Rattle.cyc_machine.specs.declared.event.End.{End}
 use Rattle.cyc_machine.specs.declared.event.Event.{Event}
 use Rattle.cyc_machine.specs.declared.event.Event.TheVariants.{Ran, WantsByte, Puts, Ended, NoMemory}
-use Rattle.cyc_machine.specs.State.{Core, State}
+use Rattle.cyc_machine.specs.State.{State}
 use Rattle.cyc_machine.specs.Step.{Step, given}
-use Rattle.cyc_system.specs.Engine.{Devices, Rests, calls_at}
+use Rattle.cyc_system.specs.Engine.{Devices, Rests, higher, uses_at}
 use Rattle.cyc_system.specs.declared.engine.Exchanged.{Exchanged}
+use Rattle.cyc_system.specs.declared.report.Peaks.{Peaks}
 use Rattle.cyc_system.specs.declared.report.RunFault.{RunFault}
 use Rattle.cyc_system.specs.declared.report.RunFault.TheVariants.{Read, Write}
 
@@ -42,7 +43,7 @@ Turned machine machine' x x' old new (Err Read) = (s : State) × Step machine Wa
 Turned machine machine' x x' old new (Err Write) = (byte : ℕ) × (s : State) × Step machine (Puts byte) s × Rests old new
 Turned machine machine' x x' old new (Err e) = ⊥
 
--- the most calls after one instruction more, where they are counted
-abbrev pub counted_at : Option ℕ → Core → Option ℕ
-counted_at None core = None
-counted_at (Some most) core = Some (max most (calls_at core))
+-- the peaks after one instruction more, where they are counted
+abbrev pub counted_at : Option Peaks → State → Option Peaks
+counted_at None s = None
+counted_at (Some most) s = Some (higher most (uses_at s))

@@ -1,8 +1,9 @@
 -- What `run --report` writes of a run: one JSON object on a line, with the same fields for each run. This project's own choice.
-use Rattle.std.specs.Prelude.{ℕ, ℤ, List, ◌++◌, Option, Some, None, codes}
+use Rattle.std.specs.Prelude.{ℕ, ℤ, List, ◌++◌, Option, Some, None, option_map, codes}
 use Rattle.std.specs.Fmt.{decimal, signed_decimal}
 use Rattle.cyc_system.specs.declared.report.Limit.{Limit}
 use Rattle.cyc_system.specs.declared.report.Limit.TheVariants as Limit
+use Rattle.cyc_system.specs.declared.report.Peaks.{Peaks}
 use Rattle.cyc_system.specs.declared.report.Report.{Report}
 use Rattle.cyclone.specs.inside.Answer.{cause_words}
 use Rattle.cyclone.specs.declared.answer.Answer.{Answer}
@@ -75,15 +76,16 @@ abbrev pub place_fields : Report → List ℕ
 place_fields report = codes "\"limit\":" ++ (words_or_null (limit_words report.limit)
     ++ (codes ",\"instructions\":" ++ (decimal report.count ++ (codes ",\"counter\":" ++ (decimal report.counter ++ codes ",")))))
 
--- What it used: the most calls under way at once, where they were counted, and the bytes that were read and written.
+-- What it used: the most calls under way at once and the most pages in use, where they were counted, and the bytes that were read and written.
 abbrev pub amount_fields : Report → List ℕ
-amount_fields report = codes "\"most_calls\":" ++ (number_or_null report.calls
-    ++ (codes ",\"read\":" ++ (decimal report.read ++ (codes ",\"written\":" ++ (decimal report.written ++ codes "}\n")))))
+amount_fields report = codes "\"most_calls\":" ++ (number_or_null (option_map (λ (peaks : Peaks). peaks.calls) report.peaks)
+    ++ (codes ",\"most_pages\":" ++ (number_or_null (option_map (λ (peaks : Peaks). peaks.pages) report.peaks)
+    ++ (codes ",\"read\":" ++ (decimal report.read ++ (codes ",\"written\":" ++ (decimal report.written ++ codes "}\n")))))))
 
 -- its figures; without a report each is null
 abbrev pub figure_fields : Option Report → List ℕ
 figure_fields (Some report) = place_fields report ++ amount_fields report
-figure_fields None = codes "\"limit\":null,\"instructions\":null,\"counter\":null,\"most_calls\":null,\"read\":null,\"written\":null}\n"
+figure_fields None = codes "\"limit\":null,\"instructions\":null,\"counter\":null,\"most_calls\":null,\"most_pages\":null,\"read\":null,\"written\":null}\n"
 
 abbrev pub report_text : Answer → Option Report → List ℕ
 report_text answer report = end_fields answer ++ figure_fields report

@@ -66,14 +66,14 @@ AreLimitsFor image given caps limits = (read : ImageContents) × (reading image 
 abbrev pub AnswersNoImage : List ℕ → Answer → Type 0
 AnswersNoImage image answer = (answer ≡ NoMemory) ⊎ ((fault : ElfFault) × (reading image ≡ Err fault) × (answer ≡ answer_of_run_fault (Elf fault)))
 
--- The image was run between the devices, and the answer is for what came of it, with the report where there is one; in that the calls are
+-- The image was run between the devices, and the answer is for what came of it, with the report where there is one; in that the peaks are
 -- counted, or they are not.
 pub record AnswersRun (image : List ℕ) (limits : Bounds) (budget : ℕ) (counting : Bool) (old new : Devices) (answer : Answer) (report : Option Report) : Type 0 where
   pub outcome : Result Report RunFault
   pub runs : AnswersAnew false (reading image) limits budget old new outcome
   pub answered : answer ≡ answer_of_run outcome
   pub reported : report ≡ report_of_run outcome
-  pub counted : IfSome report (λ r. is_some r.calls ≡ counting)
+  pub counted : IfSome report (λ r. is_some r.peaks ≡ counting)
 
 -- the image was listed to the device, and the answer is for what came of it
 pub record AnswersListing (image : List ℕ) (old new : Option (List ℕ)) (answer : Answer) : Type 0 where

@@ -2,6 +2,7 @@ use Rattle.std.proofs.Common.{◌≡◌, ◌∙◌, [], false, true, refl, arith
 use Rattle.std.proofs.lemmas.Result.{err_from_is_err_and}
 use Rattle.cyc_words.proofs.DeviceLemmas.{Appends-nil, Consumes-nil, Keeps-refl}
 use Rattle.cyc_machine.specs.Held.{state_of}
+use Rattle.cyc_store.specs.Ledger.{held_of}
 use Rattle.cyc_system.proofs.Engines.{Progress-turn, told_step, spends, stops_at, fails_at, wants_at}
 use Rattle.cyc_system.proofs.engine.drive_counting.Goals as goal
 
@@ -12,18 +13,18 @@ returns-in-NoMemory-clause-runs g c =
 pub returns-in_err-end-in_default-clause-runs : goal.returns-in_err-end-in_default-clause-runs
 returns-in_err-end-in_default-clause-runs g c =
     let p = err_from_is_err_and c.from_residual.result c.from_residual.ensures.1 in
-    rw (p.1, p.2) (fails_at g.S.Store.GROWS _ _ _ _ _ _ _ c.respond.new.exchanged _ _ (state_of g.S.Store.held c.respond.new.machine) _ c.loop-count.invariant.progress c.loop-count-test.true
-    (c.in_err-end-in_default.ensures.turned (state_of g.S.Store.held c.loop-count.machine) (told_step g.S.Store.GROWS (state_of g.S.Store.held c.loop-count.machine) c.step.result (state_of g.S.Store.held c.step.new.self) c.in_default.not-NoMemory c.step.ensures)))
+    rw (p.1, p.2) (fails_at false _ _ _ _ _ _ _ c.respond.new.exchanged _ _ (state_of held_of c.respond.new.machine) _ c.loop-count.invariant.progress c.loop-count-test.true
+    (c.in_err-end-in_default.ensures.turned (state_of held_of c.loop-count.machine) (told_step false (state_of held_of c.loop-count.machine) c.step.result (state_of held_of c.step.new.self) c.in_default.not-NoMemory c.step.ensures)))
 
 pub returns-in-Some-clause-runs : goal.returns-in-Some-clause-runs
 returns-in-Some-clause-runs g c =
-    let turned = c.in_ok-end-in_default.ensures.turned (state_of g.S.Store.held c.loop-count.machine) (told_step g.S.Store.GROWS (state_of g.S.Store.held c.loop-count.machine) c.step.result (state_of g.S.Store.held c.step.new.self) c.in_default.not-NoMemory c.step.ensures) in
-    rw (c.report_of.ensures, c.most_calls-calls.ensures) (stops_at _ _ _ _ _ c.args.budget _ c.respond.new.exchanged _ _ (state_of g.S.Store.held c.respond.new.machine) _ c.loop-count.invariant.progress (omega arith) (rw c.in-Some.is at turned))
+    let turned = c.in_ok-end-in_default.ensures.turned (state_of held_of c.loop-count.machine) (told_step false (state_of held_of c.loop-count.machine) c.step.result (state_of held_of c.step.new.self) c.in_default.not-NoMemory c.step.ensures) in
+    rw (c.report_of.ensures, c.higher-peaks.ensures) (stops_at _ _ _ _ _ c.args.budget _ c.respond.new.exchanged _ _ (state_of held_of c.respond.new.machine) _ c.loop-count.invariant.progress (omega arith) (rw c.in-Some.is at turned))
 
 pub loop-count-preserved : goal.loop-count-preserved
 loop-count-preserved g c =
-    let turned = c.in_ok-end-in_default.ensures.turned (state_of g.S.Store.held c.loop-count.machine) (told_step g.S.Store.GROWS (state_of g.S.Store.held c.loop-count.machine) c.step.result (state_of g.S.Store.held c.step.new.self) c.in_default.not-NoMemory c.step.ensures) in record {
-      progress = rw c.most_calls-calls.ensures (Progress-turn _ _ _ _ _ _ _ _ _ _ c.loop-count.invariant.progress (rw c.in_default-end.is at turned));
+    let turned = c.in_ok-end-in_default.ensures.turned (state_of held_of c.loop-count.machine) (told_step false (state_of held_of c.loop-count.machine) c.step.result (state_of held_of c.step.new.self) c.in_default.not-NoMemory c.step.ensures) in record {
+      progress = rw c.higher-peaks.ensures (Progress-turn _ _ _ _ _ _ _ _ _ _ c.loop-count.invariant.progress (rw c.in_default-end.is at turned));
       reader = c.in_ok-end-in_default.ensures.reader ∙ c.loop-count.invariant.reader;
       writer = c.in_ok-end-in_default.ensures.writer ∙ c.loop-count.invariant.writer;
       past_end = λ goes_on.
@@ -55,7 +56,7 @@ loop-count-init g c =
         writes = refl;
         at_end = λ ended. absurd (let never : false ≡ true = ended in cc);
         running = c.requires;
-        runs = λ rest ends. (refl, (refl, c.calls_at-calls.ensures));
+        runs = λ rest ends. (refl, (refl, c.uses_at-peaks.ensures));
       };
       reader = refl;
       writer = refl;
