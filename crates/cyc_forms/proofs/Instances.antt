@@ -1,10 +1,11 @@
 -- The table of first places gives what the rules say that a signature's variables are.
-use Rattle.std.proofs.Common.{◌≡◌, ℕ, zero, suc, ◌+◌, ◌<◌, ◌≤◌, Bool, true, false, cond, if◌then◌else◌, ◌||◌, List, [], ◌∷◌, ◌++◌, map, replicate, drop, take, length, append-nil, get_or, slice_get, unwrap_or, Option, Some, None, refl, sym, ap, ◌∙◌, arith}
+use Rattle.std.proofs.Common.{◌≡◌, ℕ, zero, suc, ◌+◌, ◌<◌, ◌≤◌, Bool, true, false, cond, if◌then◌else◌, ◌||◌, List, [], ◌∷◌, ◌++◌, map, replicate, drop, take, length, append-nil, get_or, slice_get, slice_index_or, unwrap_or, Option, Some, None, refl, sym, ap, ◌∙◌, arith}
 use Rattle.std.specs.List.{list_any, refill}
 use Rattle.std.proofs.lemmas.Bool.{eq-eqb}
 use Rattle.std.proofs.lemmas.Bool.Decides.{nat_tests}
 use Rattle.std.proofs.lemmas.List.{drop_all, take_all, length-set}
 use Rattle.std.proofs.lemmas.List.Folds.{list_any-append}
+use Rattle.std.proofs.lemmas.Option.{same_Some}
 use Rattle.cyc_words.proofs.Lists.{drop_read}
 use Rattle.cyc_types.specs.declared.region.Region.{Region}
 use Rattle.cyc_types.specs.declared.region.Region.TheVariants.{Heap, Unique, Variable}
@@ -15,7 +16,7 @@ use Rattle.cyc_types.specs.TypeView.{view_ty}
 use Rattle.cyc_types.specs.TypedTrees.{type_of}
 use Rattle.cyc_types.specs.typing.Expressions.{all_paired, paired, paired_argument, paired_arguments, first_place, first_places, is_unique_for_variable}
 use Rattle.cyc_forms.specs.inside.Forms.{value_in}
-use Rattle.cyc_forms.specs.inside.Instances.{noted_at, noted_place, noted_places}
+use Rattle.cyc_forms.specs.inside.Instances.{instance_in, noted_at, noted_place, noted_places}
 
 pub noted_append : (table : List (Option Region)) (ps qs : List (Region × Region)) → noted_places table (ps ++ qs) ≡ noted_places (noted_places table ps) qs
 noted_append table [] qs = refl
@@ -40,6 +41,17 @@ noted_whole table ps =
     ap (λ rest. take (length table) (noted_places table ps ++ rest)) (drop_all (length (noted_places table ps)) table (omega (arith, long)))
     ∙ ap (take (length table)) (append-nil (noted_places table ps))
     ∙ take_all (length table) (noted_places table ps) (omega (arith, long))
+
+-- the region of a table at a variable's number
+pub known_at : (table : List (Option Region)) (n : ℕ) (o : Option Region) (d : Region) → slice_get table n ≡ Some o → slice_index_or (instance_in table) n d ≡ unwrap_or o Heap
+known_at [] n o d h = absurd (cc)
+known_at (x ∷ xs) zero o d h = ap (λ y. unwrap_or y Heap) (same_Some x o h)
+known_at (x ∷ xs) (suc n) o d h = known_at xs n o d h
+
+pub unknown_at : (table : List (Option Region)) (n : ℕ) (d : Region) → slice_get table n ≡ None → slice_index_or (instance_in table) n d ≡ d
+unknown_at [] n d h = refl
+unknown_at (x ∷ xs) zero d h = absurd (cc)
+unknown_at (x ∷ xs) (suc n) d h = unknown_at xs n d h
 
 none_paired : (rs : List Region) → all_paired rs [] ≡ []
 none_paired [] = refl

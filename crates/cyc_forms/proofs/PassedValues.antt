@@ -15,20 +15,23 @@ use Rattle.cyc_types.specs.declared.ty.Ty.{Ty as TyCode}
 use Rattle.cyc_types.specs.declared.signature.Signature.{Signature as SignatureCode}
 use Rattle.cyc_types.specs.declared.typed.Callee.{Callee}
 use Rattle.cyc_types.specs.declared.typed.Converted.{Converted as ConvertedCode}
+use Rattle.cyc_types.specs.declared.region.Region.{Region}
 use Rattle.cyc_types.specs.Types.{Ty, result_type, substituted_ty}
 use Rattle.cyc_types.specs.TypeView.{view_ty}
 use Rattle.cyc_types.specs.inside.SignatureView.{view_signature}
-use Rattle.cyc_types.specs.TypedTrees.{Signature, type_of}
+use Rattle.cyc_types.specs.TypedTrees.{type_of}
 use Rattle.cyc_types.specs.TypedTrees as typed
 use Rattle.cyc_types.specs.Outlives.{RegionContext}
 use Rattle.cyc_types.specs.TypedTreeView.{view_converted, arguments_of}
 use Rattle.cyc_types.specs.Rules.{Demand, demand, AllKept, settled, unless, run}
 use Rattle.cyc_types.specs.typing.Scopes.{Scope}
-use Rattle.cyc_types.specs.typing.Expressions.{conversion, passed, passed_demanded, paired_argument, is_unique_for_variable, variables_demanded, instance_of, instantiated, call_demanded, called_by}
+use Rattle.cyc_types.specs.typing.Tests.{kind_of_value}
+use Rattle.cyc_types.specs.typing.Expressions.{conversion, converted, passed, passed_demanded, paired_argument, is_unique_for_variable, variables_demanded, instantiated, call_demanded, called_by}
 use Rattle.cyc_types.proofs.RuleLaws.{settled_append, settled_kept}
 use Rattle.cyc_forms.specs.inside.Forms.{value_in}
 use Rattle.cyc_forms.specs.inside.Passing.{with_kinds, with_kinds_at, all_with_kinds}
 use Rattle.cyc_forms.proofs.Lists.{lost}
+use Rattle.cyc_forms.proofs.TypeTests.{kind_at}
 
 -- ---- what is asked of each, as far as there are all three
 
@@ -88,6 +91,21 @@ passes c = record {
     no_types (MoreExpressions e es) [] = refl
     no_types (MoreExpressions e es) (a ∷ as') = refl
 
+-- the same, to the types of parameters where their variables are these regions
+abbrev pub one_passed_at : RegionContext → List Region → Expression → typed.Expression → Ty → List Demand
+one_passed_at c m e a t = conversion c (type_of a) (substituted_ty m t) (place_of e)
+
+abbrev pub passed_demanded_at : RegionContext → List Region → Expressions → List typed.Expression → List Ty → List Demand
+passed_demanded_at c m es as' ts = passed_demanded c es as' (map (substituted_ty m) ts)
+
+pub passes_at : (c : RegionContext) (m : List Region) → Asks (one_passed_at c m) (passed_demanded_at c m)
+passes_at c m = record {
+  no_expressions = λ as' ts. refl;
+  no_values = λ es ts. (passes c).no_values es (map (substituted_ty m) ts);
+  no_types = λ es as'. (passes c).no_types es as';
+  step = λ e es a as' t ts. refl;
+}
+
 -- that no region variable stands for the region of unique pointers
 abbrev pub one_variable : Expression → typed.Expression → Ty → List Demand
 one_variable e a t = demand codes.RegionOrKeyMisused (place_of e) (not (list_any is_unique_for_variable (paired_argument t (type_of a)))) ∷ []
@@ -140,20 +158,24 @@ set_more (c ∷ cs) (u ∷ ts) (suc i) t h =
 pub counted : (cs : List ConvertedCode) (ts : List TyCode) → nat_eq (length (map value_in cs)) (length (map view_ty ts)) ≡ nat_eq (length cs) (length ts)
 counted cs ts = ap (λ n. nat_eq n (length (map view_ty ts))) (length-map cs value_in) ∙ ap (nat_eq (length cs)) (length-map ts view_ty)
 
-module _ (g : Scope) (f : Callee) (p : Place) (es : Expressions) (cs : List ConvertedCode) (s : Signature) (called : SignatureCode) where
-  abbrev values : List typed.Expression
-  values = map value_in cs
+-- what a value is converted to is the same at each call
+passed_alike : (m : List Region) (as' : List typed.Expression) (ts : List Ty) → passed as' (map (substituted_ty m) ts) ≡ passed as' ts
+passed_alike m [] ts = refl
+passed_alike m (a ∷ as') [] = refl
+passed_alike m (a ∷ as') (t ∷ ts) =
+    ap (λ k. typed.MoreArguments (typed.Convert (kind_of_value (type_of a)) k a) (passed as' (map (substituted_ty m) ts))) (kind_at m t) ∙ ap (typed.MoreArguments (converted a t)) (passed_alike m as' ts)
 
-  count_types : (t : Signature) → view_signature called ≡ t → length (map view_ty called.parameters.items) ≡ length t.parameters
-  count_types t h = ap (λ (u : Signature). length u.parameters) h
-
-  -- a call of which nothing is wrong
-  pub called_well : view_signature called ≡ instantiated (instance_of s values) s → settled None (call_demanded g p es values s (view_signature called)) ≡ None
-      → Ok (typed.Call f (arguments_of (all_with_kinds cs called.parameters.items)) (result_type (option_map view_ty called.result))) ≡ run (called_by g f p es values s (instantiated (instance_of s values) s))
-  called_well is kept =
-      let all : AllKept (call_demanded g p es values s (view_signature called)) = settled_kept (call_demanded g p es values s (view_signature called)) kept in
-      let count : length values ≡ length s.parameters = eqb-true (length values) (length s.parameters) all.0 in
-      let types : length (map view_ty called.parameters.items) ≡ length s.parameters = count_types (instantiated (instance_of s values) s) is ∙ length-map s.parameters (substituted_ty (instance_of s values)) in
-      ap (λ as'. Ok (typed.Call f as' (result_type (option_map view_ty called.result)))) (passed_all cs called.parameters.items (count ∙ sym types))
-      ∙ sym (ap (λ o. unless o (typed.Call f (passed values (map view_ty called.parameters.items)) (result_type (option_map view_ty called.result)))) kept)
-      ∙ ap (λ (t : Signature). run (called_by g f p es values s t)) is
+-- a call of which nothing is wrong, where a signature's variables are these regions
+pub called_well : (g : Scope) (f : Callee) (p : Place) (es : Expressions) (cs : List ConvertedCode) (s : SignatureCode) (m : List Region) (r : Option TyCode)
+    → option_map view_ty r ≡ option_map (substituted_ty m) (option_map view_ty s.result)
+    → settled None (call_demanded g p es (map value_in cs) (view_signature s) (instantiated m (view_signature s))) ≡ None
+    → Ok (typed.Call f (arguments_of (all_with_kinds cs s.parameters.items)) (result_type (option_map view_ty r))) ≡ run (called_by g f p es (map value_in cs) (view_signature s) (instantiated m (view_signature s)))
+called_well g f p es cs s m r is kept =
+    let values = map value_in cs in
+    let ts = map view_ty s.parameters.items in
+    let demands = call_demanded g p es values (view_signature s) (instantiated m (view_signature s)) in
+    let all : AllKept demands = settled_kept demands kept in
+    let count : length values ≡ length ts = eqb-true (length values) (length ts) all.0 in
+    ap (λ as'. Ok (typed.Call f as' (result_type (option_map view_ty r)))) (passed_all cs s.parameters.items count ∙ sym (passed_alike m values ts))
+    ∙ ap (λ o. Ok (typed.Call f (passed values (map (substituted_ty m) ts)) (result_type o))) is
+    ∙ sym (ap (λ o. unless o (typed.Call f (passed values (map (substituted_ty m) ts)) (result_type (option_map (substituted_ty m) (option_map view_ty s.result))))) kept)

@@ -2,21 +2,24 @@
 ghost use Rattle.std.specs.Prelude.{◌≡◌, map, option_map, None, Ok};
 ghost use Rattle.cyc_syntax.specs.inside.TreeView.{place_of_span, view_name, expressions_of};
 ghost use Rattle.cyc_types.specs.Types as types;
+ghost use Rattle.cyc_types.specs.Types.{substituted_region};
 ghost use Rattle.cyc_types.specs.TypeView.{view_ty, view_value_type};
 ghost use Rattle.cyc_types.specs.TypedTrees as nodes;
 ghost use Rattle.cyc_types.specs.TypedTreeView as typed_view;
-ghost use Rattle.cyc_types.specs.inside.SignatureView.{view_signature};
+ghost use Rattle.cyc_types.specs.inside.SignatureView.{substituted_pair, view_signature};
 ghost use Rattle.cyc_types.specs.Rules.{settled, run};
 ghost use Rattle.cyc_types.specs.typing.Scopes.{meaning_of};
 ghost use Rattle.cyc_types.specs.typing.Expressions as rules;
-ghost use Rattle.cyc_types.specs.typing.Expressions.{constraints_demanded, effect_demanded, call_demanded, called_by, called};
+ghost use Rattle.cyc_types.specs.typing.Expressions.{constraints_demanded, effect_demanded, call_demanded, called_by, called, instantiated};
 ghost use Rattle.cyc_scope.specs.inside.Code.{Ends, Gives};
 ghost use Rattle.cyc_forms.specs.inside.Forms.{view_boxed, value_in};
+ghost use Rattle.cyc_forms.specs.inside.Instances.{instance_in};
 ghost use Rattle.cyc_forms.specs.inside.Passing.{all_with_kinds};
 
+use crate::at_call::{region_at, result_at};
 use crate::instance::instance_of;
 use crate::nodes::boxed;
-use crate::passing::{demand_count, demand_variables, pass, set_all_kinds};
+use crate::passing::{demand_count, demand_variables, pass_at, set_all_kinds};
 use cyc_scope::{Meaning, Scope, Settled, Stop, refused};
 use cyc_syntax::{Expr, Ident};
 use cyc_types::typed::{Callee, Converted, ValueType};
@@ -24,54 +27,59 @@ use cyc_types::{Region, Signature, Ty, typed};
 use cyc_words::{Code, Span};
 use std::alloc::Global;
 
-/// Settles that constraints hold at this place.
+/// Settles that constraints hold at this place, where this table has the regions of the call.
+#[tactic(auto, using(std::proofs::lemmas::List::drop_more))]
 fn demand_constraints(
     so_far: &mut Settled,
     scope: &Scope<'_>,
+    table: &[Option<Region>],
     span: Span,
     constraints: &[(Region, Region)],
 )
-    ensures { so_far.new.known ≡ settled so_far.old.known (constraints_demanded scope.now.regions (place_of_span span) constraints.now) }
+    ensures { so_far.new.known ≡ settled so_far.old.known (constraints_demanded scope.now.regions (place_of_span span) (map (substituted_pair (instance_in table.now)) constraints.now)) }
 {
     for pair in constraints {
-        so_far.demand(Code::NotOutlived, span, scope.outlives(pair.0, pair.1));
+        let (longer, shorter) = (region_at(table, pair.0), region_at(table, pair.1));
+        so_far.demand(Code::NotOutlived, span, scope.outlives(longer, shorter));
     }
 }
 
-/// Settles that an effect is live at this place.
+/// Settles that an effect is live at this place, where this table has the regions of the call.
 #[tactic(auto, using(std::proofs::lemmas::List::drop_more))]
-fn demand_effect(so_far: &mut Settled, scope: &Scope<'_>, span: Span, effect: &[Region])
-    ensures { so_far.new.known ≡ settled so_far.old.known (effect_demanded scope.now (place_of_span span) effect.now) }
+fn demand_effect(
+    so_far: &mut Settled,
+    scope: &Scope<'_>,
+    table: &[Option<Region>],
+    span: Span,
+    effect: &[Region],
+)
+    ensures { so_far.new.known ≡ settled so_far.old.known (effect_demanded scope.now (place_of_span span) (map (substituted_region (instance_in table.now)) effect.now)) }
 {
     for region in effect {
-        so_far.demand(Code::EffectNotCovered, span, scope.is_live(*region));
+        let is_live = scope.is_live(region_at(table, *region));
+        so_far.demand(Code::EffectNotCovered, span, is_live);
     }
 }
 
-/// Whether a call is well typed, of a signature as it stands and as it is at this call: there are as many arguments as parameters, each is
-/// converted, no region variable stands for the region of unique pointers, the constraints hold, and the effect is live.
+/// Whether a call is well typed, of a signature whose regions at this call are in a table: there are as many arguments as parameters, each
+/// is converted, no region variable stands for the region of unique pointers, the constraints hold, and the effect is live.
 fn call_wanted(
     scope: &Scope<'_>,
+    table: &[Option<Region>],
     span: Span,
     expressions: &[Expr],
     values: &[Converted],
     signature: &Signature,
-    at_call: &Signature,
 ) -> Result<(), Stop>
-    ensures { Ends result (settled None (call_demanded scope.now (place_of_span span) (expressions_of expressions.now) (map value_in values.now) (view_signature signature.now) (view_signature at_call.now))) }
+    ensures { Ends result (settled None (call_demanded scope.now (place_of_span span) (expressions_of expressions.now) (map value_in values.now) (view_signature signature.now) (instantiated (instance_in table.now) (view_signature signature.now)))) }
 {
     let mut settled = Settled::new();
-    demand_count(&mut settled, span, values, &signature.parameters);
-    pass(
-        &mut settled,
-        scope,
-        expressions,
-        values,
-        &at_call.parameters,
-    );
-    demand_variables(&mut settled, expressions, values, &signature.parameters);
-    demand_constraints(&mut settled, scope, span, &at_call.constraints);
-    demand_effect(&mut settled, scope, span, &at_call.effect);
+    let parameters = &signature.parameters;
+    demand_count(&mut settled, span, values, parameters);
+    pass_at(&mut settled, scope, table, expressions, values, parameters);
+    demand_variables(&mut settled, expressions, values, parameters);
+    demand_constraints(&mut settled, scope, table, span, &signature.constraints);
+    demand_effect(&mut settled, scope, table, span, &signature.effect);
     settled.end()
 }
 
@@ -106,23 +114,20 @@ fn call(
     )
 }
 
-/// The call of a function with this signature, where each value is converted to the type at its place.
+/// The call of a function with these parameters, where each value is converted to the type at its place.
 #[inline(never)]
 fn call_with(
     alloc: Global,
     span: Span,
     callee: Callee,
-    at_call: Signature,
+    parameters: &[Ty],
+    returned: Option<Ty>,
     values: Vec<Converted>,
 ) -> Result<Box<typed::Expr>, Stop>
-    ensures { Gives view_boxed result (Ok (nodes.Call callee (typed_view.arguments_of (all_with_kinds values.items at_call.parameters.items)) (types.result_type (option_map view_ty at_call.result)))) }
+    ensures { Gives view_boxed result (Ok (nodes.Call callee (typed_view.arguments_of (all_with_kinds values.items parameters.now)) (types.result_type (option_map view_ty returned)))) }
 {
     let mut arguments = values;
-    set_all_kinds(&mut arguments, &at_call.parameters);
-    let Signature {
-        result: returned,
-        ..
-    } = at_call;
+    set_all_kinds(&mut arguments, parameters);
     call(alloc, span, callee, arguments, returned)
 }
 
@@ -136,12 +141,19 @@ fn called_by(
     expressions: &[Expr],
     values: Vec<Converted>,
 ) -> Result<Box<typed::Expr>, Stop>
-    ensures { Gives view_boxed result (run (called_by scope.now callee (place_of_span span) (expressions_of expressions.now) (map value_in values.items) (view_signature signature.now) (rules.instantiated (rules.instance_of (view_signature signature.now) (map value_in values.items)) (view_signature signature.now)))) }
+    ensures { Gives view_boxed result (run (called_by scope.now callee (place_of_span span) (expressions_of expressions.now) (map value_in values.items) (view_signature signature.now) (instantiated (rules.instance_of (view_signature signature.now) (map value_in values.items)) (view_signature signature.now)))) }
 {
-    let instance = instance_of(scope.alloc(), signature, &values)?;
-    let at_call = signature.instantiated(scope.alloc(), &instance)?;
-    call_wanted(scope, span, expressions, &values, signature, &at_call)?;
-    call_with(scope.alloc(), span, callee, at_call, values)
+    let table = instance_of(scope.alloc(), signature, &values)?;
+    call_wanted(scope, &table, span, expressions, &values, signature)?;
+    let returned = result_at(scope.alloc(), &table, &signature.result)?;
+    call_with(
+        scope.alloc(),
+        span,
+        callee,
+        &signature.parameters,
+        returned,
+        values,
+    )
 }
 
 /// The call of a name with these values, which stand in these expressions.

@@ -18,7 +18,7 @@ use cyc_types::{Region, Ty, typed};
 use cyc_words::{Code, Span};
 
 /// Whether a type is that of ints or of chars, which are converted to each other.
-fn is_number(wanted: &Ty) -> bool
+pub(crate) fn is_number(wanted: &Ty) -> bool
     ensures int { result ≡ is_convertible types.Int (view_ty wanted.now) }
     ensures char { result ≡ is_convertible types.Char (view_ty wanted.now) }
 {
@@ -47,7 +47,7 @@ fn is_alike(value: Given<'_>, wanted: &Ty) -> bool
     }
 }
 
-fn is_null_allowed(value: Given<'_>, wanted: &Ty) -> bool
+pub(crate) fn is_null_allowed(value: Given<'_>, wanted: &Ty) -> bool
     ensures { result ≡ is_null_allowed (view_given value.entry) (view_ty wanted.now) }
 {
     match value {

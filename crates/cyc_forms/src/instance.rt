@@ -1,5 +1,5 @@
 //! What the region variables of a signature are at a call: the region at the first place of each, in the types of the arguments.
-ghost use Rattle.std.specs.Prelude.{◌≡◌, ◌∷◌, [], map, replicate, unwrap_or, IfOk, Option, Some, None};
+ghost use Rattle.std.specs.Prelude.{◌≡◌, ◌∷◌, [], map, replicate, IfOk, Option, Some, None};
 ghost use Rattle.std.specs.List.{list_any};
 ghost use Rattle.cyc_types.specs.declared.region.Region.TheVariants as regions;
 ghost use Rattle.cyc_types.specs.Types as types;
@@ -7,7 +7,7 @@ ghost use Rattle.cyc_types.specs.TypeView.{view_ty};
 ghost use Rattle.cyc_types.specs.inside.SignatureView.{view_signature};
 ghost use Rattle.cyc_types.specs.typing.Expressions.{all_paired, paired, paired_argument, paired_arguments, instance_of, is_unique_for_variable};
 ghost use Rattle.cyc_forms.specs.inside.Forms.{view_given, value_in};
-ghost use Rattle.cyc_forms.specs.inside.Instances.{noted_place, noted_places};
+ghost use Rattle.cyc_forms.specs.inside.Instances.{instance_in, noted_place, noted_places};
 
 use crate::given::Given;
 use cyc_types::typed::Converted;
@@ -124,29 +124,19 @@ fn no_places(alloc: Global, variables: usize) -> Result<SmallVec<Option<Region>,
     Ok(table)
 }
 
-/// The regions of a table; a variable without a place is the heap.
-fn regions_in(alloc: Global, table: &[Option<Region>]) -> Result<SmallVec<Region, 5>, AllocError>
-    ensures { IfOk result (λ all. all.items ≡ map (λ o. unwrap_or o regions.Heap) table.now) }
-{
-    let mut all = SmallVec::with_capacity(alloc, table.len())?;
-    for region in table {
-        all.push(region.unwrap_or(Region::Heap))?;
-    }
-    Ok(all)
-}
-
-/// What the region variables of a signature are at a call with these arguments, by their numbers.
-#[tactic(auto, using(crate::proofs::Instances::instance_found))]
+/// What the region variables of a signature are at a call with these arguments: a table by their numbers of the region at the first place of
+/// each.
+#[tactic(auto, using(crate::proofs::Instances::instance_found, crate::proofs::Instances::noted_whole))]
 pub(crate) fn instance_of(
     alloc: Global,
     signature: &Signature,
     values: &[Converted],
-) -> Result<SmallVec<Region, 5>, AllocError>
-    ensures { IfOk result (λ all. all.items ≡ instance_of (view_signature signature.now) (map value_in values.now)) }
+) -> Result<SmallVec<Option<Region>, 5>, AllocError>
+    ensures { IfOk result (λ table. instance_in table.items ≡ instance_of (view_signature signature.now) (map value_in values.now)) }
 {
     let mut table = no_places(alloc, signature.variables)?;
     note_arguments(&mut table, &signature.parameters, values);
-    regions_in(alloc, &table)
+    Ok(table)
 }
 
 // ---- no variable stands for the region of unique pointers

@@ -17,6 +17,7 @@ pub use places::{
 };
 pub use variables::{key_freed, looked, place_meant, read};
 
+mod at_call;
 mod calls;
 mod conversion;
 mod fields;

@@ -1,5 +1,5 @@
 -- How the code finds what the region variables of a signature are at a call: in a table of the first region at a place of each.
-use Rattle.std.specs.Prelude.{ℕ, List, [], ◌∷◌, Option, Some, None, slice_get, slice_set}
+use Rattle.std.specs.Prelude.{ℕ, List, [], ◌∷◌, map, Option, Some, None, unwrap_or, slice_get, slice_set}
 use Rattle.cyc_types.specs.declared.region.Region.{Region}
 use Rattle.cyc_types.specs.declared.region.Region.TheVariants.{Heap, Unique, Variable}
 
@@ -16,3 +16,7 @@ noted_place table (Unique, s) = table
 abbrev pub noted_places : List (Option Region) → List (Region × Region) → List (Option Region)
 noted_places table [] = table
 noted_places table (p ∷ ps) = noted_places (noted_place table p) ps
+
+-- the regions of a table: a variable without a place is the heap
+abbrev pub instance_in : List (Option Region) → List Region
+instance_in table = map (λ o. unwrap_or o Heap) table
