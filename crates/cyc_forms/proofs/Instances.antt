@@ -78,9 +78,15 @@ module _ (ts : List TyCode) (cs : List ConvertedCode) (i : ℕ) where
       ∙ ap (λ xs. noted_places table (paired_arguments (map view_ty (t ∷ drop (i + 1) ts)) (map value_in xs))) (drop_read cs i c lt_c is_c)
       ∙ noted_append table (paired_argument (view_ty t) (type_of (value_in c))) (paired_arguments (map view_ty (drop (i + 1) ts)) (map value_in (drop (i + 1) cs)))
 
--- std's law, by a name that code can cite
-pub any_append : {A : Type 0} (test : A → Bool) (ps qs : List A) → list_any test (ps ++ qs) ≡ (list_any test ps || list_any test qs)
-any_append test ps qs = list_any-append test ps qs
+-- the last one first
+pub any_turned : {A : Type 0} (test : A → Bool) (ps : List A) (q : A) → list_any test (ps ++ q ∷ []) ≡ (test q || list_any test ps)
+any_turned test ps q = list_any-append test ps (q ∷ []) ∙ by_tests (list_any test ps) (test q)
+  where
+    by_tests : (a b : Bool) → (a || (b || false)) ≡ (b || a)
+    by_tests true true = refl
+    by_tests true false = refl
+    by_tests false true = refl
+    by_tests false false = refl
 
 pub paired_int : (t : Ty) → paired t Int ≡ []
 paired_int Int = refl

@@ -116,11 +116,11 @@ fn note_arguments(table: &mut [Option<Region>], parameters: &[Ty], values: &[Con
 fn no_places(alloc: Global, variables: usize) -> Result<SmallVec<Option<Region>, 5>, AllocError>
     ensures { IfOk result (λ table. table.items ≡ Some regions.Heap ∷ replicate variables None) }
 {
-    let mut table = SmallVec::new(alloc);
-    table.push(Some(Region::Heap))?;
-    for _ in 0..variables {
-        table.push(None)?;
-    }
+    let Some(length) = variables.checked_add(1) else {
+        return Err(AllocError);
+    };
+    let mut table = SmallVec::from_elem(alloc, None, length)?;
+    note(&mut table, Region::Variable(0), Region::Heap);
     Ok(table)
 }
 
@@ -162,7 +162,7 @@ fn has_unique_argument(variables: &[Region], regions: &[Region]) -> bool
     false
 }
 
-#[tactic(auto, using(crate::proofs::Instances::any_append))]
+#[tactic(auto, using(crate::proofs::Instances::any_turned))]
 fn has_unique_in(parameter: &Ty, given: &Ty) -> bool
     ensures { result ≡ list_any is_unique_for_variable (paired (view_ty parameter.now) (view_ty given.now)) }
 {
@@ -175,7 +175,7 @@ fn has_unique_in(parameter: &Ty, given: &Ty) -> bool
                 ..
             },
         ) => {
-            has_unique_in(target, given_target) || is_unique_for_variable(*region, *given_region)
+            is_unique_for_variable(*region, *given_region) || has_unique_in(target, given_target)
         }
         (
             Ty::Handle { region },
