@@ -1,7 +1,7 @@
 """Texts of one form each, over and over: a production of the grammar, or a table of the program, where it is longest or deepest.
 
-A text is so many tokens long. Each word between spaces is one token, but in the shapes whose length is told by bytes. Beside these shapes
-stands the usual text, a program of this language and of C.
+A text is so many tokens long. Each word between spaces is one token, but for two minus signs that stand close, and but in the shapes whose
+length is told by bytes. Beside these shapes stands the usual text, a program of this language and of C.
 """
 import chosen_names
 
@@ -39,21 +39,22 @@ def text_of(count):
 # What `check` and `compile` say last of a text.
 DONE, FRAME = "done", "fault 51"
 # How many times what the usual text takes a text may take, for each token or byte: one that is accepted, and one that is refused, which is
-# gone through again for what is said of it.
-MOST, MOST_REFUSED = 1.5, 10.0
+# gone through again for what is said of it. Of a form whose every token is more of the same work its shape says how many: docs/FIGURES.md
+# tells why.
+MOST, MOST_REFUSED, MOST_ONE_KEY = 1.5, 10.0, 2.1
 
 
 class Shape:
     """What stands before, a part that is repeated with its number for each `#`, and what stands behind, in which a second part is repeated
     for each `@`. Most texts are accepted, and some are so by `check` alone, since a frame is too large."""
 
-    def __init__(self, before, part, behind, more="", checked=DONE, compiled=None, by_bytes=False):
+    def __init__(self, before, part, behind, more="", checked=DONE, compiled=None, by_bytes=False, most=None):
         self.before, self.part, self.behind, self.more, self.by_bytes = before, part, behind, more, by_bytes
         self.said = {"check": checked, "compile": compiled or checked}
-        self.most = MOST if checked == DONE else MOST_REFUSED
+        self.most = most or (MOST if checked == DONE else MOST_REFUSED)
 
     def size(self, text):
-        return len(text) if self.by_bytes else len(text.split())
+        return len(text) if self.by_bytes else len(text.replace("--", " - - ").split())
 
     def count(self, length):
         """How many parts fit in a text as long as the usual one of so many tokens; one at least."""
@@ -82,8 +83,8 @@ class Named(Shape):
     """Exceptions whose names are chosen, as many as are asked for, as `datatype exn` takes them. Beside them stand random ones of the same
     lengths."""
 
-    def __init__(self, names, most_names=60_000):
-        super().__init__("", "A ; ", PROGRAM_BEHIND)
+    def __init__(self, names, most_names=60_000, **rest):
+        super().__init__("", "A ; ", PROGRAM_BEHIND, **rest)
         self.names, self.most_names = names, most_names
 
     def size(self, text):
@@ -242,7 +243,7 @@ STATEMENTS = {
     "moves in 190 tries": Shape(
         "int main ( ) { int @ `U u = rnew ( unique_region ) 1 ; " + "try " * 190 + "{ ", "u = u ; ", "} " + "catch { default : } " * 190 + BEHIND,
         compiled=FRAME),
-    "swaps": Shape(IN_MAIN + "int * p = NULL ; int * q = NULL ; ", "p :=: q ; ", BEHIND),
+    "swaps": Shape(IN_MAIN + "int * p = NULL ; int * q = NULL ; ", "p :=: q ; ", BEHIND, most=1.7),
     "swaps of fields": Shape(LISTS, "p -> next :=: q -> next ; ", BEHIND),
     "swaps of fat elements": Shape(IN_MAIN + "int ? none = NULL ; int ? ? a = new { for i < 2 : none } ; ", "a [ 0 ] :=: a [ 1 ] ; ", BEHIND),
 }
@@ -281,10 +282,10 @@ EXPRESSIONS = {
     "the last of 64 fields": Shape(
         "struct S { " + FIELDS + "} ; int f ( struct S @ s ) { ", "s -> f63 ; ", " return 0 ; } " + PROGRAM_BEHIND),
     "elements": Shape(WITH_ARRAY, "a [ x ] = a [ 0 ] + 1 ; ", BEHIND),
-    "indices in indices": value(WITH_ARRAY, nested("a [ ", "x ", "] ", IN_VALUE), compiled=FRAME),
+    "indices in indices": value(WITH_ARRAY, nested("a [ ", "x ", "] ", IN_VALUE), compiled=FRAME, most=2.2),
     "50 indices in each other": value(WITH_ARRAY, nested("a [ ", "x ", "] ", 50)),
     "peeks in peeks": value(IN_MAIN + "int x = 1 ; int ? `U a = rnew ( unique_region ) { for i < 2 : 0 } ; ",
-                            nested("a [ ", chained("x", "+") + " ", "] ", IN_VALUE), compiled=FRAME),
+                            nested("a [ ", chained("x", "+") + " ", "] ", IN_VALUE), compiled=FRAME, most=2.0),
     "elements of bytes": Shape(
         IN_MAIN + "int x = 1 ; char ? a = new { for i < 2 : char ( 0 ) } ; ", "a [ x ] = a [ 0 ] + 1 ; ", BEHIND),
     "calls": Shape(WITH_FUNCTION, "f ( x ) ; ", BEHIND),
@@ -317,7 +318,7 @@ EXPRESSIONS = {
     "moves": Shape(IN_MAIN + "int * `U p = rnew ( unique_region ) 1 ; int * `U q = NULL ; ", "q = p ; p = q ; ", BEHIND),
     "arrays": Shape(IN_MAIN + "int ? a = NULL ; ", "a = new { for i < 4 : i } ; ", BEHIND),
     "arrays in arrays": value(WITH_INTS, "numelts ( " + nested("new { for i < 1 : ", "y ", "} ", 98) + ")", compiled=FRAME),
-    "lengths": value(WITH_ARRAY, "numelts ( a )"),
+    "lengths": value(WITH_ARRAY, "numelts ( a )", most=1.6),
     "conversions": Shape(IN_MAIN + "int ? a = NULL ; int * p = NULL ; ", "p = a ; a = p ; ", BEHIND),
     "pointers that move": Shape(WITH_ARRAY, "a = a + 1 ; ", BEHIND),
     "comparisons of pointers": value(IN_MAIN + "int x = 1 ; int * p = NULL ; ", "p == p"),
@@ -330,9 +331,9 @@ EXPRESSIONS = {
 NAMES = {
     "names, each once": Shape("", f"datatype exn {{ {listed('A#x% ;', ' ')} }} ; ", PROGRAM_BEHIND),
     "names at one end of a table": Named(chosen_names.clustered),
-    "names of one key": Named(chosen_names.of_one_key),
-    "names of one key that begin alike": Named(chosen_names.alike_of_one_key, 9_000),
-    "names of one key for any base": Named(chosen_names.woven, 1_900),
+    "names of one key": Named(chosen_names.of_one_key, most=MOST_ONE_KEY),
+    "names of one key that begin alike": Named(chosen_names.alike_of_one_key, 9_000, most=MOST_ONE_KEY),
+    "names of one key for any base": Named(chosen_names.woven, 1_900, most=MOST_ONE_KEY),
     "names in order": Named(chosen_names.in_order),
     "names of a thousand letters": Shape("", f"int {'a' * 990}# ; ", PROGRAM_BEHIND, by_bytes=True),
     "comments": Shape(IN_MAIN, "/* a * / */ // b\n", BEHIND, by_bytes=True),
