@@ -54,13 +54,17 @@ impl Evaluation {
         }
     }
 
-    /// Of one local this is known now.
+    /// Of one local this is known now. Where it was known before, nothing is noted: what `&&` and `||` go through is as long as what they
+    /// change.
     pub(crate) fn set(&mut self, number: usize, fullness: Fullness) -> Result<(), AllocError>
         ensures state { IfOk result (λ _. view_state self.new.state ≡ with_fullness (view_fullness fullness) (view_state self.old.state) number) }
         ensures touched { IfOk result (λ _. self.new.touched.items ≡ self.old.touched.items) }
         ensures begun { IfOk result (λ _. begun self.new ≡ begun self.old) }
     {
         let before = self.state.fullness(number);
+        if before == fullness {
+            return Ok(());
+        }
         self.trail.push(Change { number, before })?;
         self.state.set(number, fullness);
         Ok(())

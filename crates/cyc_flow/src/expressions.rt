@@ -90,6 +90,9 @@ impl Tracked {
     pub(crate) fn behind_body(self, touched: Vec<usize>) -> Result<Tracked, AllocError>
         ensures { IfOk result (λ t. (view_state t.state ≡ view_state self.state) × (t.touched.items ≡ touched.items ++ self.touched.items)) }
     {
+        if touched.is_empty() {
+            return Ok(self);
+        }
         let mut all = touched;
         all.extend_from_slice(&self.touched)?;
         Ok(Tracked {

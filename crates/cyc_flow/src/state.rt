@@ -1,5 +1,5 @@
 //! What is known of each local at a place of a function.
-ghost use Rattle.std.specs.Prelude.{◌≡◌, ◌++◌, IfOk, List, ℕ, map, replicate};
+ghost use Rattle.std.specs.Prelude.{◌≡◌, ◌++◌, IfOk, List, ℕ, map, replicate, if◌then◌else◌};
 ghost use Rattle.cyc_types.specs.flow.States.{Full, Vacant, meet, is_at_least, fullness, with_fullness, with_each, emptied, lower, lower_each, is_as_full, are_as_full, is_vacant, is_locked, is_reached};
 ghost use Rattle.cyc_types.specs.flow.Expressions.{is_free};
 ghost use Rattle.cyc_flow.specs.inside.Code.{view_fullness, view_state};
@@ -7,7 +7,7 @@ ghost use Rattle.cyc_flow.specs.inside.Code.{view_fullness, view_state};
 use std::alloc::{AllocError, Global};
 
 /// What is known of a local, in rising order.
-#[derive(Clone, Copy)]
+#[derive(Clone, Copy, PartialEq, Eq)]
 pub(crate) enum Fullness {
     /// It may hold nothing.
     Vacant,
@@ -103,6 +103,19 @@ impl State {
         state
     }
 
+    /// This local may hold nothing, unless it is lent out. Tries in each other come to the same local once for each of them, so that nothing
+    /// is written where it holds nothing.
+    #[tactic(auto, using(crate::proofs::Trails::known_again))]
+    fn empty(&mut self, number: usize)
+        ensures { view_state self.new ≡ (if is_locked (fullness (view_state self.old) number) then view_state self.old else with_fullness Vacant (view_state self.old) number) }
+    {
+        match self.fullness(number) {
+            Fullness::Full => self.set(number, Fullness::Vacant),
+            Fullness::Locked => {}
+            Fullness::Vacant => {}
+        }
+    }
+
     /// Each of these locals may hold nothing, unless it is lent out.
     #[tactic(auto, using(std::proofs::lemmas::List::drop_more))]
     pub(crate) fn emptied(self, numbers: &[usize]) -> State
@@ -110,9 +123,7 @@ impl State {
     {
         let mut state = self;
         for number in numbers {
-            if !state.fullness(*number).is_locked() {
-                state.set(*number, Fullness::Vacant);
-            }
+            state.empty(*number);
         }
         state
     }
