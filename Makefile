@@ -64,6 +64,7 @@ cases:
 	@python3 tests/runners/run.py --whole
 	@python3 tests/runners/codes.py
 	@python3 tests/runners/warned.py
+	@python3 tests/runners/formatted.py
 	@python3 tests/runners/whereabouts.py
 	@python3 tests/runners/told.py
 	@python3 tests/runners/documents.py

@@ -62,6 +62,7 @@ add "command line" python3 tests/runners/run.py
 add "whole language" python3 tests/runners/run.py --whole
 add "codes" python3 tests/runners/codes.py
 add "warnings" python3 tests/runners/warned.py
+add "formatted" python3 tests/runners/formatted.py
 add "whereabouts" python3 tests/runners/whereabouts.py
 add "told" python3 tests/runners/told.py
 add "documents" python3 tests/runners/documents.py

@@ -1,6 +1,6 @@
 #!/bin/sh
 # What can be tried in some minutes of a change, with no proof: builds the program unproved at the place that is named, and runs on it,
-# side by side, the command-line suite and the whole-language cases but for those with long files or many steps, the codes, the documents,
+# side by side, the command-line suite and the whole-language cases but for those with long files or many steps, the codes, layouts, the documents,
 # the scripts, whether wrong bodies find what they replace, the examples, the dialogs, the sessions that documents show, the submissions
 # for the judge, the syntax files, the language server and some random programs. Where a command is missing that they need, it ends
 # before. The last line is `N passed, M failed` over all of it.
@@ -66,6 +66,7 @@ begin "places of wrong bodies" python3 tests/runners/wrong.py --placed
 begin "trusted" python3 tests/runners/trusted.py
 begin "codes" on codes.py
 begin "warnings" on warned.py --count 100
+begin "formatted" on formatted.py --count 20 --part random
 begin "whereabouts" on whereabouts.py --count 60
 begin "told" on told.py --count 100
 begin "examples" on examples.py
@@ -73,7 +74,7 @@ begin "sessions" on sessions.py
 begin "judged" on judged.py --count 60
 begin "dialogs" on interactive.py
 wait
-for name in "command line" "whole language" "codes" "warnings" "whereabouts" "told" "documents" "trusted" "scripts" "places of wrong bodies" "examples" "dialogs" "sessions" "judged" "editors" "language server" "random programs"; do
+for name in "command line" "whole language" "codes" "warnings" "formatted" "whereabouts" "told" "documents" "trusted" "scripts" "places of wrong bodies" "examples" "dialogs" "sessions" "judged" "editors" "language server" "random programs"; do
   add "$name"
 done
 echo "$passed passed, $failed failed"

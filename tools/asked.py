@@ -46,9 +46,10 @@ def said(program, *words):
 
 
 def abilities(program):
-    """Which of the options the program has: their names."""
-    helps = {command: said(program, command, "--help") for command in ("check", "compile", "run")}
-    return {option for option, commands in OPTIONS.items() if all(f"--{option}" in helps[it] for it in commands)}
+    """Which of the options the program has, and whether it lays programs out: their names."""
+    helps = {command: said(program, command, "--help") for command in ("check", "compile", "run", "format")}
+    found = {option for option, commands in OPTIONS.items() if all(f"--{option}" in helps[it] for it in commands)}
+    return found | ({"format"} if helps["format"] else set())
 
 
 def in_memory(content=b""):

@@ -27,15 +27,19 @@ import editors
 
 PAGE = os.path.join(suite.ROOT, "tools", "page")
 # The limits of the servers that are tried: on a machine with much to do a process may take long, and has to come to its own end. Where a
-# run is to be stopped at the clock, that is a short one.
-SECONDS, SHORT, RUNS, OUTPUT, TEXT = 60, 8, 2, 10_000, 50_000
+# run is to be stopped at the clock, that is a short one; and where one is to go on until it is stopped, it has more steps than any
+# machine executes in that time.
+SECONDS, SHORT, RUNS, OUTPUT, TEXT = 60, 3, 2, 10_000, 50_000
+WITHOUT_END = ("--steps", "1000000000000")
 SIZES = {"wide": (1280, 900), "narrow": (360, 780)}
 SCHEMES = ("light", "dark")
 # What a text has to stand out from behind it, by the guidelines for accessible pages.
 CONTRAST = 4.5
 
 HELLO = "int main() {\n  putchar('H');\n  return 7;\n}\n"
-NEAR = "int main() {\n  int count = 3;\n  return coun;\n}\n"
+NEAR = "int main() {\n  int count = 3;\n  putchar('0' + count);\n  return coun;\n}\n"
+CROWDED = "int main(){/* a count */int count=3;\n\n\nwhile(count>0)count=count-1;return count;}"
+LAID_OUT = "int main() { /* a count */\n  int count = 3;\n\n  while (count > 0) count = count - 1;\n  return count;\n}\n"
 TWO = "int half(int total) { return totla / 2; }\nint main() { int count = 1; return coun + half(2); }\n"
 WARNED = "int main() { int n = 3; return n << 33; }\n"
 MOVED = "int main() {\n  int @`U u = rnew(unique_region) 5;\n  ufree(u);\n  return *u;\n}\n"
@@ -227,7 +231,7 @@ def opens(person):
     person.verdict("Accepted.")
     with open(os.path.join(suite.ROOT, "examples", "hello.cyc"), encoding="utf-8") as file:
         person.want("the first example", file.read(), person.source())
-    lacking = {"json": "check --json", "places": "run --places", "report": "run --report"}
+    lacking = {"json": "check --json", "places": "run --places", "report": "run --report", "format": "lay programs out"}
     for name, words in lacking.items():
         person.want(f"whether it is told that {words} is lacking", name not in person.can, words in person.window.text("#notice"))
     person.want("the title", "Cyclone: write, check and run", person.window.run("return document.title"))
@@ -252,6 +256,8 @@ def mends(person):
     person.want("the mended text", NEAR.replace("coun;", "count;"), person.source())
     person.want("what is marked then", [], person.marked())
     person.run("main returned 3")
+    person.want("the output", "3", person.output())
+    person.see("returned")
     person.window.run("document.querySelector('#source').focus(); document.execCommand('undo')")
     person.verdict("Refused")
     person.want("the text after it was undone", NEAR, person.source())
@@ -294,7 +300,7 @@ def uses_keys(person):
             break
         shown = window.run("const s = getComputedStyle(document.activeElement); return s.outlineStyle !== 'none' && parseFloat(s.outlineWidth) >= 2")
         person.want(f"whether the focus is seen on {found[-1]}", True, shown)
-    person.want("what the tabulator comes to", ["skip", "example", "run", "list", "link", "source"], found)
+    person.want("what the tabulator comes to", ["skip", "example", "run", "lay", "list", "link", "source"], found)
     person.write(TWO)
     person.verdict("Refused: 2 refusals.")
     window.press("Control", "Home")
@@ -373,12 +379,37 @@ def comes_as_it_goes(person):
     person.window.wait("the output of a run that goes on", lambda: len(person.output()) > 1000)
     person.want("what is told of it", "It runs.", person.window.text("#end"))
     person.see("running")
-    person.window.wait_for("#end", f"it took more than {SHORT} seconds")
-    person.window.click("#run")
-    person.window.wait("the second run", person.server.children)
     person.window.click("#stop")
     person.window.wait_for("#end", "You stopped it.")
     person.window.wait("the end of its process", lambda: not person.server.children())
+
+
+def ends_at_the_clock(person):
+    """A run that goes on too long is stopped, and leaves no process."""
+    person.open()
+    person.write(ENDLESS)
+    person.window.click("#run")
+    person.window.wait_for("#end", f"it took more than {SHORT} seconds")
+    person.window.wait("the end of its process", lambda: not person.server.children())
+
+
+def lays_out(person):
+    """A text is laid out at a press of a button, which can be undone; one that has no tokens is told."""
+    person.open()
+    if "format" not in person.can:
+        return
+    person.write(CROWDED)
+    person.window.click("#lay")
+    person.window.wait("the text that is laid out", lambda: person.source() == LAID_OUT)
+    person.verdict("Accepted.")
+    person.window.click("#lay")
+    person.window.wait_for("#notice", "laid out already")
+    person.see("formatted")
+    person.window.run("document.querySelector('#source').focus(); document.execCommand('undo')")
+    person.want("the text after it was undone", CROWDED, person.source())
+    person.write("int main() { return 0; } $")
+    person.window.click("#lay")
+    person.window.wait_for("#notice", "The program is not laid out: fault 1 at 1:26.")
 
 
 def lists(person):
@@ -446,7 +477,9 @@ def colours(person):
         person.want(f"the colours of {name}", [], odd[:1])
 
 
-PEOPLE = (opens, mends, tells_all, uses_keys, ends, comes_as_it_goes, lists, links, shows_texts, colours)
+PEOPLE = (opens, mends, tells_all, uses_keys, ends, comes_as_it_goes, ends_at_the_clock, lays_out, lists, links, shows_texts, colours)
+# What else the servers get for some of them.
+SERVED = {comes_as_it_goes: WITHOUT_END, ends_at_the_clock: (*WITHOUT_END, "--seconds", str(SHORT))}
 
 
 # ---- what the server answers, to whatever it is sent
@@ -455,7 +488,7 @@ PEOPLE = (opens, mends, tells_all, uses_keys, ends, comes_as_it_goes, lists, lin
 def refuses(server):
     """Requests that are none are answered in words, and the server goes on."""
     wanted = (
-        ("no JSON", 400, server.ask("/run", b"{")), ("no UTF-8", 400, server.ask("/run", b'{"source":"\xff"}')),
+        ("no JSON", 400, server.ask("/run", b"{")), ("no text to lay out", 400, server.ask("/format", [])), ("no UTF-8", 400, server.ask("/run", b'{"source":"\xff"}')),
         ("deep JSON", 400, server.ask("/run", b"[" * 100_000)), ("a list", 400, server.ask("/run", [])),
         ("a number for a text", 400, server.ask("/run", {"source": 3})), ("half a letter", 400, server.ask("/run", {"source": "\ud800"})),
         ("a text that is too long", 413, server.ask("/run", {"source": "x" * (TEXT + 1)})),
@@ -569,7 +602,7 @@ def leave(server):
 def waits(program):
     """Where too many wait it is said at once; and an end of the server ends what it runs."""
     faults = []
-    with Server(program, "--waiting", "1", "--runs", "1") as server:
+    with Server(program, "--waiting", "1", "--runs", "1", *WITHOUT_END) as server:
         with concurrent.futures.ThreadPoolExecutor(4) as pool:
             running = [pool.submit(tried, server) for _ in range(3)]
             end = time.monotonic() + suite.SECONDS
@@ -630,7 +663,7 @@ def things_of(program, window, pictures, part):
     if part != "server":
         for number, use in enumerate(PEOPLE):
             def try_it(use=use):
-                with Server(program, "--seconds", str(SHORT if use is comes_as_it_goes else SECONDS)) as server:
+                with Server(program, *SERVED.get(use, ())) as server:
                     person = Person(window, server, pictures)
                     try:
                         use(person)

@@ -61,6 +61,17 @@ function does.mend(line, column)
   until_told(before)
   return actions[1].title
 end
+function does.lay()
+  local params = { textDocument = vim.lsp.util.make_text_document_params(0), options = { tabSize = 2, insertSpaces = true } }
+  local before, found = told, vim.lsp.buf_request_sync(0, 'textDocument/formatting', params, 60000)
+  local edits = found[client] and found[client].result
+  if not edits or edits == vim.NIL then return 'nothing' end
+  if #edits > 0 then
+    vim.lsp.util.apply_text_edits(edits, 0, 'utf-16')
+    until_told(before)
+  end
+  return #edits
+end
 function does.actions(line, column) return #ask('textDocument/codeAction', line, column) end
 function does.hover(line, column)
   local found = ask('textDocument/hover', line, column)
@@ -141,6 +152,13 @@ TRIED = (
         (("mend", 1, 55), "did you mean `items`?"), (("diagnostics",), []), (("write", 1, 1, "int f() { return x; }\n"), True),
         (("diagnostics",), [[1, 18, 1, 19, 1, "this name is not declared: x\nhint: " + ELSEWHERE]]),
     )),
+    ("a text that is laid out, and once more", "int main(){/* äöü \U0001f600 */int n=1;\n\n\n\treturn n;}\n", (
+        (("lay",), 1), (("text",), "int main() { /* äöü \U0001f600 */\n  int n = 1;\n\n  return n;\n}\n"), (("diagnostics",), []), (("lay",), 0),
+    )),
+    ("a text that is refused and laid out", "int main(){return x;}\nint x$;\n", (
+        (("lay",), "nothing"), (("text",), "int main(){return x;}\nint x$;\n"),
+    )),
+    ("a text with a mistake that is laid out", "int main(){\nreturn x;}\n", ((("lay",), 1), (("text",), "int main() {\n  return x;\n}\n"))),
     ("what names mean", STRUCTS, (
         (("diagnostics",), []),
         (("hover", 12, 10), "```cyclone\nint first(struct Node<`a> *`a node)\n```\n\na function"),
@@ -244,7 +262,7 @@ PROTOCOL = (
     ("no end", (BEGIN,), [], 1), ("a request before the beginning", (request(2, "textDocument/hover", **AT), BEGIN, *END), [(2, -32002)], 0),
     ("a second beginning", (BEGIN, request(2, "initialize", capabilities={}), *END), [(2, -32600)], 0),
     ("a request behind shutdown", (BEGIN, request(3, "shutdown"), request(4, "textDocument/hover", **AT), note("exit")), [(4, -32600)], 0),
-    ("what there is not", (BEGIN, request(2, "textDocument/formatting", **AT), note("$/cancelRequest", id=2), note("no/such"), *END), [(2, -32601)], 0),
+    ("what there is not", (BEGIN, request(2, "textDocument/rename", **AT), note("$/cancelRequest", id=2), note("no/such"), *END), [(2, -32601)], 0),
     ("a text that is not open", (BEGIN, request(2, "textDocument/hover", **AT), *END), [(2, -32602)], 0),
     ("no position", (BEGIN, OPEN, request(2, "textDocument/hover", textDocument={"uri": "file:///a"}), *END), [(2, -32602)], 0),
     ("a position before the text", (BEGIN, OPEN, request(2, "textDocument/hover", **{**AT, "position": {"line": -1, "character": 0}}), *END), [(2, -32602)], 0),
@@ -346,13 +364,40 @@ quitall!
 """
 
 
-def faults_of_make(program, text, wanted, folder):
-    """The places that vim has behind :make."""
+# A text, and what vim has of it behind gq over its first line. One that is refused stays.
+LAID = (
+    ("int main(){\n\n\nint x=3;\n\n\n\nreturn x;}\n", "int main() {\n  int x = 3;\n\n  return x;\n}\n"),
+    ("int main(){return 7;}\n$\n", "int main(){return 7;}\n$\n"),
+)
+LAY_SCRIPT = """
+set nomore encoding=latin1
+execute 'set runtimepath^=' . $FILES
+filetype plugin indent on
+execute 'edit ' . $TEXT
+normal! gqq
+call writefile(getline(1, '$'), $GROUPS)
+quitall!
+"""
+
+
+def in_vim(script, program, text, folder):
+    """What a script for vim leaves, where the program is found by its name."""
     os.makedirs(os.path.join(folder, "bin"), exist_ok=True)
     if not os.path.exists(os.path.join(folder, "bin", "cyclone")):
         os.symlink(program, os.path.join(folder, "bin", "cyclone"))
     paths = os.path.join(folder, "bin") + os.pathsep + os.environ.get("PATH", os.defpath)
-    said = editors.in_vim(MAKE_SCRIPT, text, folder, PATH=paths)
+    return editors.in_vim(script, text, folder, PATH=paths)
+
+
+def faults_of_gq(program, text, wanted, folder):
+    """The lines that vim has behind gq."""
+    got = in_vim(LAY_SCRIPT, program, text, folder)
+    return [] if got == wanted else [suite.difference("the lines", wanted, got)]
+
+
+def faults_of_make(program, text, wanted, folder):
+    """The places that vim has behind :make."""
+    said = in_vim(MAKE_SCRIPT, program, text, folder)
     got = [json.loads(line) for line in said.splitlines()]
     wanted = [[line, column, kind[:1], words] for line, column, kind, words in wanted]
     return [] if got == wanted else [suite.difference("the places", wanted, got)]
@@ -401,6 +446,8 @@ def others(program, folder):
     for number, (text, wanted) in enumerate(PLACED, 1):
         yield f"vim's :make, text {number}", lambda text=text, wanted=wanted: faults_of_make(program, text, wanted, folder)
         yield f"the problem matcher, text {number}", lambda text=text, wanted=wanted: faults_of_matcher(program, text, wanted, folder)
+    for number, (text, wanted) in enumerate(LAID, 1):
+        yield f"vim's gq, text {number}", lambda text=text, wanted=wanted: faults_of_gq(program, text, wanted, folder)
     for name, snippet in snippets().items():
         yield f"the snippet `{name}`", lambda snippet=snippet: faults_of_snippet(program, snippet, folder)
 
@@ -412,7 +459,7 @@ def main():
     options = parser.parse_args()
     sys.setrecursionlimit(10_000)
     named = list(texts(options))
-    count = len(TRIED) + len(PROTOCOL) + len(named) + 2 * len(PLACED) + len(snippets())
+    count = len(TRIED) + len(PROTOCOL) + len(named) + 2 * len(PLACED) + len(LAID) + len(snippets())
     suite.need(["nvim", "vim"], count)
     program = suite.program_of(options, count)
     with tempfile.TemporaryDirectory(prefix="edited-") as folder:

@@ -31,9 +31,10 @@ CALLS = (
     ("m", "step", "cyc_machine", "Machine"),
     ("p", "PageStore", "cyc_pagestore", None),
     ("e", "read_image", "cyc_elf", None),
+    ("f", "format", "cyc_format", None),
 )
 # The crates whose public contracts `specs/` is for.
-PUBLIC = ("cyc_system", "cyc_machine", "cyc_store", "cyc_elf", "cyc_isa")
+PUBLIC = ("cyc_system", "cyc_machine", "cyc_store", "cyc_elf", "cyc_isa", "cyc_format")
 # What the program's messages take from the front end is no promise of the page: what the phases made of a text, as the code holds it.
 FOR_MESSAGES = ("run_phases", "Phases", "compile_with_tokens", "Compilation", "compile_with_places", "Placed")
 # Each public source, by the words that name it in the head of a file.

@@ -149,6 +149,17 @@ function replaceRange(start, end, text) {
   }
 }
 
+// Puts a text in the place of all, where the two differ: what stands before and behind that stays as it is.
+function replaceAll(text) {
+  const old = source.value;
+  const most = Math.min(old.length, text.length);
+  let start = 0;
+  while (start < most && old[start] === text[start]) start += 1;
+  let behind = 0;
+  while (behind < most - start && old[old.length - 1 - behind] === text[text.length - 1 - behind]) behind += 1;
+  if (start < Math.max(old.length, text.length)) replaceRange(start, old.length - behind, text.slice(start, text.length - behind));
+}
+
 function goTo(start, end = start) {
   source.focus();
   source.setSelectionRange(start, end);
@@ -200,6 +211,19 @@ async function check() {
   }
   listFindings();
   mark();
+}
+
+// Lays the program out, unless it is changed before the answer is there.
+async function lay() {
+  const mine = changes;
+  try {
+    const answer = await (await ask("format", { source: source.value })).json();
+    if (mine !== changes) return;
+    notice(answer.text === null ? answer.words : answer.text === source.value ? "The program is laid out already." : "");
+    if (answer.text !== null) replaceAll(answer.text);
+  } catch (error) {
+    notice(`The program was not laid out: ${error.message}`);
+  }
 }
 
 function count(number, one) {
@@ -517,6 +541,7 @@ const LACKING = {
   json: "show refusals while you type (check --json)",
   places: "tell where in the text a run ended (run --places)",
   report: "tell what a run took (run --report)",
+  format: "lay programs out (format)",
 };
 
 function showAbout() {
@@ -561,6 +586,7 @@ async function begin() {
   document.addEventListener("keydown", pressed);
   at("run").addEventListener("click", run);
   at("stop").addEventListener("click", () => running?.abort());
+  at("lay").addEventListener("click", lay);
   at("list").addEventListener("click", list);
   at("link").addEventListener("click", link);
   at("example").addEventListener("change", () => choose(at("example").value));

@@ -13,7 +13,7 @@ use Rattle.clap.specs.declared.parser.matches.SubCommand.{SubCommand}
 use Rattle.cyc_terminal.specs.inside.Limits.{Given}
 use Rattle.cyc_terminal.specs.inside.Request.{AreLimitsOf, IsAskedOf, IsCodeOf, IsCompileRequest, IsNumberIfGiven, IsRequestOf, IsRunRequest, IsWithinBudget, AreCapsOf, IsFlagOf}
 use Rattle.cyc_terminal.specs.declared.arguments.Request.{Request}
-use Rattle.cyc_terminal.specs.declared.arguments.Request.TheVariants.{Check, Compile, Run, Disassemble, Explain, Describe}
+use Rattle.cyc_terminal.specs.declared.arguments.Request.TheVariants.{Check, Compile, Run, Disassemble, Explain, Describe, Format}
 
 -- ---- the request of a command, by its name
 
@@ -24,6 +24,7 @@ compiled name given (Ok (Run image limits caps budget report peaks places)) name
 compiled name given (Ok (Disassemble image)) named is = absurd is
 compiled name given (Ok (Explain code)) named is = absurd is
 compiled name given (Ok (Describe image)) named is = absurd is
+compiled name given (Ok (Format source output)) named is = absurd is
 compiled name given (Err e) named is = tt
 
 pub run : {E : Type 0} (name : List ℕ) (given : List ℕ → Option (List ℕ)) (r : Result Request E) → name ≡ codes "run" → IfOk r (IsRunRequest given) → IfOk r (IsRequestOf name given)
@@ -33,6 +34,7 @@ run name given (Ok (Compile source image limits places json)) named is = absurd 
 run name given (Ok (Disassemble image)) named is = absurd is
 run name given (Ok (Explain code)) named is = absurd is
 run name given (Ok (Describe image)) named is = absurd is
+run name given (Ok (Format source output)) named is = absurd is
 run name given (Err e) named is = tt
 
 pub within_budget : {E : Type 0} (name : List ℕ) (given : List ℕ → Option (List ℕ)) (r : Result Request E) → IfOk r (IsRequestOf name given) → IfOk r IsWithinBudget
@@ -42,6 +44,7 @@ within_budget name given (Ok (Compile source image limits places json)) is = tt
 within_budget name given (Ok (Disassemble image)) is = tt
 within_budget name given (Ok (Explain code)) is = tt
 within_budget name given (Ok (Describe image)) is = tt
+within_budget name given (Ok (Format source output)) is = tt
 within_budget name given (Err e) is = tt
 
 -- ---- what the parser found, by its rows
@@ -82,6 +85,7 @@ by_rows name f (Run image limits caps budget report peaks places) (named, (i, l,
 by_rows name f (Disassemble image) (named, i) = (named, sym (first_value-rows f (codes "image")) ∙ i)
 by_rows name f (Explain code) (named, c) = (named, subst (λ (o : Option (List ℕ)). IsCodeOf o code) (first_value-rows f (codes "code")) c)
 by_rows name f (Describe image) (named, i) = (named, sym (first_value-rows f (codes "image")) ∙ i)
+by_rows name f (Format source output) (named, s, o) = (named, sym (first_value-rows f (codes "source")) ∙ s, sym (first_value-rows f (codes "output")) ∙ o)
 
 -- the subcommand that the parser entered, of which the name and the rows are known
 entered : {Z : Type 0} (o : Option (Box SubCommand Z)) (name : Text) (rows : List Row)

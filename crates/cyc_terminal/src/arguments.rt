@@ -55,6 +55,12 @@ pub enum Request<'a> {
     Describe {
         image: &'a str,
     },
+    /// `format SOURCE`: to lay out the program in the file `source` anew, and to write it to the file `output`, or to print it where none is
+    /// given.
+    Format {
+        source: &'a str,
+        output: Option<&'a str>,
+    },
 }
 
 /// The most instructions that a run may be allowed.
@@ -70,6 +76,7 @@ const EXAMPLES: &str = "Examples:
   cyclone disasm hello.elf                  list its instructions
   cyclone explain 22                        say what a refusal with fault 22 is about
   cyclone info hello.elf                    say what it is: its segments and its limits
+  cyclone format hello.cyc                  print the program in the one style
 
 Exit status: 0 done, or the low 8 bits of what the program returned; 2 the source file was
 refused; 3 not an image; 4 uncaught exception; 5 out of calls or pages; 6 the machine trapped;
@@ -121,6 +128,14 @@ const INFO_HELP: &str = "Example:
 The lines say where the image is entered, which segments it has, which limits it carries for
 its runs, and whether it has the form of what this compiler makes.";
 
+const FORMAT_HELP: &str = "Examples:
+  cyclone format hello.cyc
+  cyclone format hello.cyc -o hello.cyc
+
+The program is laid out in the style of the examples: its tokens and its comments stay. It is
+printed, or written to the file of -o, which may be its own. Where it has no tokens, a message
+says what is wrong, and where.";
+
 /// How a word of a command is given.
 #[derive(Clone, Copy)]
 enum Form {
@@ -128,6 +143,8 @@ enum Form {
     File,
     /// A file behind `-o`.
     Output,
+    /// The same, where it is there.
+    OutputIfGiven,
     /// A number behind the option's name, or this one.
     Number(&'static str),
     /// A number behind the option's name, where it is there.
@@ -172,6 +189,13 @@ const OUTPUT: Word = Word {
     shown: "IMAGE",
     form: Form::Output,
     help: "The image file to write",
+};
+
+const FORMATTED: Word = Word {
+    id: "output",
+    shown: "FILE",
+    form: Form::OutputIfGiven,
+    help: "The file to write, in place of printing",
 };
 
 const IMAGE: Word = Word {
@@ -325,6 +349,13 @@ const COMMANDS: &[Plan] = &[
         after_help: INFO_HELP,
         words: &[IMAGE],
     },
+    Plan {
+        name: "format",
+        path: "cyclone format",
+        about: "Lays a program out in the one style",
+        after_help: FORMAT_HELP,
+        words: &[SOURCE, FORMATTED],
+    },
 ];
 
 fn argument<'a>(alloc: Global, word: &Word) -> Arg<'a> {
@@ -336,6 +367,7 @@ fn argument<'a>(alloc: Global, word: &Word) -> Arg<'a> {
     match word.form {
         Form::File => argument.required(true),
         Form::Output => argument.short('o').required(true),
+        Form::OutputIfGiven => argument.short('o'),
         Form::Number(default) => argument.long(word.id).default_value(default),
         Form::Code => argument,
         Form::Limit | Form::FileIfGiven | Form::Flag => argument.long(word.id),
@@ -631,6 +663,13 @@ fn request_of<'a>(alloc: Global, name: &str, matches: &ArgMatches<'a>) -> Result
         "info" => {
             let image = file_of(&mut command, matches, "image")?;
             Ok(Request::Describe { image })
+        }
+        "format" => {
+            let source = file_of(&mut command, matches, "source")?;
+            Ok(Request::Format {
+                source,
+                output: matches.get_str("output"),
+            })
         }
         // The parser takes no other name.
         _ => Err(command.error(ErrorKind::InvalidSubcommand, "there is no such command")?),

@@ -2,6 +2,7 @@
 pub mod Answer
 pub mod Work
 pub mod Page
+pub mod Formatting
 -- what `run --report` writes, and what `info` says
 pub mod Report
 pub mod Info

@@ -4,6 +4,8 @@
 mod answer;
 mod console;
 mod files;
+mod formatting;
+mod functions;
 mod info;
 mod output;
 mod page;

@@ -6,6 +6,8 @@ ghost use Rattle.cyclone.specs.declared.answer.Answer.TheVariants.{WriteFault};
 use crate::answer::{Answer, ending, explanation};
 use crate::console::{Keyboard, Screen};
 use crate::files::{is_one_file, read_image, read_places, read_text, write_file};
+use crate::formatting::format_text;
+use crate::functions::Functions;
 use crate::output::Output;
 use crate::page::print_page;
 use crate::places::{PlacesText, Table, Unread, sum_of, table_in};
@@ -18,8 +20,11 @@ use crate::work::{
     widen_heap,
 };
 use clap::error::ErrorKind;
+use cyc_format::format;
 use cyc_machine::Limits;
-use cyc_messages::{Message, Warnings, line_of_refusal, line_of_warning, refusal_of, refusals_behind};
+use cyc_messages::{
+    Message, Warnings, line_of_refusal, line_of_warning, refusal_of, refusals_behind,
+};
 use cyc_system::{Report, follow};
 use cyc_terminal::{FileName, GivenLimits, Lines, Request, read_request};
 use cyc_warnings::{Found, MOST_WARNINGS, find_warnings};
@@ -444,13 +449,59 @@ fn explain_code(rt: &HostRuntime, code: Code) -> Result<Answer, Answer> {
     Ok(print_page(code, &mut screen))
 }
 
-/// `info IMAGE`.
-fn describe_file(rt: &HostRuntime, image: &str) -> Result<Answer, Answer> {
+/// Prints which functions an image has.
+fn print_functions(rt: &HostRuntime, table: &Table) -> io::Result<()> {
+    let mut output = Output::new(rt);
+    write!(output, "{}", Functions(table))?;
+    output.flush()
+}
+
+/// `info IMAGE`. With a file of places, which must be the image's, its functions are behind what is said of it.
+fn describe_file(rt: &HostRuntime, image: &str, places: Option<&str>) -> Result<Answer, Answer> {
     let image = read_image(rt, image)?;
+    let table = match places {
+        Some(path) => Some(read_table(rt, path, image.as_slice())?),
+        None => None,
+    };
     let Ok(mut screen) = Screen::new(rt.alloc(), Output::new(rt), false) else {
         return Err(Answer::NoMemory);
     };
-    Ok(describe_image(rt.alloc(), image.as_slice(), &mut screen))
+    let answer = describe_image(rt.alloc(), image.as_slice(), &mut screen);
+    if let (Some(table), Answer::Done) = (&table, answer) {
+        return match print_functions(rt, table) {
+            Ok(()) => Ok(answer),
+            Err(_) => Err(Answer::WriteFault),
+        };
+    }
+    Ok(answer)
+}
+
+/// Lays a program out anew, and prints it.
+fn print_formatted(rt: &HostRuntime, text: &[u8]) -> Result<Answer, Fault> {
+    let Ok(mut screen) = Screen::new(rt.alloc(), Output::new(rt), false) else {
+        return Ok(Answer::NoMemory);
+    };
+    format_text(rt.alloc(), text, &mut screen)
+}
+
+/// Lays a program out anew, and writes it to a file, which may be its own.
+fn write_formatted(rt: &HostRuntime, text: &[u8], path: &str) -> Result<Answer, Fault> {
+    let laid = format(rt.alloc(), text)?;
+    Ok(write_file(rt, path, laid.as_slice()))
+}
+
+/// `format SOURCE`.
+fn format_file(rt: &HostRuntime, source: &str, output: Option<&str>) -> Result<Answer, Answer> {
+    let text = read_text(rt, source)?;
+    let text = text.as_slice();
+    let formatted = match output {
+        Some(path) => write_formatted(rt, text, path),
+        None => print_formatted(rt, text),
+    };
+    match formatted {
+        Ok(answer) => Ok(answer),
+        Err(fault) => Err(report_refusal(rt, source, text, fault)),
+    }
 }
 
 /// What came of a request.
@@ -483,7 +534,8 @@ fn carry_out(rt: &HostRuntime, request: &Request<'_>) -> Answer {
         }
         Request::Disassemble { image } => list_file(rt, image),
         Request::Explain { code } => explain_code(rt, *code),
-        Request::Describe { image } => describe_file(rt, image),
+        Request::Describe { image, places } => describe_file(rt, image, *places),
+        Request::Format { source, output } => format_file(rt, source, *output),
     };
     match result {
         Ok(answer) | Err(answer) => answer,

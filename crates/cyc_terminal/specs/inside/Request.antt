@@ -7,7 +7,7 @@ use Rattle.cyc_words.specs.Fault.{number_of}
 use Rattle.cyc_words.specs.declared.fault.Code.{Code}
 use Rattle.cyc_terminal.specs.inside.Limits.{Given}
 use Rattle.cyc_terminal.specs.declared.arguments.Request.{Request}
-use Rattle.cyc_terminal.specs.declared.arguments.Request.TheVariants.{Check, Compile, Run, Disassemble, Explain, Describe}
+use Rattle.cyc_terminal.specs.declared.arguments.Request.TheVariants.{Check, Compile, Run, Disassemble, Explain, Describe, Format}
 
 -- a run is allowed from 1 to 1,000,000,000,000 instructions
 abbrev pub IsWithinBudget : Request → Type 0
@@ -17,6 +17,7 @@ IsWithinBudget (Compile source image limits places json) = Unit {0}
 IsWithinBudget (Disassemble image) = Unit {0}
 IsWithinBudget (Explain code) = Unit {0}
 IsWithinBudget (Describe image) = Unit {0}
+IsWithinBudget (Format source output) = Unit {0}
 
 -- the number is what the text of the option writes in decimal
 abbrev pub IsNumberOf : (List ℕ → Option (List ℕ)) → List ℕ → ℕ → Type 0
@@ -52,6 +53,7 @@ IsCompileRequest given (Run image limits caps budget report peaks places) = ⊥
 IsCompileRequest given (Disassemble image) = ⊥
 IsCompileRequest given (Explain code) = ⊥
 IsCompileRequest given (Describe image) = ⊥
+IsCompileRequest given (Format source output) = ⊥
 
 -- the request is to run the image that was given, with the limits, the caps and the budget that were given, to report to the file that
 -- was given, or to none, with the most calls where that was asked for, and with its file of places, if one was given
@@ -69,6 +71,7 @@ IsRunRequest given (Compile source image limits places json) = ⊥
 IsRunRequest given (Disassemble image) = ⊥
 IsRunRequest given (Explain code) = ⊥
 IsRunRequest given (Describe image) = ⊥
+IsRunRequest given (Format source output) = ⊥
 
 -- the code is that of the number that is written
 abbrev pub IsCodeOf : Option (List ℕ) → Code → Type 0
@@ -83,6 +86,8 @@ IsRequestOf name given (Run image limits caps budget report peaks places) = (nam
 IsRequestOf name given (Disassemble image) = (name ≡ codes "disasm") × (given (codes "image") ≡ Some image.now)
 IsRequestOf name given (Explain code) = (name ≡ codes "explain") × IsCodeOf (given (codes "code")) code
 IsRequestOf name given (Describe image) = (name ≡ codes "info") × (given (codes "image") ≡ Some image.now)
+IsRequestOf name given (Format source output) = (name ≡ codes "format") × (given (codes "source") ≡ Some source.now)
+    × (given (codes "output") ≡ option_map (λ path. path.now) output)
 
 -- what the words of a command line ask a program for that has these commands and options, by what the parser of command lines finds in
 -- them

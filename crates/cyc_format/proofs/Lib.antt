@@ -1,0 +1,3 @@
+-- what the answers of `format` and of the comparison cite
+pub mod SameTokens
+pub mod Answering

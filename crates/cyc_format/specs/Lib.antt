@@ -1,0 +1,2 @@
+-- what the contract of `format` rests on
+pub mod Formatted

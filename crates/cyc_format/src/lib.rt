@@ -1,0 +1,15 @@
+//! A text laid out anew: the same tokens and the same comments, in one style.
+#![tactic(auto)]
+
+pub use formatter::format;
+
+mod breaks;
+mod comparison;
+mod formatter;
+mod frames;
+mod gap;
+mod layout;
+mod notes;
+mod roles;
+mod sheet;
+mod spaces;

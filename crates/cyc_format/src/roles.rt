@@ -1,0 +1,179 @@
+//! What a token is for: what is asked of it where the next one is laid.
+use cyc_syntax::{Keyword, Sign, Token, TokenKind};
+
+/// What the last token was for.
+#[derive(Clone, Copy, Debug, PartialEq, Eq)]
+pub(crate) enum Role {
+    /// It opened a bracket, or braces round values.
+    Open,
+    /// It opened a body.
+    OpenBody,
+    /// A prefix operator.
+    Prefix,
+    /// The mark of a pointer.
+    Mark,
+    /// An operator between two operands.
+    Binary,
+    Comma,
+    /// The semicolon before an effect.
+    Effect,
+    /// The colon behind a label or a `case`.
+    Label,
+    /// Another colon.
+    Colon,
+    Arrow,
+    /// It opened or closed a list of regions.
+    OpenRegions,
+    CloseRegions,
+    /// It ended a statement, or a declaration.
+    End,
+    Name,
+    Other,
+}
+
+pub(crate) fn is_sign(kind: Option<TokenKind>, sign: Sign) -> bool {
+    kind == Some(TokenKind::Sign(sign))
+}
+
+pub(crate) fn is_word(kind: Option<TokenKind>, word: Keyword) -> bool {
+    kind == Some(TokenKind::Keyword(word))
+}
+
+pub(crate) fn is_name(kind: Option<TokenKind>) -> bool {
+    kind == Some(TokenKind::Identifier)
+}
+
+pub(crate) fn is_region(kind: Option<TokenKind>) -> bool {
+    kind == Some(TokenKind::RegionName)
+}
+
+/// Whether it closes a parenthesis, a bracket or braces.
+pub(crate) fn is_closing(kind: Option<TokenKind>) -> bool {
+    matches!(
+        kind,
+        Some(TokenKind::Sign(Sign::RightParen | Sign::RightBracket | Sign::RightBrace))
+    )
+}
+
+/// Whether it opens a parenthesis, a bracket or braces.
+pub(crate) fn is_opening(kind: Option<TokenKind>) -> bool {
+    matches!(
+        kind,
+        Some(TokenKind::Sign(Sign::LeftParen | Sign::LeftBracket | Sign::LeftBrace))
+    )
+}
+
+/// Whether it begins a clause.
+pub(crate) fn is_case(kind: Option<TokenKind>) -> bool {
+    is_word(kind, Keyword::Case) || is_word(kind, Keyword::Default)
+}
+
+/// Whether it begins a statement or an item, and stands nowhere else.
+pub(crate) fn is_starter(kind: Option<TokenKind>) -> bool {
+    matches!(
+        kind,
+        Some(TokenKind::Keyword(
+            Keyword::If
+                | Keyword::While
+                | Keyword::Return
+                | Keyword::Else
+                | Keyword::Break
+                | Keyword::Continue
+                | Keyword::Throw
+                | Keyword::Try
+                | Keyword::Let
+                | Keyword::Region
+                | Keyword::Case
+                | Keyword::Default
+                | Keyword::Catch
+        ))
+    )
+}
+
+/// Whether a bracket stands right behind it.
+pub(crate) fn is_called(kind: Option<TokenKind>) -> bool {
+    matches!(
+        kind,
+        Some(TokenKind::Keyword(
+            Keyword::NumberOfElements
+                | Keyword::FreeUnique
+                | Keyword::FreeKey
+                | Keyword::Open
+                | Keyword::NewKey
+                | Keyword::Char
+                | Keyword::Int
+                | Keyword::RegionNew
+        ))
+    )
+}
+
+/// Whether it may stand between two operands.
+pub(crate) fn is_operator(kind: Option<TokenKind>) -> bool {
+    match kind {
+        Some(TokenKind::Sign(sign)) => !matches!(
+            sign,
+            Sign::Arrow
+                | Sign::Tilde
+                | Sign::Not
+                | Sign::LeftParen
+                | Sign::RightParen
+                | Sign::LeftBracket
+                | Sign::RightBracket
+                | Sign::LeftBrace
+                | Sign::RightBrace
+                | Sign::Comma
+                | Sign::Semicolon
+                | Sign::Colon
+                | Sign::At
+                | Sign::Question
+        ),
+        _ => false,
+    }
+}
+
+/// Whether it is an operand by itself.
+pub(crate) fn is_operand(kind: TokenKind) -> bool {
+    matches!(
+        kind,
+        TokenKind::Identifier
+            | TokenKind::Number(_)
+            | TokenKind::Character(_)
+            | TokenKind::Keyword(Keyword::Null | Keyword::HeapRegion | Keyword::UniqueRegion)
+    )
+}
+
+fn is_name_byte(byte: u8) -> bool {
+    byte.is_ascii_alphanumeric() || byte == b'_'
+}
+
+/// Whether two bytes that end a token and begin the next one would be read as one token, or as the beginning of a comment, or would look
+/// so.
+fn are_one(last: u8, first: u8) -> bool {
+    is_name_byte(last) && is_name_byte(first)
+        || matches!(
+            [last, first],
+            [b'&', b'&']
+                | [b'|', b'|']
+                | [b'=', b'=']
+                | [b'!', b'=']
+                | [b'<', b'=']
+                | [b'>', b'=']
+                | [b'<', b'<']
+                | [b'>', b'>']
+                | [b'-', b'>']
+                | [b':', b'=']
+                | [b'/', b'/']
+                | [b'/', b'*']
+                | [b'-', b'-']
+                | [b'+', b'+']
+        )
+}
+
+/// Whether two tokens stand apart, whatever they are for.
+pub(crate) fn are_apart(text: &[u8], token: Token, next: Token) -> bool {
+    let bytes = text.get(token.start..token.end).unwrap_or(&[]);
+    match (bytes.last(), text.get(next.start)) {
+        (Some(last), Some(first)) => are_one(*last, *first),
+        _ => false,
+    }
+}

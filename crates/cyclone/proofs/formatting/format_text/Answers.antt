@@ -1,0 +1,11 @@
+use Rattle.cyclone.specs.inside.Console.{screen_written}
+use Rattle.cyclone.proofs.formatting.format_text.Goals as goal
+
+pub returns : goal.returns
+returns g c = (
+  c.in_ok-answer.answer,
+  screen_written g.W.Write.contents c.format_to.new.writer,
+  c.in_ok-answer.ensures,
+  c.finish_for.ensures.bytes,
+  c.finish_for.ensures.answer,
+)
