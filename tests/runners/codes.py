@@ -31,7 +31,7 @@ HABITS = os.path.join(suite.ROOT, "docs", "habits.txt")
 HABITS_CODE = os.path.join(suite.ROOT, "crates", "cyc_terminal", "src", "habits.rt")
 HABIT_FIELDS = {"code", "before", "at", "expected", "hint", "text", "place"}
 # What a list of words of a habit may be in place of words.
-KINDS = ("any", "number", "marked", "name", "call", "wide")
+KINDS = ("any", "number", "marked", "name", "call", "method", "wide")
 # The table of codes in docs/LANGUAGE.md, from its head to the empty line behind it.
 HEAD = "| Code | What it means | Its place | Smallest text |\n|---|---|---|---|\n"
 PART = re.compile(r'"([^"]*)"(?: \* (\d+))?')

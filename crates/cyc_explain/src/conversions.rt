@@ -223,6 +223,7 @@ fn more_on_targets(target: &Ty, wanted: &Ty) -> Message {
         (Ty::Int, Ty::Char) => Message::BytesWanted,
         (Ty::Char, Ty::Int) => Message::IntsWanted,
         (Ty::Int | Ty::Char, _) => Message::Nothing,
+        (Ty::Pointer { target, .. }, _) if has_shape(target, wanted) => Message::OneTooFar,
         _ => Message::OtherTarget,
     }
 }
@@ -266,6 +267,28 @@ fn better(notes: &Notes, lead: Message, more: Message) -> Message {
     }
 }
 
+/// Whether what is found, for a field of a new struct, leads to such a struct itself.
+fn leads_to_made(notes: &Notes) -> bool {
+    match &notes.found {
+        Some(
+            ValueType::Value {
+                of_type: Ty::Pointer { target, .. },
+            },
+        ) => struct_of(target).is_some_and(|number| {
+            notes.lexicon.struct_name(number) == notes.other
+        }),
+        _ => false,
+    }
+}
+
+/// The number of the struct that a type is.
+fn struct_of(of_type: &Ty) -> Option<usize> {
+    match of_type {
+        Ty::Struct { number, .. } => Some(*number),
+        _ => None,
+    }
+}
+
 /// The same where the regions inside of a type are others, or it leads to another type.
 fn better_on_regions(notes: &Notes, lead: Message, more: Message) -> Message {
     let is_written = match &notes.found {
@@ -274,6 +297,9 @@ fn better_on_regions(notes: &Notes, lead: Message, more: Message) -> Message {
     };
     match (lead, more) {
         (Message::ArgumentType, Message::OtherRegions) => Message::RegionsOfParameter,
+        (Message::FieldType, Message::OtherRegions) if leads_to_made(notes) => Message::RegionsOfNew,
+        (_, Message::OtherRegions) if notes.is_new => Message::RegionsOfNew,
+        (_, Message::OtherTarget) if !is_written => Message::TargetNamed,
         _ if !is_written => more,
         (Message::LocalType | Message::VariableType, Message::OtherRegions) => {
             Message::RegionsOfVariable

@@ -1,6 +1,6 @@
 //! What the forms of an expression ask of their parts, in words where that is the fault.
 use crate::messages::Message;
-use crate::names::{Sort, explain_unknown};
+use crate::names::{Sort, explain_struct_name, explain_unknown};
 use crate::teller::Teller;
 use crate::wanted::{Wanted, explain_content, explain_found, wanted_by};
 use crate::words::given;
@@ -17,7 +17,10 @@ use cyc_words::{Code, Span};
 /// The words for a name that is no value, or none that is read.
 pub(crate) fn explain_name(teller: &mut Teller, scope: &Scope<'_>, name: Ident) {
     match scope.meaning(name) {
-        Meaning::Unknown => explain_unknown(teller, scope, Sort::Value, name),
+        Meaning::Unknown => {
+            explain_struct_name(teller, scope, name);
+            explain_unknown(teller, scope, Sort::Value, name);
+        }
         Meaning::Routine { .. } => teller.tell_name(Message::FunctionRead, name),
         Meaning::Variable {
             target: Lvalue::Global { .. },
@@ -43,12 +46,33 @@ pub(crate) fn explain_key(teller: &mut Teller, scope: &Scope<'_>, name: Ident) {
 pub(crate) fn explain_place(teller: &mut Teller, scope: &Scope<'_>, expression: &Expr) {
     let span = span_of(expression);
     if teller.is_fault(Code::NotAPlace, span) {
-        let mut message = Message::NoAddress;
+        let mut message = message_on_value(expression);
         if let Some(name) = root_of(expression) {
             teller.notes.name = name.name.number;
             message = message_on_place(scope.meaning(name));
+        } else if let Some(function) = called(expression) {
+            teller.notes.name = function.name.number;
         }
         teller.tell(message, span);
+    }
+}
+
+/// Why an expression that is reached through no variable is no place.
+fn message_on_value(expression: &Expr) -> Message {
+    match expression {
+        Expr::Bracketed { inner, .. } => message_on_value(inner),
+        Expr::Call { .. } => Message::ResultAssigned,
+        Expr::Binary { .. } | Expr::Prefixed { .. } => Message::OperationAssigned,
+        _ => Message::NoAddress,
+    }
+}
+
+/// The function that an expression is a call of.
+fn called(expression: &Expr) -> Option<Ident> {
+    match expression {
+        Expr::Bracketed { inner, .. } => called(inner),
+        Expr::Call { function, .. } => Some(*function),
+        _ => None,
     }
 }
 
@@ -138,7 +162,7 @@ fn type_behind(scope: &Scope<'_>, pointer: &Option<ValueType>, field: Option<Ide
 fn explain_behind(teller: &mut Teller, scope: &Scope<'_>, start: Span, field: Option<Ident>) {
     let behind = type_behind(scope, &teller.notes.found, field);
     if teller.find_type(behind) {
-        explain_content(teller, start);
+        explain_content(teller, field, start);
     }
 }
 

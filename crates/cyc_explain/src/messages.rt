@@ -9,6 +9,7 @@
 //! | `%p` | a place |
 //! | `%t`, `%w` | the type that is found, with the variable that has it, and the one that is wanted |
 //! | `%g` | the type that is found, as a pointer of the kind that is wanted |
+//! | `%m` | the struct that is to be made, with its regions |
 //! | `%h`, `%i` | the types that are found and wanted, with `` `r `` as each region |
 //! | `%j`, `%k` | the type that is found, with `` `H `` or `` `a `` as each region |
 //! | `%v` | the variable that is found, or `p` |
@@ -23,6 +24,9 @@ use cyc_words::Code;
 pub(crate) enum Message {
     // 20
     NearName,
+    NearPutchar,
+    NearGetchar,
+    StructAsValue,
     UnknownInHead,
     UnknownInStruct,
     UnknownInGlobal,
@@ -64,6 +68,7 @@ pub(crate) enum Message {
     AliasType,
     // 27
     UniqueStays,
+    FieldStays,
     GlobalStays,
     GlobalLent,
     AddressKept,
@@ -71,6 +76,8 @@ pub(crate) enum Message {
     HandleAssigned,
     CounterAssigned,
     FunctionAssigned,
+    ResultAssigned,
+    OperationAssigned,
     NoAddress,
     // 29
     UniqueRegionAlone,
@@ -120,6 +127,9 @@ pub(crate) enum Message {
     OtherType,
     LocalType,
     VariableType,
+    FieldAssigned,
+    ElementAssigned,
+    TargetAssigned,
     ArgumentType,
     FieldType,
     ResultType,
@@ -127,6 +137,9 @@ pub(crate) enum Message {
     RegionsOfVariable,
     RegionsOfParameter,
     RegionsOfResult,
+    RegionsOfNew,
+    OneTooFar,
+    TargetNamed,
     OtherTarget,
     TargetOfVariable,
     BytesWanted,
@@ -186,17 +199,20 @@ pub(crate) enum Message {
 /// The texts of the messages, in their order, a line for each.
 pub(crate) const TEXTS: &str = "\
 hint: did you mean `%n`?
-the parameters name no region `%n: write it into the type of one
-`%n is no region parameter of the struct: write it behind the struct's name
-no region `%n is in scope here: only `H and `U are
+hint: did you mean `putchar`?
+hint: did you mean `getchar`?
+%n is a struct, and no value%/hint: the type of a struct has the word struct: struct %n @p = new %n{..};
+the parameters name no region `%n%/hint: name it in the type of a parameter, as in int *`%n p
+`%n is no region parameter of the struct%/hint: name it behind the struct's own name, as in struct P<`%n> { int *`%n p; };
+no region `%n is in scope here: only `H and `U are%/hint: leave it out, for `H
 a key is no global%/hint: declare it in a function: let NewDynamicRegion{<`%n> key} = new_ukey(); and pass it on
 a handle is no global%/hint: give it to a function as a parameter: region_t<`%n> h
-no region `%n is in scope here
+no region `%n is in scope here%/hint: name it in the type of a parameter, or open it in a block round this: region<`%n> h;
 `%n` is first declared at %p
-`%n is first declared at %p: a function declares a region's name once
-`%n is there in each function
-`%n is the region of the variables of %f
-`%n` is there in each program
+`%n is first declared at %p: a function declares a region's name once%/hint: take another name for one of the two
+`%n is there in each function%/hint: take another name
+`%n is the region of the variables of %f%/hint: take another name
+`%n` is there in each program%/hint: take another name
 a clause for %n stands before this one
 expected a value with a type, found %t
 expected int, found %t
@@ -224,6 +240,7 @@ a global is an int or a pointer%/hint: give the function what it needs as a para
 expected the same type, with the same regions, found %t and %w%/hint: swap places of one type
 expected %w, found %t%/hint: an alias has its source's type, with its own region in place of `U
 found %t, which stays where it is: no second pointer leads to a unique object
+%n is %t, which stays where it is: no second pointer leads to a unique object
 %n is a global: the unique pointer in it stays there
 %n is a global: only a local is lent%/hint: swap it into a variable by :=: first
 what %n leads to may be given back while its address is kept%/hint: lend it: let alias <`a> int *`a x = %n; with the pointer's own \
@@ -231,6 +248,8 @@ type, and take the address by x
 %n is the handle of a region item: it is not assigned and has no address%/hint: copy it into a variable: region_t<`r> copy = %n;
 %n counts the elements: it is not assigned and has no address%/hint: copy it into a variable
 %n is a function, and no variable
+what %n returns is a value, and no variable%/hint: put it into a variable first: these, *p, p->f and p[i] alone are assigned and have an address
+what an operator gives is a value, and no variable%/hint: put it into a variable first: these, *p, p->f and p[i] alone are assigned and have an address
 hint: assign to a variable, *p, p->f or p[i]: these alone have an address
 unique_region stands alone between the brackets of rnew, and is no value%/hint: write rnew(unique_region) and what the object is made of
 %n is no key of a dynamic region: found %t%/hint: a key is declared so: let NewDynamicRegion{<`k> key} = new_ukey();
@@ -274,6 +293,9 @@ main returns another type than int
 expected %w, found %t
 %n is %w, found %t
 %n is %w, found %t
+%n is %w, found %t
+an element of %n is %w, found %t
+*%n is %w, found %t
 %n of %o is %w, found %t
 %n of struct %o is %w, found %t
 %f returns %w, found %t
@@ -281,6 +303,9 @@ expected %w, found %t
 , with other regions inside%/hint: a region that is left out inside a type is `H: declare %g %n
 , with other regions inside%/hint: a region that is left out inside a type is `H: name it in the head of %o, as in %i %n
 , with other regions inside%/hint: a region that is left out inside a type is `H: let %f return %g
+, with other regions inside%/hint: a region that is left out behind the name of a new struct is `H: write %m{..} there
+%/hint: it leads to a pointer, one step too far: leave out a & before it, or write * there
+%/hint: what a pointer leads to is not converted: name the region that the parameter leaves out, as `r, and write it on both sides
 %/hint: what a pointer leads to is not converted: put a value of that very type there
 %/hint: what a pointer leads to is not converted: declare %g %n, or put a value of that very type there
 %/hint: char and int differ behind a pointer: copy the elements one by one, each by char(x)
@@ -336,6 +361,9 @@ the effect of %n is {
 pub(crate) fn code_of(message: Message) -> Code {
     match message {
         Message::NearName
+        | Message::NearPutchar
+        | Message::NearGetchar
+        | Message::StructAsValue
         | Message::UnknownInHead
         | Message::UnknownInStruct
         | Message::UnknownInGlobal
@@ -348,11 +376,16 @@ pub(crate) fn code_of(message: Message) -> Code {
         | Message::RegionOfFunction
         | Message::InEachProgram
         | Message::ClauseBefore => Code::DeclaredTwice,
-        Message::UniqueStays | Message::GlobalStays | Message::GlobalLent | Message::AddressKept =>
-            Code::UniqueShared,
+        Message::UniqueStays
+        | Message::FieldStays
+        | Message::GlobalStays
+        | Message::GlobalLent
+        | Message::AddressKept => Code::UniqueShared,
         Message::HandleAssigned
         | Message::CounterAssigned
         | Message::FunctionAssigned
+        | Message::ResultAssigned
+        | Message::OperationAssigned
         | Message::NoAddress => Code::NotAPlace,
         Message::UniqueRegionAlone
         | Message::NoKey

@@ -82,6 +82,29 @@ pub(crate) fn explain_unknown(teller: &mut Teller, scope: &Scope<'_>, sort: Sort
         if let Some(other) = near(&teller.notes.lexicon, scope, sort, name) {
             teller.tell_name(Message::NearName, other);
         }
+        if let Sort::Value = sort {
+            let message = near_of_each(&teller.notes.lexicon, name);
+            teller.tell(message, name.span);
+        }
+    }
+}
+
+/// What is said where one of the functions that are there beforehand, which a text need not name elsewhere, is near.
+fn near_of_each(lexicon: &Lexicon, name: Ident) -> Message {
+    let text = lexicon.text(name.name.number);
+    if is_near(text, b"putchar") {
+        Message::NearPutchar
+    } else if is_near(text, b"getchar") {
+        Message::NearGetchar
+    } else {
+        Message::Nothing
+    }
+}
+
+/// The words for the name of a struct where a value is wanted.
+pub(crate) fn explain_struct_name(teller: &mut Teller, scope: &Scope<'_>, name: Ident) {
+    if is_known(scope, Sort::Struct, name) {
+        teller.tell_name(Message::StructAsValue, name);
     }
 }
 

@@ -60,7 +60,7 @@ pub(crate) fn explain_swap(teller: &mut Teller, scope: &mut Scope<'_>, left: &Ex
         if teller.find_type(found) {
             let wanted = place_type(scope, right);
             if teller.want_type(wanted) {
-                explain_content(teller, span);
+                explain_content(teller, None, span);
                 teller.tell(Message::SwappedTypes, span);
             }
         }

@@ -11,7 +11,7 @@ use crate::words::{Notes, given};
 use cyc_check::place_type;
 use cyc_forms::{Given, span_of};
 use cyc_scope::Scope;
-use cyc_syntax::{Declaration, Expr};
+use cyc_syntax::{Declaration, Expr, Ident, Postfix, PrefixOperator};
 use cyc_types::{Region, Ty};
 use cyc_words::Span;
 
@@ -87,10 +87,38 @@ fn note_target(notes: &mut Notes, scope: &Scope<'_>, role: &Role<'_>) -> Message
 /// The same of what is assigned to this place.
 fn note_assigned(notes: &mut Notes, target: &Expr) -> Message {
     match target {
-        Expr::Variable { name } => {
-            notes.name = name.name.number;
-            Message::VariableType
-        }
+        Expr::Bracketed { inner, .. } => note_assigned(notes, inner),
+        Expr::Variable { name } => note_name(notes, Some(*name), Message::VariableType),
+        Expr::Chained { base, postfixes } => match postfixes.last() {
+            Some(Postfix::Field { name }) => {
+                note_name(notes, Some(*name), Message::FieldAssigned)
+            }
+            _ => note_name(notes, only_name(base, postfixes), Message::ElementAssigned),
+        },
+        Expr::Prefixed {
+            operator: PrefixOperator::Dereference,
+            operand,
+            ..
+        } => note_name(notes, only_name(operand, &[]), Message::TargetAssigned),
         _ => Message::OtherType,
+    }
+}
+
+/// The name of a variable with one postfix behind it at most.
+fn only_name(base: &Expr, postfixes: &[Postfix]) -> Option<Ident> {
+    match base {
+        Expr::Variable { name } if postfixes.len() < 2 => Some(*name),
+        _ => None,
+    }
+}
+
+/// Notes a name that this speaks of; where there is none, that is not said.
+fn note_name(notes: &mut Notes, name: Option<Ident>, message: Message) -> Message {
+    match name {
+        Some(name) => {
+            notes.name = name.name.number;
+            message
+        }
+        None => Message::OtherType,
     }
 }

@@ -3,11 +3,11 @@ use crate::conversions::explain_closed;
 use crate::homes::{Home, Origin};
 use crate::messages::Message;
 use crate::teller::Teller;
-use crate::words::given;
+use crate::words::{Notes, given};
 use cyc_forms::Given;
 use cyc_forms::types::is_struct;
 use cyc_scope::Scope;
-use cyc_syntax::{BinaryOperator, PointerKind, PrefixOperator};
+use cyc_syntax::{BinaryOperator, Ident, PointerKind, PrefixOperator};
 use cyc_types::Ty;
 use cyc_words::{Code, Span};
 
@@ -201,8 +201,9 @@ pub(crate) fn explain_found(teller: &mut Teller, scope: &Scope<'_>, wanted: Want
     explain_closed(teller, scope, span);
 }
 
-/// The words for a cell of the type that is found, where it is read at this place and is a struct or a unique pointer.
-pub(crate) fn explain_content(teller: &mut Teller, span: Span) {
+/// The words for a cell of the type that is found, the field of this name if it is one, where it is read at this place and is a struct or a
+/// unique pointer.
+pub(crate) fn explain_content(teller: &mut Teller, field: Option<Ident>, span: Span) {
     let found = given(&teller.notes.found);
     let is_struct = matches!(found, Given::Value(Ty::Struct { .. }));
     let is_unique = found.is_unique() || found.is_key();
@@ -210,6 +211,18 @@ pub(crate) fn explain_content(teller: &mut Teller, span: Span) {
         teller.tell(Message::StructRead, span);
     }
     if is_unique {
-        teller.tell(Message::UniqueStays, span);
+        let message = message_on_unique(&mut teller.notes, field);
+        teller.tell(message, span);
+    }
+}
+
+/// What is said of a unique pointer that is read where it is, in the field of this name if it is one.
+fn message_on_unique(notes: &mut Notes, field: Option<Ident>) -> Message {
+    match field {
+        Some(name) => {
+            notes.name = name.name.number;
+            Message::FieldStays
+        }
+        None => Message::UniqueStays,
     }
 }

@@ -142,7 +142,7 @@ impl Words {
             b't' => self.put_found(notes),
             b'w' => self.put_value(notes, &notes.wanted),
             b'r' | b's' | b'a' | b'b' => self.fill_region(notes, letter),
-            b'g' | b'h' | b'i' | b'j' | b'k' | b'v' => self.fill_written(notes, letter),
+            b'g' | b'h' | b'i' | b'j' | b'k' | b'm' | b'v' => self.fill_written(notes, letter),
             _ => self.fill_plain(notes, letter),
         }
     }
@@ -151,6 +151,7 @@ impl Words {
     fn fill_written(&mut self, notes: &Notes, letter: u8) {
         match letter {
             b'g' => self.put_declared(notes),
+            b'm' => self.put_made(notes),
             b'h' => self.put_in_one(notes, &notes.found, b"`r"),
             b'i' => self.put_in_one(notes, &notes.wanted, b"`r"),
             b'j' => self.put_in_one(notes, &notes.found, b"`H"),
@@ -312,6 +313,25 @@ impl Words {
         }
     }
 
+    /// The struct that is to be made, as it stands behind `new`: the one that is wanted of what is made, or found for a field of one.
+    fn put_made(&mut self, notes: &Notes) {
+        let made = if notes.is_new { &notes.wanted } else { &notes.found };
+        if let Some(
+            ValueType::Value {
+                of_type: Ty::Pointer { target, .. },
+            },
+        ) = made
+        {
+            self.put_instance_of(notes, target);
+        }
+    }
+
+    fn put_instance_of(&mut self, notes: &Notes, of_type: &Ty) {
+        if let Ty::Struct { number, regions } = of_type {
+            self.put_instance(notes, *number, regions);
+        }
+    }
+
     /// A type in which this stands for each region.
     fn put_in_one(&mut self, notes: &Notes, value: &Option<ValueType>, region: &'static [u8]) {
         self.stand_in = region;
@@ -356,6 +376,11 @@ impl Words {
 
     fn put_struct(&mut self, notes: &Notes, number: usize, regions: &[Region]) {
         self.put(b"struct ");
+        self.put_instance(notes, number, regions);
+    }
+
+    /// A struct's name with regions, if it has any.
+    fn put_instance(&mut self, notes: &Notes, number: usize, regions: &[Region]) {
         self.put_name(&notes.lexicon, notes.lexicon.struct_name(number));
         if !regions.is_empty() {
             self.put_byte(b'<');

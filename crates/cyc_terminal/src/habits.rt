@@ -10,15 +10,19 @@ use cyc_words::Code;
 
 const UNKNOWN_BYTE: &str = "\
 scanf ..~fgets ..~gets ..~fscanf .. ~~ \" ~~ any ~~ getchar is all that reads: write a function of your own for numbers
-==~!= ~~ \" ~~ any ~~ there are no strings: compare two arrays of chars in a loop, byte by byte
+==~!= ~~ \" ~~ any ~~ there are no strings: one character is 'x', and two arrays of chars are compared in a loop, byte by byte
 = ~~ \" ~~ any ~~ there are no strings: a character is 'a', and a text an array of chars: char ?s = new {for i < 3 : char(0)}; s[0] = 'a';
 any ~~ \" ~~ any ~~ there are no strings: print each byte, as putchar('s'), and a number by a function of your own
 any ~~ #include ~~ any ~~ there are no headers: delete the line, since putchar and getchar are there beforehand
 any ~~ #define ~~ any ~~ there is no preprocessor: a global serves as a constant, as int N = 10;, and a function as a macro with arguments
 any ~~ #if~#ifdef~#ifndef~#else~#elif~#endif~#undef~#pragma~#error~#line~# 1 ~~ any ~~ there is no preprocessor: delete the line
+catch (~catch( ~~ ... ~~ any ~~ what is caught stands in braces: catch { case &E: ..; default: ..; }
 any ~~ ... ~~ any ~~ a function has as many arguments as parameters: give what varies by a ? pointer
 any ~~ .. ~~ any ~~ there are no ranges: write i = 0; while (i < 10) { ..; i = i + 1; }
+include ..~import ..~package ..~using .. ~~ . ~~ any ~~ one file is the whole program, and putchar and getchar are there beforehand: delete the line
+System~Console~console~sys ~~ . ~~ any ~~ there is no library: putchar is all that prints, and getchar all that reads
 any ~~ .length~.len~.size~.count ~~ any ~~ numelts(a) is the number of elements behind a ? pointer
+any ~~ method ~~ any ~~ there are no methods: a function has what it works on as a parameter, as in f(x)
 {~, ~~ . ~~ any ~~ the values of a new struct have no names: give one for each field in their order, as in new P{1, 2}
 any ~~ .0~.1~.2~.3~.4~.5~.6~.7~.8~.9 ~~ any ~~ there are no fractions: int is the only number type
 any ~~ . ~~ any ~~ fields are reached by ->, and a struct stands behind a pointer: struct P @p = new P{1, 2}; p->x = 3;
@@ -54,7 +58,7 @@ any ~~ +~-~*~/~%~<<~>>~|~&~^~(~==~<~> ~~ `;` ~~ a global begins with one constan
 any ~~ any ~~ a constant ~~ a global begins with one constant: give it another value in main
 delete~delete[ ~~ any ~~ any ~~ ufree(p) gives back what a unique pointer leads to, and all else ends with its region
 let~let mut~auto~var~val ~~ any ~~ any ~~ the type stands before the name, as in int x = 3;
-any ~~ let~auto~var~val~def ~~ a declaration ~~ the type stands before the name, as in int x = 3;
+any ~~ let~auto~var~val ~~ a declaration ~~ the type stands before the name, as in int x = 3;
 any ~~ fn~def~func~fun~function~sub~proc ~~ a declaration ~~ a function begins with the type of its result: int f(int n) { .. }
 fn~def~func~fun~function ~~ any ~~ any ~~ a function begins with the type of its result: int f(int n) { .. }
 any ~~ class~interface~impl~trait ~~ a declaration ~~ there are structs and functions alone: struct P { int x; int y; };, and a function has all that it needs as parameters
@@ -73,7 +77,9 @@ any ~~ any ~~ `case` or `default` ~~ a clause begins with case &E: or case &E(n)
 case ~~ name ~~ any ~~ the exception has a & before it: case &E: or case &E(n):
 any ~~ case~default ~~ a statement, a type or `}` ~~ case and default stand in catch { } alone, and there is no switch: write if (c == 1) f(); else if (c == 2) g(); else h();
 throw ~~ any ~~ any ~~ what is thrown is new: throw new Done; or throw new Broken(3);
-throw new .. ~~ ) ~~ any ~~ an exception without an int has no brackets: throw new Done;
+throw new .. ~~ ) ~~ any ~~ an exception has its int in the brackets, and without an int no brackets: throw new Broken(3); or throw new Done;
+raise ~~ any ~~ any ~~ what is thrown is new: throw new Done; or throw new Broken(3);
+any ~~ throws ~~ any ~~ each function may throw: leave out the word and what stands behind it
 loop~forever~repeat ~~ { ~~ any ~~ write while (1) { .. }, and break to leave it
 unless ..~until .. ~~ any ~~ any ~~ write if (!(x)) or while (!(x))
 then ~~ any ~~ any ~~ there is no then: if (x > 0) x = 2;
@@ -84,6 +90,10 @@ any ~~ : ~~ `,`, an operator or `}` ~~ the values of a new struct have no names:
 any ~~ :: ~~ any ~~ there is no ::, as all names stand side by side; an object is made by new 5
 vec ~~ ! ~~ any ~~ an array is made by new, and a ? pointer leads to it: int ?a = new {for i < 10 : 0};
 &mut~& mut ~~ any ~~ any ~~ write &x: what a pointer leads to can be changed
+NewDynamicRegion ~~ any ~~ any ~~ a dynamic region is declared so: let NewDynamicRegion{<`k> key} = new_ukey();
+region ~~ any ~~ `<` ~~ a region has its name and a handle: region<`r> h;
+rnew~open~numelts~ufree~free_ukey ~~ any ~~ `(` ~~ what stands behind it is in brackets, as in rnew(h) 3, open(key), numelts(a) and ufree(p)
+rnew( ..~rnew ( .. ~~ , ~~ any ~~ the value stands behind the brackets: rnew(h) 3
 region< .. ~~ ( ~~ any ~~ a region is opened without brackets: region<`r> h;
 main .. ~~ [ ~~ any ~~ main has no parameters: what it needs it reads by getchar
 (u8)~(u16)~(u32)~(u64)~(i8)~(i16)~(i32)~(i64)~(byte)~(BYTE)~(DWORD)~(uint)~(uchar)~(size_t)~(ssize_t)~(int8_t)~(int16_t)~(int32_t)~(int64_t)~(uint8_t)~(uint16_t)~(uint32_t)~(uint64_t) ~~ any ~~ any ~~ there are no casts: an int needs none, and NULL is the null pointer, and char(x) is the low byte of x
@@ -127,6 +137,7 @@ any ~~ [ ~~ any ~~ an array is made by new, and a ? pointer leads to it: int ?a 
 ; ~~ else ~~ any ~~ else stands right behind the one statement of its if: put several into { }, with no semicolon behind them
 )~else ~~ int~struct ~~ any ~~ a declaration stands in a block: put { } round it, or end with ; what stands before it
 ) char~else char ~~ any ~~ any ~~ a declaration stands in a block: put { } round it, or end with ; what stands before it
+(int ~~ any ~~ `)` ~~ an exception has an int or nothing: datatype exn { Done; Broken(int); };
 int~char ~~ ,~) ~~ any ~~ each parameter has a name, as in int max(int a, int b)
 int~void ~~ ( ~~ any ~~ there are no pointers to functions: an int tells which one, and if calls it
 catch ~~ ( ~~ any ~~ what is caught stands in braces: catch { case &E: ..; default: ..; }
@@ -134,14 +145,16 @@ catch ~~ ( ~~ any ~~ what is caught stands in braces: catch { case &E: ..; defau
 any ~~ ( ~~ any ~~ no function stands in another one, so see whether a } is missing above; and only a name is called
 void ~~ * ~~ any ~~ there is no void *: the type of a pointer says what it leads to
 any ~~ void *~void* ~~ any ~~ there is no void *: the type of a pointer says what it leads to
+any ~~ void ~~ a statement, a type or `}` ~~ no value is a void: a variable is an int, a char or a pointer
 struct ~~ { ~~ any ~~ each struct has a name: struct P { int x; int y; };
+any ~~ { ~~ a name or `<` ~~ a struct is declared outside of functions, beside main
 = ~~ { ~~ any ~~ a struct is made by new P{1, 2}, and an array by new {for i < 10 : 0}
 any ~~ @ ~~ any ~~ the type of a struct has the word struct: struct P @p = new P{1, 2};
 any ~~ , ~~ any ~~ a comma stands only between arguments, parameters and the like: write int a; int b;, or a = 1; b = 2;
 =0~= 0~(0~[0~, 0~+ 0~return 0 ~~ 0~1~2~3~4~5~6~7~8~9 ~~ any ~~ there are no octal numbers, and no other number than 0 begins with 0: write 8 for 010
 number ~~ u~U~l~L~ul~uL~Ul~UL~lu~LU~ll~LL~ull~uLL~Ull~ULL~llu ~~ any ~~ a number has no suffix: leave it out
 number ~~ b0~b1~B0~B1 ~~ any ~~ there are no binary numbers: write 0x5 for 0b101
-number ~~ _0~_1~_2~_3~_4~_5~_6~_7~_8~_9 ~~ any ~~ no _ stands in a number: write 1000000
+number ~~ _0~_1~_2~_3~_4~_5~_6~_7~_8~_9 ~~ any ~~ no _ stands in a number: write 1000000 for 1_000_000
 number ~~ e0~e1~e2~e3~e4~e5~e6~e7~e8~e9~e-~e+~f ~~ any ~~ there are no fractions and no powers of ten: int is the only number type
 number ~~ name ~~ `;` ..~`)` .. ~~ an operator stands between: write 2 * x for 2x
 any ~~ call ~~ a declaration ~~ a function begins with the type of its result, as int main() { .. }, and a call stands in one: see whether a } before it is too many
@@ -153,10 +166,13 @@ marked ~~ name ~~ `;`, `=` or `(`~`)`, `,` or `;`~`;` or `=` ~~ a region begins 
 any ~~ any ~~ a declaration ~~ structs, exceptions, globals and functions alone stand outside of functions: put it into main
 any ~~ } ~~ `;` .. ~~ write ; before it; and what a function gives back stands behind return
 any ~~ any ~~ `;` .. ~~ write ; before it: each statement, each declaration and each struct ends so
+any ~~ ;~{~}~return~if~while~for~else ~~ `)` .. ~~ write ) before it: a ( is not closed
+any ~~ any ~~ `)`, `,` .. ~~ write , or ) before it: arguments and parameters are separated by commas
 any ~~ any ~~ `)` .. ~~ write ) before it: a ( is not closed
 any ~~ any ~~ `]` .. ~~ write ] before it: a [ is not closed
 any ~~ any ~~ `,`, an operator or `}` ~~ write , or } before it: a { is not closed
 any ~~ any ~~ `catch` ~~ a try has its clauses behind it: try .. catch { case &E: ..; default: ..; }
+any ~~ if ~~ an expression .. ~~ an if has no value: if (a > b) y = a; else y = b;
 any ~~ any ~~ an expression .. ~~ a value is missing before it: a variable, a number, a call or what stands in brackets";
 
 const UNEXPECTED_END: &str = "\
@@ -243,12 +259,21 @@ fn begins_with_call(text: &[u8]) -> bool {
     false
 }
 
+/// Whether a text begins with the call of a method.
+fn begins_with_method(text: &[u8]) -> bool {
+    match text.split_first() {
+        Some((byte, rest)) => *byte == b'.' && begins_with_call(rest),
+        None => false,
+    }
+}
+
 /// Whether a text begins with one of the words.
 fn begins_with(text: &[u8], words: &str) -> bool {
     match words {
         "any" => true,
         "name" => begins_with_name(text),
         "call" => begins_with_call(text),
+        "method" => begins_with_method(text),
         "wide" => text.first().is_some_and(|byte| !byte.is_ascii()),
         _ => {
             for word in words.split('~') {
