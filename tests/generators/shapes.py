@@ -362,6 +362,15 @@ REFUSED = {
     "a token too many": Shape(IN_MAIN + "int x = 1 ; ", "x = 2 ; ", ") ;" + BEHIND, checked="fault 10"),
     "a text that is cut off": Shape(IN_MAIN + "int x = 1 ; ", "x = 2 ; ", "x = 2", checked="fault 11"),
     "a long name that is unknown": Shape("int main ( ) { ", "a", " = 1 ; return 0 ; }", checked="fault 20", by_bytes=True),
+    # the first twenty behind the first are told too
+    "a name that is unknown in each function": Shape("", "void f# ( int x ) { x = 1 ; x = y ; } ", PROGRAM_BEHIND, checked="fault 20"),
+    "an int for a pointer in each function": Shape("", "void f# ( int * p ) { p = NULL ; p = 1 ; } ", PROGRAM_BEHIND, checked="fault 22"),
+    "a local that is empty in each function": Shape("", "void f# ( ) { int x ; int y = 1 ; y = x ; } ", PROGRAM_BEHIND, checked="fault 40"),
+    "a token too many in each function": Shape("", "void f# ( int x ) { x = 1 ; x = ) ; } ", PROGRAM_BEHIND, checked="fault 10"),
+    "a byte that is none in each function": Shape("", "void f# ( int x ) { x = 1 ; x = $ ; } ", PROGRAM_BEHIND, checked="fault 1"),
+    "mistakes in the last functions": Shape(
+        "", "void f# ( int x ) { x = 1 ; x = x + 2 ; } ",
+        "".join(f"void g{n} ( int x ) {{ x = y ; }} " for n in range(21)) + PROGRAM_BEHIND, checked="fault 20"),
     "a type of long names": Long(
         "struct A~ < `b~ > { int f ; } ; int f ( struct A~ < `c~ > * `d~ p ) { p = 1 ; return 0 ; }" + PROGRAM_BEHIND, checked="fault 22"),
 }

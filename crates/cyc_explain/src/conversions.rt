@@ -198,9 +198,6 @@ fn has_shape(of_type: &Ty, wanted: &Ty) -> bool {
 fn more_on(given: Given<'_>, wanted: &Ty) -> Message {
     match (given, wanted) {
         (Given::Void, _) => Message::VoidUsed,
-        (Given::Value(of_type), Ty::Pointer { .. }) if has_shape(of_type, wanted) => {
-            Message::OtherRegions
-        }
         (Given::Value(Ty::Pointer { .. }), Ty::Int | Ty::Char) => Message::TargetWanted,
         (
             Given::Value(Ty::Pointer { target, .. }),
@@ -217,9 +214,10 @@ fn more_on(given: Given<'_>, wanted: &Ty) -> Message {
     }
 }
 
-/// The same of pointers that lead to two types.
+/// The same of pointers that lead to two types. Their own marks differ as they like: it is what they lead to that is not converted.
 fn more_on_targets(target: &Ty, wanted: &Ty) -> Message {
     match (target, wanted) {
+        _ if has_shape(target, wanted) => Message::OtherRegions,
         (Ty::Int, Ty::Char) => Message::BytesWanted,
         (Ty::Char, Ty::Int) => Message::IntsWanted,
         (Ty::Int | Ty::Char, _) => Message::Nothing,
@@ -267,17 +265,26 @@ fn better(notes: &Notes, lead: Message, more: Message) -> Message {
     }
 }
 
-/// Whether what is found, for a field of a new struct, leads to such a struct itself.
-fn leads_to_made(notes: &Notes) -> bool {
-    match &notes.found {
+/// The struct that a pointer leads to, by its number.
+fn struct_behind(value: &Option<ValueType>) -> Option<usize> {
+    match value {
         Some(
             ValueType::Value {
                 of_type: Ty::Pointer { target, .. },
             },
-        ) => struct_of(target).is_some_and(|number| {
-            notes.lexicon.struct_name(number) == notes.other
-        }),
-        _ => false,
+        ) => struct_of(target),
+        _ => None,
+    }
+}
+
+/// Whether what is wanted is made of a new struct at this place; or what is found, for a field of one, leads to such a struct itself.
+fn is_of_new(notes: &Notes, lead: Message) -> bool {
+    match lead {
+        Message::FieldType => struct_behind(&notes.found).is_some_and(|number| notes
+            .lexicon
+            .struct_name(number)
+            == notes.other),
+        _ => notes.is_new && struct_behind(&notes.wanted).is_some(),
     }
 }
 
@@ -297,9 +304,9 @@ fn better_on_regions(notes: &Notes, lead: Message, more: Message) -> Message {
     };
     match (lead, more) {
         (Message::ArgumentType, Message::OtherRegions) => Message::RegionsOfParameter,
-        (Message::FieldType, Message::OtherRegions) if leads_to_made(notes) => Message::RegionsOfNew,
-        (_, Message::OtherRegions) if notes.is_new => Message::RegionsOfNew,
+        (_, Message::OtherRegions) if is_of_new(notes, lead) => Message::RegionsOfNew,
         (_, Message::OtherTarget) if !is_written => Message::TargetNamed,
+        _ if !is_written && notes.variable == NO_NAME => Message::TargetNamed,
         _ if !is_written => more,
         (Message::LocalType | Message::VariableType, Message::OtherRegions) => {
             Message::RegionsOfVariable

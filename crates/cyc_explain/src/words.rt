@@ -315,7 +315,11 @@ impl Words {
 
     /// The struct that is to be made, as it stands behind `new`: the one that is wanted of what is made, or found for a field of one.
     fn put_made(&mut self, notes: &Notes) {
-        let made = if notes.is_new { &notes.wanted } else { &notes.found };
+        let made = if notes.is_new {
+            &notes.wanted
+        } else {
+            &notes.found
+        };
         if let Some(
             ValueType::Value {
                 of_type: Ty::Pointer { target, .. },
