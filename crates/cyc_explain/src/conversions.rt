@@ -284,8 +284,36 @@ fn is_of_new(notes: &Notes, lead: Message) -> bool {
             .lexicon
             .struct_name(number)
             == notes.other),
-        _ => notes.is_new && struct_behind(&notes.wanted).is_some(),
+        _ => notes.is_new && struct_behind(&notes.wanted).is_some() && is_of_heap(&notes.found),
     }
+}
+
+/// Whether what a pointer leads to is a struct whose regions are all the heap, as where they are left out.
+fn is_of_heap(value: &Option<ValueType>) -> bool {
+    match value {
+        Some(
+            ValueType::Value {
+                of_type: Ty::Pointer { target, .. },
+            },
+        ) => has_heap_alone(target),
+        _ => false,
+    }
+}
+
+fn has_heap_alone(of_type: &Ty) -> bool {
+    match of_type {
+        Ty::Struct { regions, .. } => are_heap(regions),
+        _ => false,
+    }
+}
+
+fn are_heap(regions: &[Region]) -> bool {
+    for region in regions {
+        if *region != Region::Heap {
+            return false;
+        }
+    }
+    true
 }
 
 /// The number of the struct that a type is.
