@@ -1,25 +1,40 @@
 //! The values of constant expressions.
-use cyc_syntax::{BinaryOperator, Expr, PrefixOperator};
+use cyc_syntax::{BinaryOperator, Expr, Operation, PrefixOperator};
+
+/// How many expressions stand in each other at most where a value is worked out: each that has one is asked for it anew, so that without
+/// a limit the work would grow with the square of the depth.
+const DEEPEST: u32 = 12;
 
 /// The value of an expression of constants. What a run works out with signs, as a quotient of a negative number, is not worked out here.
 pub(crate) fn constant_of(expression: &Expr) -> Option<u32> {
+    constant_within(expression, DEEPEST)
+}
+
+/// The same of one in which no more than so many expressions stand in each other.
+fn constant_within(expression: &Expr, levels: u32) -> Option<u32> {
+    if levels == 0 {
+        return None;
+    }
     match expression {
         Expr::Number { value, .. } => Some(*value),
         Expr::Character { value, .. } => Some(u32::from(*value)),
-        Expr::Bracketed { inner, .. } => constant_of(inner),
+        Expr::Bracketed { inner, .. } => constant_within(inner, levels - 1),
         Expr::Prefixed {
             operator,
             operand,
             ..
-        } => match constant_of(operand) {
+        } => match constant_within(operand, levels - 1) {
             Some(value) => changed(*operator, value),
             None => None,
         },
         Expr::Binary { first, rest } => {
-            let mut value = constant_of(first);
+            if !are_worked_out(rest) {
+                return None;
+            }
+            let mut value = constant_within(first, levels - 1);
             for operation in rest {
                 if let Some(left) = value {
-                    value = match constant_of(&operation.operand) {
+                    value = match constant_within(&operation.operand, levels - 1) {
                         Some(right) => computed(operation.operator, left, right),
                         None => None,
                     };
@@ -28,6 +43,31 @@ pub(crate) fn constant_of(expression: &Expr) -> Option<u32> {
             value
         }
         _ => None,
+    }
+}
+
+/// Whether there is a value behind all these operators: `computed` has none of conditions.
+fn are_worked_out(operations: &[Operation]) -> bool {
+    for operation in operations {
+        if is_condition(operation.operator) {
+            return false;
+        }
+    }
+    true
+}
+
+/// Whether an operator compares, or is one of truths.
+fn is_condition(operator: BinaryOperator) -> bool {
+    match operator {
+        BinaryOperator::OrElse
+        | BinaryOperator::AndThen
+        | BinaryOperator::Equal
+        | BinaryOperator::NotEqual
+        | BinaryOperator::Less
+        | BinaryOperator::LessOrEqual
+        | BinaryOperator::Greater
+        | BinaryOperator::GreaterOrEqual => true,
+        _ => false,
     }
 }
 
