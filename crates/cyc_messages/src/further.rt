@@ -344,6 +344,27 @@ fn make_blank(text: &mut [u8], start: usize, end: usize) {
     }
 }
 
+/// What stands in a text from this byte on, behind as many lines as are before it and the blanks of its own: so it has its places, and
+/// what was read is not read again.
+fn rest_in_place(alloc: Global, text: &[u8], end: usize) -> Result<Vec<u8>, AllocError> {
+    let mut left = Vec::new(alloc);
+    let mut column = 0_usize;
+    for byte in text.iter().take(end) {
+        column = column.saturating_add(1);
+        if *byte == b'\n' {
+            left.push(b'\n')?;
+            column = 0;
+        }
+    }
+    for _ in 0..column {
+        left.push(b' ')?;
+    }
+    for byte in text.iter().skip(end) {
+        left.push(*byte)?;
+    }
+    Ok(left)
+}
+
 /// What a text is refused for by its tokens or its grammar.
 fn refused_reading(alloc: Global, text: &[u8]) -> Option<Fault>
     ensures { IfSome result (IsRefusedText text.now) }
@@ -372,8 +393,14 @@ fn tell_readings(
     for _ in 0..MOST_FURTHER {
         let place = text_before(text, fault.line, fault.column).len();
         let Extent { start, end } = extent_of(&starts, text.len(), place);
-        let start = if is_of_token(fault.code) { start } else { 0 };
-        make_blank(&mut left, start, end);
+        // What is left ends where the text does.
+        let gone = text.len().saturating_sub(left.len());
+        let end = end.saturating_sub(gone);
+        if is_of_token(fault.code) {
+            make_blank(&mut left, start.saturating_sub(gone), end);
+        } else {
+            left = rest_in_place(alloc, &left, end)?;
+        }
         let Some(found) = refused_reading(alloc, &left) else {
             return Ok(());
         };
