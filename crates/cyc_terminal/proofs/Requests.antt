@@ -23,7 +23,7 @@ compiled name given (Ok (Check source json)) named is = absurd is
 compiled name given (Ok (Run image limits caps budget report peaks places)) named is = absurd is
 compiled name given (Ok (Disassemble image)) named is = absurd is
 compiled name given (Ok (Explain code)) named is = absurd is
-compiled name given (Ok (Describe image)) named is = absurd is
+compiled name given (Ok (Describe image places)) named is = absurd is
 compiled name given (Ok (Format source output)) named is = absurd is
 compiled name given (Err e) named is = tt
 
@@ -33,7 +33,7 @@ run name given (Ok (Check source json)) named is = absurd is
 run name given (Ok (Compile source image limits places json)) named is = absurd is
 run name given (Ok (Disassemble image)) named is = absurd is
 run name given (Ok (Explain code)) named is = absurd is
-run name given (Ok (Describe image)) named is = absurd is
+run name given (Ok (Describe image places)) named is = absurd is
 run name given (Ok (Format source output)) named is = absurd is
 run name given (Err e) named is = tt
 
@@ -43,7 +43,7 @@ within_budget name given (Ok (Check source json)) is = tt
 within_budget name given (Ok (Compile source image limits places json)) is = tt
 within_budget name given (Ok (Disassemble image)) is = tt
 within_budget name given (Ok (Explain code)) is = tt
-within_budget name given (Ok (Describe image)) is = tt
+within_budget name given (Ok (Describe image places)) is = tt
 within_budget name given (Ok (Format source output)) is = tt
 within_budget name given (Err e) is = tt
 
@@ -84,7 +84,7 @@ by_rows name f (Run image limits caps budget report peaks places) (named, (i, l,
 )
 by_rows name f (Disassemble image) (named, i) = (named, sym (first_value-rows f (codes "image")) ∙ i)
 by_rows name f (Explain code) (named, c) = (named, subst (λ (o : Option (List ℕ)). IsCodeOf o code) (first_value-rows f (codes "code")) c)
-by_rows name f (Describe image) (named, i) = (named, sym (first_value-rows f (codes "image")) ∙ i)
+by_rows name f (Describe image places) (named, i, p) = (named, sym (first_value-rows f (codes "image")) ∙ i, sym (first_value-rows f (codes "places")) ∙ p)
 by_rows name f (Format source output) (named, s, o) = (named, sym (first_value-rows f (codes "source")) ∙ s, sym (first_value-rows f (codes "output")) ∙ o)
 
 -- the subcommand that the parser entered, of which the name and the rows are known

@@ -51,9 +51,10 @@ pub enum Request<'a> {
     Explain {
         code: Code,
     },
-    /// `info IMAGE`: to say what an image is.
+    /// `info IMAGE`: to say what an image is, and by the file `places`, where one is named, which functions it has.
     Describe {
         image: &'a str,
+        places: Option<&'a str>,
     },
     /// `format SOURCE`: to lay out the program in the file `source` anew, and to write it to the file `output`, or to print it where none is
     /// given.
@@ -122,11 +123,13 @@ const EXPLAIN_HELP: &str = "Example:
 The last line of a refusal has its code: fault 22 at 3:14. What is printed is the rule, a program
 that breaks it, and that program mended. Without a code the codes are listed.";
 
-const INFO_HELP: &str = "Example:
+const INFO_HELP: &str = "Examples:
   cyclone info hello.elf
+  cyclone info hello.elf --places hello.places
 
 The lines say where the image is entered, which segments it has, which limits it carries for
-its runs, and whether it has the form of what this compiler makes.";
+its runs, and whether it has the form of what this compiler makes. With the file of places that
+compile wrote, a line for each function has its address and its size.";
 
 const FORMAT_HELP: &str = "Examples:
   cyclone format hello.cyc
@@ -282,6 +285,13 @@ const GIVEN_PLACES: Word = Word {
     help: "The image's file of places, to say where in the program the run ended",
 };
 
+const PLACES_OF_IMAGE: Word = Word {
+    id: "places",
+    shown: "FILE",
+    form: Form::FileIfGiven,
+    help: "The image's file of places, to say which functions it has",
+};
+
 const STEPS: Word = Word {
     id: "steps",
     shown: "N",
@@ -347,7 +357,7 @@ const COMMANDS: &[Plan] = &[
         path: "cyclone info",
         about: "Says what an image is",
         after_help: INFO_HELP,
-        words: &[IMAGE],
+        words: &[IMAGE, PLACES_OF_IMAGE],
     },
     Plan {
         name: "format",
@@ -662,7 +672,10 @@ fn request_of<'a>(alloc: Global, name: &str, matches: &ArgMatches<'a>) -> Result
         }
         "info" => {
             let image = file_of(&mut command, matches, "image")?;
-            Ok(Request::Describe { image })
+            Ok(Request::Describe {
+                image,
+                places: matches.get_str("places"),
+            })
         }
         "format" => {
             let source = file_of(&mut command, matches, "source")?;

@@ -123,6 +123,8 @@ pub struct Table {
     /// The names of its functions, in the order of their numbers.
     pub functions: Vec<Named>,
     pub stretches: Vec<Stretch>,
+    /// The first address behind them.
+    pub end: u32,
 }
 
 /// A number in digits to this base.
@@ -224,7 +226,9 @@ impl Table {
             Some(b"function") => put(&mut self.functions, read_name(alloc, name, false)?)?,
             word => {
                 let address = small_in(word, 16).ok_or(Unread::Malformed)?;
-                if word_in(line, 1) != Some(b"end") {
+                if word_in(line, 1) == Some(b"end") {
+                    self.end = address;
+                } else {
                     let source = source_in(line).ok_or(Unread::Malformed)?;
                     put(&mut self.stretches, Stretch { address, source })?;
                 }
@@ -242,6 +246,7 @@ pub fn table_in(alloc: Global, file: &[u8]) -> Result<Table, Unread> {
         exceptions: Vec::new(alloc),
         functions: Vec::new(alloc),
         stretches: Vec::new(alloc),
+        end: 0,
     };
     let mut is_first = true;
     for line in file.split(|byte| *byte == b'\n') {

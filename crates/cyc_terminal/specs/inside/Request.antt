@@ -16,7 +16,7 @@ IsWithinBudget (Check source json) = Unit {0}
 IsWithinBudget (Compile source image limits places json) = Unit {0}
 IsWithinBudget (Disassemble image) = Unit {0}
 IsWithinBudget (Explain code) = Unit {0}
-IsWithinBudget (Describe image) = Unit {0}
+IsWithinBudget (Describe image places) = Unit {0}
 IsWithinBudget (Format source output) = Unit {0}
 
 -- the number is what the text of the option writes in decimal
@@ -52,7 +52,7 @@ IsCompileRequest given (Check source json) = ⊥
 IsCompileRequest given (Run image limits caps budget report peaks places) = ⊥
 IsCompileRequest given (Disassemble image) = ⊥
 IsCompileRequest given (Explain code) = ⊥
-IsCompileRequest given (Describe image) = ⊥
+IsCompileRequest given (Describe image places) = ⊥
 IsCompileRequest given (Format source output) = ⊥
 
 -- the request is to run the image that was given, with the limits, the caps and the budget that were given, to report to the file that
@@ -70,7 +70,7 @@ IsRunRequest given (Check source json) = ⊥
 IsRunRequest given (Compile source image limits places json) = ⊥
 IsRunRequest given (Disassemble image) = ⊥
 IsRunRequest given (Explain code) = ⊥
-IsRunRequest given (Describe image) = ⊥
+IsRunRequest given (Describe image places) = ⊥
 IsRunRequest given (Format source output) = ⊥
 
 -- the code is that of the number that is written
@@ -85,7 +85,8 @@ IsRequestOf name given (Compile source image limits places json) = (name ≡ cod
 IsRequestOf name given (Run image limits caps budget report peaks places) = (name ≡ codes "run") × IsRunRequest given (Run image limits caps budget report peaks places)
 IsRequestOf name given (Disassemble image) = (name ≡ codes "disasm") × (given (codes "image") ≡ Some image.now)
 IsRequestOf name given (Explain code) = (name ≡ codes "explain") × IsCodeOf (given (codes "code")) code
-IsRequestOf name given (Describe image) = (name ≡ codes "info") × (given (codes "image") ≡ Some image.now)
+IsRequestOf name given (Describe image places) = (name ≡ codes "info") × (given (codes "image") ≡ Some image.now)
+    × (given (codes "places") ≡ option_map (λ path. path.now) places)
 IsRequestOf name given (Format source output) = (name ≡ codes "format") × (given (codes "source") ≡ Some source.now)
     × (given (codes "output") ≡ option_map (λ path. path.now) output)
 

@@ -1,0 +1,94 @@
+//! The functions of an image, as its file of places has them.
+use crate::places::Table;
+use cyc_system::{Source, Stretch};
+use cyc_terminal::Shown;
+use std::fmt;
+
+/// How many bytes a word of text has.
+const WORD: u32 = 4;
+
+/// The number of the function that words of text are of, which those of the start have none of.
+fn function_of(source: Source) -> Option<usize> {
+    match source {
+        Source::Start => None,
+        Source::Part { function, .. }
+        | Source::Raise { function }
+        | Source::PassOn { function, .. } => Some(function),
+    }
+}
+
+/// Where a function begins: at its first word.
+#[derive(Clone, Copy)]
+struct Begun {
+    number: usize,
+    address: u32,
+}
+
+/// Whether words of this origin go on with what has begun.
+fn goes_on(begun: Option<Begun>, number: Option<usize>) -> bool {
+    match (begun, number) {
+        (Some(begun), Some(number)) => begun.number == number,
+        (None, None) => true,
+        _ => false,
+    }
+}
+
+/// What begins with words of this origin.
+fn begun_at(number: Option<usize>, address: u32) -> Option<Begun> {
+    match number {
+        Some(number) => Some(Begun { number, address }),
+        None => None,
+    }
+}
+
+/// The functions of an image, of which the `Display` has a line each, in the order in which they stand in the text: the name, the address
+/// and the words.
+#[derive(Drop)]
+pub struct Functions<'a>(pub &'a Table);
+
+impl Functions<'_> {
+    /// The line of a function that ends before this address.
+    fn write_line<W: fmt::Write>(
+        &self,
+        begun: Begun,
+        end: u32,
+        f: &mut fmt::Formatter<W>,
+    ) -> fmt::Result {
+        let Some(named) = self.0.functions.get(begun.number) else {
+            return Ok(());
+        };
+        let words = end.saturating_sub(begun.address) / WORD;
+        let name = Shown(named.name.as_slice());
+        let address = begun.address;
+        write!(f, "function {name} at {address:08x}, {words} words\n")
+    }
+
+    /// The lines of the functions that begin among these stretches.
+    fn write_all<W: fmt::Write>(
+        &self,
+        stretches: &[Stretch],
+        f: &mut fmt::Formatter<W>,
+    ) -> fmt::Result {
+        let mut begun: Option<Begun> = None;
+        for stretch in stretches {
+            let number = function_of(stretch.source);
+            if goes_on(begun, number) {
+                continue;
+            }
+            if let Some(last) = begun {
+                self.write_line(last, stretch.address, f)?;
+            }
+            begun = begun_at(number, stretch.address);
+        }
+        match begun {
+            Some(last) => self.write_line(last, self.0.end, f),
+            None => Ok(()),
+        }
+    }
+}
+
+impl fmt::Display for Functions<'_> {
+    fn fmt<W: fmt::Write>(&self, f: &mut fmt::Formatter<W>) -> fmt::Result {
+        self.write_all(self.0.stretches.as_slice(), f)
+    }
+}
