@@ -156,7 +156,7 @@ class Meter:
         with open(self.said, encoding="ascii") as file:
             stack = int(file.read())
         os.remove(self.said)
-        return stack, done.stderr.decode("latin-1").split("\n")[-2], done.returncode
+        return stack, ["", *done.stderr.decode("latin-1").split("\n")][-2], done.returncode
 
     def measure(self, name, text):
         """The most stack that the commands take on a text, and whether it nests too deep."""
