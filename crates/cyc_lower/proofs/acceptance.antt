@@ -1,5 +1,4 @@
 -- that what the front end accepts can be lowered
-pub mod TreeConstants
-pub mod TypedConstants
+pub mod GlobalConstants
 pub mod LowerableLemmas
 pub mod Accepted

@@ -8,8 +8,9 @@ use Rattle.cyc_syntax.proofs.WeightLemmas.{tree_weight-length}
 use Rattle.cyc_types.specs.TypedTrees.{Program}
 use Rattle.cyc_types.specs.Texts.{IsOfTextProgram}
 use Rattle.cyc_types.specs.Weight.{program_weight}
-use Rattle.cyc_types.proofs.typing.TextLemmas.{program_of_text}
+use Rattle.cyc_types.proofs.typing.TextLemmas.{program_meets, of_text}
 use Rattle.cyc_types.proofs.typing.WeightLemmas.{program_lighter}
+use Rattle.cyc_lower.proofs.acceptance.Accepted.{text_constants}
 use Rattle.cyc_soundness.specs.Sound.{IsSound}
 use Rattle.cyc_soundness.proofs.FormedLemmas.{typed_sound}
 use Rattle.cyc_system.specs.Front.{names_in, IsAcceptedText}
@@ -33,7 +34,9 @@ accepted_light text p a =
 
 -- its structs have few fields, the numbers of its exceptions are words, and arithmetic on pointers stands alone
 pub accepted_of_text : (text : List ℕ) (p : Program) → IsAcceptedText text p → IsOfTextProgram p
-accepted_of_text text p a = program_of_text (names_in a.tokens) (symbols_of a.tokens) a.tree p a.has_tree.has a.has_tree.within (symbols_few text p a) a.typed
+accepted_of_text text p a =
+    let words = text_constants text a.tokens a.has_tokens.rule a.has_tokens.within in
+    of_text p (program_meets (names_in a.tokens) (symbols_of a.tokens) a.tree p a.has_tree.has a.has_tree.within words (symbols_few text p a) a.typed)
 
 -- no run of it is ever dead or wrong
 pub accepted_sound : (text : List ℕ) (p : Program) → IsAcceptedText text p → IsSound p

@@ -9,6 +9,8 @@ pub mod FormedLemmas
 pub mod FormedPrograms
 pub mod ProgramLemmas
 pub mod WeightLemmas
+pub mod TreeConstants
+pub mod DemandLemmas
 pub mod TextLemmas
 -- worked examples, by computation
 pub mod Examples

@@ -8,6 +8,7 @@ pub mod Rules
 pub mod typing
 pub mod flow
 pub mod Numbered
+pub mod Demands
 pub mod Texts
 pub mod Weight
 pub mod Outlives

@@ -20,14 +20,15 @@ use Rattle.cyc_types.specs.TypedTrees.{Program, GlobalVariable}
 use Rattle.cyc_types.specs.typing.Programs.{IsTypedProgram}
 use Rattle.cyc_types.specs.Weight.{program_weight}
 use Rattle.cyc_types.proofs.WeightLemmas.{declarations_counted}
-use Rattle.cyc_types.specs.Texts.{IsOfTextProgram}
-use Rattle.cyc_types.proofs.typing.ProgramLemmas.{program_well}
-use Rattle.cyc_types.proofs.typing.TextLemmas.{program_of_text}
+use Rattle.cyc_types.specs.Demands.{FunctionsMeet}
+use Rattle.cyc_types.proofs.typing.TreeConstants.{IsOfWordsTerminal, AreOfWordsSymbols, tree_constants}
+use Rattle.cyc_types.proofs.typing.DemandLemmas.{functions_meet}
+use Rattle.cyc_types.proofs.typing.TextLemmas.{tree_demands, program_meets}
 use Rattle.cyc_types.proofs.typing.WeightLemmas.{program_lighter}
-use Rattle.cyc_lower.proofs.acceptance.LowerableLemmas.{lowerable_program}
+use Rattle.cyc_lower.proofs.acceptance.LowerableLemmas.{all_few}
 use Rattle.cyc_lower.specs.inside.Lowered.{CanBeLowered}
-use Rattle.cyc_lower.proofs.acceptance.TreeConstants.{IsOfWordsTerminal, AreOfWordsSymbols, tree_constants}
-use Rattle.cyc_lower.proofs.acceptance.TypedConstants.{typed_constants}
+use Rattle.cyc_lower.specs.inside.Lowerable.{lowering_demands}
+use Rattle.cyc_lower.proofs.acceptance.GlobalConstants.{typed_globals}
 use Rattle.cyc_meaning.specs.FrameCount.{words_of_all}
 use Rattle.cyc_meaning.specs.Values.{kind_of}
 use Rattle.cyc_lower.specs.inside.Slots.{global_types}
@@ -41,13 +42,15 @@ globals_few (g ∷ gs) = omega (arith, type_words g.of_type, kind_few (kind_of g
 pub can_be_lowered : (texts : List (List ℕ)) (symbols : List Symbol) (tree : List Declaration) (p : Program)
     → HasTree symbols tree → IsTreeWithinLimits tree → AreOfWordsSymbols symbols → length symbols ≤ max_tokens → IsTypedProgram texts tree p → CanBeLowered p
 can_be_lowered texts symbols tree p has small words short typed =
-    let text : IsOfTextProgram p = program_of_text texts symbols tree p has small short typed in
+    let met : FunctionsMeet tree_demands p.functions = program_meets texts symbols tree p has small words short typed in
     let weight : tree_weight tree ≡ length symbols = tree_weight-length symbols tree has in
     let fewer : program_weight p ≤ tree_weight tree = program_lighter texts tree p typed in
     let counted : 3 * length p.globals + 6 * length p.functions ≤ program_weight p = declarations_counted p in
     record {
-      lowerable = lowerable_program p (program_well texts tree p typed) text;
-      of_words = typed_constants texts tree p typed text (tree_constants symbols tree has words);
+      of_words = record {
+        functions = functions_meet tree_demands lowering_demands (record { number = λ n w. w; fields = λ cs w. (w.0, omega (arith, w.1, all_few cs)); pointer = λ o os w. w; exception = λ n w. w }) p.functions met;
+        globals = typed_globals texts tree p typed (tree_constants symbols tree has words);
+      };
       few_globals = omega (arith, globals_few p.globals);
     }
 

@@ -19,7 +19,6 @@ use Rattle.cyc_meaning.specs.Sizes.{max_functions, size_per_weight}
 use Rattle.cyc_lower.specs.inside.Slots.{global_types}
 use Rattle.cyc_lower.specs.inside.Lowering.{span_of_place}
 use Rattle.cyc_lower.specs.inside.Words.{IsOfWordsProgram}
-use Rattle.cyc_lower.specs.inside.Lowerable.{IsLowerableProgram}
 use Rattle.cyc_plain.specs.inside.Memory.{IsBelow, slots_end}
 
 -- ---- what the plain program does
@@ -55,10 +54,9 @@ pub record IsLowered (source : Program) (lowered : PlainProgram) : Type 0 where
   pub follows : (pages calls base : ℕ) (store : StoreState) (input : List ℕ) → IsNew pages store → 1 ≤ pages → pages ≤ MOST_PAGES → 1 ≤ calls → AllByRecursion (λ b. b < 256) input
       → IsBelow lowered lowered.main base slots_end → FollowsSource source lowered pages calls base store input
 
--- What is asked of the typed tree. That of a text has it all: its forms are lowered and its numbers name what is there, its
--- constants are words, and its globals have no more words than it has tokens.
+-- What is asked of a well typed tree. That of a text has it all: its forms are lowered, its numbers are words, and its globals have
+-- no more words than it has tokens.
 pub record CanBeLowered (source : Program) : Type 0 where
-  pub lowerable : IsLowerableProgram source
   pub of_words : IsOfWordsProgram source
   pub few_globals : words_of_all (global_types source.globals) ≤ MOST_GLOBALS
 
