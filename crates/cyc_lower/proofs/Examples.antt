@@ -331,6 +331,15 @@ alternatives_code : code_of_body (all (If (two (local 0) (ThenTest OrElse (two (
     ∷ instructions.Finish 2 ∷ []
 alternatives_code = refl
 
+-- and so has each of `&&`, which goes to what stands behind `else` where it fails
+parts_code : code_of_body (all (If (two (local 0) (ThenTest AndThen (two (local 1) (ThenCompute Less (Number 3) NoOperations)) NoOperations)) (returns (local 1)) (returns (local 0)) ∷ [])) ≡
+    jump_if_zero (Slot 0) 4 ∷ instructions.Branch comparisons.GreaterOrEqual (Slot 1) (Constant 3) 4
+    ∷ instructions.Finish 1
+    ∷ Jump 5
+    ∷ instructions.Finish 0
+    ∷ instructions.Finish 2 ∷ []
+parts_code = refl
+
 -- a condition that may have much code stands behind the body alone
 jumped_code : code_of_body (all (While nowhere (sets 0 (local 1)) Empty ∷ [])) ≡
     Jump 2 ∷ Jump 4 ∷ Move 0 (Slot 1) ∷ jump_if_nonzero (Slot 0) 2

@@ -1,9 +1,9 @@
 //! The code of conditions: two operands that are compared, before a jump that is taken where the condition fails.
-ghost use Rattle.std.specs.Prelude.{◌≡◌, ◌≤◌, ◌+◌, length};
+ghost use Rattle.std.specs.Prelude.{◌≡◌, ◌≤◌, ◌<◌, ◌+◌, IfOk, length, set};
 ghost use Rattle.cyc_types.specs.TypedTreeView.{view_expression, operations_of};
-ghost use Rattle.cyc_lower.specs.inside.ControlCode.{is_same, all_test, are_tests};
+ghost use Rattle.cyc_lower.specs.inside.ControlCode.{is_same, all_test, are_tests, failing_jump};
 ghost use Rattle.cyc_lower.specs.inside.Lowering.{condition_of, condition_code, tests_code, last_condition, behind_tests, choice_of, choice_code};
-ghost use Rattle.cyc_lower.specs.inside.Emission.{Gives, most_locals, value_code, IsChain, is_test, other_code, other_condition, zero_condition, view_starts, null_condition};
+ghost use Rattle.cyc_lower.specs.inside.Emission.{Gives, most_locals, value_code, IsChain, is_test, other_code, other_condition, zero_condition, view_starts, null_condition, failed, AreBefore, IsEarly, IsSettled, IsBranch};
 
 use crate::emitter::Emitter;
 use crate::operands::{Condition, slot_behind};
@@ -12,6 +12,20 @@ use crate::starts::Starts;
 use cyc_plain::{Comparison, Operand};
 use cyc_types::typed::{Expr, Kind, LogicalOperator, Operation, UnaryOperator};
 use std::alloc::AllocError;
+
+/// A jump whose target is not yet known, which stands at a place and is taken where a condition fails.
+#[derive(Clone, Copy)]
+pub(crate) struct Pending {
+    pub(crate) place: usize,
+    pub(crate) condition: Condition,
+}
+
+/// The condition of a branch before the jump over its first statement, and the jumps before that which lead where it does.
+#[derive(Drop)]
+pub(crate) struct Tested {
+    pub(crate) last: Condition,
+    pub(crate) early: Vec<Pending>,
+}
 
 fn is_same(operator: LogicalOperator, other: LogicalOperator) -> bool
     ensures { result ≡ is_same operator other }
@@ -205,6 +219,29 @@ impl Emitter {
         Ok(condition)
     }
 
+    /// The same of tests by `&&`, where it is not yet known to which place the jumps lead.
+    fn lower_early(
+        &mut self,
+        starts: &Starts,
+        first: &Expr,
+        rest: &[Operation],
+        free: usize,
+    ) -> Result<Tested, AllocError>
+        requires { free ≤ most_locals + length self.old.code.items }
+        ensures { IfOk result (IsEarly (view_starts starts.now) (view_expression first.now) rest.now free self.old.code.items self.new.code.items) }
+    {
+        let mut last = self.lower_condition(starts, first, free)?;
+        let mut early = Vec::new(starts.alloc);
+        for operation in rest {
+            early.push(Pending {
+                place: self.place(),
+                condition: last,
+            })?;
+            last = self.lower_other(starts, LogicalOperator::AndThen, operation, last, 0, free)?;
+        }
+        Ok(Tested { last, early })
+    }
+
     /// The same, where all go on behind the jump that follows. Where that is, is known when the code was made once.
     fn lower_chain(
         &mut self,
@@ -268,5 +305,77 @@ impl Emitter {
             }
             _ => self.compare_with_zero(starts, value, free),
         }
+    }
+
+    /// A branch's condition whose jumps all lead where they are to.
+    fn lower_settled(
+        &mut self,
+        starts: &Starts,
+        value: &Expr,
+        free: usize,
+    ) -> Result<Tested, AllocError>
+        requires { free ≤ most_locals + length self.old.code.items }
+        ensures { IfOk result (IsSettled (view_starts starts.now) (view_expression value.now) free self.old.code.items self.new.code.items) }
+    {
+        let last = self.lower_choice(starts, LogicalOperator::OrElse, value, free)?;
+        Ok(Tested {
+            last,
+            early: Vec::new(starts.alloc),
+        })
+    }
+
+    /// A branch's condition that is a chain, of tests by `&&` or not.
+    fn branch_chain(
+        &mut self,
+        starts: &Starts,
+        value: &Expr,
+        first: &Expr,
+        rest: &[Operation],
+        free: usize,
+    ) -> Result<Tested, AllocError>
+        requires low { free ≤ most_locals + length self.old.code.items }
+        requires chain { IsChain (view_expression value.now) (view_expression first.now) (operations_of rest.now) }
+        ensures { IfOk result (IsBranch (view_starts starts.now) (view_expression value.now) free self.old.code.items self.new.code.items) }
+    {
+        if are_tests(LogicalOperator::AndThen, rest) {
+            return self.lower_early(starts, first, rest, free);
+        }
+        self.lower_settled(starts, value, free)
+    }
+
+    /// The condition of a branch before the jump over its first statement. Of tests by `&&` each that fails is to lead to the other one.
+    pub(crate) fn lower_branch(
+        &mut self,
+        starts: &Starts,
+        value: &Expr,
+        free: usize,
+    ) -> Result<Tested, AllocError>
+        requires { free ≤ most_locals + length self.old.code.items }
+        ensures { IfOk result (IsBranch (view_starts starts.now) (view_expression value.now) free self.old.code.items self.new.code.items) }
+    {
+        match value {
+            Expr::Binary { first, rest, .. } => self.branch_chain(starts, value, first, rest, free),
+            _ => self.lower_settled(starts, value, free),
+        }
+    }
+
+    /// Jumps come to lead to the next instruction.
+    fn lead_here(&mut self, jumps: &[Pending])
+        requires { AreBefore jumps.now (length self.old.code.items) }
+        ensures { self.new.code.items ≡ failed jumps.now (length self.old.code.items) self.old.code.items }
+    {
+        for jump in jumps {
+            self.jump_here_if_failing(jump.place, jump.condition);
+        }
+    }
+
+    /// Where a branch's condition fails, the next instruction comes to follow: by the jump behind it, which stands at a place, and by those in its midst.
+    pub(crate) fn fail_here(&mut self, place: usize, tested: &Tested)
+        requires { (place < length self.old.code.items) × AreBefore tested.now.early.items (length self.old.code.items) }
+        ensures code { self.new.code.items ≡ failed tested.now.early.items (length self.old.code.items) (set self.old.code.items place (failing_jump tested.now.last (length self.old.code.items))) }
+        ensures long { length self.new.code.items ≡ length self.old.code.items }
+    {
+        self.jump_here_if_failing(place, tested.last);
+        self.lead_here(&tested.early);
     }
 }

@@ -390,10 +390,10 @@ impl Emitter {
         requires begun { exits.head ≤ length self.old.code.items }
         ensures { Appends result self.old self.new (then_code (view_starts starts.now) (view_expression condition.now) (view_statement then.now) (length self.old.code.items) exits free) }
     {
-        let condition = self.lower_choice(starts, LogicalOperator::OrElse, condition, free)?;
+        let tested = self.lower_branch(starts, condition, free)?;
         let over = self.reserve()?;
         self.lower_statement(starts, then, exits, free)?;
-        self.jump_here_if_failing(over, condition);
+        self.fail_here(over, &tested);
         Ok(())
     }
 
@@ -443,16 +443,11 @@ impl Emitter {
                 if is_nothing(otherwise) {
                     return self.lower_then(starts, then, condition, exits, free);
                 }
-                let condition = self.lower_choice(
-                    starts,
-                    LogicalOperator::OrElse,
-                    condition,
-                    free,
-                )?;
+                let tested = self.lower_branch(starts, condition, free)?;
                 let over_then = self.reserve()?;
                 self.lower_statement(starts, then, exits, free)?;
                 let over_otherwise = self.reserve()?;
-                self.jump_here_if_failing(over_then, condition);
+                self.fail_here(over_then, &tested);
                 self.lower_statement(starts, otherwise, exits, free)?;
                 self.jump_here(over_otherwise);
                 Ok(())

@@ -29,32 +29,32 @@ use Rattle.cyc_lower.specs.declared.statements.Exits.{Exits}
 use Rattle.cyc_lower.specs.inside.Slots.{slot_of}
 use Rattle.cyc_lower.proofs.slots.Slots.{slot-room, room-inside}
 use Rattle.cyc_lower.proofs.slots.Widths.{HasRoom, Outside, HasLocal, kind_in, kind_positive, keeps_whole}
-use Rattle.cyc_lower.proofs.relation.Moves.{copied_is, copied_elsewhere, put_elsewhere}
+use Rattle.cyc_lower.proofs.relation.contents.Moves.{copied_is, copied_elsewhere, put_elsewhere}
 use Rattle.cyc_lower.specs.inside.ValueCode.{converts_there, keeps_words, span_of}
 use Rattle.cyc_lower.specs.inside.ControlCode.{break_target, continue_target, body_target, inside_loop}
 use Rattle.cyc_lower.specs.inside.ExpressionCode.{operand_of, value_slot, source_of}
 use Rattle.cyc_lower.specs.inside.Lowering.{scopes_of, results_of, lower_function, lower_program, globals_of}
-use Rattle.cyc_lower.proofs.relation.Stands.{OverAt, BranchesAt, OperandBy, ExpressionAt, InitialAt, InitialBy, ReturnedAt, ItemsAt, BlankAt, BroughtAt, ConversionAt}
+use Rattle.cyc_lower.proofs.relation.code.Stands.{OverAt, BranchesAt, OperandBy, ExpressionAt, InitialAt, InitialBy, ReturnedAt, ItemsAt, BlankAt, BroughtAt, ConversionAt}
 use Rattle.cyc_objects.specs.inside.Tables.{Tables, with_row, with_handle, Row}
 use Rattle.cyc_objects.specs.inside.Related.{scopes}
 use Rattle.cyc_objects.specs.inside.Words.{Is}
 use Rattle.cyc_objects.proofs.Values.{Grows-row, Grows-handle}
-use Rattle.cyc_lower.proofs.relation.Sharing.{shared_declared, row_declared, shared_opened, shared_closed}
-use Rattle.cyc_lower.proofs.relation.HeldValues.{kept, Holds, held, callers, homes, behind_records, row_of, IsLocalRow}
-use Rattle.cyc_lower.proofs.relation.Relation.{shared_seen, CountsBy, opened_by, types_on, starts_on, types_at, starts_at, returned_at, Shared, DataAt, SharedAt, in_temporary, in_local, ValueStack, AheadStack, StatementStack, LandsStack, LoopAt, Related, EvaluatingAt, as_operand, for_effect, as_condition, in_operand, ahead, behind_statement, behind_call, behind_wrong, Below, IsLast, Arrives, in_place, by_jump, code_of, bounds_in, bounds_at, top, by_jumps, HandlersStand, DataIn, Matches, floor, call_slots}
-use Rattle.cyc_lower.proofs.relation.Data.{height-least, Holds-same, Holds-above, data_declared, data_returned, data_grows, held_by_caller, floor-least, handlers_same, calls_counted, handlers_beside}
+use Rattle.cyc_lower.proofs.relation.contents.Sharing.{shared_declared, row_declared, shared_opened, shared_closed}
+use Rattle.cyc_lower.proofs.relation.contents.HeldValues.{kept, Holds, held, callers, homes, behind_records, row_of, IsLocalRow}
+use Rattle.cyc_lower.proofs.relation.simulation.Relation.{shared_seen, CountsBy, opened_by, types_on, starts_on, types_at, starts_at, returned_at, Shared, DataAt, SharedAt, in_temporary, in_local, ValueStack, AheadStack, StatementStack, LandsStack, LoopAt, Related, EvaluatingAt, as_operand, for_effect, as_condition, in_operand, ahead, behind_statement, behind_call, behind_wrong, Below, IsLast, Arrives, in_place, by_jump, code_of, bounds_in, bounds_at, top, by_jumps, HandlersStand, DataIn, Matches, floor, call_slots}
+use Rattle.cyc_lower.proofs.relation.contents.Data.{height-least, Holds-same, Holds-above, data_declared, data_returned, data_grows, held_by_caller, floor-least, handlers_same, calls_counted, handlers_beside}
 use Rattle.cyc_lower.proofs.value_steps.ValueWords.{int_at}
-use Rattle.cyc_lower.proofs.relation.Accesses.{IsWell, is_declared, is_closed, home_there}
+use Rattle.cyc_lower.proofs.relation.simulation.Accesses.{IsWell, is_declared, is_closed, home_there}
 use Rattle.cyc_lower.proofs.place_steps.SwapSteps.{begins_swap}
-use Rattle.cyc_lower.proofs.relation.Weights.{weight}
+use Rattle.cyc_lower.proofs.relation.simulation.Weights.{weight}
 use Rattle.cyc_lower.proofs.object_steps.Handles.{kept_holds}
 use Rattle.cyc_lower.proofs.handler_steps.Handling.{leaving, shared_leaving, record_left}
 use Rattle.cyc_lower.proofs.region_steps.WaysOut.{leaves_region}
-use Rattle.cyc_lower.proofs.relation.Matched.{IsMatched, silently, by_one, by_two}
+use Rattle.cyc_lower.proofs.relation.simulation.Matched.{IsMatched, silently, by_one, by_two}
 use Rattle.cyc_lower.proofs.handler_steps.ExceptionSteps.{begins, ends, throws_none, throws_some}
 use Rattle.cyc_lower.proofs.value_steps.Evaluations.{IsStep, sources, brings, brings_ahead}
 use Rattle.cyc_lower.proofs.region_steps.RegionSteps.{local_there, opens_region, opens_by, aliases_local, declares_key, closes_region, ends_loan}
-use Rattle.cyc_lower.proofs.relation.Rows.{row-fits, row-variable, char_row}
+use Rattle.cyc_lower.proofs.relation.places.Rows.{row-fits, row-variable, char_row}
 use Rattle.cyc_types.specs.declared.typed.Kind.TheVariants as kinds
 
 module _ (source : Program) (pages calls : ℕ) where

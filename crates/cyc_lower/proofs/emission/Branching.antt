@@ -1,11 +1,10 @@
 -- Code of statements that is made piece by piece: blocks, with the regions that they open, and branches whose jumps are written back.
 use Rattle.std.proofs.Common.{◌≡◌, ℕ, zero, suc, ◌+◌, ◌-◌, ◌<◌, ◌≤◌, Bool, true, false, List, [], ◌∷◌, ◌++◌, length, get_or, drop, set, refl, sym, ap, ◌∙◌, arith, append_assoc, append-nil}
-use Rattle.std.proofs.lemmas.List.{drop_all, drop_more, length-append}
+use Rattle.std.proofs.lemmas.List.{drop_all, drop_more, length-append, length-set}
 use Rattle.std.specs.declared.vec.Vec.{Vec}
 use Rattle.std.specs.declared.boxed.Box.{Box}
 use Rattle.std.specs.declared.alloc.Global.{Global as Heap}
 use Rattle.cyc_words.specs.declared.span.Span.{Span}
-use Rattle.cyc_types.specs.declared.typed.LogicalOperator.TheVariants as logical
 use Rattle.cyc_types.specs.declared.typed.Expr.{Expr}
 use Rattle.cyc_types.specs.declared.typed.Stmt.{Stmt}
 use Rattle.cyc_types.specs.declared.typed.Stmt.TheVariants as stmt
@@ -18,13 +17,15 @@ use Rattle.cyc_meaning.specs.FrameCount.{kept_by_items}
 use Rattle.cyc_plain.specs.declared.instruction.Instruction.{Instruction}
 use Rattle.cyc_plain.specs.declared.instruction.Instruction.TheVariants as instructions
 use Rattle.cyc_lower.specs.declared.operands.Condition.{Condition}
+use Rattle.cyc_lower.specs.declared.conditions.Pending.{Pending}
 use Rattle.cyc_lower.specs.declared.statements.Exits.{Exits}
 use Rattle.cyc_lower.specs.inside.Slots.{Starts}
 use Rattle.cyc_lower.specs.inside.ControlCode.{failing_jump, inside_region, opened_code, closed_code, is_nothing, over_code, over_length}
-use Rattle.cyc_lower.specs.inside.Lowering.{choice_code, choice_of, statement_code, items_code}
+use Rattle.cyc_lower.specs.inside.Lowering.{branch_code, branch_of, statement_code, items_code}
 use Rattle.cyc_frame_count.specs.inside.Needs.{kept_by_item}
-use Rattle.cyc_lower.specs.inside.Emission.{most_locals, item_code, exits_behind, free_behind, then_code}
+use Rattle.cyc_lower.specs.inside.Emission.{most_locals, failed, Aims, item_code, exits_behind, free_behind, then_code}
 use Rattle.cyc_lower.proofs.emission.Emitting.{Remains, goes_on_by, no_shorter_than, written_back}
+use Rattle.cyc_lower.proofs.emission.Conditions.{branch_same}
 
 -- ---- blocks
 
@@ -173,55 +174,70 @@ module _ (starts : Starts) (value : Stmt) (region : ℕ) (v : Vec ItemCode Heap)
 
 -- ---- branches
 
--- Behind a condition stand two pieces, each behind a jump whose target is written back. The first jump goes behind the second.
-module _ (old condition : List Instruction) (x y : Instruction) (first second : ℕ → List Instruction) (over : ℕ → Instruction) (out : ℕ → Instruction) (m0 m1 m2 m3 m4 m5 m6 : List Instruction) where
-  pub branched : m0 ≡ old ++ condition → m1 ≡ m0 ++ x ∷ [] → m2 ≡ m1 ++ first (length m1) → m3 ≡ m2 ++ y ∷ [] → m4 ≡ set m3 (length m0) (over (length m3))
-      → m5 ≡ m4 ++ second (length m4) → m6 ≡ set m5 (length m2) (out (length m5)) → (p : ℕ) → p ≡ length old + length condition + 1 → (q : ℕ) → q ≡ p + length (first p) + 1
-      → m6 ≡ old ++ (condition ++ (over q ∷ (first p ++ (out (q + length (second q)) ∷ second q))))
+-- Behind a condition stand two pieces, each behind a jump whose target is written back. The first jump goes behind the second, and what leads
+-- out of the midst of the condition goes there too.
+module _ (old : List Instruction) (condition : ℕ → List Instruction) (aim : ℕ → List Instruction → List Instruction) (aims : (rest : List Instruction) (target : ℕ) → aim target (old ++ (condition 0 ++ rest)) ≡ old ++ (condition target ++ rest)) (same : (target : ℕ) → length (condition target) ≡ length (condition 0)) (x y : Instruction) (first second : ℕ → List Instruction) (over : ℕ → Instruction) (out : ℕ → Instruction) (m0 m1 m2 m3 m4 m5 m6 : List Instruction) where
+  pub branched : m0 ≡ old ++ condition 0 → m1 ≡ m0 ++ x ∷ [] → m2 ≡ m1 ++ first (length m1) → m3 ≡ m2 ++ y ∷ [] → m4 ≡ aim (length m3) (set m3 (length m0) (over (length m3)))
+      → m5 ≡ m4 ++ second (length m4) → m6 ≡ set m5 (length m2) (out (length m5)) → (p : ℕ) → p ≡ length old + length (condition 0) + 1 → (q : ℕ) → q ≡ p + length (first p) + 1
+      → m6 ≡ old ++ (condition q ++ (over q ∷ (first p ++ (out (q + length (second q)) ∷ second q))))
   branched e0 e1 e2 e3 e4 e5 e6 p at_first q at_second =
-      let l0 : length m0 + 1 ≡ p = let a : length m0 ≡ length old + length condition = ap length e0 ∙ length-append old condition in omega (arith, a, at_first) in
+      let l0 : length m0 + 1 ≡ p = let a : length m0 ≡ length old + length (condition 0) = ap length e0 ∙ length-append old (condition 0) in omega (arith, a, at_first) in
       let l1 : length m1 ≡ p = ap length e1 ∙ length-append m0 (x ∷ []) ∙ l0 in
       let t = first p in
       let long : p + length (t ++ y ∷ []) ≡ q = let a : length (t ++ y ∷ []) ≡ length t + 1 = length-append t (y ∷ []) in omega (arith, a, at_second) in
       let b2 : m2 ≡ m1 ++ t = e2 ∙ ap (λ (n : ℕ). m1 ++ first n) l1 in
       let b3 : m3 ≡ m1 ++ (first (length m1) ++ y ∷ []) = e3 ∙ ap (λ (l : List Instruction). l ++ y ∷ []) e2 ∙ append_assoc m1 (first (length m1)) (y ∷ []) in
-      let before = m0 ++ over q ∷ t in
-      let b4 : m4 ≡ before ++ y ∷ []
-      = written_back m0 x (λ (n : ℕ). first n ++ y ∷ []) over m1 m3 m4 e1 b3 e4
+      let last = over q ∷ (t ++ y ∷ []) in
+      let patched = set m3 (length m0) (over (length m3)) in
+      let made : patched ≡ old ++ (condition 0 ++ last)
+      = written_back m0 x (λ (n : ℕ). first n ++ y ∷ []) over m1 m3 patched e1 b3 refl
       ∙ ap (λ (n : ℕ). m0 ++ over (n + length (first n ++ y ∷ [])) ∷ (first n ++ y ∷ [])) l0
       ∙ ap (λ (n : ℕ). m0 ++ over n ∷ (t ++ y ∷ [])) long
-      ∙ sym (append_assoc m0 (over q ∷ t) (y ∷ [])) in
+      ∙ ap (λ (l : List Instruction). l ++ last) e0
+      ∙ append_assoc old (condition 0) last in
+      let l3 : length m3 ≡ q = omega (arith, length-set m3 (length m0) (over (length m3)), ap length made, length-append old (condition 0 ++ last), length-append (condition 0) last, long, at_first) in
+      let tested = old ++ condition q in
+      let before = tested ++ over q ∷ t in
+      let b4 : m4 ≡ before ++ y ∷ []
+      = e4 ∙ ap (λ (n : ℕ). aim n patched) l3 ∙ ap (aim q) made ∙ aims last q
+      ∙ sym (append_assoc old (condition q) last)
+      ∙ sym (append_assoc tested (over q ∷ t) (y ∷ [])) in
       let l2 : length m2 ≡ p + length t = ap length b2 ∙ length-append m1 t ∙ ap (λ (n : ℕ). n + length t) l1 in
-      let lb : length before + 1 ≡ q = let a : length before ≡ length m0 + length (over q ∷ t) = length-append m0 (over q ∷ t) in omega (arith, a, l0, at_second) in
+      let lb : length before + 1 ≡ q = omega (arith, length-append tested (over q ∷ t), length-append old (condition q), same q, at_first, at_second) in
       let here : length m2 ≡ length before = omega (arith, l2, lb, at_second) in
       let rest = out (q + length (second q)) ∷ second q in
       written_back before y second out m4 m5 m6 b4 e5 (e6 ∙ ap (λ (n : ℕ). set m5 n (out (length m5))) here)
       ∙ ap (λ (n : ℕ). before ++ out (n + length (second n)) ∷ second n) lb
-      ∙ append_assoc m0 (over q ∷ t) rest
-      ∙ ap (λ (l : List Instruction). l ++ (over q ∷ (t ++ rest))) e0
-      ∙ append_assoc old condition (over q ∷ (t ++ rest))
+      ∙ append_assoc tested (over q ∷ t) rest
+      ∙ append_assoc old (condition q) (over q ∷ (t ++ rest))
 
 nothing_is : (s : Statement) → is_nothing s ≡ true → s ≡ Empty
 nothing_is Empty is = refl
 nothing_is s is = absurd (let f : false ≡ true = is in cc)
 
 -- a branch of which nothing stands behind `else`
-module _ (starts : Starts) (a : Expression) (s : Statement) (exits : Exits) (d : ℕ) (o : Condition) (o_is : o ≡ choice_of starts logical.OrElse a d) (old : List Instruction) (x : Instruction) (m0 m1 m2 m3 : List Instruction) (over : ℕ) where
-  pub made_then : m0 ≡ old ++ choice_code starts logical.OrElse a (length old) d → over ≡ length m0 → m1 ≡ m0 ++ x ∷ [] → m2 ≡ m1 ++ statement_code starts s (length m1) exits d → m3 ≡ set m2 over (failing_jump o (length m2))
+module _ (starts : Starts) (a : Expression) (s : Statement) (exits : Exits) (d : ℕ) (o : Condition) (early : List Pending) (o_is : o ≡ branch_of starts a d) (old : List Instruction) (aims : Aims early (λ other. branch_code starts a other (length old) d) (length old)) (x : Instruction) (m0 m1 m2 m3 : List Instruction) (over : ℕ) where
+  pub made_then : m0 ≡ old ++ branch_code starts a 0 (length old) d → over ≡ length m0 → m1 ≡ m0 ++ x ∷ [] → m2 ≡ m1 ++ statement_code starts s (length m1) exits d → m3 ≡ failed early (length m2) (set m2 over (failing_jump o (length m2)))
       → m3 ≡ old ++ then_code starts a s (length old) exits d
   made_then e0 h1 e1 e2 e3 =
-      let condition = choice_code starts logical.OrElse a (length old) d in
-      let jump : ℕ → Instruction = λ n. failing_jump (choice_of starts logical.OrElse a d) n in
+      let condition : ℕ → List Instruction = λ other. branch_code starts a other (length old) d in
+      let jump : ℕ → Instruction = λ n. failing_jump (branch_of starts a d) n in
       let first : ℕ → List Instruction = λ p. statement_code starts s p exits d in
-      let p = length old + length condition + 1 in
-      let l0 : length m0 + 1 ≡ p = let e : length m0 ≡ length old + length condition = ap length e0 ∙ length-append old condition in omega (arith, e) in
-      let end : p + length (first p) ≡ p + length (first p) + 0 = omega arith in
-      written_back m0 x first jump m1 m2 m3 e1 e2 (e3 ∙ ap (λ (n : ℕ). set m2 n (failing_jump o (length m2))) h1 ∙ ap (λ (c : Condition). set m2 (length m0) (failing_jump c (length m2))) o_is)
+      let p = length old + length (condition 0) + 1 in
+      let q = p + length (first p) + 0 in
+      let l0 : length m0 + 1 ≡ p = let e : length m0 ≡ length old + length (condition 0) = ap length e0 ∙ length-append old (condition 0) in omega (arith, e) in
+      let end : p + length (first p) ≡ q = omega arith in
+      let rest = jump q ∷ first p in
+      let patched = set m2 over (failing_jump o (length m2)) in
+      let made : patched ≡ old ++ (condition 0 ++ rest)
+      = written_back m0 x first jump m1 m2 patched e1 e2 (ap (λ (n : ℕ). set m2 n (failing_jump o (length m2))) h1 ∙ ap (λ (c : Condition). set m2 (length m0) (failing_jump c (length m2))) o_is)
       ∙ ap (λ (n : ℕ). m0 ++ jump (n + length (first n)) ∷ first n) l0
-      ∙ ap (λ (l : List Instruction). l ++ jump (p + length (first p)) ∷ first p) e0
-      ∙ append_assoc old condition (jump (p + length (first p)) ∷ first p)
-      ∙ ap (λ (n : ℕ). old ++ (condition ++ jump n ∷ first p)) end
-      ∙ ap (λ (l : List Instruction). old ++ l) (sym (append-nil (condition ++ jump (p + length (first p) + 0) ∷ first p)))
+      ∙ ap (λ (n : ℕ). m0 ++ jump n ∷ first p) end
+      ∙ ap (λ (l : List Instruction). l ++ rest) e0
+      ∙ append_assoc old (condition 0) rest in
+      let long : length m2 ≡ q = omega (arith, length-set m2 over (failing_jump o (length m2)), ap length made, length-append old (condition 0 ++ rest), length-append (condition 0) rest) in
+      e3 ∙ ap (λ (n : ℕ). failed early n patched) long ∙ ap (failed early q) made ∙ aims old rest q refl
+      ∙ ap (λ (l : List Instruction). old ++ l) (sym (append-nil (condition q ++ rest)))
 
 module _ (starts : Starts) (value : Stmt) {w : Span} (e : Expr) (b b' : Box Stmt Heap) (is : value ≡ stmt.If w e b b') (s t : Stmt) (at : s ≡ b.value) (at' : t ≡ b'.value) where
   pub if_viewed : view_statement value ≡ If (view_expression e) (view_statement s) (view_statement t)
@@ -234,22 +250,22 @@ module _ (starts : Starts) (value : Stmt) {w : Span} (e : Expr) (b b' : Box Stmt
       ∙ ap (λ (z : Statement). old ++ statement_code starts (If (view_expression e) (view_statement s) z) (length old) exits d) (sym (nothing_is (view_statement t) none))
       ∙ ap (λ (z : Statement). old ++ statement_code starts z (length old) exits d) (sym if_viewed)
 
-module _ (starts : Starts) (value : Stmt) {w : Span} (e : Expr) (b b' : Box Stmt Heap) (is : value ≡ stmt.If w e b b') (s t : Stmt) (at : s ≡ b.value) (at' : t ≡ b'.value) (exits : Exits) (d : ℕ) (o : Condition) (o_is : o ≡ choice_of starts logical.OrElse (view_expression e) d) (old : List Instruction) (x y : Instruction) (m0 m1 m2 m3 m4 m5 m6 : List Instruction) (p1 p2 : ℕ) where
-  pub made_if : is_nothing (view_statement t) ≡ false → m0 ≡ old ++ choice_code starts logical.OrElse (view_expression e) (length old) d → p1 ≡ length m0 → m1 ≡ m0 ++ x ∷ [] → m2 ≡ m1 ++ statement_code starts (view_statement s) (length m1) exits d → p2 ≡ length m2 → m3 ≡ m2 ++ y ∷ []
-      → m4 ≡ set m3 p1 (failing_jump o (length m3)) → m5 ≡ m4 ++ statement_code starts (view_statement t) (length m4) exits d → m6 ≡ set m5 p2 (instructions.Jump (length m5))
+module _ (starts : Starts) (value : Stmt) {w : Span} (e : Expr) (b b' : Box Stmt Heap) (is : value ≡ stmt.If w e b b') (s t : Stmt) (at : s ≡ b.value) (at' : t ≡ b'.value) (exits : Exits) (d : ℕ) (o : Condition) (early : List Pending) (o_is : o ≡ branch_of starts (view_expression e) d) (old : List Instruction) (aims : Aims early (λ other. branch_code starts (view_expression e) other (length old) d) (length old)) (x y : Instruction) (m0 m1 m2 m3 m4 m5 m6 : List Instruction) (p1 p2 : ℕ) where
+  pub made_if : is_nothing (view_statement t) ≡ false → m0 ≡ old ++ branch_code starts (view_expression e) 0 (length old) d → p1 ≡ length m0 → m1 ≡ m0 ++ x ∷ [] → m2 ≡ m1 ++ statement_code starts (view_statement s) (length m1) exits d → p2 ≡ length m2 → m3 ≡ m2 ++ y ∷ []
+      → m4 ≡ failed early (length m3) (set m3 p1 (failing_jump o (length m3))) → m5 ≡ m4 ++ statement_code starts (view_statement t) (length m4) exits d → m6 ≡ set m5 p2 (instructions.Jump (length m5))
       → m6 ≡ old ++ statement_code starts (view_statement value) (length old) exits d
   made_if some e0 h1 e1 e2 h2 e3 e4 e5 e6 =
-      let condition = choice_code starts logical.OrElse (view_expression e) (length old) d in
-      let jump : ℕ → Instruction = λ n. failing_jump (choice_of starts logical.OrElse (view_expression e) d) n in
+      let condition : ℕ → List Instruction = λ other. branch_code starts (view_expression e) other (length old) d in
+      let jump : ℕ → Instruction = λ n. failing_jump (branch_of starts (view_expression e) d) n in
       let first : ℕ → List Instruction = λ p. statement_code starts (view_statement s) p exits d in
       let second : ℕ → List Instruction = λ p. statement_code starts (view_statement t) p exits d in
-      let p = length old + length condition + 1 in
+      let p = length old + length (condition 0) + 1 in
       let q = p + length (first p) + 1 in
-      branched old condition x y first second jump (λ (n : ℕ). instructions.Jump n) m0 m1 m2 m3 m4 m5 m6
+      branched old condition (failed early) (λ rest target. aims old rest target refl) (λ target. branch_same starts (view_expression e) target 0 (length old) d) x y first second jump (λ (n : ℕ). instructions.Jump n) m0 m1 m2 m3 m4 m5 m6
       e0 e1 e2 e3
-      (e4 ∙ ap (λ (n : ℕ). set m3 n (failing_jump o (length m3))) h1 ∙ ap (λ (r : Condition). set m3 (length m0) (failing_jump r (length m3))) o_is)
+      (e4 ∙ ap (λ (n : ℕ). failed early (length m3) (set m3 n (failing_jump o (length m3)))) h1 ∙ ap (λ (r : Condition). failed early (length m3) (set m3 (length m0) (failing_jump r (length m3)))) o_is)
       e5 (e6 ∙ ap (λ (n : ℕ). set m5 n (instructions.Jump (length m5))) h2)
       p refl q refl
-      ∙ ap (λ (l : List Instruction). old ++ l) (sym (append_assoc condition (jump q ∷ first p) (instructions.Jump (q + length (second q)) ∷ second q)))
-      ∙ ap (λ (last : Bool). old ++ ((condition ++ jump (p + length (first p) + over_length last) ∷ first p) ++ (over_code last (p + length (first p) + over_length last + length (second (p + length (first p) + over_length last))) ++ second (p + length (first p) + over_length last)))) (sym some)
+      ∙ ap (λ (l : List Instruction). old ++ l) (sym (append_assoc (condition q) (jump q ∷ first p) (instructions.Jump (q + length (second q)) ∷ second q)))
+      ∙ ap (λ (last : Bool). old ++ ((condition (p + length (first p) + over_length last) ++ jump (p + length (first p) + over_length last) ∷ first p) ++ (over_code last (p + length (first p) + over_length last + length (second (p + length (first p) + over_length last))) ++ second (p + length (first p) + over_length last)))) (sym some)
       ∙ ap (λ (z : Statement). old ++ statement_code starts z (length old) exits d) (sym (if_viewed starts value e b b' is s t at at'))

@@ -1,12 +1,13 @@
 -- Code of conditions that is made piece by piece.
-use Rattle.std.proofs.Common.{◌≡◌, ℕ, suc, ◌+◌, ◌≤◌, ◌<◌, Bool, true, false, take, drop, get_or, length-append, append_assoc, List, [], ◌∷◌, ◌++◌, length, Option, Some, slice_get, refl, sym, ap, subst, ◌∙◌, arith, append-nil}
+use Rattle.std.proofs.Common.{◌≡◌, ℕ, suc, ◌+◌, ◌≤◌, ◌<◌, Bool, true, false, take, drop, set, get_or, length-append, append_assoc, List, [], ◌∷◌, ◌++◌, length, Option, Some, slice_get, refl, sym, ap, subst, ◌∙◌, arith, append-nil}
 use Rattle.std.proofs.lemmas.Option.{same_Some, none-some}
-use Rattle.std.proofs.lemmas.List.{drop_all, drop_more}
-use Rattle.std.proofs.Math.Seq.{take-append_seam}
+use Rattle.std.proofs.lemmas.List.{drop_all, drop_more, length-set}
+use Rattle.std.proofs.Math.Seq.{take-append_seam, set-append_seam}
 use Rattle.std.specs.Prelude.{if◌then◌else◌, ◌&&◌, ◌==◌}
 use Rattle.cyc_words.specs.declared.span.Span.{Span}
 use Rattle.cyc_types.specs.declared.typed.Operator.{Operator}
 use Rattle.cyc_types.specs.declared.typed.LogicalOperator.{LogicalOperator}
+use Rattle.cyc_types.specs.declared.typed.LogicalOperator.TheVariants as logical
 use Rattle.cyc_types.specs.declared.typed.Expr.{Expr}
 use Rattle.cyc_types.specs.declared.typed.Operation.{Operation}
 use Rattle.cyc_types.specs.declared.typed.Operation.TheVariants as operation
@@ -17,12 +18,14 @@ use Rattle.cyc_plain.specs.declared.instruction.Comparison.{Comparison}
 use Rattle.cyc_plain.specs.declared.instruction.Operand.{Operand}
 use Rattle.cyc_plain.specs.declared.instruction.Instruction.{Instruction}
 use Rattle.cyc_lower.specs.declared.operands.Condition.{Condition}
+use Rattle.cyc_lower.specs.declared.conditions.Pending.{Pending}
+use Rattle.cyc_lower.specs.declared.conditions.Tested.{Tested}
 use Rattle.cyc_lower.specs.inside.Slots.{Starts}
 use Rattle.cyc_lower.specs.inside.ValueCode.{operand_or, failing_comparison}
-use Rattle.cyc_lower.specs.inside.ControlCode.{Compared, with_zero, compared_or, compared_of, deciding_jump, all_test, are_tests, nulled_or, null_compared}
+use Rattle.cyc_lower.specs.inside.ControlCode.{Compared, with_zero, compared_or, compared_of, deciding_jump, failing_jump, all_test, are_tests, nulled_or, null_compared}
 use Rattle.cyc_lower.specs.inside.ExpressionCode.{left_of, left_slot, value_operand}
-use Rattle.cyc_lower.specs.inside.Lowering.{first_operand, first_code, second_code, pair_code, condition_code, condition_of, others_code, last_condition, tests_code, behind_tests, choice_code, choice_of, compares_light, is_light_comparison}
-use Rattle.cyc_lower.specs.inside.Emission.{most_locals, is_test, other_code, other_condition, value_code, left_code, zero_condition, null_condition, null_operation}
+use Rattle.cyc_lower.specs.inside.Lowering.{first_operand, first_code, second_code, pair_code, condition_code, condition_of, others_code, last_condition, tests_code, behind_tests, choice_code, choice_of, branch_code, branch_of, compares_light, is_light_comparison}
+use Rattle.cyc_lower.specs.inside.Emission.{most_locals, is_test, failed, AreBefore, early_jumps, Aims, IsTested, IsEarly, IsBranch, IsSettled, other_code, other_condition, value_code, left_code, zero_condition, null_condition, null_operation}
 use Rattle.cyc_lower.proofs.emission.Emitting.{joined, Lowers, Remains, goes_on, all_made, no_shorter_than}
 
 -- ---- chains that are tested whole
@@ -165,6 +168,15 @@ module _ (starts : Starts) where
       let c = condition_of starts a t in
       omega (arith, length-append first (others_code starts u os c x q t), length-append first (others_code starts u os c y q t), others_same u os c x y q t)
 
+  pub branch_same : (a : Expression) (x y p t : ℕ) → length (branch_code starts a x p t) ≡ length (branch_code starts a y p t)
+  branch_same (Binary a os ty) x y p t = by (are_tests logical.AndThen os)
+    where
+      by : (tests : Bool) → length (if tests then tests_code starts logical.AndThen a os x p t else choice_code starts logical.OrElse (Binary a os ty) p t)
+          ≡ length (if tests then tests_code starts logical.AndThen a os y p t else choice_code starts logical.OrElse (Binary a os ty) p t)
+      by true = tests_same logical.AndThen a os x y p t
+      by false = refl
+  branch_same a x y p t = refl
+
   -- the operands behind the first, where the state is the condition that is made of the one before
   abbrev pub all_others : LogicalOperator → (behind t : ℕ) → List Operation → ℕ → Condition → List Instruction
   all_others u behind t os p c = others_code starts u (operations_of os) c behind p t
@@ -262,6 +274,191 @@ module _ (starts : Starts) where
       let code : choice_code starts u whole p t ≡ condition_code starts whole p t
       = ap (λ (z : Expression). choice_code starts u z p t) is ∙ ap (λ (b : Bool). if b then tests_code starts u a os (behind_tests starts u a os p t) p t else condition_code starts (Binary a os ty) p t) other ∙ ap (λ (z : Expression). condition_code starts z p t) (sym is) in
       (answers ∙ sym chosen, made ∙ ap (λ (l : List Instruction). old ++ l) (sym code))
+
+-- ---- jumps of a branch's condition whose target is not yet known
+
+pub before_more : (js : List Pending) (m n : ℕ) → AreBefore js m → m ≤ n → AreBefore js n
+before_more [] m n before more = tt
+before_more (j ∷ js) m n (here, before) more = (omega (arith, here, more), before_more js m n before more)
+
+pub failed_long : (js : List Pending) (target : ℕ) (code : List Instruction) → length (failed js target code) ≡ length code
+failed_long [] target code = refl
+failed_long (j ∷ js) target code = failed_long js target (set code j.place (failing_jump j.condition target)) ∙ length-set code j.place (failing_jump j.condition target)
+
+-- those that still wait come to lead there, as the others do
+abbrev pub FailedRest : List Pending → (target : ℕ) → (old : List Instruction) → (i : ℕ) → (code : List Instruction) → Type 0
+FailedRest js target old i code =
+    (failed (drop i js) target code ≡ failed js target old) × (length code ≡ target) × AreBefore (drop i js) target
+
+pub failed_next : (js : List Pending) (target : ℕ) (old : List Instruction) (i : ℕ) (code new : List Instruction) (none : Pending) → i < length js
+    → new ≡ set code (get_or js i none).place (failing_jump (get_or js i none).condition (length code)) → FailedRest js target old i code → FailedRest js target old (i + 1) new
+failed_next js target old i code new none inside made (rest, long, before) =
+    let j = get_or js i none in
+    let here : drop i js ≡ j ∷ drop (i + 1) js = drop_more js i none inside in
+    let (first, others) = subst (λ (l : List Pending). AreBefore l target) here before in (
+      ap (failed (drop (i + 1) js) target) (made ∙ ap (λ (n : ℕ). set code j.place (failing_jump j.condition n)) long) ∙ sym (ap (λ (l : List Pending). failed l target code) here) ∙ rest,
+      ap length made ∙ length-set code j.place (failing_jump j.condition (length code)) ∙ long,
+      others,
+    )
+
+pub failed_place : (js : List Pending) (target : ℕ) (old : List Instruction) (i : ℕ) (code : List Instruction) (none : Pending) → i < length js → FailedRest js target old i code → (get_or js i none).place < length code
+failed_place js target old i code none inside (rest, long, before) =
+    let here : drop i js ≡ get_or js i none ∷ drop (i + 1) js = drop_more js i none inside in
+    let (first, others) = subst (λ (l : List Pending). AreBefore l target) here before in
+    omega (arith, first, long)
+
+pub failed_done : (js : List Pending) (target : ℕ) (old : List Instruction) (i : ℕ) (code : List Instruction) → length js ≤ i → FailedRest js target old i code → code ≡ failed js target old
+failed_done js target old i code done (rest, long, before) = sym (ap (λ (l : List Pending). failed l target code) (drop_all i js done)) ∙ rest
+
+-- what is made of a condition is made of one that has the same code
+same_tested : (last again : Condition) (code other : ℕ → List Instruction) (old new : List Instruction) (tested : Tested) → again ≡ last → ((x : ℕ) → other x ≡ code x) → IsTested last code old new tested → IsTested again other old new tested
+same_tested last again code other old new tested answers same (last_is, aims, before, made) = (
+  last_is ∙ sym answers,
+  λ front rest target here.
+      ap (λ (l : List Instruction). failed tested.early.items target (front ++ (l ++ rest))) (same 0)
+      ∙ aims front rest target here
+      ∙ ap (λ (l : List Instruction). front ++ (l ++ rest)) (sym (same target)),
+  before,
+  made ∙ ap (λ (l : List Instruction). old ++ l) (sym (same 0)),
+)
+
+-- where no jump waits, the code leads nowhere out of its midst
+pub none_wait : (code : List Instruction) (early : List Pending) (place : ℕ) → early ≡ [] → Aims early (λ x. code) place
+none_wait code early place none = λ old rest target here. ap (λ (l : List Pending). failed l target (old ++ (code ++ rest))) none
+
+module _ (starts : Starts) where
+  -- the jumps that are kept so far, with those of the operands that are still to be made
+  abbrev pub EarlyRemain : Expression → List Operation → (t : ℕ) → (old : List Instruction) → (i : ℕ) → (code : List Instruction) → Condition → List Pending → Type 0
+  EarlyRemain a os t old i code c early =
+      OthersRemain starts logical.AndThen a os 0 t old i code c
+      × (early ++ early_jumps starts (drop i os) c (length code) t ≡ early_jumps starts os (condition_of starts a t) (length old + length (condition_code starts a (length old) t)) t)
+
+  pub early_begin : (a : Expression) (os : List Operation) (t : ℕ) (old code : List Instruction) (c : Condition) (early : List Pending) → early ≡ [] → t ≤ most_locals + length old → c ≡ condition_of starts a t
+      → code ≡ old ++ condition_code starts a (length old) t → EarlyRemain a os t old 0 code c early
+  early_begin a os t old code c early none low is made = (
+    others_begin starts logical.AndThen a os 0 t old code c low is made,
+    ap (λ (l : List Pending). l ++ early_jumps starts os c (length code) t) none
+        ∙ ap (λ (x : Condition). early_jumps starts os x (length code) t) is
+        ∙ ap (λ (n : ℕ). early_jumps starts os (condition_of starts a t) n t) (ap length made ∙ length-append old (condition_code starts a (length old) t)),
+  )
+
+  pub early_next : (a : Expression) (os : List Operation) (t : ℕ) (old : List Instruction) (i : ℕ) (code new : List Instruction) (c d : Condition) (early more : List Pending) (x : Operation) → i < length os → x ≡ get_or os i x
+      → more ≡ early ++ record { place = length code; condition = c } ∷ [] → new ≡ code ++ other_code starts logical.AndThen x c 0 (length code) t → d ≡ other_condition starts x c t
+      → EarlyRemain a os t old i code c early → EarlyRemain a os t old (i + 1) new d more
+  early_next a os t old i code new c d early more x inside at kept made is (remains, jumps) =
+      let rest = drop (i + 1) os in
+      let here : drop i os ≡ x ∷ rest = drop_more os i x inside ∙ ap (λ (y : Operation). y ∷ rest) (sym at) in
+      let added = other_code starts logical.AndThen x c 0 (length code) t in
+      let this : Pending = record { place = length code; condition = c } in
+      let later = early_jumps starts rest (other_condition starts x c t) (length code + length added) t in (
+        others_next starts logical.AndThen a os 0 t old i code new c d x inside at made is remains,
+        ap (λ (l : List Pending). l ++ early_jumps starts rest d (length new) t) kept
+            ∙ ap (λ (z : Condition). (early ++ this ∷ []) ++ early_jumps starts rest z (length new) t) is
+            ∙ ap (λ (n : ℕ). (early ++ this ∷ []) ++ early_jumps starts rest (other_condition starts x c t) n t) (ap length made ∙ length-append code added)
+            ∙ append_assoc early (this ∷ []) later
+            ∙ sym (ap (λ (l : List Operation). early ++ early_jumps starts l c (length code) t) here)
+            ∙ jumps,
+      )
+
+  pub early_end : (a : Expression) (os : List Operation) (t : ℕ) (old : List Instruction) (i : ℕ) (code : List Instruction) (c : Condition) (early : List Pending) → length os ≤ i → EarlyRemain a os t old i code c early
+      → (c ≡ last_condition starts (operations_of os) (condition_of starts a t) t)
+      × (early ≡ early_jumps starts os (condition_of starts a t) (length old + length (condition_code starts a (length old) t)) t)
+      × (code ≡ old ++ tests_code starts logical.AndThen a (operations_of os) 0 (length old) t)
+  early_end a os t old i code c early done (remains, jumps) =
+      let (last, made) = others_end starts logical.AndThen a os 0 t old i code c done remains in
+      (last, sym (append-nil early) ∙ sym (ap (λ (l : List Operation). early ++ early_jumps starts l c (length code) t) (drop_all i os done)) ∙ jumps, made)
+
+  -- they are those of the code, which leads elsewhere for them
+  others_aim : (os : List Operation) (c : Condition) (t : ℕ) (old rest : List Instruction) (target : ℕ) → all_test logical.AndThen (operations_of os) ≡ true
+      → failed (early_jumps starts os c (length old) t) target (old ++ (others_code starts logical.AndThen (operations_of os) c 0 (length old) t ++ rest)) ≡ old ++ (others_code starts logical.AndThen (operations_of os) c target (length old) t ++ rest)
+  others_aim [] c t old rest target all = refl
+  others_aim (operation.Test logical.AndThen e ∷ os) c t old rest target all =
+      let p = length old in
+      let b = view_expression e in
+      let operand = condition_code starts b (p + 1) t in
+      let next = condition_of starts b t in
+      let q = p + suc (length operand) in
+      let first = failing_jump c target in
+      let others : ℕ → List Instruction = λ x. others_code starts logical.AndThen (operations_of os) next x q t in
+      let whole : ℕ → List Instruction = λ x. operand ++ (others x ++ rest) in
+      let before = old ++ first ∷ operand in
+      let long : length before ≡ q = length-append old (first ∷ operand) in
+      let jumps = early_jumps starts os next q t in
+      ap (λ (l : List Instruction). failed jumps target (set (old ++ failing_jump c 0 ∷ l) p first)) (append_assoc operand (others 0) rest)
+      ∙ ap (failed jumps target) (set-append_seam old (failing_jump c 0) (whole 0) first ∙ sym (append_assoc old (first ∷ operand) (others 0 ++ rest)))
+      ∙ subst (λ (n : ℕ). failed (early_jumps starts os next n t) target (before ++ (others_code starts logical.AndThen (operations_of os) next 0 n t ++ rest)) ≡ before ++ (others_code starts logical.AndThen (operations_of os) next target n t ++ rest)) long (others_aim os next t before rest target all)
+      ∙ append_assoc old (first ∷ operand) (others target ++ rest)
+      ∙ ap (λ (l : List Instruction). old ++ first ∷ l) (sym (append_assoc operand (others target) rest))
+  others_aim (operation.Test logical.OrElse e ∷ os) c t old rest target all = absurd (let z : false ≡ true = all in cc)
+  others_aim (operation.Compute w o e ∷ os) c t old rest target all = absurd (let z : false ≡ true = all in cc)
+  others_aim (operation.Pointer o e ∷ os) c t old rest target all = absurd (let z : false ≡ true = all in cc)
+  others_aim (operation.PointerPeek n o e ∷ os) c t old rest target all = absurd (let z : false ≡ true = all in cc)
+
+  others_before : (os : List Operation) (c : Condition) (p t : ℕ) → all_test logical.AndThen (operations_of os) ≡ true → AreBefore (early_jumps starts os c p t) (p + length (others_code starts logical.AndThen (operations_of os) c 0 p t))
+  others_before [] c p t all = tt
+  others_before (operation.Test logical.AndThen e ∷ os) c p t all =
+      let b = view_expression e in
+      let operand = condition_code starts b (p + 1) t in
+      let next = condition_of starts b t in
+      let q = p + suc (length operand) in
+      let others = others_code starts logical.AndThen (operations_of os) next 0 q t in
+      let long = length-append operand others in
+      (omega arith, before_more (early_jumps starts os next q t) (q + length others) (p + suc (length (operand ++ others))) (others_before os next q t all) (omega (arith, long)))
+  others_before (operation.Test logical.OrElse e ∷ os) c p t all = absurd (let z : false ≡ true = all in cc)
+  others_before (operation.Compute w o e ∷ os) c p t all = absurd (let z : false ≡ true = all in cc)
+  others_before (operation.Pointer o e ∷ os) c p t all = absurd (let z : false ≡ true = all in cc)
+  others_before (operation.PointerPeek n o e ∷ os) c p t all = absurd (let z : false ≡ true = all in cc)
+
+  -- a branch's condition that is a chain of tests by `&&`, and one that is not
+  tests_all : (os : List Operation) → are_tests logical.AndThen (operations_of os) ≡ true → all_test logical.AndThen (operations_of os) ≡ true
+  tests_all [] tests = refl
+  tests_all (operation.Test o e ∷ os) tests = tests
+  tests_all (operation.Compute w o e ∷ os) tests = tests
+  tests_all (operation.Pointer o e ∷ os) tests = tests
+  tests_all (operation.PointerPeek n o e ∷ os) tests = tests
+
+  tests_aim : (a : Expression) (os : List Operation) (p t : ℕ) → all_test logical.AndThen (operations_of os) ≡ true
+      → Aims (early_jumps starts os (condition_of starts a t) (p + length (condition_code starts a p t)) t) (λ x. tests_code starts logical.AndThen a (operations_of os) x p t) p
+  tests_aim a os p t all = λ old rest target here.
+      let first = condition_code starts a p t in
+      let before = old ++ first in
+      let c = condition_of starts a t in
+      let q = p + length first in
+      let others : ℕ → List Instruction = λ x. others_code starts logical.AndThen (operations_of os) c x q t in
+      let apart : (x : ℕ) → old ++ ((first ++ others x) ++ rest) ≡ before ++ (others x ++ rest)
+      = λ x. ap (λ (l : List Instruction). old ++ l) (append_assoc first (others x) rest) ∙ sym (append_assoc old first (others x ++ rest)) in
+      let long : length before ≡ q = omega (arith, length-append old first, here) in
+      ap (failed (early_jumps starts os c q t) target) (apart 0)
+      ∙ subst (λ (n : ℕ). failed (early_jumps starts os c n t) target (before ++ (others_code starts logical.AndThen (operations_of os) c 0 n t ++ rest)) ≡ before ++ (others_code starts logical.AndThen (operations_of os) c target n t ++ rest)) long (others_aim os c t before rest target all)
+      ∙ sym (apart target)
+
+  pub early_tested : (whole a : Expression) (os : List Operation) (ty : Ty) (t : ℕ) (old new : List Instruction) (tested : Tested) → whole ≡ Binary a (operations_of os) ty → are_tests logical.AndThen (operations_of os) ≡ true
+      → IsEarly starts a os t old new tested → IsBranch starts whole t old new tested
+  early_tested whole a os ty t old new tested is tests (last_is, early_is, made) =
+      let p = length old in
+      let first = condition_code starts a p t in
+      let c = condition_of starts a t in
+      let others = others_code starts logical.AndThen (operations_of os) c 0 (p + length first) t in
+      let jumps = early_jumps starts os c (p + length first) t in
+      let all = tests_all os tests in
+      same_tested (last_condition starts (operations_of os) c t) (branch_of starts whole t) (λ x. tests_code starts logical.AndThen a (operations_of os) x p t) (λ x. branch_code starts whole x p t) old new tested
+      (ap (λ (z : Expression). branch_of starts z t) is ∙ ap (λ (b : Bool). if b then last_condition starts (operations_of os) c t else choice_of starts logical.OrElse (Binary a (operations_of os) ty) t) tests)
+      (λ x. ap (λ (z : Expression). branch_code starts z x p t) is ∙ ap (λ (b : Bool). if b then tests_code starts logical.AndThen a (operations_of os) x p t else choice_code starts logical.OrElse (Binary a (operations_of os) ty) p t) tests) (
+        last_is,
+        subst (λ (l : List Pending). Aims l (λ x. tests_code starts logical.AndThen a (operations_of os) x p t) p) (sym early_is) (tests_aim a os p t all),
+        subst (λ (l : List Pending). AreBefore l (length new)) (sym early_is)
+            (before_more jumps (p + length first + length others) (length new) (others_before os c (p + length first) t all) (omega (arith, ap length made, length-append old (first ++ others), length-append first others))),
+        made,
+      )
+
+  pub chain_tested : (whole a : Expression) (os : Operations) (ty : Ty) (t : ℕ) (old new : List Instruction) (tested : Tested) → whole ≡ Binary a os ty → are_tests logical.AndThen os ≡ false
+      → IsSettled starts whole t old new tested → IsBranch starts whole t old new tested
+  chain_tested whole a os ty t old new tested is other made =
+      let p = length old in
+      same_tested (choice_of starts logical.OrElse whole t) (branch_of starts whole t) (λ x. choice_code starts logical.OrElse whole p t) (λ x. branch_code starts whole x p t) old new tested
+      (ap (λ (z : Expression). branch_of starts z t) is ∙ ap (λ (b : Bool). if b then last_condition starts os (condition_of starts a t) t else choice_of starts logical.OrElse (Binary a os ty) t) other ∙ ap (λ (z : Expression). choice_of starts logical.OrElse z t) (sym is))
+      (λ x. ap (λ (z : Expression). branch_code starts z x p t) is ∙ ap (λ (b : Bool). if b then tests_code starts logical.AndThen a os x p t else choice_code starts logical.OrElse (Binary a os ty) p t) other ∙ ap (λ (z : Expression). choice_code starts logical.OrElse z p t) (sym is))
+      made
 
 -- these are tests where the first is one and the others are
 pub all_test_step : (u : LogicalOperator) (x : Operation) (xs : List Operation) → all_test u (operations_of (x ∷ xs)) ≡ (is_test u x && all_test u (operations_of xs))

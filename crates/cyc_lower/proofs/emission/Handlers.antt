@@ -97,7 +97,7 @@ module _ (starts : Starts) (s : Statement) (cs : Clauses) (exits : Exits) (t : �
       let l1 : length m1 ≡ p = ap length e1 ∙ length-append m0 (x ∷ []) ∙ ap (λ (n : ℕ). n + 1) l0 in
       let there : out ≡ p + length (first p) = h2 ∙ ap length made ∙ length-append m1 (first (length m1)) ∙ ap (λ (n : ℕ). n + length (first n)) l1 in
       let behind : m7 ≡ m5 ++ second (length m5) = joined m5 restored (λ (n : ℕ). clauses_code starts cs n out exits t) m6 m7 e6 e7 in
-      branched old kept x y first second (λ (n : ℕ). instructions.Try t n) (λ (n : ℕ). instructions.Jump n) m0 m1 m3 m4 m5 m7 m8
+      branched old (λ _. kept) (λ _ code. code) (λ rest target. refl) (λ target. refl) x y first second (λ (n : ℕ). instructions.Try t n) (λ (n : ℕ). instructions.Jump n) m0 m1 m3 m4 m5 m7 m8
       e0 e1 made e4 (e5 ∙ ap (λ (n : ℕ). set m4 n (instructions.Try t (length m4))) h1) behind (e8 ∙ ap (λ (n : ℕ). set m7 n (instructions.Jump (length m7))) h2)
       p refl q refl
       ∙ ap (λ (n : ℕ). old ++ (kept ++ (instructions.Try t q ∷ (first p ++ (instructions.Jump (q + length (restored ++ clauses_code starts cs (q + length restored) n exits t)) ∷ (restored ++ clauses_code starts cs (q + length restored) n exits t)))))) there

@@ -23,10 +23,10 @@ use Rattle.cyc_lower.specs.declared.statements.Exits.{Exits}
 use Rattle.cyc_lower.specs.inside.Slots.{with_counter, Starts, slot_of, global_of}
 use Rattle.cyc_lower.specs.inside.ValueCode.{first_temporary, keeps_words, kind_behind, last_byte_code, kind_passed, converts_there, passed_words, operand_or, code_unless, code_unless_slot, left_with, next_slot, converted_by, conversion_code, divisor_code, operator_code, pointer_instructions, first_two, copy_code, address_code, behind_left, checked_code, span_of, span_in, followed_operand, followed_code, conversion_by, widened_code, count_code, loaded_code, slot_or, kinds_passed, thinned_code, bounded_code, past_bounded, reached_operand, reached_code, word_by_word, load_word, global_code, masks, failing_comparison}
 use Rattle.cyc_lower.specs.inside.ObjectCode.{begun_code, filled_code, elements_code, ended_code, object_code, right_slot, saved_code, stores_code}
-use Rattle.cyc_lower.specs.inside.ControlCode.{outside_loops, if_code, failing_jump, holding_jump, deciding_jump, are_tests, compared_of, inside_loop, leave_code, try_code, clause_code, break_target, continue_target, kept_code, restored_code, behind_record, inside_try, inside_region, opened_code, closed_code, entry_code, entry_length, entered_code, body_target, is_nothing, over_code, over_length}
+use Rattle.cyc_lower.specs.inside.ControlCode.{outside_loops, if_code, other_place, failing_jump, holding_jump, deciding_jump, are_tests, compared_of, inside_loop, leave_code, try_code, clause_code, break_target, continue_target, kept_code, restored_code, behind_record, inside_try, inside_region, opened_code, closed_code, entry_code, entry_length, entered_code, body_target, is_nothing, over_code, over_length}
 use Rattle.cyc_lower.specs.inside.ExpressionCode.{operand_of, left_of, value_slot, slot_with, left_slot, value_operand, source_of, source_slot, converted_operand, load_code, place_operand, place_offset, expression_code, place_code, made_code, arguments_code, converted_code, converted_operand_code, printed_code, initial_code, operations_code, pointer_of, brought_code, is_simple, are_simple}
 use Rattle.cyc_lower.specs.declared.operands.Condition.{Condition}
-use Rattle.cyc_lower.specs.inside.Lowering.{others_code, tests_code, behind_tests, choice_code, choice_of, raises_of, body_code, assignment_code, discarded_code, pair_code, condition_code, return_code, declaration_code, statement_code, items_code, side_code, swap_code, thrown_code, caught_code, clauses_code, starts_with, read_side, write_side, exchange_code, is_light, compares_light, is_guard}
+use Rattle.cyc_lower.specs.inside.Lowering.{others_code, tests_code, behind_tests, choice_code, choice_of, branch_code, branch_of, raises_of, body_code, assignment_code, discarded_code, pair_code, condition_code, return_code, declaration_code, statement_code, items_code, side_code, swap_code, thrown_code, caught_code, clauses_code, starts_with, read_side, write_side, exchange_code, is_light, compares_light, is_guard}
 use Rattle.cyc_plain.specs.declared.instruction.Instruction.TheVariants as instructions
 use Rattle.cyc_meaning.specs.Values.{is_thin, kind_of, words_of_kind}
 
@@ -70,9 +70,12 @@ over_long : (last : Bool) (target aim : ℕ) → length (over_code last target) 
 over_long true target aim = refl
 over_long false target aim = refl
 
-if_long : (last : Bool) (a b c x y z : List Instruction) (jump same : ℕ → Instruction) (p q : ℕ) → length a ≡ length x → length b ≡ length y → length c ≡ length z → length (if_code last a jump b c p) ≡ length (if_code last x same y z q)
-if_long last a b c x y z jump same p q first second third =
-    joined (a ++ _ ∷ b) (over_code last _ ++ c) (x ++ _ ∷ y) (over_code last _ ++ z) (joined a (_ ∷ b) x (_ ∷ y) first (ap suc second)) (joined (over_code last _) c (over_code last _) z (over_long last _ _) third)
+if_long : (last : Bool) (a x : ℕ → List Instruction) (b c y z : List Instruction) (jump same : ℕ → Instruction) (p q : ℕ) → ((m n : ℕ) → length (a m) ≡ length (x n)) → length b ≡ length y → length c ≡ length z
+    → length (if_code last a jump b c p) ≡ length (if_code last x same y z q)
+if_long last a x b c y z jump same p q first second third =
+    let m = other_place last (a 0) b p in
+    let n = other_place last (x 0) y q in
+    joined (a m ++ _ ∷ b) (over_code last _ ++ c) (x n ++ _ ∷ y) (over_code last _ ++ z) (joined (a m) (_ ∷ b) (x n) (_ ∷ y) (first m n) (ap suc second)) (joined (over_code last _) c (over_code last _) z (over_long last _ _) third)
 
 entries_long : (guarded same : Bool) (a x : List Instruction) (jump other : ℕ → Instruction) (test aim p q : ℕ) → guarded ≡ same → length a ≡ length x → length (entry_code guarded a jump test p) ≡ length (entry_code same x other aim q)
 entries_long true same a x jump other test aim p q is long = joined a (_ ∷ []) x (_ ∷ []) long refl ∙ ap (λ z. length (entry_code z x other aim q)) is
@@ -370,6 +373,15 @@ module _ (starts : Starts) (raises : ℕ) where
       by false = condition_long (compared_of (Binary a os ty)).left (compared_of (Binary a os ty)).right p q t
   choice_long u a p q t = condition_long (compared_of a).left (compared_of a).right p q t
 
+  branch_long : (a : Expression) (p q t x y : ℕ) → length (branch_code starts a x p t) ≡ length (branch_code (other starts raises) a y q t)
+  branch_long (Binary a os ty) p q t x y = by (are_tests logical.AndThen os)
+    where
+      by : (tests : Bool) → length (if tests then tests_code starts logical.AndThen a os x p t else choice_code starts logical.OrElse (Binary a os ty) p t)
+          ≡ length (if tests then tests_code (other starts raises) logical.AndThen a os y q t else choice_code (other starts raises) logical.OrElse (Binary a os ty) q t)
+      by true = joined _ _ _ _ (condition_long (compared_of a).left (compared_of a).right p q t) (others_long logical.AndThen os _ _ _ _ _ _ t)
+      by false = choice_long logical.OrElse (Binary a os ty) p q t
+  branch_long a p q t x y = choice_long logical.OrElse a p q t
+
   return_long : (v : Option Converted) (p q head leaving : ℕ) (exits : Exits) (t : ℕ) → length (return_code starts v p exits t) ≡ length (return_code (other starts raises) v q (record exits { head = head; leaving = leaving }) t)
   return_long None p q head leaving exits t = refl
   return_long (Some (Convert from to a)) p q head leaving exits t =
@@ -433,15 +445,15 @@ module _ (starts : Starts) (raises : ℕ) where
     statement_long (Evaluate a) p q head leaving exits t = discarded_long a p q t
     statement_long (If a s u) p q head leaving exits t =
         let others = record exits { head = head; leaving = leaving } in
-        let m = p + length (choice_code starts logical.OrElse a p t) in
-        let n = q + length (choice_code (other starts raises) logical.OrElse a q t) in
+        let m = p + length (branch_code starts a 0 p t) in
+        let n = q + length (branch_code (other starts raises) a 0 q t) in
         let first = statement_code starts s (m + 1) exits t in
         let same_first = statement_code (other starts raises) s (n + 1) others t in
         let last = is_nothing u in
         let second = statement_code starts u (m + 1 + length first + over_length last) exits t in
         let same_second = statement_code (other starts raises) u (n + 1 + length same_first + over_length last) others t in
-        if_long last (choice_code starts logical.OrElse a p t) first second (choice_code (other starts raises) logical.OrElse a q t) same_first same_second (failing_jump (choice_of starts logical.OrElse a t)) (failing_jump (choice_of (other starts raises) logical.OrElse a t)) p q
-        (choice_long logical.OrElse a p q t) (statement_long s (m + 1) (n + 1) head leaving exits t) (statement_long u (m + 1 + length first + over_length last) (n + 1 + length same_first + over_length last) head leaving exits t)
+        if_long last (λ x. branch_code starts a x p t) (λ y. branch_code (other starts raises) a y q t) first second same_first same_second (failing_jump (branch_of starts a t)) (failing_jump (branch_of (other starts raises) a t)) p q
+        (branch_long a p q t) (statement_long s (m + 1) (n + 1) head leaving exits t) (statement_long u (m + 1 + length first + over_length last) (n + 1 + length same_first + over_length last) head leaving exits t)
     statement_long (While w a s) p q head leaving exits t =
         let same = other starts raises in
         let l = p + entry_length (is_guard starts a) (choice_code starts logical.AndThen a p t) in

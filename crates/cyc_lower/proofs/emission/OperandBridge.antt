@@ -27,12 +27,12 @@ use Rattle.cyc_lower.specs.inside.ValueCode.{converts_there, moved_by, move_of, 
 use Rattle.cyc_lower.specs.inside.ObjectCode.{most_elements, begun_code, filled_code, stores_code, cells_code, slots_of_kinds, object_code, free_code, saved_code, sized_code}
 use Rattle.cyc_lower.specs.inside.ControlCode.{counter_operand}
 use Rattle.cyc_lower.specs.inside.ExpressionCode.{source_of, source_slot, operand_of, left_of, value_slot, slot_with, left_slot, value_operand, converted_operand, load_code, expression_code, brought_code, is_simple}
-use Rattle.cyc_lower.proofs.relation.Stands.{BegunAt, FilledAt, OperandBy, CheckAt, ConversionBy, ConversionAt, DivisorAt, CheckedAt, OperatorAt, LoadAt, CopyBy, ExpressionAt, InitialBy, ReturnedAt, FirstTwoAt, IndexAt, PointerAt, StoresAt, CellsAt, ObjectAt, AddressAt, GuardAt, FreedAt, CountAt, TestedAt, WidenedAt, LoadedBy, SavedAt, BoundsAt, SteppedAt, ScaledAt, SummedAt, ThinnedAt, ReachedAt, FollowedAt, EachAt, GlobalAt, SizedAt, LastByteAt, BlankAt, BroughtAt, BroughtBy, LeftBy, InsideAt}
+use Rattle.cyc_lower.proofs.relation.code.Stands.{BegunAt, FilledAt, OperandBy, CheckAt, ConversionBy, ConversionAt, DivisorAt, CheckedAt, OperatorAt, LoadAt, CopyBy, ExpressionAt, InitialBy, ReturnedAt, FirstTwoAt, IndexAt, PointerAt, StoresAt, CellsAt, ObjectAt, AddressAt, GuardAt, FreedAt, CountAt, TestedAt, WidenedAt, LoadedBy, SavedAt, BoundsAt, SteppedAt, ScaledAt, SummedAt, ThinnedAt, ReachedAt, FollowedAt, EachAt, GlobalAt, SizedAt, LastByteAt, BlankAt, BroughtAt, BroughtBy, LeftBy, InsideAt}
 use Rattle.cyc_lower.proofs.emission.Lengths.{past_long}
 use Rattle.cyc_lower.proofs.emission.Blocks.{BlocksStand}
 use Rattle.cyc_lower.specs.inside.Lowerable.{is_converted, is_pointer}
 use Rattle.cyc_lower.proofs.slots.Widths.{given, changes}
-use Rattle.cyc_lower.proofs.relation.Fitting.{FitsPlace}
+use Rattle.cyc_lower.proofs.relation.code.Fitting.{FitsPlace}
 use Rattle.cyc_lower.specs.inside.Lowerable.{is_converted}
 use Rattle.cyc_lower.proofs.value_steps.ValueWords.{as_wide}
 use Rattle.cyc_lower.proofs.slots.Slots.{global-inside}

@@ -23,17 +23,17 @@ use Rattle.cyc_lower.specs.inside.ValueCode.{passed_words, move_of, operand_or, 
 use Rattle.cyc_lower.specs.inside.ObjectCode.{right_slot, saved_code, load_at}
 use Rattle.cyc_lower.specs.inside.ControlCode.{compared_or, compared_of, failing_jump, holding_jump, all_test, are_tests, break_target, continue_target, body_target, inside_loop, leave_code, other_jump, clause_code, kept_code, kept_code_in, restored_code, restored_code_in, behind_record, inside_try, closed_code, handlers_code, marks_code, try_code, opened_code, inside_region, dynamic_code, entry_code, entry_length, is_nothing, over_code, over_length, null_compared, nulled_or}
 use Rattle.cyc_lower.specs.inside.ExpressionCode.{source_of, operand_of, value_slot, slot_with, value_operand, converted_operand, printed_operand, expression_code, converted_operand_code, printed_code, place_operand, place_offset, place_code, brought_code, is_simple}
-use Rattle.cyc_lower.specs.inside.Lowering.{assignment_code, assigned_operand, discarded_code, first_operand, first_code, second_code, pair_code, condition_code, condition_of, others_code, last_condition, tests_code, behind_tests, choice_code, choice_of, return_code, declaration_code, statement_code, items_code, results_of, side_code, read_side, write_side, exchange_code, swap_code, thrown_code, thrown_operand, caught_code, clauses_code, is_guard}
+use Rattle.cyc_lower.specs.inside.Lowering.{assignment_code, assigned_operand, discarded_code, first_operand, first_code, second_code, pair_code, condition_code, condition_of, others_code, last_condition, tests_code, behind_tests, choice_code, choice_of, branch_code, branch_of, return_code, declaration_code, statement_code, items_code, results_of, side_code, read_side, write_side, exchange_code, swap_code, thrown_code, thrown_operand, caught_code, clauses_code, is_guard}
 use Rattle.cyc_lower.specs.declared.operands.Condition.{Condition}
 use Rattle.cyc_lower.specs.declared.statements.Exits.{Exits}
 use Rattle.cyc_lower.specs.declared.statements.Opened.{Opened}
-use Rattle.cyc_lower.proofs.relation.Stands.{PairAt, ConditionAt, ForkAt, BranchesAt, TestsAt, Ends, AssignmentAt, DiscardedAt, ReturnAt, DeclarationAt, StatementAt, ItemsAt, HasSide, SideAt, ReadAt, WriteAt, SwapAt, LeaveAt, ThrownAt, CaughtAt, ClausesAt, ExchangeAt, ClosedAt, HandlersAt, MarksAt, KeptAt, RestoredAt, OpenedAt, LeftBy, EntryAt, OverAt}
+use Rattle.cyc_lower.proofs.relation.code.Stands.{PairAt, ConditionAt, ForkAt, BranchesAt, TestsAt, Ends, AssignmentAt, DiscardedAt, ReturnAt, DeclarationAt, StatementAt, ItemsAt, HasSide, SideAt, ReadAt, WriteAt, SwapAt, LeaveAt, ThrownAt, CaughtAt, ClausesAt, ExchangeAt, ClosedAt, HandlersAt, MarksAt, KeptAt, RestoredAt, OpenedAt, LeftBy, EntryAt, OverAt}
 use Rattle.cyc_types.specs.typing.Expressions.{type_of_side}
 use Rattle.cyc_lower.proofs.slots.Widths.{kind_of_result, type_words, HasLocal}
-use Rattle.cyc_lower.proofs.relation.Fitting.{FitsPlace, Fits, FitOperations, FitsConverted, FitsReturn, FitsInitial, FitsStatement, FitItems, FitsSide, FitsThrown, FitsCaught, FitClauses}
+use Rattle.cyc_lower.proofs.relation.code.Fitting.{FitsPlace, Fits, FitOperations, FitsConverted, FitsReturn, FitsInitial, FitsStatement, FitItems, FitsSide, FitsThrown, FitsCaught, FitClauses}
 use Rattle.cyc_lower.proofs.place_steps.Sources.{stored_apart}
-use Rattle.cyc_lower.proofs.relation.Tested.{compared_whole}
-use Rattle.cyc_lower.proofs.emission.Conditions.{tests_same}
+use Rattle.cyc_lower.proofs.relation.code.Tested.{compared_whole}
+use Rattle.cyc_lower.proofs.emission.Conditions.{tests_same, branch_same}
 use Rattle.cyc_lower.proofs.emission.Loops.{entry_long, over_long}
 use Rattle.cyc_lower.proofs.emission.Blocks.{BlocksStand}
 use Rattle.cyc_lower.proofs.emission.OperandBridge.{cut, operand_by, returned_by, right_by, left_first, returned_brought, conversion_stands, each_stands, global_stands, load_stands, stores_stand, saved_stands, address_stands, blank_stands}
@@ -271,6 +271,58 @@ module _ (code : List Instruction) (b : Numbering) (types : Types) (raised : Blo
       by (Binary a os ty) fits end has jump = chain a os ty (are_tests logical.AndThen os) refl fits end has jump
       by a fits end has jump = whole a fits end has jump
 
+  -- The condition of a branch with the jump that is taken where it fails. Of tests by `&&` each operand that fails leads there.
+  others_fail : (os : Operations) (ty : Ty) (words : ℕ) (o : Condition) (f t p q : ℕ) → all_test logical.AndThen os ≡ true → FitOperations b types words ty os
+      → p + length (others_code (starts_of types) logical.AndThen os o f p t) ≡ q → HasAt code p (others_code (starts_of types) logical.AndThen os o f p t)
+      → At code q (failing_jump (last_condition (starts_of types) os o t) f)
+      → (x : ℕ) × (y : ℕ) × ForkAt code b types o.failing o.left o.right p x y × TestsAt code b types os true t x (Ends code b types f (q + 1)) × TestsAt code b types os false t y (Ends code b types f (q + 1))
+  others_fail NoOperations ty words o f t p q all fits end has jump =
+      let here : p ≡ q = omega (arith, end) in
+      (f, q + 1, inl (subst (λ n. At code n (failing_jump o f)) (sym here) jump, ap (λ n. n + 1) here), refl, refl)
+  others_fail (ThenTest logical.AndThen a os) ty words o f t p q all (first, fits) end has jump =
+      let next = condition_of (starts_of types) a t in
+      let operand = condition_code (starts_of types) a (p + 1) t in
+      let front = failing_jump o f ∷ operand in
+      let m = p + length front in
+      let rest = others_code (starts_of types) logical.AndThen os next f m t in
+      let (leads, has_operand) = has_front code p front rest has in
+      let (x, y, fork, fails, passes) = others_fail os ty (words_of ty) next f t m q all fits (cut p q front rest end) (has_back code p front rest has) jump in
+      let there = condition_stands a t (p + 1) m first (omega arith) has_operand in
+      let tried : BranchesAt code b types a x y t (p + 1) = compared_whole code b types a x y t (p + 1) (next.left, next.right, m, there, fork) in
+      (f, p + 1, inl (leads, refl), all_over os f (q + 1) t all, (x, y, tried, fails, passes))
+  others_fail (ThenTest logical.OrElse a os) ty words o f t p q all fits end has jump = absurd (let z : false ≡ true = all in cc)
+  others_fail (ThenCompute u a os) ty words o f t p q all fits end has jump = absurd (let z : false ≡ true = all in cc)
+  others_fail (ThenPointer u a os) ty words o f t p q all fits end has jump = absurd (let z : false ≡ true = all in cc)
+  others_fail (ThenPointerPeek n u a os) ty words o f t p q all fits end has jump = absurd (let z : false ≡ true = all in cc)
+
+  tests_fail : (a : Expression) (os : Operations) (ty : Ty) (f t p q : ℕ) → are_tests logical.AndThen os ≡ true → Fits b types (Binary a os ty)
+      → p + length (tests_code (starts_of types) logical.AndThen a os f p t) ≡ q → HasAt code p (tests_code (starts_of types) logical.AndThen a os f p t)
+      → At code q (failing_jump (last_condition (starts_of types) os (condition_of (starts_of types) a t) t) f) → BranchesAt code b types (Binary a os ty) f (q + 1) t p
+  tests_fail a (ThenTest u c os) ty f t p q all (first, fits) end has jump =
+      let front = condition_code (starts_of types) a p t in
+      let m = p + length front in
+      let next = condition_of (starts_of types) a t in
+      let rest = others_code (starts_of types) logical.AndThen (ThenTest u c os) next f m t in
+      let (x, y, fork, fails, passes) = others_fail (ThenTest u c os) ty (operand_words (type_of a)) next f t m q all fits (cut p q front rest end) (has_back code p front rest has) jump in
+      inr (x, y, compared_whole code b types a x y t p (next.left, next.right, m, condition_stands a t p m first refl (has_front code p front rest has), fork), fails, passes)
+  tests_fail a NoOperations ty f t p q all fits end has jump = absurd (let z : false ≡ true = all in cc)
+  tests_fail a (ThenCompute u c os) ty f t p q all fits end has jump = absurd (let z : false ≡ true = all in cc)
+  tests_fail a (ThenPointer u c os) ty f t p q all fits end has jump = absurd (let z : false ≡ true = all in cc)
+  tests_fail a (ThenPointerPeek n u c os) ty f t p q all fits end has jump = absurd (let z : false ≡ true = all in cc)
+
+  branch_stands : (a : Expression) (f t p q : ℕ) → Fits b types a → p + length (branch_code (starts_of types) a f p t) ≡ q → HasAt code p (branch_code (starts_of types) a f p t)
+      → At code q (failing_jump (branch_of (starts_of types) a t) f) → BranchesAt code b types a f (q + 1) t p
+  branch_stands (Binary a os ty) f t p q fits end has jump = chain (are_tests logical.AndThen os) refl end has jump
+    where
+      chain : (tests : Bool) → are_tests logical.AndThen os ≡ tests
+          → p + length (if tests then tests_code (starts_of types) logical.AndThen a os f p t else choice_code (starts_of types) logical.OrElse (Binary a os ty) p t) ≡ q
+          → HasAt code p (if tests then tests_code (starts_of types) logical.AndThen a os f p t else choice_code (starts_of types) logical.OrElse (Binary a os ty) p t)
+          → At code q (failing_jump (if tests then last_condition (starts_of types) os (condition_of (starts_of types) a t) t else choice_of (starts_of types) logical.OrElse (Binary a os ty) t) f)
+          → BranchesAt code b types (Binary a os ty) f (q + 1) t p
+      chain true is end has jump = tests_fail a os ty f t p q is fits end has jump
+      chain false is end has jump = choice_stands (Binary a os ty) f t p q fits end has jump
+  branch_stands a f t p q fits end has jump = choice_stands a f t p q fits end has jump
+
   -- ---- statements
 
   -- what leads into a loop
@@ -450,27 +502,30 @@ module _ (code : List Instruction) (b : Numbering) (types : Types) (raised : Blo
     statement_stands (Evaluate a) in_loop exits t p q numbered end has = discarded_stands a t p q numbered end has
     statement_stands (Swap x y) in_loop exits t p q (fits_x, fits_y) end has = swap_stands x y t p q fits_x fits_y end has
     statement_stands (If a s u) in_loop exits t p q (numbered_a, numbered_s, numbered_u) end has =
-        let condition = choice_code (starts_of types) logical.OrElse a p t in
-        let m = p + length condition in
+        let m = p + length (branch_code (starts_of types) a 0 p t) in
         let first = statement_code (starts_of types) s (m + 1) exits t in
         let r = m + 1 + length first in
         let last = is_nothing u in
-        let second = statement_code (starts_of types) u (r + over_length last) exits t in
-        let jump_first = failing_jump (choice_of (starts_of types) logical.OrElse a t) (r + over_length last) ∷ first in
-        let over = over_code last (r + over_length last + length second) in
+        let other = r + over_length last in
+        let condition = branch_code (starts_of types) a other p t in
+        let same = branch_same (starts_of types) a 0 other p t in
+        let second = statement_code (starts_of types) u other exits t in
+        let jump_first = failing_jump (branch_of (starts_of types) a t) other ∷ first in
+        let over = over_code last (other + length second) in
         let front = condition ++ jump_first in
         let long : length front ≡ length condition + suc (length first) = length-append condition jump_first in
-        let (jump, has_first) = has_back code p condition jump_first (has_front code p front (over ++ second) has) in
-        let has_rest = subst (λ x. HasAt code x (over ++ second)) (let e : p + length front ≡ r = omega (arith, long) in e) (has_back code p front (over ++ second) has) in
-        let has_second = subst (λ x. HasAt code x second) (ap (λ n. r + n) (over_long last (r + over_length last + length second))) (has_back code r over second has_rest) in
-        let end_is : r + over_length last + length second ≡ q = omega (arith, cut p q front (over ++ second) end, length-append over second, over_long last (r + over_length last + length second), long) in (
-          r + over_length last,
+        let behind : p + length condition ≡ m = omega (arith, same) in
+        let (jump, has_first) = subst (λ x. HasAt code x jump_first) behind (has_back code p condition jump_first (has_front code p front (over ++ second) has)) in
+        let has_rest = subst (λ x. HasAt code x (over ++ second)) (let e : p + length front ≡ r = omega (arith, long, same) in e) (has_back code p front (over ++ second) has) in
+        let has_second = subst (λ x. HasAt code x second) (ap (λ n. r + n) (over_long last (other + length second))) (has_back code r over second has_rest) in
+        let end_is : other + length second ≡ q = omega (arith, cut p q front (over ++ second) end, length-append over second, over_long last (other + length second), long, same) in (
+          other,
           m + 1,
           r,
-          choice_stands a (r + over_length last) t p m numbered_a refl (has_front code p condition jump_first (has_front code p front (over ++ second) has)) jump,
+          branch_stands a other t p m numbered_a behind (has_front code p condition jump_first (has_front code p front (over ++ second) has)) jump,
           statement_stands s in_loop exits t (m + 1) r numbered_s refl has_first,
           over_stands u r q end_is (has_front code r over second has_rest),
-          statement_stands u in_loop exits t (r + over_length last) q numbered_u end_is has_second,
+          statement_stands u in_loop exits t other q numbered_u end_is has_second,
         )
       where
         over_stands : (u : Statement) (r q : ℕ) → r + over_length (is_nothing u) + length (statement_code (starts_of types) u (r + over_length (is_nothing u)) exits t) ≡ q

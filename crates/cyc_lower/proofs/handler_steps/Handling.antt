@@ -17,13 +17,13 @@ use Rattle.cyc_lower.specs.declared.statements.Exits.{Exits}
 use Rattle.cyc_lower.specs.declared.statements.Opened.{Opened}
 use Rattle.cyc_lower.specs.inside.ControlCode.{outermost, with_handler, with_mark}
 use Rattle.cyc_lower.specs.inside.Lowering.{scopes_of}
-use Rattle.cyc_lower.proofs.relation.Weights.{weight}
-use Rattle.cyc_lower.proofs.relation.Stands.{HandlersAt, MarksAt}
-use Rattle.cyc_lower.proofs.relation.HeldValues.{IsIntact, left_by, scopes_in, MayBeOpen, Newest}
-use Rattle.cyc_lower.proofs.relation.Relation.{HandlersStand, SharedAt, SharedBy, StatementStack, Related, Matches, code_of, bounds_at, types_at, floor, IsMark, HasScopes, opened_by, CaughtBy, DataIn}
-use Rattle.cyc_lower.proofs.relation.Sharing.{shared_ahead}
-use Rattle.cyc_lower.proofs.relation.Data.{calls_counted, record_below}
-use Rattle.cyc_lower.proofs.relation.Matched.{IsMatched, silently, by_one}
+use Rattle.cyc_lower.proofs.relation.simulation.Weights.{weight}
+use Rattle.cyc_lower.proofs.relation.code.Stands.{HandlersAt, MarksAt}
+use Rattle.cyc_lower.proofs.relation.contents.HeldValues.{IsIntact, left_by, scopes_in, MayBeOpen, Newest}
+use Rattle.cyc_lower.proofs.relation.simulation.Relation.{HandlersStand, SharedAt, SharedBy, StatementStack, Related, Matches, code_of, bounds_at, types_at, floor, IsMark, HasScopes, opened_by, CaughtBy, DataIn}
+use Rattle.cyc_lower.proofs.relation.contents.Sharing.{shared_ahead}
+use Rattle.cyc_lower.proofs.relation.contents.Data.{calls_counted, record_below}
+use Rattle.cyc_lower.proofs.relation.simulation.Matched.{IsMatched, silently, by_one}
 
 pub intact : (slots : Words) (first : ℕ) (contents : Words) → IsIntact slots first contents → is_intact slots first contents ≡ true
 intact slots first contents (zeroth, second, third, fourth) =

@@ -40,21 +40,21 @@ use Rattle.cyc_objects.proofs.Values.{Grows-row}
 use Rattle.cyc_objects.proofs.RegionLemmas.{counted-same}
 use Rattle.cyc_objects.proofs.Making.{open-home, allocated, allocated-unique, refusal-allocate, refusal-unique, operands-blank, row-made, placed-range, room-fits}
 use Rattle.cyc_lower.proofs.slots.Widths.{kind_positive, wide_kind, Outside}
-use Rattle.cyc_lower.proofs.relation.Stands.{StoresAt, CellsAt, ObjectAt}
-use Rattle.cyc_lower.proofs.relation.HeldValues.{IsWord, IsIn, IsObject, words_held, Holds, HoldsFrom, held, callers, homes, IsHandleOf, HasHandle, contents}
-use Rattle.cyc_lower.proofs.relation.Relation.{types_on, silent, DataIn, SharedAt, LandsMade, ValueStack, Matches, code_of, bounds_at, top, floor, base_of}
+use Rattle.cyc_lower.proofs.relation.code.Stands.{StoresAt, CellsAt, ObjectAt}
+use Rattle.cyc_lower.proofs.relation.contents.HeldValues.{IsWord, IsIn, IsObject, words_held, Holds, HoldsFrom, held, callers, homes, IsHandleOf, HasHandle, contents}
+use Rattle.cyc_lower.proofs.relation.simulation.Relation.{types_on, silent, DataIn, SharedAt, LandsMade, ValueStack, Matches, code_of, bounds_at, top, floor, base_of}
 use Rattle.cyc_lower.proofs.object_steps.Handles.{has_handle}
-use Rattle.cyc_lower.proofs.relation.Data.{Is-same, height-least, one_word, Holds-same, Holds-rest, Holds-grows, HoldsFrom-grows, in_order, data_grows, variables_grow, contents_made, data_written, floor-least, Holds-above}
-use Rattle.cyc_lower.proofs.relation.Accesses.{IsWell, is_fitting}
-use Rattle.cyc_lower.proofs.relation.Paths.{by_path}
+use Rattle.cyc_lower.proofs.relation.contents.Data.{Is-same, height-least, one_word, Holds-same, Holds-rest, Holds-grows, HoldsFrom-grows, in_order, data_grows, variables_grow, contents_made, data_written, floor-least, Holds-above}
+use Rattle.cyc_lower.proofs.relation.simulation.Accesses.{IsWell, is_fitting}
+use Rattle.cyc_lower.proofs.relation.simulation.Paths.{by_path}
 use Rattle.cyc_lower.proofs.object_steps.Asking.{past_pages, by_asking, by_full}
 use Rattle.cyc_lower.proofs.place_steps.WideCells.{store_links, store_path, store_last, shared_stored, data_stored, stored as stored_there, above_stored, frames_stored}
 use Rattle.cyc_lower.proofs.place_steps.CellWrites.{SameVariables, data_beside, cell_is_there, saves_there, shared_saved, data_saved, with_word, above_there, frames_there}
-use Rattle.cyc_lower.proofs.relation.Matched.{IsMatched, below, silently, by_one, shared_within}
+use Rattle.cyc_lower.proofs.relation.simulation.Matched.{IsMatched, below, silently, by_one, shared_within}
 use Rattle.cyc_lower.proofs.value_steps.Evaluations.{IsStep, made_moved, brings}
-use Rattle.cyc_lower.proofs.relation.Known.{row-made_there}
-use Rattle.cyc_lower.proofs.relation.Leads.{AreNamed}
-use Rattle.cyc_lower.proofs.relation.Moving.{made_moves}
+use Rattle.cyc_lower.proofs.relation.places.Known.{row-made_there}
+use Rattle.cyc_lower.proofs.relation.places.Leads.{AreNamed}
+use Rattle.cyc_lower.proofs.relation.code.Moving.{made_moves}
 use Rattle.cyc_lower.specs.inside.Slots.{global_types}
 use Rattle.cyc_lower.specs.inside.ValueCode.{kinds_passed}
 use Rattle.cyc_lower.specs.inside.ObjectCode.{slots_of_kinds}

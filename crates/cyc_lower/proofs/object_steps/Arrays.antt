@@ -47,30 +47,30 @@ use Rattle.cyc_lower.specs.inside.ValueCode.{is_in, scale_of, store_of}
 use Rattle.cyc_lower.specs.inside.ObjectCode.{most_elements}
 use Rattle.cyc_lower.specs.inside.Lowering.{lower_program}
 use Rattle.cyc_lower.proofs.slots.Widths.{Outside, same_kind, wide_kind}
-use Rattle.cyc_lower.proofs.relation.Stands.{CopyBy, BegunAt, ElementsAt, StoresAt, SizedAt}
+use Rattle.cyc_lower.proofs.relation.code.Stands.{CopyBy, BegunAt, ElementsAt, StoresAt, SizedAt}
 use Rattle.cyc_lower.proofs.object_steps.Handles.{has_handle}
-use Rattle.cyc_lower.proofs.relation.HeldValues.{IsWord, IsIn, Holds, held, callers, counters_of, arrays_in, IsHandleOf, homes, contents}
-use Rattle.cyc_lower.proofs.relation.Relation.{silent, DataIn, SharedAt, in_temporary, into_slot, LandsMade, ValueStack, Matches, code_of, bounds_at, types_on, floor, top, base_of}
-use Rattle.cyc_lower.proofs.relation.Data.{Is-same, height-least, one_word, Holds-same, Holds-grows, data_written, data_grows, variables_grow, contents_made, floor-least, Holds-above, newest_there}
-use Rattle.cyc_lower.proofs.relation.Accesses.{IsWell, is_fitting}
-use Rattle.cyc_lower.proofs.relation.Counters.{counters-many, counted_before}
-use Rattle.cyc_lower.proofs.relation.Sharing.{shared_less}
+use Rattle.cyc_lower.proofs.relation.contents.HeldValues.{IsWord, IsIn, Holds, held, callers, counters_of, arrays_in, IsHandleOf, homes, contents}
+use Rattle.cyc_lower.proofs.relation.simulation.Relation.{silent, DataIn, SharedAt, in_temporary, into_slot, LandsMade, ValueStack, Matches, code_of, bounds_at, types_on, floor, top, base_of}
+use Rattle.cyc_lower.proofs.relation.contents.Data.{Is-same, height-least, one_word, Holds-same, Holds-grows, data_written, data_grows, variables_grow, contents_made, floor-least, Holds-above, newest_there}
+use Rattle.cyc_lower.proofs.relation.simulation.Accesses.{IsWell, is_fitting}
+use Rattle.cyc_lower.proofs.relation.contents.Counters.{counters-many, counted_before}
+use Rattle.cyc_lower.proofs.relation.contents.Sharing.{shared_less}
 use Rattle.cyc_lower.proofs.place_steps.PlaceWords.{add_is, stays, cell_kind, word_is}
-use Rattle.cyc_lower.proofs.relation.Paths.{Link, is_quiet, end_of, IsPath, end_joined, path_joined, by_path}
+use Rattle.cyc_lower.proofs.relation.simulation.Paths.{Link, is_quiet, end_of, IsPath, end_joined, path_joined, by_path}
 use Rattle.cyc_lower.proofs.place_steps.WideCells.{stored, all_links, all_path, shared_stored, data_stored, Parts, parts_of, stage, above_stored, frames_stored}
 use Rattle.cyc_lower.proofs.pointer_steps.Elements.{scaled}
 use Rattle.cyc_lower.proofs.place_steps.CellWrites.{SameVariables, data_beside, cell_is_there, with_word, saves_there, demand_there, shared_saved, data_saved, above_there, frames_there}
-use Rattle.cyc_lower.proofs.relation.Levels.{lands_arrays}
-use Rattle.cyc_lower.proofs.relation.Matched.{IsMatched, by_one, by_two, by_three, shared_way, shared_within}
+use Rattle.cyc_lower.proofs.relation.code.Levels.{lands_arrays}
+use Rattle.cyc_lower.proofs.relation.simulation.Matched.{IsMatched, by_one, by_two, by_three, shared_way, shared_within}
 use Rattle.cyc_lower.proofs.value_steps.Evaluations.{IsStep, landed_made, made_moved}
 use Rattle.cyc_lower.proofs.handler_steps.Handling.{raised}
 use Rattle.cyc_lower.proofs.object_steps.Allocations.{Makes, made_for}
 use Rattle.cyc_lower.proofs.object_steps.ArrayWords.{elements_few, words_few, most_is, scaled_is, scaled_word, quarter_is, product_is, sized_is}
 use Rattle.cyc_lower.proofs.object_steps.Asking.{past_pages, by_asking, by_full}
 use Rattle.cyc_words.proofs.WordLemmas.{IsWord-add_of}
-use Rattle.cyc_lower.proofs.relation.Known.{row-made_there}
-use Rattle.cyc_lower.proofs.relation.Leads.{AreNamed}
-use Rattle.cyc_lower.proofs.relation.Moving.{Like, like_long, made_moves}
+use Rattle.cyc_lower.proofs.relation.places.Known.{row-made_there}
+use Rattle.cyc_lower.proofs.relation.places.Leads.{AreNamed}
+use Rattle.cyc_lower.proofs.relation.code.Moving.{Like, like_long, made_moves}
 use Rattle.cyc_lower.specs.inside.Slots.{Types, global_types}
 use Rattle.cyc_lower.proofs.pointer_steps.PointerSteps.{int_word}
 use Rattle.cyc_lower.proofs.place_steps.KindWords.{saved_at, saves_by}

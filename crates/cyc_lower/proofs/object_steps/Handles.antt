@@ -7,7 +7,7 @@ use Rattle.cyc_plain.specs.inside.State.{Words}
 use Rattle.cyc_plain.specs.inside.Step.{operand_word}
 use Rattle.cyc_meaning.specs.State.{Owner, InRegion, Unique, heap_number, BesideHandle, Entry, Needs}
 use Rattle.cyc_objects.specs.inside.Tables.{Tables}
-use Rattle.cyc_lower.proofs.relation.HeldValues.{Holds, held, height, kept, IsHandleOf, HasHandle}
+use Rattle.cyc_lower.proofs.relation.contents.HeldValues.{Holds, held, height, kept, IsHandleOf, HasHandle}
 
 -- less is kept than is held
 pub kept_holds : (t : Tables) (slots : Words) (base : ℕ) (k : List Entry) → Holds t slots base (held k) → Holds t slots base (kept k)

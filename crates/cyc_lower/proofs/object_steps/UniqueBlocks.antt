@@ -31,14 +31,14 @@ use Rattle.cyc_objects.proofs.Places.{before-first}
 use Rattle.cyc_objects.proofs.Pointers.{not-null, part-not-null}
 use Rattle.cyc_objects.proofs.Services.{refusal-free, freed-unique}
 use Rattle.cyc_lower.specs.inside.Lowering.{lower_program}
-use Rattle.cyc_lower.proofs.relation.HeldValues.{IsIn, content_of, callers}
-use Rattle.cyc_lower.proofs.relation.Relation.{in_temporary, in_local, behind_call, behind_wrong, ProceedingAt, DataIn, SharedAt, LandsStack, ValueStack, Matches, code_of}
-use Rattle.cyc_lower.proofs.relation.Data.{calls_counted, in_words, get_set_other, null_is, points_in}
-use Rattle.cyc_lower.proofs.relation.Accesses.{IsWell, is_fitting}
+use Rattle.cyc_lower.proofs.relation.contents.HeldValues.{IsIn, content_of, callers}
+use Rattle.cyc_lower.proofs.relation.simulation.Relation.{in_temporary, in_local, behind_call, behind_wrong, ProceedingAt, DataIn, SharedAt, LandsStack, ValueStack, Matches, code_of}
+use Rattle.cyc_lower.proofs.relation.contents.Data.{calls_counted, in_words, get_set_other, null_is, points_in}
+use Rattle.cyc_lower.proofs.relation.simulation.Accesses.{IsWell, is_fitting}
 use Rattle.cyc_lower.proofs.place_steps.CellWrites.{SameVariables, data_beside}
-use Rattle.cyc_lower.proofs.relation.Matched.{IsMatched, by_places, by_one, executes, shared_way, shared_within, place_in, known, apart, Executes}
+use Rattle.cyc_lower.proofs.relation.simulation.Matched.{IsMatched, by_places, by_one, executes, shared_way, shared_within, place_in, known, apart, Executes}
 use Rattle.cyc_lower.specs.inside.Slots.{global_types}
-use Rattle.cyc_lower.proofs.relation.Known.{row-away}
+use Rattle.cyc_lower.proofs.relation.places.Known.{row-away}
 use Rattle.cyc_objects.specs.inside.Related.{lies_in}
 use Rattle.cyc_store.specs.declared.range.TheConstants.{UNIQUE}
 

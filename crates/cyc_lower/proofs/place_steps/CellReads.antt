@@ -26,12 +26,12 @@ use Rattle.cyc_lower.specs.inside.Slots.{slot_of, global_types}
 use Rattle.cyc_lower.specs.inside.Lowering.{lower_program}
 use Rattle.cyc_lower.proofs.slots.Widths.{HasRoom}
 use Rattle.cyc_lower.proofs.slots.Slots.{slot-room, global-room, globals_counted}
-use Rattle.cyc_lower.proofs.relation.Known.{global-first, global_kind, first_word}
-use Rattle.cyc_lower.proofs.relation.HeldValues.{Waiting, contents, content_of, content_of_cell, with_kind}
-use Rattle.cyc_lower.proofs.relation.Relation.{DataAt, silent, types_at, starts_at, base_of}
-use Rattle.cyc_lower.proofs.relation.Rows.{local-pointer, local-kind, char_there}
-use Rattle.cyc_lower.proofs.relation.WaitingData.{frame_at}
-use Rattle.cyc_lower.proofs.relation.Leads.{IsNamed, is_global, is_local, is_waiting, AreNamed, Leads, to_store, to_variable, leads}
+use Rattle.cyc_lower.proofs.relation.places.Known.{global-first, global_kind, first_word}
+use Rattle.cyc_lower.proofs.relation.contents.HeldValues.{Waiting, contents, content_of, content_of_cell, with_kind}
+use Rattle.cyc_lower.proofs.relation.simulation.Relation.{DataAt, silent, types_at, starts_at, base_of}
+use Rattle.cyc_lower.proofs.relation.places.Rows.{local-pointer, local-kind, char_there}
+use Rattle.cyc_lower.proofs.relation.contents.WaitingData.{frame_at}
+use Rattle.cyc_lower.proofs.relation.places.Leads.{IsNamed, is_global, is_local, is_waiting, AreNamed, Leads, to_store, to_variable, leads}
 use Rattle.cyc_lower.proofs.place_steps.PlaceWords.{cell_kind, word_is}
 use Rattle.cyc_lower.proofs.place_steps.StoredWords.{cell-stored, global-found, byte-stored}
 use Rattle.std.proofs.lemmas.Bool.{cases_Bool}

@@ -25,21 +25,21 @@ use Rattle.cyc_objects.proofs.Cells.{cell-aligned, related-written, saved-is}
 use Rattle.cyc_objects.proofs.Variables.{assigned-away}
 use Rattle.cyc_lower.proofs.slots.Widths.{same_kind, kind_positive, words_in, HasGlobal, Outside, HasRoom}
 use Rattle.cyc_lower.proofs.slots.Slots.{global-room, slot-room}
-use Rattle.cyc_lower.proofs.relation.Moves.{put_elsewhere}
-use Rattle.cyc_lower.proofs.relation.Known.{IsVariableRow, row-away, global-first, global_kind, first_word}
-use Rattle.cyc_lower.proofs.relation.HeldValues.{IsWord, content_of, contents, Waiting, LocalsHold, GlobalsHold, callers, CallSlots, IsCharAt}
-use Rattle.cyc_lower.proofs.relation.Relation.{FramesHold, DataAt, DataIn, SharedAt, silent, types_at, call_slots, base_of, starts_at}
-use Rattle.cyc_lower.proofs.relation.Data.{IsWord-is, get_set_other, locals_raised, data_assigned_global, data_assigned, handlers_same}
-use Rattle.cyc_lower.proofs.relation.Accesses.{IsWell, is_fitting, written_here, written_elsewhere, written_length}
+use Rattle.cyc_lower.proofs.relation.contents.Moves.{put_elsewhere}
+use Rattle.cyc_lower.proofs.relation.places.Known.{IsVariableRow, row-away, global-first, global_kind, first_word}
+use Rattle.cyc_lower.proofs.relation.contents.HeldValues.{IsWord, content_of, contents, Waiting, LocalsHold, GlobalsHold, callers, CallSlots, IsCharAt}
+use Rattle.cyc_lower.proofs.relation.simulation.Relation.{FramesHold, DataAt, DataIn, SharedAt, silent, types_at, call_slots, base_of, starts_at}
+use Rattle.cyc_lower.proofs.relation.contents.Data.{IsWord-is, get_set_other, locals_raised, data_assigned_global, data_assigned, handlers_same}
+use Rattle.cyc_lower.proofs.relation.simulation.Accesses.{IsWell, is_fitting, written_here, written_elsewhere, written_length}
 use Rattle.cyc_lower.proofs.place_steps.PlaceWords.{cell_kind}
 use Rattle.cyc_lower.proofs.place_steps.CellReads.{globals_long}
 use Rattle.cyc_plain.proofs.MemoryLaws.{store_word, stored-word, memory-active, memory-waiting, written-active, written-waiting_at}
 use Rattle.cyc_lower.specs.inside.Lowering.{lower_program, scopes_of}
 use Rattle.cyc_lower.proofs.place_steps.StoredWords.{cell-stored, saves-stored, saves-global, byte-stored, saves-stored_byte, global-found}
-use Rattle.cyc_lower.proofs.relation.Rows.{local-row, local-pointer, local-kind, char_there, char_cell}
-use Rattle.cyc_lower.proofs.relation.Leads.{AreNamed, Leads, leads, to_store, to_variable, is_global, is_local, is_waiting}
-use Rattle.cyc_lower.proofs.relation.WaitingData.{with_slots_of, callers_least, frame_at, data_assigned_waiting}
-use Rattle.cyc_lower.proofs.relation.Moving.{Like, like_same, like_set, like_long, handlers_move}
+use Rattle.cyc_lower.proofs.relation.places.Rows.{local-row, local-pointer, local-kind, char_there, char_cell}
+use Rattle.cyc_lower.proofs.relation.places.Leads.{AreNamed, Leads, leads, to_store, to_variable, is_global, is_local, is_waiting}
+use Rattle.cyc_lower.proofs.relation.contents.WaitingData.{with_slots_of, callers_least, frame_at, data_assigned_waiting}
+use Rattle.cyc_lower.proofs.relation.code.Moving.{Like, like_same, like_set, like_long, handlers_move}
 use Rattle.std.proofs.lemmas.Bool.{cases_eq, cases_Bool}
 use Rattle.cyc_words.proofs.Numbers.{when_equal}
 use Rattle.cyc_objects.proofs.Chars.{char-stored, wide-aligned, wide-bytes, char-kind}

@@ -18,7 +18,7 @@ use Rattle.cyc_meaning.specs.Values.{Value, is_kind, words_of_kind}
 use Rattle.cyc_objects.specs.inside.Tables.{Tables}
 use Rattle.cyc_objects.proofs.Chars.{char-small, last-word, last-place, last-loaded, last-stored, low-same}
 use Rattle.cyc_lower.specs.inside.ValueCode.{load_of, store_of, variable_bytes}
-use Rattle.cyc_lower.proofs.relation.HeldValues.{IsWord}
+use Rattle.cyc_lower.proofs.relation.contents.HeldValues.{IsWord}
 
 -- what a load of a kind finds
 abbrev pub loaded_at : Program → Kind → Configuration → (address : ℕ) → Option ℕ

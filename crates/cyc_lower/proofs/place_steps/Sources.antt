@@ -13,7 +13,7 @@ use Rattle.cyc_lower.specs.inside.ControlCode.{counter_operand}
 use Rattle.cyc_lower.specs.inside.ExpressionCode.{operand_of, value_slot, converted_operand}
 use Rattle.cyc_lower.proofs.slots.Widths.{given, words_in, keeps_wide}
 use Rattle.cyc_lower.proofs.slots.Slots.{room-inside}
-use Rattle.cyc_lower.proofs.relation.Fitting.{Fits, FitsConverted}
+use Rattle.cyc_lower.proofs.relation.code.Fitting.{Fits, FitsConverted}
 use Rattle.cyc_types.specs.declared.typed.UnaryOperator.TheVariants as unary
 
 module _ (types : Types) where

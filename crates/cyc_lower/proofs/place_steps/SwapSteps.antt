@@ -25,28 +25,28 @@ use Rattle.cyc_lower.specs.inside.Lowering.{lower_program}
 use Rattle.cyc_lower.specs.inside.Slots.{slot_of, global_of, global_types}
 use Rattle.cyc_lower.proofs.slots.Widths.{same_kind, kind_positive, wide_kind, Outside}
 use Rattle.cyc_lower.proofs.slots.Slots.{slot-room, global-inside}
-use Rattle.cyc_lower.proofs.relation.Moves.{put_elsewhere, moved_slots, moves, moved_elsewhere, moved_is}
-use Rattle.cyc_lower.proofs.relation.Weights.{focus_weight, stack_weight}
-use Rattle.cyc_lower.proofs.relation.Stands.{EachAt, StoresAt, HasSide, SideAt, ReadAt, WriteAt, ExchangeAt, PlaceAt}
-use Rattle.cyc_lower.proofs.relation.HeldValues.{IsWord, Holds, held, contents, callers, IsCharAt}
-use Rattle.cyc_lower.proofs.relation.Relation.{base_of, floor, behind_statement, IsSideAt, IsLeft, WritesAt, StatementStack, DataIn, SharedAt, Matches, code_of, bounds_at, types_at, starts_at, base_of}
-use Rattle.cyc_lower.proofs.relation.Data.{Is-same, one_word, data_written, data_assigned, data_assigned_global, handlers_beside, floor-least}
-use Rattle.cyc_lower.proofs.relation.Sharing.{shared_written, shared_beside}
-use Rattle.cyc_lower.proofs.relation.Accesses.{IsWell, is_stored, written_here, written_elsewhere, written_length}
+use Rattle.cyc_lower.proofs.relation.contents.Moves.{put_elsewhere, moved_slots, moves, moved_elsewhere, moved_is}
+use Rattle.cyc_lower.proofs.relation.simulation.Weights.{focus_weight, stack_weight}
+use Rattle.cyc_lower.proofs.relation.code.Stands.{EachAt, StoresAt, HasSide, SideAt, ReadAt, WriteAt, ExchangeAt, PlaceAt}
+use Rattle.cyc_lower.proofs.relation.contents.HeldValues.{IsWord, Holds, held, contents, callers, IsCharAt}
+use Rattle.cyc_lower.proofs.relation.simulation.Relation.{base_of, floor, behind_statement, IsSideAt, IsLeft, WritesAt, StatementStack, DataIn, SharedAt, Matches, code_of, bounds_at, types_at, starts_at, base_of}
+use Rattle.cyc_lower.proofs.relation.contents.Data.{Is-same, one_word, data_written, data_assigned, data_assigned_global, handlers_beside, floor-least}
+use Rattle.cyc_lower.proofs.relation.contents.Sharing.{shared_written, shared_beside}
+use Rattle.cyc_lower.proofs.relation.simulation.Accesses.{IsWell, is_stored, written_here, written_elsewhere, written_length}
 use Rattle.cyc_lower.proofs.place_steps.CellWrites.{cell_is_there, saves_there, shared_saved, data_saved, with_word, above_there, frames_there}
 use Rattle.cyc_lower.proofs.place_steps.PlaceWords.{stays, cell_kind, word_is}
-use Rattle.cyc_lower.proofs.relation.Paths.{Link, is_quiet, end_of, IsPath}
+use Rattle.cyc_lower.proofs.relation.simulation.Paths.{Link, is_quiet, end_of, IsPath}
 use Rattle.cyc_lower.proofs.value_steps.GlobalSteps.{each_put, each-outside, each_is, load_links, load_end, load_path, stored_globals, stored_elsewhere, stored_is, global_links, is_stored_by, by_links}
 use Rattle.cyc_lower.proofs.place_steps.CellLoads.{word_links, word_end, word_path}
 use Rattle.cyc_lower.proofs.place_steps.WideCells.{all_links, all_path, shared_stored, data_stored, stored, above_stored, frames_stored}
 use Rattle.cyc_lower.proofs.place_steps.AddressSteps.{Brought, in_slot, by_word}
-use Rattle.cyc_lower.proofs.relation.Matched.{IsMatched, silently, by_one}
+use Rattle.cyc_lower.proofs.relation.simulation.Matched.{IsMatched, silently, by_one}
 use Rattle.cyc_lower.proofs.value_steps.Evaluations.{IsStep, object_of_same}
 use Rattle.cyc_lower.proofs.place_steps.CellReads.{held_there, cell_reads, read_there, low_same}
-use Rattle.cyc_lower.proofs.relation.Known.{IsGlobalRow}
-use Rattle.cyc_lower.proofs.relation.Rows.{local-row, char_cell}
-use Rattle.cyc_lower.proofs.relation.Leads.{AreNamed}
-use Rattle.cyc_lower.proofs.relation.Moving.{statement_moves}
+use Rattle.cyc_lower.proofs.relation.places.Known.{IsGlobalRow}
+use Rattle.cyc_lower.proofs.relation.places.Rows.{local-row, char_cell}
+use Rattle.cyc_lower.proofs.relation.places.Leads.{AreNamed}
+use Rattle.cyc_lower.proofs.relation.code.Moving.{statement_moves}
 use Rattle.cyc_lower.proofs.place_steps.KindWords.{loaded_at, saved_at, saves_by}
 
 -- ---- what is read

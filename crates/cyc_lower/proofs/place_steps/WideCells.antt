@@ -29,24 +29,24 @@ use Rattle.cyc_lower.specs.inside.Slots.{global_types, slot_of}
 use Rattle.cyc_lower.specs.inside.Lowering.{lower_program, scopes_of}
 use Rattle.cyc_lower.proofs.slots.Widths.{Outside, HasGlobal, words_in, HasRoom}
 use Rattle.cyc_lower.proofs.slots.Slots.{global-room, slot-room, slot-apart}
-use Rattle.cyc_lower.proofs.relation.Moves.{put_elsewhere}
-use Rattle.cyc_lower.proofs.relation.Known.{row-away, global-first, global_kind, first_word, IsVariableRow}
+use Rattle.cyc_lower.proofs.relation.contents.Moves.{put_elsewhere}
+use Rattle.cyc_lower.proofs.relation.places.Known.{row-away, global-first, global_kind, first_word, IsVariableRow}
 use Rattle.cyc_lower.proofs.place_steps.PlaceWords.{stored_still, three_put, three_words, three_elsewhere, three_written, three_of, cell_kind}
-use Rattle.cyc_lower.proofs.relation.HeldValues.{content_of, callers, Waiting, contents, IsCharAt}
-use Rattle.cyc_lower.proofs.relation.Relation.{SharedAt, DataAt, DataIn, silent, code_of, types_at, base_of, starts_at}
-use Rattle.cyc_lower.proofs.relation.Data.{Is-same, get_set_other, data_assigned_global, data_assigned, handlers_same}
-use Rattle.cyc_lower.proofs.relation.Accesses.{written_here, written_elsewhere, written_length}
+use Rattle.cyc_lower.proofs.relation.contents.HeldValues.{content_of, callers, Waiting, contents, IsCharAt}
+use Rattle.cyc_lower.proofs.relation.simulation.Relation.{SharedAt, DataAt, DataIn, silent, code_of, types_at, base_of, starts_at}
+use Rattle.cyc_lower.proofs.relation.contents.Data.{Is-same, get_set_other, data_assigned_global, data_assigned, handlers_same}
+use Rattle.cyc_lower.proofs.relation.simulation.Accesses.{written_here, written_elsewhere, written_length}
 use Rattle.cyc_lower.proofs.place_steps.CellReads.{globals_long, IsOwn, AreSame}
 use Rattle.cyc_lower.proofs.place_steps.CellWrites.{data_beside}
 use Rattle.cyc_lower.proofs.value_steps.GlobalSteps.{each_put, each-outside, each_is, each-inside}
-use Rattle.cyc_lower.proofs.relation.Paths.{Link, IsQuiet, is_quiet, IsPath}
+use Rattle.cyc_lower.proofs.relation.simulation.Paths.{Link, IsQuiet, is_quiet, IsPath}
 use Rattle.cyc_plain.proofs.MemoryLaws.{store_word, stored-word, memory-active, memory-waiting, written-active, written-waiting_at}
 use Rattle.cyc_plain.specs.inside.Memory.{memory_at, is_pinned}
 use Rattle.cyc_lower.proofs.place_steps.StoredWords.{cell-stored, saves-stored, saves-global}
-use Rattle.cyc_lower.proofs.relation.Leads.{AreNamed, Leads, leads, to_store, to_variable, is_global, is_local, is_waiting}
-use Rattle.cyc_lower.proofs.relation.WaitingData.{with_slots_of, callers_least, frame_at, data_assigned_waiting, below_set, set_at, set_again}
-use Rattle.cyc_lower.proofs.relation.Moving.{Like, like_same, like_slots, like_long, handlers_move}
-use Rattle.cyc_lower.proofs.relation.Rows.{local-row, local-pointer, local-kind, char_cell}
+use Rattle.cyc_lower.proofs.relation.places.Leads.{AreNamed, Leads, leads, to_store, to_variable, is_global, is_local, is_waiting}
+use Rattle.cyc_lower.proofs.relation.contents.WaitingData.{with_slots_of, callers_least, frame_at, data_assigned_waiting, below_set, set_at, set_again}
+use Rattle.cyc_lower.proofs.relation.code.Moving.{Like, like_same, like_slots, like_long, handlers_move}
+use Rattle.cyc_lower.proofs.relation.places.Rows.{local-row, local-pointer, local-kind, char_cell}
 use Rattle.cyc_types.specs.Types.{Ty}
 use Rattle.std.proofs.lemmas.Bool.{cases_eq, cases_lt}
 use Rattle.cyc_types.specs.declared.typed.Kind.{Kind}

@@ -37,17 +37,17 @@ use Rattle.cyc_lower.specs.inside.ValueCode.{raising, scale_of, reached_operand,
 use Rattle.cyc_lower.specs.inside.Lowering.{lower_program}
 use Rattle.cyc_lower.proofs.slots.Widths.{same_kind, Outside}
 use Rattle.cyc_lower.proofs.slots.CellBytes.{wide_cell}
-use Rattle.cyc_lower.proofs.relation.Moves.{put_elsewhere}
-use Rattle.cyc_lower.proofs.relation.Stands.{InsideAt, SteppedAt, ReachedBy, ReachedAt, FollowedAt, ValueAt}
-use Rattle.cyc_lower.proofs.relation.HeldValues.{IsIn, IsLow, Holds, held, IsParts}
-use Rattle.cyc_lower.proofs.relation.Relation.{types_at, types_on, floor, as_operand, DataIn, SharedAt, ValueStack, PlaceStack, Matches, code_of, bounds_at, top, ReadyAt, as_right, in_parts}
-use Rattle.cyc_lower.proofs.relation.Data.{Is-same, height-least, Holds-same, data_written, in_words}
-use Rattle.cyc_lower.proofs.relation.Accesses.{IsWell, is_fitting}
+use Rattle.cyc_lower.proofs.relation.contents.Moves.{put_elsewhere}
+use Rattle.cyc_lower.proofs.relation.code.Stands.{InsideAt, SteppedAt, ReachedBy, ReachedAt, FollowedAt, ValueAt}
+use Rattle.cyc_lower.proofs.relation.contents.HeldValues.{IsIn, IsLow, Holds, held, IsParts}
+use Rattle.cyc_lower.proofs.relation.simulation.Relation.{types_at, types_on, floor, as_operand, DataIn, SharedAt, ValueStack, PlaceStack, Matches, code_of, bounds_at, top, ReadyAt, as_right, in_parts}
+use Rattle.cyc_lower.proofs.relation.contents.Data.{Is-same, height-least, Holds-same, data_written, in_words}
+use Rattle.cyc_lower.proofs.relation.simulation.Accesses.{IsWell, is_fitting}
 use Rattle.cyc_lower.proofs.place_steps.PlaceWords.{narrow_element, byte_element, wide_element, stays}
-use Rattle.cyc_lower.proofs.relation.Matched.{IsMatched, silently, by_one}
+use Rattle.cyc_lower.proofs.relation.simulation.Matched.{IsMatched, silently, by_one}
 use Rattle.cyc_lower.proofs.handler_steps.Handling.{raised}
 use Rattle.cyc_lower.proofs.pointer_steps.PointerSteps.{int_word, is_moved, outside_index}
-use Rattle.cyc_lower.proofs.relation.Paths.{Link, IsPath, end_of, end_joined, path_joined, is_quiet, by_path}
+use Rattle.cyc_lower.proofs.relation.simulation.Paths.{Link, IsPath, end_of, end_joined, path_joined, is_quiet, by_path}
 use Rattle.cyc_lower.proofs.value_steps.ValueWords.{goes_wrong, taken, passed}
 
 -- ---- the words of an access

@@ -28,14 +28,14 @@ use Rattle.cyc_objects.proofs.Pointers.{part-not-null, thin-to_fat}
 use Rattle.cyc_lower.specs.inside.ValueCode.{jump_if_zero}
 use Rattle.cyc_lower.specs.inside.Lowering.{lower_program}
 use Rattle.cyc_lower.proofs.slots.Widths.{Outside}
-use Rattle.cyc_lower.proofs.relation.Stands.{CountAt, WidenedAt}
+use Rattle.cyc_lower.proofs.relation.code.Stands.{CountAt, WidenedAt}
 use Rattle.cyc_lower.proofs.object_steps.Handles.{kept_holds}
-use Rattle.cyc_lower.proofs.relation.HeldValues.{IsIn, Holds, held}
-use Rattle.cyc_lower.proofs.relation.Relation.{floor, types_at, in_operand, DataIn, SharedAt, ValueStack, LandsStack, Matches, code_of, bounds_at, top}
-use Rattle.cyc_lower.proofs.relation.Data.{height-least, Holds-same, data_written}
-use Rattle.cyc_lower.proofs.relation.Accesses.{IsWell}
-use Rattle.cyc_lower.proofs.relation.Matched.{IsMatched, by_one}
-use Rattle.cyc_lower.proofs.relation.Paths.{Link, is_quiet, by_path}
+use Rattle.cyc_lower.proofs.relation.contents.HeldValues.{IsIn, Holds, held}
+use Rattle.cyc_lower.proofs.relation.simulation.Relation.{floor, types_at, in_operand, DataIn, SharedAt, ValueStack, LandsStack, Matches, code_of, bounds_at, top}
+use Rattle.cyc_lower.proofs.relation.contents.Data.{height-least, Holds-same, data_written}
+use Rattle.cyc_lower.proofs.relation.simulation.Accesses.{IsWell}
+use Rattle.cyc_lower.proofs.relation.simulation.Matched.{IsMatched, by_one}
+use Rattle.cyc_lower.proofs.relation.simulation.Paths.{Link, is_quiet, by_path}
 use Rattle.cyc_lower.proofs.value_steps.Evaluations.{landed_word}
 use Rattle.cyc_lower.proofs.value_steps.ValueWords.{taken, passed}
 

@@ -37,19 +37,19 @@ use Rattle.cyc_lower.specs.inside.ValueCode.{left_kind, behind_left, pointer_ope
 use Rattle.cyc_lower.specs.inside.Lowering.{lower_program}
 use Rattle.cyc_lower.specs.inside.ControlCode.{null_failing}
 use Rattle.cyc_lower.proofs.slots.Widths.{same_kind, Outside}
-use Rattle.cyc_lower.proofs.relation.Moves.{copied_elsewhere}
-use Rattle.cyc_lower.proofs.relation.Stands.{FirstTwoAt, IndexAt, PointerAt, ValueAt}
-use Rattle.cyc_lower.proofs.relation.HeldValues.{IsIn, Holds, held, callers}
-use Rattle.cyc_lower.proofs.relation.Relation.{types_on, silent, DataIn, SharedAt, ConditionStack, LandsStack, in_temporary, in_local, EvaluatingAt, as_operand, Matches, code_of, bounds_at, top, floor}
-use Rattle.cyc_lower.proofs.relation.Data.{height-least, in_words, floor-least}
-use Rattle.cyc_lower.proofs.relation.Accesses.{IsWell}
-use Rattle.cyc_lower.proofs.relation.Matched.{IsMatched, silently, by_one, by_two}
+use Rattle.cyc_lower.proofs.relation.contents.Moves.{copied_elsewhere}
+use Rattle.cyc_lower.proofs.relation.code.Stands.{FirstTwoAt, IndexAt, PointerAt, ValueAt}
+use Rattle.cyc_lower.proofs.relation.contents.HeldValues.{IsIn, Holds, held, callers}
+use Rattle.cyc_lower.proofs.relation.simulation.Relation.{types_on, silent, DataIn, SharedAt, ConditionStack, LandsStack, in_temporary, in_local, EvaluatingAt, as_operand, Matches, code_of, bounds_at, top, floor}
+use Rattle.cyc_lower.proofs.relation.contents.Data.{height-least, in_words, floor-least}
+use Rattle.cyc_lower.proofs.relation.simulation.Accesses.{IsWell}
+use Rattle.cyc_lower.proofs.relation.simulation.Matched.{IsMatched, silently, by_one, by_two}
 use Rattle.cyc_lower.proofs.value_steps.Evaluations.{landed, landed_word}
 use Rattle.cyc_objects.specs.inside.Related.{AreApart}
 use Rattle.cyc_lower.proofs.value_steps.Decided.{given_compared}
 use Rattle.cyc_lower.proofs.value_steps.ValueWords.{fails_by}
-use Rattle.cyc_lower.proofs.relation.Apart.{variables-apart}
-use Rattle.cyc_lower.proofs.relation.Leads.{AreNamed}
+use Rattle.cyc_lower.proofs.relation.places.Apart.{variables-apart}
+use Rattle.cyc_lower.proofs.relation.places.Leads.{AreNamed}
 
 -- ---- the words of a left operand
 

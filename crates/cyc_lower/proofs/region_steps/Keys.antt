@@ -23,10 +23,10 @@ use Rattle.cyc_objects.specs.inside.Tables.{Tables}
 use Rattle.cyc_objects.specs.inside.Related.{has_home}
 use Rattle.cyc_objects.proofs.Making.{open-home}
 use Rattle.cyc_objects.proofs.Services.{refusal-close, closed-dynamic}
-use Rattle.cyc_lower.proofs.relation.HeldValues.{IsIn}
-use Rattle.cyc_lower.proofs.relation.Relation.{DataIn, SharedAt, ValueStack, LandsStack}
-use Rattle.cyc_lower.proofs.relation.Accesses.{IsWell}
-use Rattle.cyc_lower.proofs.relation.Matched.{IsMatched, shared_within}
+use Rattle.cyc_lower.proofs.relation.contents.HeldValues.{IsIn}
+use Rattle.cyc_lower.proofs.relation.simulation.Relation.{DataIn, SharedAt, ValueStack, LandsStack}
+use Rattle.cyc_lower.proofs.relation.simulation.Accesses.{IsWell}
+use Rattle.cyc_lower.proofs.relation.simulation.Matched.{IsMatched, shared_within}
 use Rattle.cyc_lower.proofs.object_steps.Asking.{by_asking}
 use Rattle.cyc_lower.proofs.object_steps.UniqueBlocks.{proceeds}
 

@@ -31,12 +31,12 @@ use Rattle.cyc_lower.specs.inside.ControlCode.{inside_region}
 use Rattle.cyc_lower.specs.inside.Lowering.{scopes_of}
 use Rattle.cyc_lower.proofs.slots.Slots.{slot_types-many}
 use Rattle.cyc_lower.proofs.slots.Widths.{Outside}
-use Rattle.cyc_lower.proofs.relation.Stands.{NamedAt, ClosedAt, ItemsAt}
-use Rattle.cyc_lower.proofs.relation.HeldValues.{homes, callers, scopes_in, MayBeOpen, IsIn, contents}
-use Rattle.cyc_lower.proofs.relation.Relation.{shared_seen, HasScopes, SharedAt, StatementStack, Matches, DataIn, code_of, bounds_in, bounds_at, types_in, types_at, floor, behind_statement, starts_at, in_operand, ValueStack}
-use Rattle.cyc_lower.proofs.relation.Data.{data_written, data_grows, variables_grow}
-use Rattle.cyc_lower.proofs.relation.Matched.{IsMatched, silently, shared_within, known, inside_by}
-use Rattle.cyc_lower.proofs.relation.Paths.{runs}
+use Rattle.cyc_lower.proofs.relation.code.Stands.{NamedAt, ClosedAt, ItemsAt}
+use Rattle.cyc_lower.proofs.relation.contents.HeldValues.{homes, callers, scopes_in, MayBeOpen, IsIn, contents}
+use Rattle.cyc_lower.proofs.relation.simulation.Relation.{shared_seen, HasScopes, SharedAt, StatementStack, Matches, DataIn, code_of, bounds_in, bounds_at, types_in, types_at, floor, behind_statement, starts_at, in_operand, ValueStack}
+use Rattle.cyc_lower.proofs.relation.contents.Data.{data_written, data_grows, variables_grow}
+use Rattle.cyc_lower.proofs.relation.simulation.Matched.{IsMatched, silently, shared_within, known, inside_by}
+use Rattle.cyc_lower.proofs.relation.simulation.Paths.{runs}
 use Rattle.cyc_lower.proofs.object_steps.Asking.{past_pages, asks_then, by_full}
 use Rattle.cyc_lower.proofs.region_steps.Scoped.{scopes_there}
 use Rattle.cyc_objects.proofs.Closing.{scopes-same, scopes-closed}
@@ -48,11 +48,11 @@ use Rattle.cyc_syntax.specs.Symbols.{Place}
 use Rattle.cyc_types.specs.declared.typed.Kind.{Kind}
 use Rattle.cyc_objects.specs.inside.Words.{Is}
 use Rattle.cyc_lower.specs.inside.Slots.{slot_of}
-use Rattle.cyc_lower.proofs.relation.Accesses.{IsWell, is_loaded, is_fitting}
-use Rattle.cyc_lower.proofs.relation.Moves.{put_elsewhere}
-use Rattle.cyc_lower.proofs.relation.Weights.{stack_weight}
+use Rattle.cyc_lower.proofs.relation.simulation.Accesses.{IsWell, is_loaded, is_fitting}
+use Rattle.cyc_lower.proofs.relation.contents.Moves.{put_elsewhere}
+use Rattle.cyc_lower.proofs.relation.simulation.Weights.{stack_weight}
 use Rattle.cyc_lower.proofs.region_steps.Closings.{by_closing, shared_behind, settled}
-use Rattle.cyc_lower.proofs.relation.Sharing.{shared_ahead}
+use Rattle.cyc_lower.proofs.relation.contents.Sharing.{shared_ahead}
 
 module _ (source : Program) (pages calls : ℕ) where
   locals_in : (h : Option Function) → (bounds_in source h).locals ≡ length (types_in source h).locals

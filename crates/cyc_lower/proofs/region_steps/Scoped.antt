@@ -8,8 +8,8 @@ use Rattle.cyc_objects.specs.inside.Tables.{Tables}
 use Rattle.cyc_objects.specs.inside.Related as objects
 use Rattle.cyc_objects.proofs.Closing.{scopes-same}
 use Rattle.cyc_objects.proofs.Scopes.{scopes-counted, lexicals-within}
-use Rattle.cyc_lower.proofs.relation.HeldValues.{scopes_in}
-use Rattle.cyc_lower.proofs.relation.Relation.{silent}
+use Rattle.cyc_lower.proofs.relation.contents.HeldValues.{scopes_in}
+use Rattle.cyc_lower.proofs.relation.simulation.Relation.{silent}
 
 -- ---- of the source
 

@@ -28,7 +28,7 @@ use Rattle.cyc_lower.specs.inside.ExpressionCode.{source_of, source_slot, operan
 use Rattle.cyc_lower.specs.inside.Lowering.{results_of, store_code}
 use Rattle.cyc_lower.proofs.slots.Widths.{kind_positive, kind_few, result_kind, words_in, chain_kind, made_kind, type_words, passed_is}
 use Rattle.cyc_lower.proofs.slots.CellBytes.{passed_slots}
-use Rattle.cyc_lower.proofs.relation.Fitting.{FitsCell, Fits, FitsConverted, FitArguments, FitOperations, FitsObject}
+use Rattle.cyc_lower.proofs.relation.code.Fitting.{FitsCell, Fits, FitsConverted, FitArguments, FitOperations, FitsObject}
 use Rattle.cyc_lower.proofs.slots.Slots.{words_positive, starts-are, words-there}
 use Rattle.cyc_plain.proofs.Placed.{below_of_get}
 use Rattle.cyc_lower.proofs.sizes.RangeLemmas.{operand_positive, converted_least, arguments_words, made_needs, result_least, levels_inside, IsKnown, AreGlobals}

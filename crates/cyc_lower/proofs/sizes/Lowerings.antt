@@ -18,12 +18,12 @@ use Rattle.cyc_lower.specs.inside.Lowering.{lower_function, lower_program, globa
 use Rattle.cyc_meaning.specs.Sizes.{max_functions, size_per_weight, HasTooMany}
 use Rattle.cyc_lower.specs.inside.Lowered.{AreLoweredFunctions, CanBeLowered, IsAccepted, IsLowered}
 use Rattle.cyc_lower.proofs.sizes.Routines.{one_too_many}
-use Rattle.cyc_lower.proofs.relation.Fitting.{is_fitting_program}
+use Rattle.cyc_lower.proofs.relation.code.Fitting.{is_fitting_program}
 use Rattle.cyc_lower.proofs.sizes.Sizes.{function_size}
 use Rattle.cyc_lower.proofs.sizes.WellFormed.{well_formed}
 use Rattle.cyc_lower.proofs.slots.Slots.{globals_counted}
 use Rattle.cyc_lower.proofs.sizes.WordLemmas.{has_words}
-use Rattle.cyc_lower.proofs.relation.Whole.{follows}
+use Rattle.cyc_lower.proofs.relation.simulation.Whole.{follows}
 use Rattle.cyc_meaning.proofs.Rising.{functions_rise}
 
 functions_lowered : (structs : List StructType) (globals : List ℕ) (scopes : Option ℕ) (hs : List Function) → AreLoweredFunctions hs (map (lower_function structs globals scopes) hs)
@@ -32,12 +32,12 @@ functions_lowered structs globals scopes (h ∷ hs) = (record { name = refl; fra
 
 pub is_lowered : (source : Program) → IsWellTypedProgram source → CanBeLowered source → IsLowered source (lower_program source)
 is_lowered source well fit = record {
-  well_formed = well_formed source (is_fitting_program source fit.lowerable well) fit.of_words fit.few_globals;
+  well_formed = well_formed source (is_fitting_program source fit.of_words.functions well) fit.of_words fit.few_globals;
   words = has_words source fit.of_words;
   functions = functions_lowered source.structs (globals_of source) (scopes_of source) source.functions;
   globals = sym (globals_counted source.globals);
   follows = λ pages calls base store input new some_page few_pages some_call bytes below.
-      follows source (is_fitting_program source fit.lowerable well) fit.of_words (functions_rise source well) fit.few_globals (has_words source fit.of_words) pages calls base store input new some_page few_pages some_call bytes below;
+      follows source (is_fitting_program source fit.of_words.functions well) fit.of_words (functions_rise source well) fit.few_globals (has_words source fit.of_words) pages calls base store input new some_page few_pages some_call bytes below;
 }
 
 functions_small : (structs : List StructType) (globals : List ℕ) (scopes : Option ℕ) (hs : List Function) → sum_by size (map (lower_function structs globals scopes) hs) ≤ size_per_weight * sum_of function_weight hs
@@ -48,7 +48,7 @@ functions_small structs globals scopes (h ∷ hs) =
 -- what is true of every plain program is true of this one
 pub is_plain : (source : Program) → IsWellTypedProgram source → CanBeLowered source → program_weight source ≤ max_tokens → IsPlain (lower_program source)
 is_plain source well fit light = record {
-  well_formed = well_formed source (is_fitting_program source fit.lowerable well) fit.of_words fit.few_globals;
+  well_formed = well_formed source (is_fitting_program source fit.of_words.functions well) fit.of_words fit.few_globals;
   words = has_words source fit.of_words;
   small = omega (arith, functions_small source.structs (globals_of source) (scopes_of source) source.functions, light);
 }

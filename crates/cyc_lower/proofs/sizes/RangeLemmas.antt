@@ -13,7 +13,7 @@ use Rattle.cyc_plain.specs.inside.WellFormed.{IsInRange, IsOperand, IsArgument, 
 use Rattle.std.specs.Prelude.{max}
 use Rattle.cyc_meaning.specs.Values.{kind_of, words_of_kind}
 use Rattle.cyc_meaning.specs.FrameCount.{operand_words, converted_words, argument_words, words_of_all, initial_value_need}
-use Rattle.cyc_lower.proofs.relation.Counters.{found_last}
+use Rattle.cyc_lower.proofs.relation.contents.Counters.{found_last}
 use Rattle.cyc_lower.specs.inside.Slots.{counted, Types, slot_in}
 use Rattle.cyc_lower.specs.inside.ValueCode.{all_passed, kind_passed, blocks}
 use Rattle.cyc_lower.specs.inside.Lowering.{spare_slots, results_of, target_of, farthest, with_blocks}

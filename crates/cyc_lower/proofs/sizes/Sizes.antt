@@ -43,7 +43,7 @@ use Rattle.cyc_lower.specs.inside.ObjectCode.{begun_code, filled_code, ended_cod
 use Rattle.cyc_lower.specs.declared.operands.Condition.{Condition}
 use Rattle.cyc_lower.specs.inside.ControlCode.{compared_or, failing_jump, holding_jump, deciding_jump, are_tests, break_target, continue_target, body_target, outside_loops, inside_loop, leave_code, tag_operand, other_jump, clause_code, opened_code, closed_code, named_code, dynamic_code, closing_code, handlers_code, marks_code, kept_code, kept_code_in, restored_code, restored_code_in, behind_record, inside_try, inside_region, entry_code, entry_length, is_nothing, over_code, over_length, null_compared, nulled_or}
 use Rattle.cyc_lower.specs.inside.ExpressionCode.{source_of, source_slot, operand_of, left_of, value_slot, left_slot, value_operand, converted_operand, printed_operand, load_code, expression_code, arguments_code, converted_code, converted_operand_code, printed_code, initial_code, operations_code, slot_with, made_code, place_operand, place_offset, place_code, pointer_of, pointer_slot, brought_code, is_simple, are_simple}
-use Rattle.cyc_lower.specs.inside.Lowering.{assignment_code, discarded_code, first_code, second_code, pair_code, condition_code, condition_of, others_code, tests_code, behind_tests, choice_code, choice_of, return_code, declaration_code, statement_code, items_code, lower_function, store_address_code, side_code, read_side, write_side, exchange_code, swap_code, caught_code, clauses_code, starts_with, raises_of, farthest, is_guard, is_light, compares_light}
+use Rattle.cyc_lower.specs.inside.Lowering.{assignment_code, discarded_code, first_code, second_code, pair_code, condition_code, condition_of, others_code, tests_code, behind_tests, choice_code, choice_of, branch_code, branch_of, return_code, declaration_code, statement_code, items_code, lower_function, store_address_code, side_code, read_side, write_side, exchange_code, swap_code, caught_code, clauses_code, starts_with, raises_of, farthest, is_guard, is_light, compares_light}
 use Rattle.cyc_meaning.specs.Operators.{null_exception}
 use Rattle.cyc_meaning.specs.Sizes.{size_per_weight}
 use Rattle.cyc_lower.specs.declared.statements.Opened.{Opened}
@@ -856,6 +856,17 @@ module _ (starts : Starts) where
       by false = condition_size (Binary a os ty) p t
   choice_size u a p t = condition_size a p t
 
+  branch_size : (a : Expression) (x p t : ℕ) → code_size (branch_code starts a x p t) ≤ size_per_weight * expression_weight a
+  branch_size (Binary a os ty) x p t = by (are_tests logical.AndThen os)
+    where
+      by : (tests : Bool) → code_size (if tests then tests_code starts logical.AndThen a os x p t else choice_code starts logical.OrElse (Binary a os ty) p t) ≤ size_per_weight * expression_weight (Binary a os ty)
+      by true =
+          let first = condition_code starts a p t in
+          let rest = others_code starts logical.AndThen os (condition_of starts a t) x (p + length first) t in
+          omega (arith, both first rest, condition_size a p t, others_size logical.AndThen os (condition_of starts a t) x (p + length first) t)
+      by false = choice_size logical.OrElse (Binary a os ty) p t
+  branch_size a x p t = choice_size logical.OrElse a p t
+
   -- the code of a condition that may stand twice is half as large
   light_first_size : (a b : Expression) (p t : ℕ) → is_light starts a ≡ true → code_size (first_code starts a b p t) ≤ 50 * expression_weight a
   light_first_size a b p t light =
@@ -1038,13 +1049,13 @@ module _ (starts : Starts) where
     statement_size (Evaluate a) p exits t = omega (arith, discarded_size a p t)
     statement_size (Swap x y) p exits t = swap_size x y p t
     statement_size (If a s u) p exits t =
-        let condition = choice_code starts logical.OrElse a p t in
-        let m = p + length condition in
+        let m = p + length (branch_code starts a 0 p t) in
         let first = statement_code starts s (m + 1) exits t in
         let last = is_nothing u in
         let r = m + 1 + length first + over_length last in
+        let condition = branch_code starts a r p t in
         let second = statement_code starts u r exits t in
-        let jump_first = failing_jump (choice_of starts logical.OrElse a t) r ∷ first in
+        let jump_first = failing_jump (branch_of starts a t) r ∷ first in
         let over = over_code last (r + length second) in
         omega (
           arith,
@@ -1052,8 +1063,8 @@ module _ (starts : Starts) where
           both condition jump_first,
           both over second,
           over_size last (r + length second),
-          cons (failing_jump (choice_of starts logical.OrElse a t) r) first,
-          choice_size logical.OrElse a p t,
+          cons (failing_jump (branch_of starts a t) r) first,
+          branch_size a r p t,
           statement_size s (m + 1) exits t,
           else_size u r exits t (statement_size u r exits t),
         )

@@ -27,16 +27,16 @@ use Rattle.cyc_lower.specs.inside.ObjectCode.{right_slot, load_at}
 use Rattle.cyc_lower.specs.declared.operands.Condition.{Condition}
 use Rattle.cyc_lower.specs.inside.ControlCode.{compared_or, failing_jump, holding_jump, deciding_jump, are_tests, body_target, inside_loop, leave_code, tag_operand, clause_code, opened_code, closed_code, named_code, dynamic_code, handlers_code, marks_code, kept_code, kept_code_in, restored_code, restored_code_in, behind_record, behind_record_in, inside_try, inside_region, outermost, entry_code, entry_length, is_nothing, over_code, over_length, null_compared, nulled_or}
 use Rattle.cyc_lower.specs.inside.ExpressionCode.{source_of, operand_of, value_slot, slot_with, value_operand, converted_operand, printed_operand, expression_code, converted_operand_code, printed_code, brought_code, is_simple}
-use Rattle.cyc_lower.specs.inside.Lowering.{spare_slots, assignment_code, discarded_code, first_operand, first_code, second_code, pair_code, condition_code, condition_of, others_code, last_condition, tests_code, behind_tests, choice_code, choice_of, return_code, declaration_code, statement_code, items_code, results_of, side_code, read_side, write_side, exchange_code, swap_code, thrown_code, thrown_operand, caught_code, clauses_code, is_guard}
+use Rattle.cyc_lower.specs.inside.Lowering.{spare_slots, assignment_code, discarded_code, first_operand, first_code, second_code, pair_code, condition_code, condition_of, others_code, last_condition, tests_code, behind_tests, choice_code, choice_of, branch_code, branch_of, return_code, declaration_code, statement_code, items_code, results_of, side_code, read_side, write_side, exchange_code, swap_code, thrown_code, thrown_operand, caught_code, clauses_code, is_guard}
 use Rattle.cyc_lower.proofs.slots.Widths.{kind_positive, kind_few, type_words, words_in, HasRoom, keeps_wide}
-use Rattle.cyc_lower.proofs.relation.Fitting.{FitsPlace, Fits, FitOperations, FitsConverted, FitsReturn, FitsInitial, FitsStatement, FitItems, FitsSide, FitsThrown, FitsCaught, FitClauses}
+use Rattle.cyc_lower.proofs.relation.code.Fitting.{FitsPlace, Fits, FitOperations, FitsConverted, FitsReturn, FitsInitial, FitsStatement, FitItems, FitsSide, FitsThrown, FitsCaught, FitClauses}
 use Rattle.cyc_types.specs.typing.Expressions.{type_of_side}
 use Rattle.cyc_lower.proofs.slots.Slots.{words_positive, global-room, global-inside}
 use Rattle.cyc_lower.specs.declared.statements.Opened.{Opened}
 use Rattle.cyc_lower.proofs.emission.Loops.{entry_long, over_long}
 use Rattle.cyc_lower.proofs.sizes.RangeLemmas.{operand_positive, converted_few, results_few, IsKnown, AreGlobals}
 use Rattle.cyc_lower.proofs.sizes.ValueRanges.{AreIn, append, unless_in, unless_slot_in, kind_at, HasOperand, slot_fits, value_room, value_in, converted_room, printed_value_in, move_in, slot_with_in, left_with_in, conversion_in, loads_in, global_in, assigned_in, stores_in, addressed_in, stored_in, load_of_in, blank_in}
-use Rattle.cyc_lower.proofs.emission.Conditions.{tests_same}
+use Rattle.cyc_lower.proofs.emission.Conditions.{tests_same, branch_same}
 use Rattle.cyc_lower.proofs.sizes.ExpressionRanges.{expression_in, place_in, initial_in, converted_operand_in, printed_in, brought_in}
 
 module _ (program : PlainProgram) (r : Routine) (b : Numbering) (types : Types) (locals : (n : ℕ) → n < b.locals → slot_of (starts_of types) n + words_in types.locals n ≤ r.slots) (levels : (l slot : ℕ) → slice_get types.counters l ≡ Some slot → slot < r.slots) (globals : AreGlobals program types.globals) (called : (n : ℕ) (s : Signature) → slice_get b.functions n ≡ Some s → IsKnown program n s) (results : r.results ≡ results_of b.result) (behind : types.raises + 4 < length r.code) (no_return : All (λ i. is_return i ≡ false) r.code) where
@@ -379,6 +379,31 @@ module _ (program : PlainProgram) (r : Routine) (b : Numbering) (types : Types) 
       by false = compared_in (Binary a os ty) t (first, fits) few
   chosen_in u a t numbered few = compared_in a t numbered few
 
+  -- the condition of a branch, whose operands lead to a place in the code
+  branch_in : (a : Expression) (x p t : ℕ) → Fits b types a → t + expression_need a + spare_slots ≤ r.slots → x < length r.code → p + length (branch_code (starts_of types) a x p t) + 1 < length r.code
+      → AreIn program r b types locals levels globals called results behind (branch_code (starts_of types) a x p t)
+  branch_in (Binary a os ty) x p t (first, fits) few inside short = by (are_tests logical.AndThen os) short
+    where
+      by : (tests : Bool) → p + length (if tests then tests_code (starts_of types) logical.AndThen a os x p t else choice_code (starts_of types) logical.OrElse (Binary a os ty) p t) + 1 < length r.code
+          → AreIn program r b types locals levels globals called results behind (if tests then tests_code (starts_of types) logical.AndThen a os x p t else choice_code (starts_of types) logical.OrElse (Binary a os ty) p t)
+      by true short =
+          let front = condition_code (starts_of types) a p t in
+          let rest = others_code (starts_of types) logical.AndThen os (condition_of (starts_of types) a t) x (p + length front) t in
+          let long = length-append front rest in
+          append program r b types locals levels globals called results behind front rest (condition_in a p t first (omega (arith, few)) (omega (arith, short, long)))
+          (others_in logical.AndThen os ty (operand_words (type_of a)) (condition_of (starts_of types) a t) x (p + length front) t fits (compared_in a t first (omega (arith, few))) inside (omega (arith, few)) (omega (arith, short, long)))
+      by false short = choice_in logical.OrElse (Binary a os ty) p t (first, fits) few short
+  branch_in a x p t numbered few inside short = choice_in logical.OrElse a p t numbered few short
+
+  branched_in : (a : Expression) (t : ℕ) → Fits b types a → t + expression_need a + spare_slots ≤ r.slots → IsOperand r (branch_of (starts_of types) a t).left × IsOperand r (branch_of (starts_of types) a t).right
+  branched_in (Binary a os ty) t (first, fits) few = by (are_tests logical.AndThen os)
+    where
+      by : (tests : Bool) → IsOperand r (if tests then last_condition (starts_of types) os (condition_of (starts_of types) a t) t else choice_of (starts_of types) logical.OrElse (Binary a os ty) t).left
+          × IsOperand r (if tests then last_condition (starts_of types) os (condition_of (starts_of types) a t) t else choice_of (starts_of types) logical.OrElse (Binary a os ty) t).right
+      by true = last_in os ty (operand_words (type_of a)) (condition_of (starts_of types) a t) t fits (compared_in a t first (omega (arith, few))) (omega (arith, few))
+      by false = chosen_in logical.OrElse (Binary a os ty) t (first, fits) few
+  branched_in a t numbered few = chosen_in logical.OrElse a t numbered few
+
   exits_behind : (exits : Exits) (slot : ℕ) → HasExits exits → slot < r.slots → HasExits (inside_region exits slot)
   exits_behind exits slot ((loop_record, loop_mark), (first_record, first_mark)) room =
       ((loop_record, mark_behind exits.in_loop.mark slot loop_mark room), (first_record, mark_behind exits.in_function.mark slot first_mark room))
@@ -403,23 +428,25 @@ module _ (program : PlainProgram) (r : Routine) (b : Numbering) (types : Types) 
     statement_in (Evaluate a) in_loop p exits t numbered around outside few short = discarded_in a p t numbered (omega (arith, few)) short
     statement_in (Swap x y) in_loop p exits t (fits_x, fits_y) around outside few short = swap_in x y p t fits_x fits_y (omega (arith, few)) short
     statement_in (If a s u) in_loop p exits t (numbered_a, numbered_s, numbered_u) around outside few short =
-        let condition = choice_code (starts_of types) logical.OrElse a p t in
-        let m = p + length condition in
+        let m = p + length (branch_code (starts_of types) a 0 p t) in
         let first = statement_code (starts_of types) s (m + 1) exits t in
         let last = is_nothing u in
         let q = m + 1 + length first + over_length last in
+        let condition = branch_code (starts_of types) a q p t in
+        let same = branch_same (starts_of types) a 0 q p t in
         let second = statement_code (starts_of types) u q exits t in
-        let jump_first = failing_jump (choice_of (starts_of types) logical.OrElse a t) q ∷ first in
+        let jump_first = failing_jump (branch_of (starts_of types) a t) q ∷ first in
         let over = over_code last (q + length second) in
         let long = length-append (condition ++ jump_first) (over ++ second) in
         let long_front = length-append condition jump_first in
         let long_back = length-append over second in
         let long_over = over_long last (q + length second) in
-        let (left, right) = chosen_in logical.OrElse a t numbered_a (omega (arith, few)) in
+        let (left, right) = branched_in a t numbered_a (omega (arith, few)) in
+        let inside : q < length r.code = omega (arith, short, long, long_front, long_back, long_over, same) in
         append program r b types locals levels globals called results behind (condition ++ jump_first) (over ++ second)
-        (append program r b types locals levels globals called results behind condition jump_first (choice_in logical.OrElse a p t numbered_a (omega (arith, few)) (omega (arith, short, long, long_front)))
-        ((left, right, omega (arith, short, long, long_front, long_back, long_over)), statement_in s in_loop (m + 1) exits t numbered_s around outside (omega (arith, few)) (omega (arith, short, long, long_front, long_back, long_over))))
-        (append program r b types locals levels globals called results behind over second (over_in last (q + length second) (omega (arith, short, long, long_front, long_back, long_over))) (statement_in u in_loop q exits t numbered_u around outside (omega (arith, few)) (omega (arith, short, long, long_front, long_back, long_over))))
+        (append program r b types locals levels globals called results behind condition jump_first (branch_in a q p t numbered_a (omega (arith, few)) inside (omega (arith, short, long, long_front)))
+        ((left, right, inside), statement_in s in_loop (m + 1) exits t numbered_s around outside (omega (arith, few)) (omega (arith, short, long, long_front, long_back, long_over, same))))
+        (append program r b types locals levels globals called results behind over second (over_in last (q + length second) (omega (arith, short, long, long_front, long_back, long_over, same))) (statement_in u in_loop q exits t numbered_u around outside (omega (arith, few)) (omega (arith, short, long, long_front, long_back, long_over, same))))
     statement_in (While w a s) in_loop p exits t (numbered_a, numbered_s) around outside few short =
         let guarded = is_guard (starts_of types) a in
         let first = choice_code (starts_of types) logical.AndThen a p t in

@@ -38,7 +38,7 @@ use Rattle.cyc_lower.specs.inside.ControlCode.{counter_operand}
 use Rattle.cyc_lower.specs.inside.ExpressionCode.{source_of, source_slot, operand_of, left_of, value_slot, slot_with, left_slot, value_operand, converted_operand, printed_operand, load_code, expression_code, brought_code, converted_operand_code, place_operand, place_offset, place_code, pointer_slot, is_simple}
 use Rattle.cyc_lower.specs.inside.Lowering.{results_of, store_address_code, store_code}
 use Rattle.cyc_lower.proofs.slots.Widths.{kind_positive, kind_few, type_words, result_kind, given, words_in, chain_kind, wide_kind, same_kind, more_words, HasGlobal, keeps_wide, changes_words, passed_is, unary_word}
-use Rattle.cyc_lower.proofs.relation.Fitting.{FitsPlace, FitsCell, Fits, FitsConverted, FitArguments, FitOperations}
+use Rattle.cyc_lower.proofs.relation.code.Fitting.{FitsPlace, FitsCell, Fits, FitsConverted, FitArguments, FitOperations}
 use Rattle.cyc_lower.specs.inside.Lowerable.{is_converted, is_pointer}
 use Rattle.cyc_lower.proofs.emission.Lengths.{past_long}
 use Rattle.cyc_lower.proofs.value_steps.ValueWords.{as_wide}

@@ -16,7 +16,7 @@ use Rattle.cyc_lower.specs.inside.Slots.{starts_of, global_types}
 use Rattle.cyc_lower.specs.inside.ValueCode.{first_temporary, blocks, slot_types}
 use Rattle.cyc_lower.specs.inside.ControlCode.{outside_loops}
 use Rattle.cyc_lower.specs.inside.Lowering.{types_of, items_code, results_of, lower_function, lower_program, globals_of, scopes_of, function_code, farthest, with_blocks}
-use Rattle.cyc_lower.proofs.relation.Fitting.{FitItems, AreFitting, IsFitting}
+use Rattle.cyc_lower.proofs.relation.code.Fitting.{FitItems, AreFitting, IsFitting}
 use Rattle.cyc_lower.specs.inside.Words.{AreOfWordsItems, AreOfWordsFunctions, IsOfWordsProgram}
 use Rattle.cyc_lower.proofs.sizes.WordLemmas.{no_return}
 use Rattle.cyc_lower.proofs.emission.Lengths.{body_long}

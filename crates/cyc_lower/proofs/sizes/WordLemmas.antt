@@ -38,13 +38,12 @@ use Rattle.cyc_meaning.specs.Values.{words_of_kind, bytes_of_kind, begins, behin
 use Rattle.cyc_lower.specs.inside.ValueCode.{converts_there, passed_words, kinds_passed, converted_by, moved_by, move_of, operand_or, code_unless, slot_or, code_unless_slot, left_with, next_slot, check_code, conversion_code, divisor_code, checked_code, operator_code, truth_code, test_code, is_in, copy_code, failing_comparison, first_temporary, behind_left, pointer_code, index_of, first_two, pointer_instructions, address_code, addressed_by, guard_code, blocks, element_by, count_code, span_of, tested_code, widened_code, conversion_by, tested_by, bounds_code, stepped_code, scaled_code, summed_code, bounded_code, thinned_code, reached_code, followed_code, followed_operand, followed_by, span_in, reached_operand, word_by_word, load_word, store_word, global_code, keeps_words, scale_of, load_of, store_of, unary_instruction, last_byte_code, blank_code, kind_behind, kind_passed, variable_bytes, masks, masked_by, low_byte, inside_code}
 use Rattle.cyc_lower.specs.inside.ObjectCode.{begun_code, filled_code, ended_code, elements_code, stores_code, cells_code, slots_of_kinds, object_code, right_slot, saved_code, asked_code, load_at, measured_code, sized_code, most_elements}
 use Rattle.cyc_lower.specs.declared.operands.Condition.{Condition}
-use Rattle.cyc_lower.specs.inside.ControlCode.{counter_operand, compared_or, compared_of, deciding_jump, are_tests, outside_loops, inside_loop, leave_code, clause_code, opened_code, closed_code, named_code, dynamic_code, handlers_code, marks_code, kept_code, kept_code_in, restored_code, restored_code_in, behind_record, inside_try, inside_region, body_target, entry_code, entry_length, holding_jump, is_nothing, over_code, over_length, null_compared, nulled_or}
+use Rattle.cyc_lower.specs.inside.ControlCode.{counter_operand, compared_or, compared_of, deciding_jump, are_tests, outside_loops, inside_loop, leave_code, clause_code, opened_code, closed_code, named_code, dynamic_code, handlers_code, marks_code, kept_code, kept_code_in, restored_code, restored_code_in, behind_record, inside_try, inside_region, body_target, entry_code, entry_length, holding_jump, is_nothing, over_code, other_place, null_compared, nulled_or}
 use Rattle.cyc_lower.specs.inside.ExpressionCode.{source_of, source_slot, operand_of, left_of, value_slot, left_slot, value_operand, converted_operand, printed_operand, load_code, expression_code, arguments_code, converted_code, converted_operand_code, printed_code, initial_code, operations_code, slot_with, made_code, place_operand, place_offset, place_code, pointer_of, pointer_slot, brought_code, is_simple}
-use Rattle.cyc_lower.specs.inside.Lowering.{assignment_code, discarded_code, first_code, second_code, pair_code, condition_code, condition_of, others_code, last_condition, tests_code, behind_tests, choice_code, choice_of, return_code, declaration_code, statement_code, items_code, initial_word, lower_function, lower_program, store_address_code, store_code, caught_code, clauses_code, function_code, side_code, read_side, write_side, exchange_code, swap_code, globals_of, lower_globals, starts_with, raises_of, scopes_of, body_code, farthest, with_blocks, is_guard}
+use Rattle.cyc_lower.specs.inside.Lowering.{assignment_code, discarded_code, first_code, second_code, pair_code, condition_code, condition_of, others_code, last_condition, tests_code, behind_tests, choice_code, choice_of, branch_code, branch_of, return_code, declaration_code, statement_code, items_code, initial_word, lower_function, lower_program, store_address_code, store_code, caught_code, clauses_code, function_code, side_code, read_side, write_side, exchange_code, swap_code, globals_of, lower_globals, starts_with, raises_of, scopes_of, body_code, farthest, with_blocks, is_guard}
 use Rattle.cyc_lower.proofs.slots.Widths.{kind_few}
 use Rattle.cyc_lower.proofs.slots.CellBytes.{begins_within, behind_within, bytes_within, passed_slots}
 use Rattle.cyc_lower.specs.declared.statements.Opened.{Opened}
-use Rattle.cyc_lower.proofs.acceptance.LowerableLemmas.{all_few}
 
 -- ---- lists
 
@@ -482,8 +481,8 @@ mutual
       let inner = expression_code starts a p slot t in
       let word = known_word starts a slot words in
       append (code_unless (operand_of starts a) inner) _ (unless_words (operand_of starts a) inner (expression_words starts a p slot t words)) ((word, omega arith), ((word, tt), tt))
-  expression_words starts (New OnHeap i ty) p d t words = made_words starts i (operands.Word HEAP) p d t (omega arith) words
-  expression_words starts (New AsUnique i ty) p d t words = made_words starts i (operands.Word UNIQUE) p d t (omega arith) words
+  expression_words starts (New OnHeap i ty) p d t (placed, words) = made_words starts i (operands.Word HEAP) p d t (omega arith) words
+  expression_words starts (New AsUnique i ty) p d t (placed, words) = made_words starts i (operands.Word UNIQUE) p d t (omega arith) words
   expression_words starts (New (ByHandle h) i ty) p d t (handle, words) =
       let front = expression_code starts h p t t in
       append front _ (expression_words starts h p t t handle) (made_words starts i (operands.Slot t) (p + length front) d (t + 1) tt words)
@@ -500,7 +499,7 @@ mutual
   made_words starts (Plain kind a) handle p d t word words =
       append (expression_code starts a p t t) (object_code handle (kind ∷ []) d t) (expression_words starts a p t t words) (object_words handle (kind ∷ []) d t word (omega (arith, kind_few kind)))
   made_words starts (Fields cs) handle p d t word (few, words) =
-      append (arguments_code starts cs p t) (object_code handle (kinds_passed cs) d t) (arguments_words starts cs p t words) (object_words handle (kinds_passed cs) d t word (omega (arith, few, all_few cs, passed_slots cs)))
+      append (arguments_code starts cs p t) (object_code handle (kinds_passed cs) d t) (arguments_words starts cs p t words) (object_words handle (kinds_passed cs) d t word (omega (arith, few.1, passed_slots cs)))
   made_words starts (Array w level n kind a) handle p d t word (count, element) =
       let first = expression_code starts n p t t in
       let m = p + length first in
@@ -600,7 +599,7 @@ mutual
       let q = p + length (test_code o operand p next t) in
       append (test_code o operand p next t) (operations_code starts os q (operands.Slot next) d t) (test_words o operand p next t (expression_words starts a (p + 1) t t first))
       (operations_words starts os q (operands.Slot next) d t tt rest)
-  operations_words starts (ThenPointer o a os) p l d t left (first, rest) =
+  operations_words starts (ThenPointer o a os) p l d t left (alone, first, rest) =
       let slot = value_slot starts a (behind_left o t) in
       let inner = expression_code starts a p slot (behind_left o t) in
       let operand = code_unless (operand_of starts a) inner in
@@ -609,7 +608,7 @@ mutual
       append front (operations_code starts os (p + length front) (operands.Slot next) d t)
       (append operand _ (unless_words (operand_of starts a) inner (expression_words starts a p slot (behind_left o t) first)) (pointer_words o l (value_operand starts a (behind_left o t)) next left (known_word starts a slot first)))
       (operations_words starts os (p + length front) (operands.Slot next) d t tt rest)
-  operations_words starts (ThenPointerPeek n o a os) p l d t left (first, rest) =
+  operations_words starts (ThenPointerPeek n o a os) p l d t left (alone, first, rest) =
       let slot = value_slot starts a (behind_left o t) in
       let inner = expression_code starts a p slot (behind_left o t) in
       let operand = code_unless (operand_of starts a) inner in
@@ -685,15 +684,15 @@ module _ (starts : Starts) where
   others_words u (ThenTest o b os) c x p t words (first, all) =
       append (deciding_jump u c x ∷ condition_code starts b (p + 1) t) _ (deciding_words u c x words, condition_words b (p + 1) t first) (others_words u os (condition_of starts b t) x _ t (condition_word b t first) all)
   others_words u (ThenCompute o b os) c x p t words (first, all) = others_words u os c x p t words all
-  others_words u (ThenPointer o b os) c x p t words (first, all) = others_words u os c x p t words all
-  others_words u (ThenPointerPeek n o b os) c x p t words (first, all) = others_words u os c x p t words all
+  others_words u (ThenPointer o b os) c x p t words (alone, first, all) = others_words u os c x p t words all
+  others_words u (ThenPointerPeek n o b os) c x p t words (alone, first, all) = others_words u os c x p t words all
 
   last_word : (os : Operations) (c : Condition) (t : ℕ) → IsOfWord c.left × IsOfWord c.right → AreOfWordsOperations os → IsOfWord (last_condition starts os c t).left × IsOfWord (last_condition starts os c t).right
   last_word NoOperations c t words all = words
   last_word (ThenTest o b os) c t words (first, all) = last_word os (condition_of starts b t) t (condition_word b t first) all
   last_word (ThenCompute o b os) c t words (first, all) = last_word os c t words all
-  last_word (ThenPointer o b os) c t words (first, all) = last_word os c t words all
-  last_word (ThenPointerPeek n o b os) c t words (first, all) = last_word os c t words all
+  last_word (ThenPointer o b os) c t words (alone, first, all) = last_word os c t words all
+  last_word (ThenPointerPeek n o b os) c t words (alone, first, all) = last_word os c t words all
 
   choice_words : (u : LogicalOperator) (a : Expression) (p t : ℕ) → IsOfWords a → HaveWords (choice_code starts u a p t)
   choice_words u (Binary a os ty) p t (first, all) = by (are_tests u os)
@@ -711,6 +710,23 @@ module _ (starts : Starts) where
       by true = last_word os (condition_of starts a t) t (condition_word a t first) all
       by false = condition_word (Binary a os ty) t (first, all)
   choice_word u a t words = condition_word a t words
+
+  branch_words : (a : Expression) (x p t : ℕ) → IsOfWords a → HaveWords (branch_code starts a x p t)
+  branch_words (Binary a os ty) x p t (first, all) = by (are_tests logical.AndThen os)
+    where
+      by : (tests : Bool) → HaveWords (if tests then tests_code starts logical.AndThen a os x p t else choice_code starts logical.OrElse (Binary a os ty) p t)
+      by true = append (condition_code starts a p t) _ (condition_words a p t first) (others_words logical.AndThen os (condition_of starts a t) x _ t (condition_word a t first) all)
+      by false = choice_words logical.OrElse (Binary a os ty) p t (first, all)
+  branch_words a x p t words = choice_words logical.OrElse a p t words
+
+  branch_word : (a : Expression) (t : ℕ) → IsOfWords a → IsOfWord (branch_of starts a t).left × IsOfWord (branch_of starts a t).right
+  branch_word (Binary a os ty) t (first, all) = by (are_tests logical.AndThen os)
+    where
+      by : (tests : Bool) → IsOfWord (if tests then last_condition starts os (condition_of starts a t) t else choice_of starts logical.OrElse (Binary a os ty) t).left
+          × IsOfWord (if tests then last_condition starts os (condition_of starts a t) t else choice_of starts logical.OrElse (Binary a os ty) t).right
+      by true = last_word os (condition_of starts a t) t (condition_word a t first) all
+      by false = choice_word logical.OrElse (Binary a os ty) t (first, all)
+  branch_word a t words = choice_word logical.OrElse a t words
 
   -- ---- regions
 
@@ -828,15 +844,14 @@ module _ (starts : Starts) where
     statement_words (Evaluate a) p exits t words = discarded_words a p t words
     statement_words (Swap x y) p exits t (words_x, words_y) = swap_words x y p t words_x words_y
     statement_words (If a s u) p exits t (first, second, third) =
-        let condition = choice_code starts logical.OrElse a p t in
-        let m = p + length condition in
-        let first_part = statement_code starts s (m + 1) exits t in
+        let first_part = statement_code starts s (p + length (branch_code starts a 0 p t) + 1) exits t in
         let last = is_nothing u in
-        let q = m + 1 + length first_part + over_length last in
+        let q = other_place last (branch_code starts a 0 p t) first_part p in
+        let condition = branch_code starts a q p t in
         let second_part = statement_code starts u q exits t in
         let over = over_code last (q + length second_part) in
         append (condition ++ _ ∷ first_part) (over ++ second_part)
-        (append condition (_ ∷ first_part) (choice_words logical.OrElse a p t first) (choice_word logical.OrElse a t first, statement_words s (m + 1) exits t second))
+        (append condition (_ ∷ first_part) (branch_words a q p t first) (branch_word a t first, statement_words s (p + length (branch_code starts a 0 p t) + 1) exits t second))
         (append over second_part (over_words last (q + length second_part)) (statement_words u q exits t third))
     statement_words (While w a s) p exits t (first, second) =
         let guarded = is_guard starts a in
@@ -851,7 +866,7 @@ module _ (starts : Starts) where
     statement_words (Return v) p exits t words = return_words v p exits t words
     statement_words Break p exits t words = append (leave_code exits.in_loop) _ (leave_words exits.in_loop) (tt, tt)
     statement_words Continue p exits t words = append (leave_code exits.in_loop) _ (leave_words exits.in_loop) (tt, tt)
-    statement_words (Throw tag v) p exits t words = throw_words tag v p exits t words
+    statement_words (Throw tag v) p exits t (word, words) = throw_words tag v p exits t words
     statement_words (Try s cs) p exits t (first, rest) =
         let kept = kept_code starts t in
         let m = p + length kept in
@@ -891,7 +906,7 @@ module _ (starts : Starts) where
     clauses_words : (cs : Clauses) (p out : ℕ) (exits : Exits) (t : ℕ) → AreOfWordsClauses cs → HaveWords (clauses_code starts cs p out exits t)
     clauses_words NoClauses p out exits t words = ((tt, tt), tt)
     clauses_words (Default r js) p out exits t words = items_words js p exits t words
-    clauses_words (Case tag x r js cs) p out exits t (first, rest) =
+    clauses_words (Case tag x r js cs) p out exits t (word, first, rest) =
         let caught = caught_code starts x t in
         let items = items_code starts js (p + 1 + length caught) exits t in
         let clause = clause_code tag t (caught ++ items) p out in

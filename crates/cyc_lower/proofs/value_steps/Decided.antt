@@ -22,10 +22,10 @@ use Rattle.cyc_meaning.specs.State.{World, Environment, Operate, Chain, Decide, 
 use Rattle.cyc_meaning.specs.Step.{computed, tested, chosen, looped, step}
 use Rattle.cyc_lower.specs.inside.ControlCode.{opposite}
 use Rattle.cyc_objects.specs.inside.Tables.{Tables}
-use Rattle.cyc_lower.proofs.relation.Stands.{ForkAt, StatementAt}
-use Rattle.cyc_lower.proofs.relation.HeldValues.{IsIn, Holds, held}
-use Rattle.cyc_lower.proofs.relation.Relation.{types_on, types_at, DataIn, SharedAt, ConditionStack, DecidedStack, GivenAt, decided, LeadsTo, as_condition, behind_statement, StatementStack, in_place, Matches, code_of, bounds_at, floor}
-use Rattle.cyc_lower.proofs.relation.Matched.{IsMatched, silently, by_one, by_two}
+use Rattle.cyc_lower.proofs.relation.code.Stands.{ForkAt, StatementAt}
+use Rattle.cyc_lower.proofs.relation.contents.HeldValues.{IsIn, Holds, held}
+use Rattle.cyc_lower.proofs.relation.simulation.Relation.{types_on, types_at, DataIn, SharedAt, ConditionStack, DecidedStack, GivenAt, decided, LeadsTo, as_condition, behind_statement, StatementStack, in_place, Matches, code_of, bounds_at, floor}
+use Rattle.cyc_lower.proofs.relation.simulation.Matched.{IsMatched, silently, by_one, by_two}
 use Rattle.cyc_lower.proofs.value_steps.ValueWords.{int_of, untrue, opposed, other_place, zero_is}
 
 module _ (source : Program) (pages calls : ℕ) where

@@ -31,7 +31,7 @@ use Rattle.cyc_meaning.specs.Values.{Int, Null, Thin, Handle, Operand as Kinded,
 use Rattle.cyc_store.specs.declared.range.TheConstants.{HEAP, UNIQUE}
 use Rattle.cyc_meaning.specs.SourceMachine.{status_in}
 use Rattle.cyc_meaning.specs.State.{status_of, InRegion, World, heap_number, Environment, ConvertTo, Operate, Chain, Apply, ApplyPointer, Decide, Store, Pass, PlaceBy, MakePlain, MakeFields, MakeArray, Choose, Test, Follow, LoadFrom, Entry, Needs, NeedsPlace, Discard, Focus, Evaluating, Locating, Given, Running, FollowMember, TakeAddress, StoreTo, Owner, Unique, FreeObject, CloseByKey, CountElements, Index, Advance}
-use Rattle.cyc_lower.proofs.relation.Counters.{CountersHold, counters_hold, counters_low}
+use Rattle.cyc_lower.proofs.relation.contents.Counters.{CountersHold, counters_hold, counters_low}
 use Rattle.cyc_meaning.specs.Step.{counts, target_of, target_by, object_of, assigned, passes, step, loaded_from, addressed}
 use Rattle.cyc_meaning.specs.Allocation.{makes}
 use Rattle.cyc_lower.specs.inside.Slots.{slot_of, field_in, global_of, Types, starts_of, global_types, Starts}
@@ -39,30 +39,30 @@ use Rattle.cyc_meaning.specs.Places.{locates_member}
 use Rattle.cyc_lower.proofs.place_steps.PlaceWords.{field_bytes, add_is}
 use Rattle.cyc_lower.proofs.slots.Slots.{slot-room, slot-low, words-there, words_positive, kind-there}
 use Rattle.cyc_lower.proofs.slots.Widths.{keeps_whole, kind_positive, type_words, made_kind, HasRoom, Outside}
-use Rattle.cyc_lower.proofs.relation.Moves.{moved_slots, moves, put_elsewhere, moved_elsewhere, moved_is}
+use Rattle.cyc_lower.proofs.relation.contents.Moves.{moved_slots, moves, put_elsewhere, moved_elsewhere, moved_is}
 use Rattle.cyc_lower.specs.inside.ValueCode.{failing_comparison, converts_there, masks, span_of, all_passed, kinds_passed, move_of, left_with, followed_operand, span_in, operand_or, reached_operand, load_word, address_of_global, keeps_words, variable_bytes}
 use Rattle.cyc_lower.specs.inside.ControlCode.{counter_operand, compared_or, opposite, compared_of, null_compared, nulled_or}
 use Rattle.cyc_lower.specs.inside.ExpressionCode.{operand_of, value_slot, source_of, source_slot, slot_with, pointer_of, is_simple, are_simple}
 use Rattle.cyc_lower.specs.inside.Lowering.{lower_program}
-use Rattle.cyc_lower.proofs.relation.Weights.{weight, stack_weight, expression_weight, arguments_weight, object_weight}
-use Rattle.cyc_lower.proofs.relation.Stands.{CopyBy, CopyAt, OperandBy, InitialBy, BroughtAt, ConversionAt, ExpressionAt, ArgumentsAt, ObjectAt, MadeAt, ValueAt, PairAt, ConditionAt, AssignmentAt, PrintedAt, DiscardedAt, StoredAt, ReturnedAt, ReachedAt, EachAt, LastByteAt, BranchesAt, TestsAt, ForkAt, ComparedAt, Ends}
+use Rattle.cyc_lower.proofs.relation.simulation.Weights.{weight, stack_weight, expression_weight, arguments_weight, object_weight}
+use Rattle.cyc_lower.proofs.relation.code.Stands.{CopyBy, CopyAt, OperandBy, InitialBy, BroughtAt, ConversionAt, ExpressionAt, ArgumentsAt, ObjectAt, MadeAt, ValueAt, PairAt, ConditionAt, AssignmentAt, PrintedAt, DiscardedAt, StoredAt, ReturnedAt, ReachedAt, EachAt, LastByteAt, BranchesAt, TestsAt, ForkAt, ComparedAt, Ends}
 use Rattle.cyc_objects.specs.inside.Tables.{Tables}
 use Rattle.cyc_objects.specs.inside.Words.{Is, Points}
-use Rattle.cyc_lower.proofs.relation.HeldValues.{counters_of, IsIn, words_held, height, Holds, held, kept, contents, IsHandleOf, IsLow, callers, AreCounted}
-use Rattle.cyc_lower.proofs.relation.Relation.{types_on, starts_on, types_at, starts_at, given_at, called_at, in_temporary, in_local, drops, leaves, copies, prints_only, gives_byte, DataIn, SharedAt, CallAt, to_slot, to_jump, ValueStack, PlaceStack, ConditionStack, DecidedStack, DroppedStack, AheadStack, LandsStack, LandsMade, HandsOnStack, PrintsStack, RightAt, EvaluatingAt, as_operand, into_slot, for_effect, as_right, as_condition, in_operand, ahead, with_left, Related, Matches, code_of, bounds_at, top, floor, base_of, BesideAt}
+use Rattle.cyc_lower.proofs.relation.contents.HeldValues.{counters_of, IsIn, words_held, height, Holds, held, kept, contents, IsHandleOf, IsLow, callers, AreCounted}
+use Rattle.cyc_lower.proofs.relation.simulation.Relation.{types_on, starts_on, types_at, starts_at, given_at, called_at, in_temporary, in_local, drops, leaves, copies, prints_only, gives_byte, DataIn, SharedAt, CallAt, to_slot, to_jump, ValueStack, PlaceStack, ConditionStack, DecidedStack, DroppedStack, AheadStack, LandsStack, LandsMade, HandsOnStack, PrintsStack, RightAt, EvaluatingAt, as_operand, into_slot, for_effect, as_right, as_condition, in_operand, ahead, with_left, Related, Matches, code_of, bounds_at, top, floor, base_of, BesideAt}
 use Rattle.cyc_lower.proofs.object_steps.Handles.{kept_holds, kept_low}
-use Rattle.cyc_lower.proofs.relation.Data.{height-least, Holds-same, Holds-above, floor-least, data_written}
+use Rattle.cyc_lower.proofs.relation.contents.Data.{height-least, Holds-same, Holds-above, floor-least, data_written}
 use Rattle.cyc_types.specs.Numbered.{Numbering}
 use Rattle.cyc_meaning.specs.FrameCount.{words_of_all}
-use Rattle.cyc_lower.proofs.relation.Accesses.{IsWell, is_loaded}
-use Rattle.cyc_lower.proofs.relation.Matched.{IsMatched, silently, by_one, by_two}
+use Rattle.cyc_lower.proofs.relation.simulation.Accesses.{IsWell, is_loaded}
+use Rattle.cyc_lower.proofs.relation.simulation.Matched.{IsMatched, silently, by_one, by_two}
 use Rattle.cyc_lower.proofs.value_steps.GlobalSteps.{each_put, each-outside, each_is, load_links, load_end, load_path, by_links}
-use Rattle.cyc_lower.proofs.relation.Known.{global_points, global_address, first_word}
+use Rattle.cyc_lower.proofs.relation.places.Known.{global_points, global_address, first_word}
 use Rattle.cyc_objects.proofs.NumberLemmas.{slice_get-below}
 use Rattle.cyc_plain.specs.declared.instruction.Instruction.{Instruction}
-use Rattle.cyc_lower.proofs.relation.Leads.{AreNamed}
-use Rattle.cyc_lower.proofs.relation.Tested.{compared_whole, tests_go}
-use Rattle.cyc_lower.proofs.relation.Rows.{local-points}
+use Rattle.cyc_lower.proofs.relation.places.Leads.{AreNamed}
+use Rattle.cyc_lower.proofs.relation.code.Tested.{compared_whole, tests_go}
+use Rattle.cyc_lower.proofs.relation.places.Rows.{local-points}
 use Rattle.cyc_plain.proofs.MemoryLaws.{pinned-at, pinned-inside, below-low, below-end}
 use Rattle.cyc_words.specs.Word.{add_of}
 use Rattle.cyc_meaning.specs.Operators.{unary_kind}

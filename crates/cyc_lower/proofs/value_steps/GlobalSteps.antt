@@ -17,13 +17,13 @@ use Rattle.cyc_objects.specs.inside.Words.{Is}
 use Rattle.cyc_lower.specs.inside.ValueCode.{load_word, store_word}
 use Rattle.cyc_lower.specs.inside.Lowering.{lower_program}
 use Rattle.cyc_lower.proofs.slots.Widths.{Outside}
-use Rattle.cyc_lower.proofs.relation.Stands.{EachAt, GlobalAt}
-use Rattle.cyc_lower.proofs.relation.HeldValues.{IsIn}
-use Rattle.cyc_lower.proofs.relation.Relation.{SharedAt, Matches, code_of}
-use Rattle.cyc_lower.proofs.relation.Data.{Is-same, IsWord-is}
-use Rattle.cyc_lower.proofs.relation.Moves.{put_elsewhere}
-use Rattle.cyc_lower.proofs.relation.Matched.{IsMatched}
-use Rattle.cyc_lower.proofs.relation.Paths.{Link, is_quiet, IsQuiet, end_of, IsPath, by_path}
+use Rattle.cyc_lower.proofs.relation.code.Stands.{EachAt, GlobalAt}
+use Rattle.cyc_lower.proofs.relation.contents.HeldValues.{IsIn}
+use Rattle.cyc_lower.proofs.relation.simulation.Relation.{SharedAt, Matches, code_of}
+use Rattle.cyc_lower.proofs.relation.contents.Data.{Is-same, IsWord-is}
+use Rattle.cyc_lower.proofs.relation.contents.Moves.{put_elsewhere}
+use Rattle.cyc_lower.proofs.relation.simulation.Matched.{IsMatched}
+use Rattle.cyc_lower.proofs.relation.simulation.Paths.{Link, is_quiet, IsQuiet, end_of, IsPath, by_path}
 
 -- ---- words
 

@@ -38,21 +38,21 @@ use Rattle.cyc_meaning.specs.Step.{leads_to, wrong, computed, passes, tested, aw
 use Rattle.cyc_meaning.specs.SourceMachine.{status_in}
 use Rattle.cyc_lower.specs.inside.Slots.{Types, Starts}
 use Rattle.cyc_lower.proofs.slots.Widths.{same_kind, Outside, chain_kind, wide_kind, keeps_wide, changes_wide, unary_word}
-use Rattle.cyc_lower.proofs.relation.Moves.{put_elsewhere}
+use Rattle.cyc_lower.proofs.relation.contents.Moves.{put_elsewhere}
 use Rattle.cyc_lower.specs.inside.ValueCode.{binary_operator, failing_comparison, next_slot, jump_if_zero, jump_if_nonzero, converts_there, unary_instruction, keeps_words, masks, low_byte}
 use Rattle.cyc_lower.specs.inside.ExpressionCode.{operand_of, value_slot, is_simple}
 use Rattle.cyc_lower.specs.inside.Lowering.{lower_program}
 use Rattle.cyc_types.specs.declared.typed.PointerOperator.{PointerOperator}
 use Rattle.cyc_lower.specs.inside.ControlCode.{null_failing, null_compared}
-use Rattle.cyc_lower.proofs.relation.Stands.{OperandBy, CheckAt, CheckedAt, OperatorAt, TruthAt, ExpressionAt, OperationsAt, GuardAt, TestedAt, ConversionBy, LeftBy}
+use Rattle.cyc_lower.proofs.relation.code.Stands.{OperandBy, CheckAt, CheckedAt, OperatorAt, TruthAt, ExpressionAt, OperationsAt, GuardAt, TestedAt, ConversionBy, LeftBy}
 use Rattle.cyc_objects.specs.inside.Tables.{Tables}
 use Rattle.cyc_objects.specs.inside.Words.{Is}
-use Rattle.cyc_lower.proofs.relation.HeldValues.{IsIn, Holds, held, IsLow}
-use Rattle.cyc_lower.proofs.relation.Relation.{types_on, starts_on, types_at, in_temporary, DataIn, SharedAt, to_slot, to_jump, ValueStack, ConditionStack, LandsStack, AppliedStack, ReadyAt, as_operand, into_slot, as_right, in_operand, with_left, Related, Matches, code_of, bounds_at, top, floor, BesideAt, EvaluatingAt}
+use Rattle.cyc_lower.proofs.relation.contents.HeldValues.{IsIn, Holds, held, IsLow}
+use Rattle.cyc_lower.proofs.relation.simulation.Relation.{types_on, starts_on, types_at, in_temporary, DataIn, SharedAt, to_slot, to_jump, ValueStack, ConditionStack, LandsStack, AppliedStack, ReadyAt, as_operand, into_slot, as_right, in_operand, with_left, Related, Matches, code_of, bounds_at, top, floor, BesideAt, EvaluatingAt}
 use Rattle.cyc_lower.proofs.object_steps.Handles.{kept_holds}
-use Rattle.cyc_lower.proofs.relation.Data.{in_words, height-least, Holds-same, null_is, data_written, Is-same}
-use Rattle.cyc_lower.proofs.relation.Accesses.{IsWell, is_fitting}
-use Rattle.cyc_lower.proofs.relation.Matched.{IsMatched, silently, by_one, by_two, by_three, shared_way, shared_within}
+use Rattle.cyc_lower.proofs.relation.contents.Data.{in_words, height-least, Holds-same, null_is, data_written, Is-same}
+use Rattle.cyc_lower.proofs.relation.simulation.Accesses.{IsWell, is_fitting}
+use Rattle.cyc_lower.proofs.relation.simulation.Matched.{IsMatched, silently, by_one, by_two, by_three, shared_way, shared_within}
 use Rattle.cyc_lower.proofs.handler_steps.Handling.{raised}
 use Rattle.cyc_lower.proofs.pointer_steps.PointerSteps.{right_follows}
 use Rattle.cyc_lower.proofs.pointer_steps.FatSteps.{widens}

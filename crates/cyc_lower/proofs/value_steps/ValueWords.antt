@@ -31,9 +31,9 @@ use Rattle.cyc_lower.specs.inside.ControlCode.{opposite}
 use Rattle.cyc_objects.specs.inside.Tables.{Tables}
 use Rattle.cyc_objects.specs.inside.Words.{Is}
 use Rattle.cyc_objects.proofs.Pointers.{not-null, part-not-null, same_value}
-use Rattle.cyc_lower.proofs.relation.HeldValues.{IsWord, IsIn}
-use Rattle.cyc_lower.proofs.relation.Data.{in_words, IsWord-is, one_word, points_in, null_at, points_at}
-use Rattle.cyc_lower.proofs.relation.Accesses.{IsWell}
+use Rattle.cyc_lower.proofs.relation.contents.HeldValues.{IsWord, IsIn}
+use Rattle.cyc_lower.proofs.relation.contents.Data.{in_words, IsWord-is, one_word, points_in, null_at, points_at}
+use Rattle.cyc_lower.proofs.relation.simulation.Accesses.{IsWell}
 use Rattle.std.proofs.lemmas.Grind.{and_numeral}
 
 -- an operand of a kind, and an int

@@ -29,24 +29,24 @@ use Rattle.cyc_lower.specs.declared.statements.Exits.{Exits}
 use Rattle.cyc_lower.specs.inside.Slots.{slot_of, Types}
 use Rattle.cyc_lower.proofs.slots.Slots.{slot-room, room-inside}
 use Rattle.cyc_lower.proofs.slots.Widths.{kind_positive, same_kind, HasRoom, Outside, made_kind, kind_in}
-use Rattle.cyc_lower.proofs.relation.Moves.{moved_slots, moves, moved_elsewhere, moved_is}
+use Rattle.cyc_lower.proofs.relation.contents.Moves.{moved_slots, moves, moved_elsewhere, moved_is}
 use Rattle.cyc_lower.specs.inside.ValueCode.{next_slot, followed_operand}
 use Rattle.cyc_lower.specs.inside.ControlCode.{tag_operand}
 use Rattle.cyc_lower.specs.inside.ExpressionCode.{operand_of, value_slot, are_simple}
 use Rattle.cyc_lower.specs.inside.Lowering.{lower_program}
-use Rattle.cyc_lower.proofs.relation.Stands.{OperandBy, CheckAt, OperatorAt, ExpressionAt, OperationsAt, FollowedAt, MadeAt, ValueAt}
+use Rattle.cyc_lower.proofs.relation.code.Stands.{OperandBy, CheckAt, OperatorAt, ExpressionAt, OperationsAt, FollowedAt, MadeAt, ValueAt}
 use Rattle.cyc_objects.specs.inside.Tables.{Tables, with_row}
 use Rattle.cyc_objects.specs.inside.Words.{Points, Is}
 use Rattle.cyc_objects.proofs.Pointers.{pointer-word}
 use Rattle.cyc_objects.proofs.Values.{Grows-row, Is-grows}
-use Rattle.cyc_lower.proofs.relation.Sharing.{shared_declared, row_declared}
-use Rattle.cyc_lower.proofs.relation.HeldValues.{IsIn, with_kind, Holds, kept, callers, row_of, IsLow}
-use Rattle.cyc_lower.proofs.relation.Relation.{types_on, starts_on, types_at, starts_at, DataIn, SharedAt, ValueStack, DroppedStack, AheadStack, HandsOnStack, ReadyAt, as_right, in_operand, nowhere, ahead, decided, with_left, behind_statement, Matches, code_of, bounds_at, top, floor, PlaceStack, call_slots, BesideAt, PartsAt, in_parts, StatementStack}
+use Rattle.cyc_lower.proofs.relation.contents.Sharing.{shared_declared, row_declared}
+use Rattle.cyc_lower.proofs.relation.contents.HeldValues.{IsIn, with_kind, Holds, kept, callers, row_of, IsLow}
+use Rattle.cyc_lower.proofs.relation.simulation.Relation.{types_on, starts_on, types_at, starts_at, DataIn, SharedAt, ValueStack, DroppedStack, AheadStack, HandsOnStack, ReadyAt, as_right, in_operand, nowhere, ahead, decided, with_left, behind_statement, Matches, code_of, bounds_at, top, floor, PlaceStack, call_slots, BesideAt, PartsAt, in_parts, StatementStack}
 use Rattle.cyc_lower.proofs.object_steps.Handles.{kept_holds}
-use Rattle.cyc_lower.proofs.relation.Data.{in_words, data_declared, data_grows, null_is, points_in, handlers_beside}
-use Rattle.cyc_lower.proofs.relation.Accesses.{IsWell, is_fitting, is_declared, home_there, is_member}
+use Rattle.cyc_lower.proofs.relation.contents.Data.{in_words, data_declared, data_grows, null_is, points_in, handlers_beside}
+use Rattle.cyc_lower.proofs.relation.simulation.Accesses.{IsWell, is_fitting, is_declared, home_there, is_member}
 use Rattle.cyc_lower.proofs.place_steps.PlaceWords.{stays, member_there}
-use Rattle.cyc_lower.proofs.relation.Matched.{silently, by_one}
+use Rattle.cyc_lower.proofs.relation.simulation.Matched.{silently, by_one}
 use Rattle.cyc_lower.proofs.handler_steps.Handling.{leaving, shared_leaving, record_left, raised}
 use Rattle.cyc_lower.proofs.pointer_steps.PointerSteps.{applies_pointers, tests_null}
 use Rattle.cyc_lower.proofs.object_steps.UniqueBlocks.{frees_value}
@@ -57,8 +57,8 @@ use Rattle.cyc_lower.proofs.object_steps.Allocations.{plain_made, fields_made}
 use Rattle.cyc_lower.proofs.object_steps.Arrays.{array_sized, array_filled}
 use Rattle.cyc_lower.proofs.value_steps.Evaluations.{known_simple, IsStep, passes_related, passes_weight, made_of, lands_made, known_operand_is}
 use Rattle.cyc_lower.proofs.region_steps.RegionSteps.{opened_given, aliased_given}
-use Rattle.cyc_lower.proofs.relation.Rows.{row-fits, row-variable, declared_low}
-use Rattle.cyc_lower.proofs.relation.Leads.{AreNamed}
+use Rattle.cyc_lower.proofs.relation.places.Rows.{row-fits, row-variable, declared_low}
+use Rattle.cyc_lower.proofs.relation.places.Leads.{AreNamed}
 use Rattle.cyc_lower.proofs.value_steps.Decided.{decided_given, tested_given}
 use Rattle.cyc_lower.proofs.value_steps.ValueWords.{of_kind, int_of, goes_wrong, int_is, not_zero, not_fat, int_at, int_in}
 use Rattle.cyc_lower.proofs.value_steps.Operators.{guard_fails, guard_passes, Stands, GoesBehind, converts, converts_ahead, operates_value, operates, stays_beside, applies, decides_truth, awaited, chains}

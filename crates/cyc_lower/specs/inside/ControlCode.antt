@@ -120,11 +120,15 @@ over_length true = 0
 over_length false = 1
 
 -- A branch whose condition stands at place p, the first statement behind the jump over it, and the other behind the jump
--- to the end.
-abbrev pub if_code : (last : Bool) → (condition : List Instruction) → (jump : ℕ → Instruction) → (first second : List Instruction) → (p : ℕ) → List Instruction
+-- to the end. The condition may lead to the other in its midst. How long its code is does not depend on where that is: so it is
+-- measured for any place.
+abbrev pub other_place : (last : Bool) → (condition first : List Instruction) → (p : ℕ) → ℕ
+other_place last condition first p = p + length condition + 1 + length first + over_length last
+
+abbrev pub if_code : (last : Bool) → (condition : ℕ → List Instruction) → (jump : ℕ → Instruction) → (first second : List Instruction) → (p : ℕ) → List Instruction
 if_code last condition jump first second p =
-    (condition ++ jump (p + length condition + 1 + length first + over_length last) ∷ first)
-    ++ (over_code last (p + length condition + 1 + length first + over_length last + length second) ++ second)
+    (condition (other_place last (condition 0) first p) ++ jump (other_place last (condition 0) first p) ∷ first)
+    ++ (over_code last (other_place last (condition 0) first p + length second) ++ second)
 
 -- A loop begins with what leads to its body where its condition holds, and else to the jump behind it, which leads to the loop's end. So a
 -- continue, which goes to where the loop begins, and a break, which goes to that jump, have targets that are known before the body's code

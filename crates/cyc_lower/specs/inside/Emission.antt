@@ -1,5 +1,5 @@
 -- What the code that emits says of itself: what it adds to the code made so far.
-use Rattle.std.specs.Prelude.{◌≡◌, ℕ, suc, ◌+◌, ◌^◌, ◌≤◌, Bool, false, if◌then◌else◌, Option, IfOk, List, [], ◌∷◌, ◌++◌, length, map, set, Some, None, option_map, Result, OnOk, slice_get}
+use Rattle.std.specs.Prelude.{◌≡◌, ℕ, suc, ◌+◌, ◌^◌, ◌≤◌, ◌<◌, Bool, false, if◌then◌else◌, Option, IfOk, List, [], ◌∷◌, ◌++◌, length, map, set, Some, None, option_map, Result, OnOk, slice_get}
 use Rattle.std.specs.declared.alloc.AllocError.{AllocError}
 use Rattle.cyc_types.specs.declared.typed.Operation.{Operation}
 use Rattle.cyc_types.specs.declared.typed.Operation.TheVariants as operation
@@ -12,7 +12,7 @@ use Rattle.cyc_types.specs.declared.typed.Item.TheVariants as item
 use Rattle.cyc_types.specs.Types.{Ty, words_of}
 use Rattle.cyc_types.specs.TypeView.{view_ty}
 use Rattle.cyc_types.specs.TypedTrees.{Expression, Converted, Convert, Arguments, Operations, ThenCompute, Statement, Clauses, Items, Function, Binary, If, Empty}
-use Rattle.cyc_types.specs.TypedTreeView.{view_struct, view_expression, view_converted, view_statement, clauses_of}
+use Rattle.cyc_types.specs.TypedTreeView.{view_struct, view_expression, view_converted, view_statement, clauses_of, operations_of}
 use Rattle.cyc_plain.specs.declared.instruction.Operand.{Operand}
 use Rattle.cyc_plain.specs.declared.instruction.Operand.TheVariants.{Slot, Word}
 use Rattle.cyc_plain.specs.declared.instruction.Instruction.{Instruction}
@@ -20,15 +20,17 @@ use Rattle.cyc_plain.specs.declared.instruction.Instruction.TheVariants.{WriteBy
 use Rattle.cyc_frame_count.specs.inside.Needs.{most_frame_count}
 use Rattle.cyc_lower.specs.inside.Slots.{Starts, slot_of}
 use Rattle.cyc_lower.specs.inside.ValueCode.{code_unless, slot_or, code_unless_slot, conversion_code, compute_code, test_code, behind_left, pointer_code, span_of}
-use Rattle.cyc_lower.specs.inside.ControlCode.{is_same, deciding_jump, holding_jump, inside_loop, tag_operand, clause_code, opened_code, named_code, dynamic_code, inside_region, entry_code, looped_code, body_target, null_compared}
+use Rattle.cyc_lower.specs.inside.ControlCode.{is_same, deciding_jump, failing_jump, holding_jump, inside_loop, tag_operand, clause_code, opened_code, named_code, dynamic_code, inside_region, entry_code, looped_code, body_target, null_compared}
 use Rattle.cyc_lower.specs.inside.ExpressionCode.{operand_of, source_of, source_slot, printed_operand, printed_code, left_of, value_slot, left_slot, value_operand, expression_code, brought_code, are_simple, is_simple}
-use Rattle.cyc_lower.specs.inside.Lowering.{is_guard, condition_code, choice_code, choice_of, statement_code, declaration_code, condition_of, thrown_operand, thrown_code, caught_code, items_code, clauses_code}
+use Rattle.cyc_lower.specs.inside.Lowering.{is_guard, condition_code, choice_code, choice_of, tests_code, last_condition, branch_code, branch_of, statement_code, declaration_code, condition_of, thrown_operand, thrown_code, caught_code, items_code, clauses_code}
 use Rattle.cyc_meaning.specs.FrameCount.{frame_count}
 use Rattle.cyc_plain.specs.declared.instruction.Comparison.{Comparison}
 use Rattle.cyc_plain.specs.declared.instruction.Comparison.TheVariants as comparisons
 use Rattle.cyc_lower.specs.declared.emitter.Emitter.{Emitter}
 use Rattle.cyc_lower.specs.declared.starts.Starts.{Starts as StartsCode}
 use Rattle.cyc_lower.specs.declared.operands.Condition.{Condition}
+use Rattle.cyc_lower.specs.declared.conditions.Pending.{Pending}
+use Rattle.cyc_lower.specs.declared.conditions.Tested.{Tested}
 use Rattle.cyc_lower.specs.declared.statements.Exits.{Exits}
 
 -- this code is added behind what there was
@@ -63,6 +65,26 @@ abbrev pub null_operation : Operation → Option Comparison
 null_operation (operation.Pointer o e) = null_compared o (view_expression e)
 null_operation (operation.PointerPeek n o e) = null_compared o (view_expression e)
 null_operation o = None
+
+-- jumps whose targets are not yet known come to lead to a place where their conditions fail
+abbrev pub failed : List Pending → (target : ℕ) → List Instruction → List Instruction
+failed [] target code = code
+failed (j ∷ js) target code = failed js target (set code j.place (failing_jump j.condition target))
+
+-- they stand before a place
+abbrev pub AreBefore : List Pending → (place : ℕ) → Type 0
+AreBefore [] place = Unit {0}
+AreBefore (j ∷ js) place = (j.place < place) × AreBefore js place
+
+-- Code that was made to lead to place 0 comes to lead to any other by these jumps, wherever it begins at this place.
+abbrev pub Aims : List Pending → (code : ℕ → List Instruction) → (place : ℕ) → Type 0
+Aims early code place =
+    (old rest : List Instruction) (target : ℕ) → length old ≡ place → failed early target (old ++ (code 0 ++ rest)) ≡ old ++ (code target ++ rest)
+
+-- A branch's condition is made, for place 0 where it leads out of its midst, with the jumps that lead there.
+abbrev pub IsTested : Condition → (code : ℕ → List Instruction) → (old new : List Instruction) → Tested → Type 0
+IsTested last code old new tested =
+    (tested.last ≡ last) × Aims tested.early.items code (length old) × AreBefore tested.early.items (length new) × (new ≡ old ++ code 0)
 
 module _ (starts : Starts) where
   -- the code of an expression that is an operand
@@ -133,6 +155,26 @@ module _ (starts : Starts) where
   abbrev pub other_condition : Operation → Condition → (t : ℕ) → Condition
   other_condition (operation.Test o e) c t = condition_of starts (view_expression e) t
   other_condition o c t = c
+
+  -- The jumps of tests by `&&` behind an operand that is made, each at the place behind what it decides on.
+  abbrev pub early_jumps : List Operation → Condition → (p t : ℕ) → List Pending
+  early_jumps [] c p t = []
+  early_jumps (o ∷ os) c p t =
+      record { place = p; condition = c } ∷ early_jumps os (other_condition o c t) (p + length (other_code logical.AndThen o c 0 p t)) t
+
+  -- what is made of tests by `&&` where it is not known where one leads that fails
+  abbrev pub IsEarly : Expression → List Operation → (t : ℕ) → (old new : List Instruction) → Tested → Type 0
+  IsEarly a os t old new tested =
+      (tested.last ≡ last_condition starts (operations_of os) (condition_of starts a t) t)
+      × (tested.early.items ≡ early_jumps os (condition_of starts a t) (length old + length (condition_code starts a (length old) t)) t)
+      × (new ≡ old ++ tests_code starts logical.AndThen a (operations_of os) 0 (length old) t)
+
+  -- what is made of a branch's condition, and of one whose jumps all lead where they are to
+  abbrev pub IsBranch : Expression → (t : ℕ) → (old new : List Instruction) → Tested → Type 0
+  IsBranch a t old new tested = IsTested (branch_of starts a t) (λ other. branch_code starts a other (length old) t) old new tested
+
+  abbrev pub IsSettled : Expression → (t : ℕ) → (old new : List Instruction) → Tested → Type 0
+  IsSettled a t old new tested = IsTested (choice_of starts logical.OrElse a t) (λ other. choice_code starts logical.OrElse a (length old) t) old new tested
 
   -- an exception is thrown
   abbrev pub throw_code : (tag : ℕ) → Option Expression → (p t : ℕ) → List Instruction

@@ -29,7 +29,7 @@ use Rattle.cyc_lower.specs.declared.operands.Condition.{Condition}
 use Rattle.cyc_lower.specs.declared.statements.Exits.{Exits}
 use Rattle.cyc_lower.specs.inside.ValueCode.{slot_types, first_temporary, operand_or, code_unless, slot_or, code_unless_slot, left_with, blocks, failing_comparison, move_of, conversion_code, span_of, addressed_by, word_by_word, global_code, passed_words, kind_passed, blank_code}
 use Rattle.cyc_lower.specs.inside.ObjectCode.{stores_code, stored_by, load_at, right_slot}
-use Rattle.cyc_lower.specs.inside.ControlCode.{compared_of, failing_jump, holding_jump, deciding_jump, are_tests, if_code, break_target, continue_target, named_code, opened_code, closed_code, dynamic_code, leave_code, behind_record, kept_code, tag_operand, handled_code, clause_code, goes_on, outside_loops, inside_loop, inside_try, inside_region, body_target, looped_code, is_nothing, over_length}
+use Rattle.cyc_lower.specs.inside.ControlCode.{compared_of, failing_jump, holding_jump, deciding_jump, are_tests, if_code, break_target, continue_target, named_code, opened_code, closed_code, dynamic_code, leave_code, behind_record, kept_code, tag_operand, handled_code, clause_code, goes_on, outside_loops, inside_loop, inside_try, inside_region, body_target, looped_code, is_nothing, other_place}
 use Rattle.cyc_lower.specs.inside.ExpressionCode.{operand_of, value_slot, slot_with, value_operand, source_of, converted_operand, printed_operand, place_operand, place_offset, load_code, expression_code, place_code, converted_operand_code, printed_code, initial_code, brought_code, is_simple}
 
 module _ (starts : Starts) where
@@ -120,6 +120,18 @@ module _ (starts : Starts) where
   choice_of u (Binary a os ty) t = if are_tests u os then last_condition os (condition_of a t) t else condition_of (Binary a os ty) t
   choice_of u a t = condition_of a t
 
+  -- The condition of a branch. Of tests by `&&` each that fails leads to place `other`, where the other statement stands, and the last one
+  -- does so by the jump behind the code.
+  abbrev pub branch_code : Expression → (other p t : ℕ) → List Instruction
+  branch_code (Binary a os ty) other p t =
+      if are_tests logical.AndThen os then tests_code logical.AndThen a os other p t else choice_code logical.OrElse (Binary a os ty) p t
+  branch_code a other p t = choice_code logical.OrElse a p t
+
+  abbrev pub branch_of : Expression → (t : ℕ) → Condition
+  branch_of (Binary a os ty) t =
+      if are_tests logical.AndThen os then last_condition os (condition_of a t) t else choice_of logical.OrElse (Binary a os ty) t
+  branch_of a t = choice_of logical.OrElse a t
+
   -- An expression with little code: it is simple, or loads by a pointer that has none, at an index that is simple.
   abbrev pub is_light_place : Dereference → Bool
   is_light_place (Element a i ty) = is_some (operand_of starts a) && is_simple starts i
@@ -207,9 +219,9 @@ module _ (starts : Starts) where
     statement_code (Evaluate a) p exits t = discarded_code a p t
     statement_code (Swap a b) p exits t = swap_code a b p t
     statement_code (If a s u) p exits t =
-        if_code (is_nothing u) (choice_code logical.OrElse a p t) (failing_jump (choice_of logical.OrElse a t))
-        (statement_code s (p + length (choice_code logical.OrElse a p t) + 1) exits t)
-        (statement_code u (p + length (choice_code logical.OrElse a p t) + 1 + length (statement_code s (p + length (choice_code logical.OrElse a p t) + 1) exits t) + over_length (is_nothing u)) exits t)
+        if_code (is_nothing u) (λ other. branch_code a other p t) (failing_jump (branch_of a t))
+        (statement_code s (p + length (branch_code a 0 p t) + 1) exits t)
+        (statement_code u (other_place (is_nothing u) (branch_code a 0 p t) (statement_code s (p + length (branch_code a 0 p t) + 1) exits t) p) exits t)
         p
     statement_code (While w a s) p exits t =
         looped_code (is_guard a) (λ q. choice_code logical.AndThen a q t) (λ leaving. statement_code s (body_target leaving) (inside_loop p leaving exits) t) (holding_jump (choice_of logical.AndThen a t)) p

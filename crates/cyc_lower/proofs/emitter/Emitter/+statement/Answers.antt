@@ -17,6 +17,7 @@ use Rattle.cyc_lower.specs.declared.statements.Exits.{Exits}
 use Rattle.cyc_lower.specs.declared.statements.Opened.{Opened}
 use Rattle.cyc_lower.specs.inside.Emission.{view_starts}
 use Rattle.cyc_lower.proofs.emission.Branching.{made_block, made_if, made_then, made_alone, if_viewed, item_room, more_items, closes_begin, closes_next, closes_end}
+use Rattle.cyc_lower.proofs.emission.Conditions.{before_more}
 use Rattle.cyc_lower.proofs.emission.Loops.{made_loop, entering_keeps}
 use Rattle.cyc_lower.proofs.emission.Handlers.{kept_of_clause, made_clause, made_clauses, more_clauses, made_handler, record_room, clauses_longer, body_longer}
 use Rattle.cyc_lower.proofs.emission.Emitting.{no_shorter_than}
@@ -51,14 +52,22 @@ lower_form-returns-in-Block t c =
 
 pub lower_then-returns : goal.lower_then-returns
 lower_then-returns t c =
-    made_then (view_starts c.args.starts.now) (view_expression c.args.condition.now) (view_statement c.args.then.now) c.args.exits c.args.free c.in_ok-condition.condition c.in_ok-condition.ensures.0 c.args.self.now.code.items (Jump 0)
-    c.lower_choice.new.self.code.items c.reserve.new.self.code.items c.lower_statement.new.self.code.items c.jump_here_if_failing.new.self.code.items c.in_ok-over.over
-    c.in_ok-condition.ensures.1 c.in_ok-over.ensures.0 c.in_ok-over.ensures.1 c.in_ok-lower_statement.ensures c.jump_here_if_failing.ensures
+    made_then (view_starts c.args.starts.now) (view_expression c.args.condition.now) (view_statement c.args.then.now) c.args.exits c.args.free c.in_ok-tested.tested.last c.in_ok-tested.tested.early.items c.in_ok-tested.ensures.0 c.args.self.now.code.items c.in_ok-tested.ensures.1 (Jump 0)
+    c.lower_branch.new.self.code.items c.reserve.new.self.code.items c.lower_statement.new.self.code.items c.fail_here.new.self.code.items c.in_ok-over.over
+    c.in_ok-tested.ensures.3 c.in_ok-over.ensures.0 c.in_ok-over.ensures.1 c.in_ok-lower_statement.ensures c.fail_here.ensures.code
+
+pub lower_then-fail_here-requires : goal.lower_then-fail_here-requires
+lower_then-fail_here-requires t c =
+    let one = ap length c.in_ok-over.ensures.1 ∙ length-append c.lower_branch.new.self.code.items (Jump 0 ∷ []) in
+    let two = no_shorter_than c.reserve.new.self.code.items _ c.lower_statement.new.self.code.items c.in_ok-lower_statement.ensures in (
+      omega (arith, one, two, c.in_ok-over.ensures.0),
+      before_more c.in_ok-tested.tested.early.items (length c.lower_branch.new.self.code.items) (length c.lower_statement.new.self.code.items) c.in_ok-tested.ensures.2 (omega (arith, one, two)),
+    )
 
 pub lower_then-lower_statement-requires : goal.lower_then-lower_statement-requires
 lower_then-lower_statement-requires t c =
-    let zero = no_shorter_than c.args.self.now.code.items _ c.lower_choice.new.self.code.items c.in_ok-condition.ensures.1 in
-    let one = no_shorter_than c.lower_choice.new.self.code.items _ c.reserve.new.self.code.items c.in_ok-over.ensures.1 in
+    let zero = no_shorter_than c.args.self.now.code.items _ c.lower_branch.new.self.code.items c.in_ok-tested.ensures.3 in
+    let one = no_shorter_than c.lower_branch.new.self.code.items _ c.reserve.new.self.code.items c.in_ok-over.ensures.1 in
     (search (rules, types.the_lemmas, statements.the_lemmas, get_or_read), (omega (arith, c.requires.slots), omega (arith, zero, one, c.requires.begun)))
 
 pub lower_form-lower_then-requires : goal.lower_form-lower_then-requires
@@ -74,12 +83,21 @@ lower_form-returns-then-is_nothing t c =
     (sym c.is_nothing.ensures ∙ c.if-is_nothing.true) c.args.exits c.args.free c.args.self.now.code.items c.lower_then.new.self.code.items)
     c.lower_then.ensures
 
+pub lower_form-fail_here-requires : goal.lower_form-fail_here-requires
+lower_form-fail_here-requires t c =
+    let one = ap length c.in_ok-over_then-in-If.ensures.1 ∙ length-append c.lower_branch.new.self.code.items (Jump 0 ∷ []) in
+    let two = no_shorter_than c.reserve.new.self.code.items _ c.lower_statement.new.self.code.items c.in_ok-lower_statement-in-If.ensures in
+    let three = no_shorter_than c.lower_statement.new.self.code.items _ c.reserve-in-If.new.self.code.items c.in_ok-over_otherwise-in-If.ensures.1 in (
+      omega (arith, one, two, three, c.in_ok-over_then-in-If.ensures.0),
+      before_more c.in_ok-tested-in-If.tested.early.items (length c.lower_branch.new.self.code.items) (length c.reserve-in-If.new.self.code.items) c.in_ok-tested-in-If.ensures.2 (omega (arith, one, two, three)),
+    )
+
 pub lower_form-returns-in_ok-lower_statement-in-If-2 : goal.lower_form-returns-in_ok-lower_statement-in-If-2
 lower_form-returns-in_ok-lower_statement-in-If-2 t c =
-    made_if (view_starts c.args.starts.now) c.args.statement.now c.in-If.condition c.in-If.then c.in-If.otherwise c.in-If.is c.deref-in-If-2.result.now c.deref-in-If-3.result.now c.deref-in-If-2.ensures c.deref-in-If-3.ensures c.args.exits c.args.free c.in_ok-condition-in-If.condition c.in_ok-condition-in-If.ensures.0 c.args.self.now.code.items (Jump 0) (Jump 0)
-    c.lower_choice.new.self.code.items c.reserve.new.self.code.items c.lower_statement.new.self.code.items c.reserve-in-If.new.self.code.items c.jump_here_if_failing.new.self.code.items c.lower_statement-in-If.new.self.code.items c.jump_here.new.self.code.items
+    made_if (view_starts c.args.starts.now) c.args.statement.now c.in-If.condition c.in-If.then c.in-If.otherwise c.in-If.is c.deref-in-If-2.result.now c.deref-in-If-3.result.now c.deref-in-If-2.ensures c.deref-in-If-3.ensures c.args.exits c.args.free c.in_ok-tested-in-If.tested.last c.in_ok-tested-in-If.tested.early.items c.in_ok-tested-in-If.ensures.0 c.args.self.now.code.items c.in_ok-tested-in-If.ensures.1 (Jump 0) (Jump 0)
+    c.lower_branch.new.self.code.items c.reserve.new.self.code.items c.lower_statement.new.self.code.items c.reserve-in-If.new.self.code.items c.fail_here.new.self.code.items c.lower_statement-in-If.new.self.code.items c.jump_here.new.self.code.items
     c.in_ok-over_then-in-If.over_then c.in_ok-over_otherwise-in-If.over_otherwise
-    (ap (λ (z : Stmt). is_nothing (view_statement z)) (c.deref-in-If-3.ensures ∙ sym c.deref-in-If.ensures) ∙ sym c.is_nothing.ensures ∙ c.if-is_nothing.false) c.in_ok-condition-in-If.ensures.1 c.in_ok-over_then-in-If.ensures.0 c.in_ok-over_then-in-If.ensures.1 c.in_ok-lower_statement-in-If.ensures c.in_ok-over_otherwise-in-If.ensures.0 c.in_ok-over_otherwise-in-If.ensures.1 c.jump_here_if_failing.ensures c.in_ok-lower_statement-in-If-2.ensures c.jump_here.ensures
+    (ap (λ (z : Stmt). is_nothing (view_statement z)) (c.deref-in-If-3.ensures ∙ sym c.deref-in-If.ensures) ∙ sym c.is_nothing.ensures ∙ c.if-is_nothing.false) c.in_ok-tested-in-If.ensures.3 c.in_ok-over_then-in-If.ensures.0 c.in_ok-over_then-in-If.ensures.1 c.in_ok-lower_statement-in-If.ensures c.in_ok-over_otherwise-in-If.ensures.0 c.in_ok-over_otherwise-in-If.ensures.1 c.fail_here.ensures.code c.in_ok-lower_statement-in-If-2.ensures c.jump_here.ensures
 
 pub lower_clause-returns : goal.lower_clause-returns
 lower_clause-returns t c =

@@ -1,0 +1,6 @@
+-- where the code of a construct stands, and what it asks of the tree
+pub mod Stands
+pub mod Tested
+pub mod Fitting
+pub mod Moving
+pub mod Levels

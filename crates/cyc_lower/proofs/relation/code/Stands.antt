@@ -1,0 +1,677 @@
+-- Where in a function's code the code of a construct stands, with all places between its parts left open.
+use Rattle.std.proofs.Common.{◌≡◌, ℕ, suc, ◌+◌, ◌<◌, Bool, true, false, List, [], ◌∷◌, length, Option, None, Some, zero, ◌≤◌, max, slice_get, ◌⊎◌}
+use Rattle.std.specs.Prelude.{◌==◌}
+use Rattle.cyc_words.specs.Word.{IsWord}
+use Rattle.cyc_types.specs.declared.typed.Kind.{Kind}
+use Rattle.cyc_types.specs.declared.typed.Kind.TheVariants as kinds
+use Rattle.cyc_types.specs.declared.typed.Callee.TheVariants as callees
+use Rattle.cyc_types.specs.declared.typed.Operator.{Operator}
+use Rattle.cyc_types.specs.declared.typed.Operator.TheVariants as operators
+use Rattle.cyc_types.specs.declared.typed.LogicalOperator.TheVariants as logical
+use Rattle.cyc_types.specs.declared.typed.PointerOperator.{PointerOperator}
+use Rattle.cyc_types.specs.declared.typed.PointerOperator.TheVariants as pointers
+use Rattle.cyc_types.specs.TypedTrees.{Array, Counter, type_of_place, Load, Dereference, Target, Lvalue, Local, Global, Expression, Number, NullPointer, Copy, Call, Unary, Binary, Assign, Converted, Convert, Arguments, NoArguments, MoreArguments, Operations, NoOperations, ThenCompute, ThenTest, ThenPointer, Statement, Block, Empty, Evaluate, If, While, Return, Break, Continue, Items, NoItems, MoreItems, Execute, Declare, Move, Peek, ThenPointerPeek, New, OnHeap, Initial, Plain, Fields, AddressOfCell, Store, Member, AsUnique, ByHandle, FreeUnique, FreeKey, HeapRegion, Side, VariableSide, CellSide, Swap, Throw, Try, Clauses, NoClauses, Default, Case, NumberOfElements, Element, DeclareRegion, OpenRegion, DeclareAlias, DeclareKey, AddressOf}
+use Rattle.cyc_types.specs.Types.{words_of, Ty}
+use Rattle.cyc_types.specs.typing.Expressions.{type_of_side}
+use Rattle.cyc_types.specs.Numbered.{Numbering}
+use Rattle.cyc_plain.specs.declared.limits.TheConstants.{RECORD_WORDS}
+use Rattle.cyc_plain.specs.declared.instruction.UnaryOperator.TheVariants as plain_unary
+use Rattle.cyc_plain.specs.declared.instruction.BinaryOperator.TheVariants as plain_binary
+use Rattle.cyc_plain.specs.declared.instruction.BinaryOperator.TheVariants as plain_binary
+use Rattle.cyc_plain.specs.declared.instruction.Comparison.{Comparison}
+use Rattle.cyc_plain.specs.declared.instruction.Comparison.TheVariants as comparisons
+use Rattle.cyc_plain.specs.declared.instruction.Operand.{Operand}
+use Rattle.cyc_plain.specs.declared.instruction.Operand.TheVariants as operands
+use Rattle.cyc_plain.specs.declared.instruction.Request.TheVariants as requests
+use Rattle.cyc_plain.specs.declared.instruction.Instruction.{Instruction}
+use Rattle.cyc_plain.specs.declared.instruction.Instruction.TheVariants as instructions
+use Rattle.cyc_plain.specs.inside.Straight.{At}
+use Rattle.cyc_store.specs.declared.range.TheConstants.{MOST_BLOCK_WORDS, HEAP, UNIQUE}
+use Rattle.cyc_meaning.specs.Operators.{array_size, null_exception, division_by_zero, array_bounds}
+use Rattle.cyc_meaning.specs.Values.{is_thin, words_of_kind, bytes_of_kind, begins, behind, bytes_from, words_for, kind_of}
+use Rattle.cyc_lower.specs.declared.statements.Exits.{Exits}
+use Rattle.cyc_lower.specs.declared.statements.Opened.{Opened}
+use Rattle.cyc_lower.specs.inside.Slots.{counted, Types, starts_of, slot_of, field_of, global_of}
+use Rattle.cyc_lower.specs.inside.ValueCode.{binary_operator, failing_comparison, left_with, next_slot, is_in, move_of, test_jump, converts_there, passed_words, all_passed, kinds_passed, low_byte, behind_left, pointer_operator, raising, jump_if_zero, span_of, span_in, followed_operand, scale_of, reached_operand, load_word, store_word, address_of_global, unary_instruction, keeps_words, masks, kind_passed, load_of, store_of}
+use Rattle.cyc_lower.specs.inside.ObjectCode.{most_elements, slots_of_kinds, right_slot, load_at}
+use Rattle.cyc_lower.specs.inside.ControlCode.{opposite, compared_of, break_target, continue_target, body_target, inside_loop, inside_try, behind_record_in, tag_operand, other_jump, goes_on, inside_region, null_compared}
+use Rattle.cyc_lower.specs.inside.ExpressionCode.{operand_of, source_of, source_slot, left_of, value_slot, slot_with, left_slot, pointer_of, is_simple}
+use Rattle.cyc_lower.specs.inside.Lowering.{results_of}
+use Rattle.cyc_lower.proofs.slots.Widths.{kind_of_result, given, HasRoom, HasField, HasGlobal, words_in, HasLocal}
+use Rattle.cyc_types.specs.declared.typed.UnaryOperator.TheVariants as unary
+
+-- ---- expressions
+
+-- an instruction for each of so many words stands here, by its number in the globals and its slot
+abbrev pub EachAt : (code : List Instruction) → (each : (global slot : ℕ) → Instruction) → (words first slot p q : ℕ) → Type 0
+EachAt code each zero first slot p q = p ≡ q
+EachAt code each (suc words) first slot p q = At code p (each first slot) × EachAt code each words (suc first) (suc slot) (p + 1) q
+
+-- a value of so many words comes to a global
+abbrev pub GlobalAt : (code : List Instruction) → (words first : ℕ) → Operand → (p q : ℕ) → Type 0
+GlobalAt code words first (operands.Slot n) p q = EachAt code store_word words first n p q
+GlobalAt code words first (operands.Word n) p q = At code p (instructions.StoreGlobal first (operands.Word n)) × (p + 1 ≡ q)
+
+-- a value comes to a slot, where it is not there yet
+module _ (code : List Instruction) where
+  abbrev pub CopyBy : Bool → (words : ℕ) → Operand → (d p q : ℕ) → Type 0
+  CopyBy true words o d p q = p ≡ q
+  CopyBy false words o d p q = At code p (move_of words d o) × (p + 1 ≡ q)
+
+  abbrev pub CopyAt : (words : ℕ) → Operand → (d p q : ℕ) → Type 0
+  CopyAt words o d p q = CopyBy (is_in o d) words o d p q
+
+  -- an address comes to a slot: the word of an operand, and so many bytes more
+  abbrev pub AddressAt : Operand → (bytes d p q : ℕ) → Type 0
+  AddressAt o zero d p q = CopyAt 1 o d p q
+  AddressAt o (suc bytes) d p q = At code p (instructions.Binary plain_binary.Add d o (operands.Word (suc bytes))) × (p + 1 ≡ q)
+
+-- A cell of a kind comes to a slot and those behind it, whose address stands in an operand but for so many bytes. Where it has more words
+-- than one, the address comes to slot t.
+module _ (code : List Instruction) where
+  abbrev pub LoadedBy : (narrow : Bool) → Kind → Operand → (bytes d t p q : ℕ) → Type 0
+  LoadedBy true kind o bytes d t p q = At code p (load_of kind d o bytes) × (p + 1 ≡ q)
+  LoadedBy false kind o bytes d t p q =
+      (r : ℕ) × AddressAt code o bytes t p r × At code r (instructions.Load (d + 2) (operands.Slot t) 8) × At code (r + 1) (instructions.Load (d + 1) (operands.Slot t) 4)
+      × At code (r + 1 + 1) (instructions.Load d (operands.Slot t) 0) × (r + 1 + 1 + 1 ≡ q)
+
+  abbrev pub LoadedAt : Kind → Operand → (bytes d t p q : ℕ) → Type 0
+  LoadedAt kind o bytes d t p q = LoadedBy (words_of_kind kind == 1) kind o bytes d t p q
+
+  -- an address of a variable's first word becomes that of the variable
+  abbrev pub LastByteAt : Kind → (d p q : ℕ) → Type 0
+  LastByteAt kinds.Char d p q = At code p (instructions.Binary plain_binary.Add d (operands.Slot d) (operands.Word 3)) × (p + 1 ≡ q)
+  LastByteAt kind d p q = p ≡ q
+
+  -- what stands behind `else` is jumped over, where something does
+  abbrev pub OverAt : (p q : ℕ) → Type 0
+  OverAt p q = (p ≡ q) ⊎ At code p (instructions.Jump q)
+
+  -- a local of a kind is declared without a value
+  abbrev pub BlankAt : Kind → (slot p q : ℕ) → Type 0
+  BlankAt kinds.Char slot p q = At code p (instructions.Move slot (operands.Word 0)) × (p + 1 ≡ q)
+  BlankAt kind slot p q = p ≡ q
+
+-- In a code of a function with these bounds, whose locals have these types, from p to q stands the code of this, with temporaries from
+-- slot t on.
+module _ (code : List Instruction) (bounds : Numbering) (types : Types) where
+  -- one or the other
+  abbrev pub EitherBy : Bool → (there otherwise : Type 0) → Type 0
+  EitherBy true first second = first
+  EitherBy false first second = second
+
+  -- an operand without code, or code that brings the value to a slot
+  abbrev pub OperandBy : Option Operand → (computed : Type 0) → (slot : ℕ) → Operand → (p q : ℕ) → Type 0
+  OperandBy (Some known) computed slot o p q = (o ≡ known) × (p ≡ q)
+  OperandBy None computed slot o p q = (o ≡ operands.Slot slot) × computed
+
+  -- an int that becomes a char is an operand, of which the low byte comes to slot d; any other value comes there as it is
+  abbrev pub BroughtBy : (masking : Bool) → Option Operand → (computed : (r : ℕ) → Type 0) → (slot : ℕ) → (at_once : Type 0) → (d p q : ℕ) → Type 0
+  BroughtBy masking known computed slot at_once d p q =
+      EitherBy masking ((o : Operand) × (r : ℕ) × OperandBy known (computed r) slot o p r × At code r (low_byte o d) × (r + 1 ≡ q)) at_once
+
+  -- a left operand is in a slot where its right one is not simple
+  abbrev pub LeftBy : (simple : Bool) → (in_slot : Type 0) → Type 0
+  LeftBy true in_slot = Unit {0}
+  LeftBy false in_slot = in_slot
+
+  -- a value that is only wanted in slots stands in those of a local, or comes to some
+  abbrev pub ReturnedAt : Option Operand → (computed : Type 0) → (slot s : ℕ) → (p q : ℕ) → Type 0
+  ReturnedAt (Some (operands.Slot n)) computed slot s p q = (s ≡ n) × (p ≡ q)
+  ReturnedAt o computed slot s p q = (s ≡ slot) × computed
+
+  -- where a comparison holds, a jump leads to what raises an exception
+  abbrev pub GuardAt : (tag : ℕ) → Comparison → (l r : Operand) → (p q : ℕ) → Type 0
+  GuardAt tag failing l r p q = (s : ℕ) × At code p (instructions.Branch failing l r s) × At code s (raising tag) × (p + 1 ≡ q)
+
+  abbrev pub CheckAt : (tag : ℕ) → Operand → (p q : ℕ) → Type 0
+  CheckAt tag o p q = GuardAt tag comparisons.Equal o (operands.Word 0) p q
+
+  -- an index is compared with a length
+  abbrev pub BoundsAt : (index length : Operand) → (p q : ℕ) → Type 0
+  BoundsAt index length p q = GuardAt array_bounds comparisons.GreaterOrEqualUnsigned index length p q
+
+  abbrev pub SteppedAt : (span : Option ℕ) → (n m t p q : ℕ) → Type 0
+  SteppedAt None n m t p q = p ≡ q
+  SteppedAt (Some bytes) n m t p q =
+      At code p (scale_of bytes (t + 2) m)
+      × At code (p + 1) (instructions.Binary plain_binary.Add t (operands.Slot n) (operands.Slot (t + 2))) × (p + 1 + 1 ≡ q)
+
+  -- the cell of a pointer that is converted, where null leads to a place of which this is said
+  abbrev pub ReachedBy : (null : ℕ → Type 0) → (span : Option ℕ) → (n m t p q : ℕ) → Type 0
+  ReachedBy null span n m t p q =
+      (r : ℕ) × (s : ℕ) × ((x : ℕ) × At code p (instructions.Branch comparisons.Equal (operands.Slot n) (operands.Word 0) x) × null x × (p + 1 ≡ r))
+      × BoundsAt (operands.Slot m) (operands.Slot (n + 1)) r s × SteppedAt span n m t s q
+
+  -- an index is scaled, and so many bytes are added
+  abbrev pub ScaledAt : (span : Option ℕ) → (m x p q : ℕ) → Type 0
+  ScaledAt None m x p q = p ≡ q
+  ScaledAt (Some bytes) m x p q = At code p (scale_of bytes x m) × (p + 1 ≡ q)
+
+  abbrev pub SummedAt : (span : Option ℕ) → (n x t p q : ℕ) → Type 0
+  SummedAt None n x t p q = p ≡ q
+  SummedAt (Some bytes) n x t p q = At code p (instructions.Binary plain_binary.Add t (operands.Slot n) (operands.Slot x)) × (p + 1 ≡ q)
+
+  -- an index is compared with a length, and what raises an exception is jumped over: that of null where the pointer is null
+  abbrev pub InsideAt : (n m p q : ℕ) → Type 0
+  InsideAt n m p q =
+      At code p (instructions.Branch comparisons.LessUnsigned (operands.Slot m) (operands.Slot (n + 1)) q)
+      × ((x : ℕ) × At code (p + 1) (instructions.Branch comparisons.Equal (operands.Slot n) (operands.Word 0) x) × At code x (raising null_exception))
+      × ((x : ℕ) × At code (p + 2) (instructions.Jump x) × At code x (raising array_bounds)) × (p + 3 ≡ q)
+
+  -- an access by a fat pointer whose first words are in slot n and the next, and whose index is in slot m
+  abbrev pub ReachedAt : (span : Option ℕ) → (n m t p q : ℕ) → Type 0
+  ReachedAt span n m t p q = (s : ℕ) × (u : ℕ) × ScaledAt span m (t + 3) p s × InsideAt n m s u × SummedAt span n (t + 3) t u q
+
+  -- an access by a pointer in an operand
+  abbrev pub FollowedAt : (thin : Bool) → (span : Option ℕ) → Operand → (t p q : ℕ) → Type 0
+  FollowedAt true span o t p q = CheckAt null_exception o p q
+  FollowedAt false span (operands.Slot n) t p q = ReachedAt span n (n + 2) t p q
+  FollowedAt false span (operands.Word w) t p q = ⊥
+
+  abbrev pub TestedAt : (to : Kind) → Operand → (p q : ℕ) → Type 0
+  TestedAt kinds.NonNull o p q = CheckAt null_exception o p q
+  TestedAt to o p q = p ≡ q
+
+  -- a value that gets more words is in slot t
+  abbrev pub WidenedAt : Operand → (t p q : ℕ) → Type 0
+  WidenedAt (operands.Slot n) t p q =
+      (n ≡ t) × At code p (instructions.Binary plain_binary.NotEqual (n + 1) (operands.Slot n) (operands.Word 0))
+      × At code (p + 1) (instructions.Move (n + 2) (operands.Word 0)) × (p + 2 ≡ q)
+  WidenedAt (operands.Word w) t p q = ⊥
+
+  -- a fat pointer becomes a thin one
+  abbrev pub ThinnedAt : (to : Kind) → (span : Option ℕ) → Operand → (t p q : ℕ) → Type 0
+  ThinnedAt kinds.NonNull span (operands.Slot n) t p q = (n ≡ t) × ReachedBy (λ x. At code x (raising null_exception)) span n (n + 2) n p q
+  ThinnedAt kinds.Nullable span (operands.Slot n) t p q = (n ≡ t) × ReachedBy (λ x. x ≡ q) span n (n + 2) n p q
+  ThinnedAt to span o t p q = ⊥
+
+  abbrev pub ConversionBy : (same : Bool) → (to : Kind) → (span : Option ℕ) → Operand → (t p q : ℕ) → Type 0
+  ConversionBy true to span o t p q = TestedAt to o p q
+  ConversionBy false kinds.Fat span o t p q = WidenedAt o t p q
+  ConversionBy false kinds.Char span o t p q = (o ≡ operands.Slot t) × (p ≡ q)
+  ConversionBy false to span o t p q = ThinnedAt to span o t p q
+
+  -- a value is converted where it is, which is slot t where its words change, as those of a char have by then
+  abbrev pub ConversionAt : (from to : Kind) → (span : Option ℕ) → Operand → (t p q : ℕ) → Type 0
+  ConversionAt from to span o t p q = ConversionBy (keeps_words from to) to span o t p q
+
+  abbrev pub DivisorAt : Operand → (p q : ℕ) → Type 0
+  DivisorAt (operands.Word (suc n)) p q = p ≡ q
+  DivisorAt o p q = CheckAt division_by_zero o p q
+
+  abbrev pub CheckedAt : Operator → (d : ℕ) → (l r : Operand) → (p q : ℕ) → Type 0
+  CheckedAt o d l r p q = (m : ℕ) × DivisorAt r p m × At code m (instructions.Binary (binary_operator o) d l r) × (m + 1 ≡ q)
+
+  abbrev pub OperatorAt : Operator → (d : ℕ) → (l r : Operand) → (p q : ℕ) → Type 0
+  OperatorAt operators.Divide d l r p q = CheckedAt operators.Divide d l r p q
+  OperatorAt operators.Remainder d l r p q = CheckedAt operators.Remainder d l r p q
+  OperatorAt o d l r p q = At code p (instructions.Binary (binary_operator o) d l r) × (p + 1 ≡ q)
+
+  -- the index of a fat pointer in slot t changes, and its first two words come before it
+  abbrev pub FirstTwoAt : Bool → (t d p q : ℕ) → Type 0
+  FirstTwoAt true t d p q = p ≡ q
+  FirstTwoAt false t d p q = At code p (instructions.MoveWords d t 2) × (p + 1 ≡ q)
+
+  abbrev pub IndexAt : PointerOperator → (r : Operand) → (t d p q : ℕ) → Type 0
+  IndexAt o r t d p q = At code p (instructions.Binary (pointer_operator o) (d + 2) (operands.Slot (t + 2)) r) × FirstTwoAt (t == d) t d (p + 1) q
+
+  -- an operator on pointers whose left operand is in slot t
+  abbrev pub PointerAt : PointerOperator → (r : Operand) → (t d p q : ℕ) → Type 0
+  PointerAt pointers.AddFat r t d p q = IndexAt pointers.AddFat r t d p q
+  PointerAt pointers.SubtractFat r t d p q = IndexAt pointers.SubtractFat r t d p q
+  PointerAt o r t d p q = At code p (instructions.Binary (pointer_operator o) d (operands.Slot t) r) × (p + 1 ≡ q)
+
+  -- the number of elements of a fat pointer comes to slot d
+  abbrev pub CountAt : Operand → (d p q : ℕ) → Type 0
+  CountAt (operands.Slot n) d p q =
+      At code p (jump_if_zero (operands.Slot n) (p + 4))
+      × At code (p + 1) (instructions.Branch comparisons.LessUnsigned (operands.Slot (n + 1)) (operands.Slot (n + 2)) (p + 4))
+      × At code (p + 2) (instructions.Binary plain_binary.Subtract d (operands.Slot (n + 1)) (operands.Slot (n + 2)))
+      × At code (p + 3) (instructions.Jump q) × At code (p + 4) (instructions.Move d (operands.Word 0)) × (p + 5 ≡ q)
+  CountAt (operands.Word n) d p q = At code p (instructions.Move d (operands.Word 0)) × (p + 1 ≡ q)
+
+  abbrev pub TruthAt : (t d p q : ℕ) → Type 0
+  TruthAt t d p q =
+      At code p (instructions.Unary plain_unary.Not t (operands.Slot t)) × At code (p + 1) (instructions.Unary plain_unary.Not d (operands.Slot t))
+      × (p + 1 + 1 ≡ q)
+
+  abbrev pub LoadAt : (words : ℕ) → Lvalue → (d p q : ℕ) → Type 0
+  LoadAt words (Local w n) d p q = At code p (move_of words d (operands.Slot (slot_of (starts_of types) n))) × (p + 1 ≡ q)
+  LoadAt words (Global n) d p q = (n < length types.globals) × EachAt code load_word words (global_of (starts_of types) n) d p q
+
+  -- so many words of a value of a kind, which stand in slots, come to memory behind an address
+  abbrev pub StoresAt : Kind → (many address offset slot p q : ℕ) → Type 0
+  StoresAt kind zero address offset slot p q = p ≡ q
+  StoresAt kind (suc many) address offset slot p q =
+      At code p (store_of kind (operands.Slot address) offset (operands.Slot slot)) × StoresAt kind many address (offset + 4) (suc slot) (p + 1) q
+
+  -- the number of words of as many elements as slot t counts comes there
+  abbrev pub SizedAt : Kind → (t p q : ℕ) → Type 0
+  SizedAt kinds.Char t p q =
+      At code p (instructions.Binary plain_binary.Add t (operands.Slot t) (operands.Word 3))
+      × At code (p + 1) (instructions.Binary plain_binary.ShiftRight t (operands.Slot t) (operands.Word 2)) × (p + 1 + 1 ≡ q)
+  SizedAt kind t p q = At code p (instructions.Binary plain_binary.Multiply t (operands.Slot t) (operands.Word (words_of_kind kind))) × (p + 1 ≡ q)
+
+  -- a new array, whose length is in slot t, begins
+  abbrev pub BegunAt : (handle : Operand) → Kind → (t p q : ℕ) → Type 0
+  BegunAt handle kind t p q =
+      (m : ℕ) × (r : ℕ) × GuardAt array_size comparisons.GreaterOrEqualUnsigned (operands.Slot t) (operands.Word (most_elements (bytes_of_kind kind) + 1)) p m
+      × At code m (instructions.Move (t + 1) (operands.Slot t)) × At code (m + 1) (instructions.Move (t + 2) (operands.Word 0))
+      × SizedAt kind t (m + 1 + 1) r
+      × At code r (instructions.Unary plain_unary.Not (t + 3) (operands.Slot t))
+      × At code (r + 1) (instructions.Binary plain_binary.Add (t + 3) (operands.Slot (t + 3)) (operands.Slot t))
+      × At code (r + 1 + 1) (instructions.Ask (requests.Allocate t handle (operands.Slot (t + 3)))) × (r + 3 ≡ q)
+
+  -- an element is written, and the next one is evaluated
+  abbrev pub FilledAt : Kind → (t head p q : ℕ) → Type 0
+  FilledAt kind t head p q =
+      (m : ℕ) × At code p (scale_of (bytes_of_kind kind) (t + 3 + words_of_kind kind) (t + 2))
+      × At code (p + 1) (instructions.Binary plain_binary.Add (t + 3 + words_of_kind kind) (operands.Slot t) (operands.Slot (t + 3 + words_of_kind kind)))
+      × StoresAt kind (words_of_kind kind) (t + 3 + words_of_kind kind) 0 (t + 3) (p + 1 + 1) m
+      × At code m (instructions.Binary plain_binary.Add (t + 2) (operands.Slot (t + 2)) (operands.Word 1))
+      × At code (m + 1) (instructions.Jump head) × (m + 2 ≡ q)
+
+  -- the elements of an array: from the head h on, to r, where one is evaluated, and to s, where all are written
+  abbrev pub ElementsBy : (evaluated : Type 0) → Kind → (t d h r s q : ℕ) → Type 0
+  ElementsBy evaluated kind t d h r s q =
+      At code h (instructions.Branch comparisons.Equal (operands.Slot (t + 2)) (operands.Slot (t + 1)) s) × (h < s) × evaluated × FilledAt kind t h r s
+      × At code s (instructions.Move (t + 2) (operands.Word 0)) × CopyAt code 3 (operands.Slot t) d (s + 1) q
+
+  -- the words of a value that is stored by an address stand behind that, or in a local, if they are several
+  abbrev pub StandsApart : (words address n : ℕ) → Type 0
+  StandsApart words address n =
+      (words ≡ 1) ⊎ ((address < n) ⊎ ((number : ℕ) × (number < length types.locals) × (slot_of (starts_of types) number ≡ n) × (words ≤ words_in types.locals number)))
+
+  -- a value of a kind comes to the cell whose address is in a slot
+  abbrev pub SavedAt : Kind → (address : ℕ) → Operand → (p q : ℕ) → Type 0
+  SavedAt kind address (operands.Slot n) p q = StoresAt kind (words_of_kind kind) address 0 n p q × StandsApart (words_of_kind kind) address n
+  SavedAt kind address (operands.Word n) p q = At code p (store_of kind (operands.Slot address) 0 (operands.Word n)) × (p + 1 ≡ q)
+
+  -- values of these kinds, which stand in slots from one on, come to cells of the object whose address is in a slot, behind so many bytes
+  abbrev pub CellsAt : List Kind → (address at slot p q : ℕ) → Type 0
+  CellsAt [] address at slot p q = p ≡ q
+  CellsAt (kind ∷ ks) address at slot p q =
+      (r : ℕ) × StoresAt kind (words_of_kind kind) address (begins kind at) slot p r × CellsAt ks address (behind kind at) (slot + words_of_kind kind) r q
+
+  -- An object with cells of these kinds is made, of the values that stand in the slots from t on. Its address comes to slot d.
+  abbrev pub ObjectAt : (handle : Operand) → List Kind → (t d p q : ℕ) → Type 0
+  ObjectAt handle ks t d p q =
+      (m : ℕ) × (0 < length ks) × (slots_of_kinds ks ≤ MOST_BLOCK_WORDS)
+      × At code p (instructions.Ask (requests.Allocate (t + slots_of_kinds ks) handle (operands.Word (max 1 (words_for (bytes_from 0 ks))))))
+      × CellsAt ks (t + slots_of_kinds ks) 0 t (p + 1) m × At code m (instructions.Move d (operands.Slot (t + slots_of_kinds ks))) × (m + 1 ≡ q)
+
+  -- the block at the address in an operand is freed, where that is not 0
+  abbrev pub FreedAt : Operand → (p q : ℕ) → Type 0
+  FreedAt o p q = At code p (jump_if_zero o q) × At code (p + 1) (instructions.Ask (requests.Free o)) × (p + 1 + 1 ≡ q)
+
+module _ (code : List Instruction) (bounds : Numbering) where
+  abbrev mutual
+    -- the value comes to slot d by the last instruction
+    pub ExpressionAt : (types : Types) → Expression → (d t p q : ℕ) → Type 0
+    ExpressionAt types (Number n) d t p q = At code p (instructions.Move d (operands.Word n)) × (p + 1 ≡ q)
+    ExpressionAt types NullPointer d t p q = At code p (instructions.Move d (operands.Word 0)) × (p + 1 ≡ q)
+    ExpressionAt types HeapRegion d t p q = At code p (instructions.Move d (operands.Word HEAP)) × (p + 1 ≡ q)
+    ExpressionAt types (Counter l) d t p q =
+        (slot : ℕ) × (slice_get types.counters l ≡ Some slot) × At code p (instructions.Move d (operands.Slot slot)) × (p + 1 ≡ q)
+    ExpressionAt types (Copy l ty) d t p q = LoadAt code bounds types (words_of ty) l d p q
+    ExpressionAt types (Move w n ty) d t p q = LoadAt code bounds types (words_of ty) (Local w n) d p q
+    ExpressionAt types (Peek w n ty) d t p q = LoadAt code bounds types (words_of ty) (Local w n) d p q
+    ExpressionAt types (Call callees.Putchar cs ty) d t p q =
+        (o : Operand) × (m : ℕ) × PrintedAt types cs t o p m × At code m (instructions.WriteByte o) × At code (m + 1) (low_byte o d) × (m + 1 + 1 ≡ q)
+    ExpressionAt types (Call callees.Getchar cs ty) d t p q = (m : ℕ) × ArgumentsAt types cs t p m × At code m (instructions.ReadByte d) × (m + 1 ≡ q)
+    ExpressionAt types (Call (callees.Function n) cs ty) d t p q =
+        (m : ℕ) × ArgumentsAt types cs t p m × At code m (instructions.Call n t (all_passed cs) d) × (m + 1 ≡ q)
+    ExpressionAt types (NumberOfElements a) d t p q =
+        (r : Operand) × (m : ℕ) × OperandBy code bounds types (operand_of (starts_of types) a) (ExpressionAt types a (value_slot (starts_of types) a t) t p m) (value_slot (starts_of types) a t) r p m
+        × CountAt code bounds types r d m q
+    -- a char that serves as an int is its word
+    ExpressionAt types (Unary unary.Widen a) d t p q = (words_of_kind (given bounds.functions a) ≡ 1) × ExpressionAt types a d t p q
+    ExpressionAt types (Unary o a) d t p q =
+        (r : Operand) × (m : ℕ) × OperandBy code bounds types (operand_of (starts_of types) a) (ExpressionAt types a (value_slot (starts_of types) a t) t p m) (value_slot (starts_of types) a t) r p m
+        × At code m (unary_instruction o d r) × (m + 1 ≡ q)
+    ExpressionAt types (Binary a os ty) d t p q =
+        (l : Operand) × (m : ℕ) × OperandBy code bounds types (left_of (starts_of types) a os) (ExpressionAt types a (left_slot (starts_of types) a os d t) t p m) (left_slot (starts_of types) a os d t) l p m
+        × OperationsAt types os l d t m q
+    ExpressionAt types (Assign (Local w n) c ty) d t p q =
+        (o : Operand) × (m : ℕ) × ((o ≡ operands.Slot (slot_of (starts_of types) n)) × HasRoom types n (kind_passed c) × InitialAt types c (slot_of (starts_of types) n) t p m)
+        × CopyAt code (passed_words c) o d m q
+    ExpressionAt types (Assign (Global n) c ty) d t p q =
+        (o : Operand) × (m : ℕ)
+        × ((r : ℕ) × ConvertedOperandAt types c t o p r × HasGlobal types n (kind_passed c) × GlobalAt code (passed_words c) (global_of (starts_of types) n) o r m)
+        × CopyAt code (passed_words c) o d m q
+    ExpressionAt types (Load x) d t p q =
+        (o : Operand) × (c : ℕ) × (r : ℕ) × PlaceAt types x o c t p r × LoadedAt code (kind_of (type_of_place x)) o c d t r q
+    ExpressionAt types (FreeUnique a) d t p q =
+        (o : Operand) × (m : ℕ) × OperandBy code bounds types (operand_of (starts_of types) a) (ExpressionAt types a (value_slot (starts_of types) a t) t p m) (value_slot (starts_of types) a t) o p m × FreedAt code bounds types o m q
+    ExpressionAt types (FreeKey a) d t p q =
+        (o : Operand) × (m : ℕ) × OperandBy code bounds types (operand_of (starts_of types) a) (ExpressionAt types a (value_slot (starts_of types) a t) t p m) (value_slot (starts_of types) a t) o p m
+        × At code m (instructions.Ask (requests.CloseDynamic o)) × (m + 1 ≡ q)
+    ExpressionAt types (New OnHeap i ty) d t p q = MadeAt types i (operands.Word HEAP) d t p q
+    ExpressionAt types (New AsUnique i ty) d t p q = MadeAt types i (operands.Word UNIQUE) d t p q
+    -- the handle stays in slot t
+    ExpressionAt types (New (ByHandle a) i ty) d t p q = (m : ℕ) × ExpressionAt types a t t p m × MadeAt types i (operands.Slot t) d (suc t) m q
+    ExpressionAt types (AddressOf (Local w n) ty) d t p q =
+        (v : Ty) × (slice_get types.locals n ≡ Some v) × At code p (instructions.AddressOf d (slot_of (starts_of types) n) (words_of v)) × LastByteAt code (kind_of v) d (p + 1) q
+    ExpressionAt types (AddressOf (Global n) ty) d t p q =
+        (v : Ty) × (slice_get types.globals n ≡ Some v) × At code p (instructions.Move d (operands.Word (address_of_global (kind_of v) (global_of (starts_of types) n)))) × (p + 1 ≡ q)
+    ExpressionAt types (AddressOfCell x ty) d t p q = (o : Operand) × (c : ℕ) × (r : ℕ) × PlaceAt types x o c t p r × AddressAt code o c d r q
+    ExpressionAt types (Store x v ty) d t p q =
+        (o : Operand) × (m : ℕ)
+        × ((a : Operand) × (c : ℕ) × (r : ℕ) × (s : ℕ) × (u : ℕ) × PlaceAt types x a c t p r × AddressAt code a c t r s × ConvertedOperandAt types v (t + 1) o s u
+        × SavedAt code bounds types (kind_passed v) t o u m)
+        × CopyAt code (passed_words v) o d m q
+
+    -- a new object in the region of this handle
+    pub MadeAt : (types : Types) → Initial → (handle : Operand) → (d t p q : ℕ) → Type 0
+    MadeAt types (Plain kind a) handle d t p q =
+        (m : ℕ) × ExpressionAt types a t t p m × (given bounds.functions a ≡ kind) × ObjectAt code bounds types handle (kind ∷ []) t d m q
+    MadeAt types (Fields cs) handle d t p q = (m : ℕ) × ArgumentsAt types cs t p m × ObjectAt code bounds types handle (kinds_passed cs) t d m q
+    MadeAt types (Array w level n kind a) handle d t p q =
+        (m : ℕ) × (h : ℕ) × (r : ℕ) × (s : ℕ) × ExpressionAt types n t t p m × BegunAt code bounds types handle kind t m h
+        × (level ≡ length types.counters)
+        × ElementsBy code bounds types (ExpressionAt (counted types (t + 2)) a (t + 3) (t + 3) (h + 1) r) kind t d h r s q
+
+    -- The address of a place comes to an operand, but for so many bytes that are to be added to it.
+    pub PlaceAt : (types : Types) → Dereference → Operand → (c t p q : ℕ) → Type 0
+    PlaceAt types (Target k a ty) o c t p q =
+        (x : Operand) × (m : ℕ) × OperandBy code bounds types (operand_of (starts_of types) a) (ExpressionAt types a (value_slot (starts_of types) a t) t p m) (value_slot (starts_of types) a t) x p m
+        × FollowedAt code bounds types (is_thin k) (span_in ty) x t m q × (o ≡ followed_operand (is_thin k) (span_in ty) x t) × (c ≡ 0)
+    PlaceAt types (Member k a s f ty) o c t p q =
+        (m : ℕ) × OperandBy code bounds types (operand_of (starts_of types) a) (ExpressionAt types a (value_slot (starts_of types) a t) t p m) (value_slot (starts_of types) a t) o p m
+        × (is_thin k ≡ true) × CheckAt code bounds types null_exception o m q × HasField types s f × (c ≡ field_of (starts_of types) s f)
+    PlaceAt types (Element a i ty) o c t p q =
+        (n : ℕ) × (x : Operand) × (m : ℕ) × (r : ℕ) × ReturnedAt code bounds types (pointer_of (starts_of types) a i) (ExpressionAt types a t t p m) t n p m
+        × OperandBy code bounds types (operand_of (starts_of types) i) (ExpressionAt types i (value_slot (starts_of types) i (t + 3)) (t + 3) m r) (value_slot (starts_of types) i (t + 3)) x m r
+        × At code r (instructions.Binary plain_binary.Add (t + 2) (operands.Slot (n + 2)) x) × ReachedAt code bounds types (span_in ty) n (t + 2) t (r + 1) q
+        × (o ≡ reached_operand (span_in ty) n t) × (c ≡ 0)
+
+    -- the value comes to slot d, converted
+    pub InitialAt : (types : Types) → Converted → (d t p q : ℕ) → Type 0
+    InitialAt types (Convert from to a) d t p q =
+        EitherBy code bounds types (converts_there from to) ((words_of_kind (given bounds.functions a) ≡ words_of_kind to) × BroughtBy code bounds types (masks from to) (operand_of (starts_of types) a) (λ r. ExpressionAt types a (value_slot (starts_of types) a t) t p r) (value_slot (starts_of types) a t) (ExpressionAt types a d t p q) d p q)
+        ((o : Operand) × (m : ℕ) × (r : ℕ)
+        × OperandBy code bounds types (source_of (starts_of types) (Convert from to a)) (BroughtBy code bounds types (masks from to) (operand_of (starts_of types) a) (λ r. ExpressionAt types a (value_slot (starts_of types) a t) t p r) (value_slot (starts_of types) a t) (ExpressionAt types a (source_slot (starts_of types) (Convert from to a) t) t p m) (source_slot (starts_of types) (Convert from to a) t) p m) (source_slot (starts_of types) (Convert from to a) t) o p m
+        × ConversionAt code bounds types from to (span_of a) o t m r × At code r (move_of (words_of_kind to) d o) × (r + 1 ≡ q))
+
+    -- the value comes to slot t and is converted there
+    pub ConvertedAt : (types : Types) → Converted → (t p q : ℕ) → Type 0
+    ConvertedAt types (Convert from to a) t p q = (m : ℕ) × BroughtBy code bounds types (masks from to) (operand_of (starts_of types) a) (λ r. ExpressionAt types a (value_slot (starts_of types) a t) t p r) (value_slot (starts_of types) a t) (ExpressionAt types a t t p m) t p m × ConversionAt code bounds types from to (span_of a) (operands.Slot t) t m q
+
+    -- the value is converted where it is
+    pub ConvertedOperandAt : (types : Types) → Converted → (t : ℕ) → Operand → (p q : ℕ) → Type 0
+    ConvertedOperandAt types (Convert from to a) t o p q =
+        (m : ℕ) × OperandBy code bounds types (source_of (starts_of types) (Convert from to a)) (BroughtBy code bounds types (masks from to) (operand_of (starts_of types) a) (λ r. ExpressionAt types a (value_slot (starts_of types) a t) t p r) (value_slot (starts_of types) a t) (ExpressionAt types a (source_slot (starts_of types) (Convert from to a) t) t p m) (source_slot (starts_of types) (Convert from to a) t) p m) (source_slot (starts_of types) (Convert from to a) t) o p m
+        × ConversionAt code bounds types from to (span_of a) o t m q
+
+    -- the only argument of `putchar`
+    pub PrintedAt : (types : Types) → Arguments → (t : ℕ) → Operand → (p q : ℕ) → Type 0
+    PrintedAt types (MoreArguments c NoArguments) t o p q = ConvertedOperandAt types c t o p q
+    PrintedAt types cs t o p q = ⊥
+
+    pub ArgumentsAt : (types : Types) → Arguments → (t p q : ℕ) → Type 0
+    ArgumentsAt types NoArguments t p q = p ≡ q
+    ArgumentsAt types (MoreArguments c cs) t p q = (m : ℕ) × ConvertedAt types c t p m × ArgumentsAt types cs (t + passed_words c) m q
+
+    -- The left operand is l. It is slot t where it may not be any operand.
+    pub OperationsAt : (types : Types) → Operations → (l : Operand) → (d t p q : ℕ) → Type 0
+    OperationsAt types NoOperations l d t p q = (l ≡ operands.Slot d) × (p ≡ q)
+    OperationsAt types (ThenCompute o a os) l d t p q =
+        (r : Operand) × (m : ℕ) × (s : ℕ)
+        × OperandBy code bounds types (operand_of (starts_of types) a) (LeftBy code bounds types (is_simple (starts_of types) a) (l ≡ operands.Slot t) × ExpressionAt types a (value_slot (starts_of types) a (suc t)) (suc t) p m) (value_slot (starts_of types) a (suc t)) r p m
+        × OperatorAt code bounds types o (next_slot os d t) l r m s × OperationsAt types os (operands.Slot (next_slot os d t)) d t s q
+    OperationsAt types (ThenTest o a os) l d t p q =
+        (m : ℕ) × (r : ℕ) × (l ≡ operands.Slot t) × At code p (test_jump o t m) × ExpressionAt types a t t (p + 1) m × TruthAt code bounds types t (next_slot os d t) m r
+        × OperationsAt types os (operands.Slot (next_slot os d t)) d t r q
+    OperationsAt types (ThenPointer o a os) l d t p q =
+        (r : Operand) × (m : ℕ) × (s : ℕ) × (l ≡ operands.Slot t)
+        × OperandBy code bounds types (operand_of (starts_of types) a) (ExpressionAt types a (value_slot (starts_of types) a (behind_left o t)) (behind_left o t) p m) (value_slot (starts_of types) a (behind_left o t)) r p m
+        × PointerAt code bounds types o r t (next_slot os d t) m s × OperationsAt types os (operands.Slot (next_slot os d t)) d t s q
+    OperationsAt types (ThenPointerPeek n o a os) l d t p q =
+        (r : Operand) × (m : ℕ) × (s : ℕ) × (l ≡ operands.Slot t)
+        × OperandBy code bounds types (operand_of (starts_of types) a) (ExpressionAt types a (value_slot (starts_of types) a (behind_left o t)) (behind_left o t) p m) (value_slot (starts_of types) a (behind_left o t)) r p m
+        × PointerAt code bounds types o r t (next_slot os d t) m s × OperationsAt types os (operands.Slot (next_slot os d t)) d t s q
+
+module _ (code : List Instruction) (bounds : Numbering) (types : Types) where
+  -- the elements of an array, which are this expression
+  abbrev pub ElementsAt : Expression → Kind → (t d h r s q : ℕ) → Type 0
+  ElementsAt a kind t d h r s q = ElementsBy code bounds types (ExpressionAt code bounds (counted types (t + 2)) a (t + 3) (t + 3) (h + 1) r) kind t d h r s q
+
+  -- a value comes to slot d before it is converted, and of an int that becomes a char only its low byte
+  abbrev pub BroughtAt : Converted → (d t p q : ℕ) → Type 0
+  BroughtAt (Convert from to a) d t p q =
+      BroughtBy code bounds types (masks from to) (operand_of (starts_of types) a) (λ r. ExpressionAt code bounds types a (value_slot (starts_of types) a t) t p r) (value_slot (starts_of types) a t) (ExpressionAt code bounds types a d t p q) d p q
+
+  -- a value that comes to slot d, where it is told whether it does so before it is converted
+  abbrev pub InitialBy : Bool → (from to : Kind) → Expression → (d t p q : ℕ) → Type 0
+  InitialBy there from to a d t p q =
+      EitherBy code bounds types there ((words_of_kind (given bounds.functions a) ≡ words_of_kind to) × BroughtAt (Convert from to a) d t p q)
+      ((o : Operand) × (m : ℕ) × (r : ℕ)
+      × OperandBy code bounds types (source_of (starts_of types) (Convert from to a)) (BroughtAt (Convert from to a) (source_slot (starts_of types) (Convert from to a) t) t p m) (source_slot (starts_of types) (Convert from to a) t) o p m
+      × ConversionAt code bounds types from to (span_of a) o t m r × At code r (move_of (words_of_kind to) d o) × (r + 1 ≡ q))
+
+  -- where the value of an expression stands that is an operand
+  abbrev pub ValueAt : Expression → (t : ℕ) → Operand → (p q : ℕ) → Type 0
+  ValueAt a t o p q = OperandBy code bounds types (operand_of (starts_of types) a) (ExpressionAt code bounds types a (value_slot (starts_of types) a t) t p q) (value_slot (starts_of types) a t) o p q
+
+  -- the second of two operands that are compared, where the first one is l
+  abbrev pub SecondAt : Expression → (l r : Operand) → (t p q : ℕ) → Type 0
+  SecondAt a l r t p q =
+      OperandBy code bounds types (operand_of (starts_of types) a) (LeftBy code bounds types (is_simple (starts_of types) a) (l ≡ operands.Slot t) × ExpressionAt code bounds types a (value_slot (starts_of types) a (suc t)) (suc t) p q) (value_slot (starts_of types) a (suc t)) r p q
+
+  abbrev pub PairAt : (a b : Expression) → (l r : Operand) → (t p q : ℕ) → Type 0
+  PairAt a b l r t p q =
+      (m : ℕ) × OperandBy code bounds types (left_with (is_simple (starts_of types) b) (operand_of (starts_of types) a)) (ExpressionAt code bounds types a (slot_with (starts_of types) (is_simple (starts_of types) b) a t) t p m) (slot_with (starts_of types) (is_simple (starts_of types) b) a t) l p m
+      × SecondAt b l r t m q
+
+  abbrev pub ConditionAt : Expression → (l r : Operand) → (t p q : ℕ) → Type 0
+  ConditionAt a l r t p q = PairAt (compared_of a).left (compared_of a).right l r t p q
+
+  -- A jump by the comparison of two operands leads to f where a condition fails, and to h where it holds.
+  abbrev pub ForkAt : Comparison → (l r : Operand) → (p f h : ℕ) → Type 0
+  ForkAt failing l r p f h =
+      (At code p (instructions.Branch failing l r f) × (p + 1 ≡ h)) ⊎ (At code p (instructions.Branch (opposite failing) l r h) × (p + 1 ≡ f))
+
+  -- and there stands what is done in either case
+  abbrev pub Forks : Comparison → (l r : Operand) → (p : ℕ) → (goes : (fails : Bool) → (p : ℕ) → Type 0) → Type 0
+  Forks failing l r p goes = (f : ℕ) × (h : ℕ) × ForkAt failing l r p f h × goes true f × goes false h
+
+  -- a condition that compares two operands
+  abbrev pub ComparedAt : Expression → (f h t p : ℕ) → Type 0
+  ComparedAt a f h t p = (l : Operand) × (r : Operand) × (m : ℕ) × ConditionAt a l r t p m × ForkAt (compared_of a).failing l r m f h
+
+  -- the places to which a condition leads
+  abbrev pub Ends : (f h : ℕ) → (fails : Bool) → (p : ℕ) → Type 0
+  Ends f h true p = p ≡ f
+  Ends f h false p = p ≡ h
+
+  -- A condition whose code leads to f where it fails, and to h where it holds. It is compared whole, or its operands are conditions in turn.
+  abbrev mutual
+    pub BranchesAt : Expression → (f h t p : ℕ) → Type 0
+    BranchesAt (Unary unary.Not a) f h t p = ComparedAt (Unary unary.Not a) f h t p ⊎ BranchesAt a h f t p
+    BranchesAt (Binary a (ThenTest u b os) ty) f h t p =
+        ComparedAt (Binary a (ThenTest u b os) ty) f h t p
+        ⊎ ((x : ℕ) × (y : ℕ) × BranchesAt a x y t p × TestsAt (ThenTest u b os) true t x (Ends f h) × TestsAt (ThenTest u b os) false t y (Ends f h))
+    BranchesAt a f h t p = ComparedAt a f h t p
+
+    -- what stands where the left operand of tests is known to fail, or to hold: it decides, or the right one is tried
+    pub TestsAt : Operations → (fails : Bool) → (t p : ℕ) → (goes : (fails : Bool) → (p : ℕ) → Type 0) → Type 0
+    TestsAt NoOperations fails t p goes = goes fails p
+    TestsAt (ThenTest logical.AndThen b os) true t p goes = TestsAt os true t p goes
+    TestsAt (ThenTest logical.OrElse b os) false t p goes = TestsAt os false t p goes
+    TestsAt (ThenTest logical.AndThen b os) false t p goes =
+        (f : ℕ) × (h : ℕ) × BranchesAt b f h t p × TestsAt os true t f goes × TestsAt os false t h goes
+    TestsAt (ThenTest logical.OrElse b os) true t p goes =
+        (f : ℕ) × (h : ℕ) × BranchesAt b f h t p × TestsAt os true t f goes × TestsAt os false t h goes
+    TestsAt os fails t p goes = ⊥
+
+  -- What leads into a loop with these ways out: its condition, and a jump over the next instruction where it holds, or a jump to the condition
+  -- behind its body.
+  abbrev pub EntryAt : Expression → Exits → (t test : ℕ) → Type 0
+  EntryAt a exits t test =
+      BranchesAt a exits.leaving (body_target exits.leaving) t (continue_target exits)
+      ⊎ (At code (continue_target exits) (instructions.Jump test) × (continue_target exits < test))
+
+  -- the only operator of a condition, which compares, with its right operand
+  abbrev pub ComparesAt : Operations → Comparison → (l r : Operand) → (t p q : ℕ) → Type 0
+  ComparesAt (ThenCompute o b NoOperations) failing l r t p q = (failing_comparison o ≡ Some failing) × SecondAt b l r t p q
+  ComparesAt (ThenPointer o b NoOperations) failing l r t p q = (null_compared o b ≡ Some failing) × (r ≡ operands.Word 0) × (p ≡ q)
+  ComparesAt (ThenPointerPeek n o b NoOperations) failing l r t p q = (null_compared o b ≡ Some failing) × (r ≡ operands.Word 0) × (p ≡ q)
+  ComparesAt os failing l r t p q = ⊥
+
+  -- what is assigned comes to its place, and then stands in an operand too
+  abbrev pub AssignmentAt : Lvalue → Converted → Operand → (t p q : ℕ) → Type 0
+  AssignmentAt (Local w n) c o t p q = (o ≡ operands.Slot (slot_of (starts_of types) n)) × HasRoom types n (kind_passed c) × InitialAt code bounds types c (slot_of (starts_of types) n) t p q
+  AssignmentAt (Global n) c o t p q =
+      (r : ℕ) × ConvertedOperandAt code bounds types c t o p r × HasGlobal types n (kind_passed c) × GlobalAt code (passed_words c) (global_of (starts_of types) n) o r q
+
+  -- a value is stored in a cell, whose address waits in slot t, and then stands in an operand
+  abbrev pub StoredAt : Dereference → Converted → (t : ℕ) → Operand → (p q : ℕ) → Type 0
+  StoredAt x v t o p q =
+      (a : Operand) × (c : ℕ) × (r : ℕ) × (s : ℕ) × (u : ℕ) × PlaceAt code bounds types x a c t p r × AddressAt code a c t r s × ConvertedOperandAt code bounds types v (t + 1) o s u
+      × SavedAt code bounds types (kind_passed v) t o u q
+
+  -- ---- swaps
+
+  -- a side of a swap has room for a value of a kind
+  abbrev pub HasSide : Side → Kind → Type 0
+  HasSide (VariableSide (Local w n) ty) kind = HasRoom types n kind
+  HasSide (VariableSide (Global n) ty) kind = HasGlobal types n kind
+  HasSide (CellSide x) kind = Unit {0}
+
+  -- the address of a side that is a cell comes to slot t
+  abbrev pub SideAt : Side → (t p q : ℕ) → Type 0
+  SideAt (VariableSide l ty) t p q = p ≡ q
+  SideAt (CellSide x) t p q = (o : Operand) × (c : ℕ) × (m : ℕ) × PlaceAt code bounds types x o c t p m × AddressAt code o c t m q
+
+  -- the words of a kind that a side holds come to slots from d on
+  abbrev pub ReadAt : Side → Kind → (s d p q : ℕ) → Type 0
+  ReadAt (VariableSide l ty) kind s d p q = LoadAt code bounds types (words_of_kind kind) l d p q
+  ReadAt (CellSide x) kind s d p q = EachAt code (load_at kind s) (words_of_kind kind) 0 d p q
+
+  -- the words in slots from v on come to a side
+  abbrev pub WriteAt : Side → Kind → (s v p q : ℕ) → Type 0
+  WriteAt (VariableSide (Local w n) ty) kind s v p q = At code p (move_of (words_of_kind kind) (slot_of (starts_of types) n) (operands.Slot v)) × (p + 1 ≡ q)
+  WriteAt (VariableSide (Global n) ty) kind s v p q = GlobalAt code (words_of_kind kind) (global_of (starts_of types) n) (operands.Slot v) p q
+  WriteAt (CellSide x) kind s v p q = StoresAt code bounds types kind (words_of_kind kind) s 0 v p q
+
+  -- both sides are read, the left one first, and then written
+  abbrev pub ExchangeAt : Kind → (left right : Side) → (t p q : ℕ) → Type 0
+  ExchangeAt kind a b t p q =
+      (m : ℕ) × (r : ℕ) × (s : ℕ) × ReadAt a kind t (t + 2) p m × ReadAt b kind (right_slot a t) (t + 2 + words_of_kind kind) m r
+      × WriteAt a kind t (t + 2 + words_of_kind kind) r s × WriteAt b kind (right_slot a t) (t + 2) s q
+
+  abbrev pub SwapAt : (left right : Side) → (t p q : ℕ) → Type 0
+  SwapAt a b t p q =
+      (m : ℕ) × (r : ℕ) × HasSide a (kind_of (type_of_side a)) × HasSide b (kind_of (type_of_side a))
+      × SideAt a t p m × SideAt b (right_slot a t) m r × ExchangeAt (kind_of (type_of_side a)) a b t r q
+
+  -- the value of an expression is dropped
+  abbrev pub DiscardedAt : Expression → (t p q : ℕ) → Type 0
+  DiscardedAt (Call callees.Putchar cs ty) t p q = (o : Operand) × (m : ℕ) × PrintedAt code bounds types cs t o p m × At code m (instructions.WriteByte o) × (m + 1 ≡ q)
+  DiscardedAt (Assign l c ty) t p q = (o : Operand) × AssignmentAt l c o t p q
+  DiscardedAt (Store x v ty) t p q = (o : Operand) × StoredAt x v t o p q
+  DiscardedAt a t p q = (o : Operand) × OperandBy code bounds types (operand_of (starts_of types) a) (ExpressionAt code bounds types a t t p q) t o p q
+
+  -- ---- statements
+
+  -- handlers are closed from the outermost on, where there are some
+  abbrev pub HandlersAt : Option ℕ → (p q : ℕ) → Type 0
+  HandlersAt None p q = p ≡ q
+  HandlersAt (Some first) p q = At code p (instructions.Leave first) × (p + 1 ≡ q)
+
+  -- lexical regions are closed down to the mark in a slot
+  abbrev pub ClosedAt : (mark p q : ℕ) → Type 0
+  ClosedAt mark p q = At code p (instructions.Ask (requests.CloseTo (operands.Slot mark))) × (p + 1 ≡ q)
+
+  abbrev pub MarksAt : Option ℕ → (p q : ℕ) → Type 0
+  MarksAt None p q = p ≡ q
+  MarksAt (Some mark) p q = ClosedAt mark p q
+
+  -- what was opened is closed
+  abbrev pub LeaveAt : Opened → (p q : ℕ) → Type 0
+  LeaveAt opened p q = (r : ℕ) × HandlersAt opened.handler p r × MarksAt opened.mark r q
+
+  -- a `try` keeps in a slot how many lexical regions are open, and closes the others where an exception comes to it
+  abbrev pub KeptAt : (scopes : Option ℕ) → (slot p q : ℕ) → Type 0
+  KeptAt None slot p q = p ≡ q
+  KeptAt (Some place) slot p q = At code p (instructions.CountLexical slot) × (p + 1 ≡ q)
+
+  abbrev pub RestoredAt : (scopes : Option ℕ) → (slot p q : ℕ) → Type 0
+  RestoredAt None slot p q = p ≡ q
+  RestoredAt (Some place) slot p q = ClosedAt slot p q
+
+  abbrev pub ReturnAt : Option Converted → Exits → (t p : ℕ) → Type 0
+  ReturnAt None exits t p = (s : ℕ) × (m : ℕ) × LeaveAt exits.in_function p m × At code m (instructions.Finish s)
+  ReturnAt (Some (Convert from to a)) exits t p =
+      (s : ℕ) × (m : ℕ) × (r : ℕ) × (u : ℕ) × ReturnedAt code bounds types (source_of (starts_of types) (Convert from to a)) (BroughtAt (Convert from to a) t t p m) t s p m × ConversionAt code bounds types from to (span_of a) (operands.Slot s) t m r
+      × LeaveAt exits.in_function r u × At code u (instructions.Finish s) × (results_of bounds.result ≡ words_of_kind to) × (to ≡ kind_of_result bounds.result)
+
+  abbrev pub DeclarationAt : ℕ → Kind → Option Converted → (t p q : ℕ) → Type 0
+  DeclarationAt n kind None t p q = (n < bounds.locals) × BlankAt code kind (slot_of (starts_of types) n) p q
+  DeclarationAt n kind (Some c) t p q = (n < bounds.locals) × HasRoom types n (kind_passed c) × InitialAt code bounds types c (slot_of (starts_of types) n) t p q
+
+  -- what an exception tells is brought to an operand
+  abbrev pub ThrownAt : Option Expression → Operand → (t p q : ℕ) → Type 0
+  ThrownAt None o t p q = (o ≡ operands.Word 0) × (p ≡ q)
+  ThrownAt (Some a) o t p q = ValueAt a t o p q
+
+  -- and the local of a clause gets it
+  abbrev pub CaughtAt : (number : Option ℕ) → (t p q : ℕ) → Type 0
+  CaughtAt None t p q = p ≡ q
+  CaughtAt (Some n) t p q =
+      (n < bounds.locals) × HasLocal types n kinds.Int × At code p (instructions.Move (slot_of (starts_of types) n) (operands.Slot (t + 1))) × (p + 1 ≡ q)
+
+  -- a local that is declared gets a value of a kind, which stands in an operand
+  abbrev pub NamedAt : (number : ℕ) → Kind → Operand → (p q : ℕ) → Type 0
+  NamedAt n kind o p q =
+      (n < bounds.locals) × HasLocal types n kind × At code p (move_of (words_of_kind kind) (slot_of (starts_of types) n) o) × (p + 1 ≡ q)
+
+  -- a lexical region is opened, as the program may
+  abbrev pub OpenedAt : (number t p q : ℕ) → Type 0
+  OpenedAt n t p q =
+      (place : ℕ) × (types.scopes ≡ Some place) × At code p (instructions.Ask (requests.OpenLexical (t + 1)))
+      × At code (p + 1) (instructions.Move t (operands.Slot (t + 2)))
+      × NamedAt n kinds.Handle (operands.Slot (t + 1)) (p + 1 + 1) q
+
+  -- with these ways out
+  abbrev mutual
+    pub StatementAt : Statement → Exits → (t p q : ℕ) → Type 0
+    StatementAt (Block r js) exits t p q = ItemsAt js exits t p q
+    StatementAt Empty exits t p q = p ≡ q
+    StatementAt (Evaluate a) exits t p q = DiscardedAt a t p q
+    StatementAt (Swap a b) exits t p q = SwapAt a b t p q
+    StatementAt (If a s u) exits t p q =
+        (f : ℕ) × (h : ℕ) × (r : ℕ) × BranchesAt a f h t p × StatementAt s exits t h r × OverAt code r q × StatementAt u exits t f q
+    StatementAt (While w a s) exits t p q =
+        (l : ℕ) × (r : ℕ) × EntryAt a (inside_loop p l exits) t r × At code l (instructions.Jump q)
+        × StatementAt s (inside_loop p l exits) t (body_target l) r × BranchesAt a q (body_target l) t r × (l < q)
+    StatementAt (Return v) exits t p q = ReturnAt v exits t p
+    StatementAt Break exits t p q = (m : ℕ) × LeaveAt exits.in_loop p m × At code m (instructions.Jump (break_target exits))
+    StatementAt Continue exits t p q = (m : ℕ) × LeaveAt exits.in_loop p m × At code m (instructions.Jump (continue_target exits))
+    StatementAt (Throw tag v) exits t p q = IsWord tag × (o : Operand) × (m : ℕ) × ThrownAt v o t p m × At code m (instructions.Throw (tag_operand tag) o)
+    StatementAt (Try s cs) exits t p q =
+        (r : ℕ) × (m : ℕ) × (u : ℕ) × KeptAt types.scopes (t + RECORD_WORDS) p r × At code r (instructions.Try t (m + 1 + 1))
+        × StatementAt s (inside_try exits t) (behind_record_in types.scopes t) (r + 1) m × At code m (instructions.Leave t)
+        × At code (m + 1) (instructions.Jump q) × RestoredAt types.scopes (t + RECORD_WORDS) (m + 1 + 1) u × ClausesAt cs (m + 1) exits t u q
+
+    pub ItemsAt : Items → Exits → (t p q : ℕ) → Type 0
+    ItemsAt NoItems exits t p q = p ≡ q
+    ItemsAt (MoreItems (Execute s) js) exits t p q = (m : ℕ) × StatementAt s exits t p m × ItemsAt js exits t m q
+    ItemsAt (MoreItems (Declare n ty v) js) exits t p q = (m : ℕ) × HasLocal types n (kind_of ty) × DeclarationAt n (kind_of ty) v t p m × ItemsAt js exits t m q
+    ItemsAt (MoreItems (DeclareRegion r n) js) exits t p q =
+        (m : ℕ) × (u : ℕ) × OpenedAt n t p m × ItemsAt js (inside_region exits t) (t + 1) m u × ClosedAt t u q
+    ItemsAt (MoreItems (OpenRegion r n w key) js) exits t p q =
+        (m : ℕ) × NamedAt n kinds.Handle (operands.Slot (slot_of (starts_of types) key)) p m × ItemsAt js exits t m q
+    ItemsAt (MoreItems (DeclareAlias r n ty w lent) js) exits t p q =
+        (m : ℕ) × NamedAt n (kind_of ty) (operands.Slot (slot_of (starts_of types) lent)) p m × ItemsAt js exits t m q
+    ItemsAt (MoreItems (DeclareKey r n) js) exits t p q =
+        (m : ℕ) × At code p (instructions.Ask (requests.OpenDynamic t)) × NamedAt n kinds.Key (operands.Slot t) (p + 1) m × ItemsAt js exits t m q
+
+    -- the clauses of a `try`, each of which ends in a jump to this place
+    pub ClausesAt : Clauses → (out : ℕ) → Exits → (t p q : ℕ) → Type 0
+    ClausesAt NoClauses out exits t p q = At code p (goes_on t)
+    ClausesAt (Default r js) out exits t p q = ItemsAt js exits t p q
+    ClausesAt (Case tag x r js cs) out exits t p q =
+        (m : ℕ) × (u : ℕ) × IsWord tag × At code p (other_jump tag t (u + 1)) × CaughtAt x t (p + 1) m × ItemsAt js exits t m u × At code u (instructions.Jump out) × (out < u)
+        × ClausesAt cs out exits t (u + 1) q

@@ -1,0 +1,7 @@
+-- what slots, variables and memory hold, and what stays of it
+pub mod HeldValues
+pub mod Data
+pub mod Moves
+pub mod Counters
+pub mod Sharing
+pub mod WaitingData
