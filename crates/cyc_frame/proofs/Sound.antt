@@ -17,11 +17,12 @@ use Rattle.cyc_words.proofs.Decisions.{IsDecided, decides}
 use Rattle.cyc_registers.specs.declared.home.Home.{Home}
 use Rattle.cyc_registers.specs.inside.Interference.{AreHomes}
 use Rattle.cyc_registers.specs.inside.Idle.{AreIdle}
+use Rattle.cyc_registers.specs.inside.Fills.{AreFillable}
 use Rattle.cyc_frame.specs.inside.Layout.{AreFirstFrames, AreFrames, HasSmallFrames, IsAccepted, IsFrame, IsTooLarge, first_too_large, frame_at, is_too_large, loses_any}
 
-pub is_frame : (r : Routine) (saves : Bool) (homes : List Home) (idle : List Bool) → saves ≡ loses_any r.code → r.slots + LAYOUT_WORDS ≤ r.frame_count → r.frame_count ≤ MOST_FRAME_WORDS
-    → IsFrame r (record { return_address = 0; saves = saves; first_slot = LAYOUT_WORDS; homes = homes; idle = idle })
-is_frame r saves homes idle saved fits small = record {
+pub is_frame : (r : Routine) (saves : Bool) (homes : List Home) (idle fills : List Bool) → saves ≡ loses_any r.code → r.slots + LAYOUT_WORDS ≤ r.frame_count → r.frame_count ≤ MOST_FRAME_WORDS
+    → IsFrame r (record { return_address = 0; saves = saves; first_slot = LAYOUT_WORDS; homes = homes; idle = idle; fills = fills })
+is_frame r saves homes idle fills saved fits small = record {
   apart = λ a b a_below b_below same. omega (arith, same);
   inside = λ slot below. omega (arith, below, fits);
   first_inside = omega (arith, fits);
@@ -137,16 +138,18 @@ no_frames program = record {
   each = λ k below. absurd (omega arith);
   homes = λ k below. absurd (omega arith);
   idle = λ k below. absurd (omega arith);
+  fills = λ k below. absurd (omega arith);
 }
 
 -- a frame more
 pub more_frames : (program : Program) (count : ℕ) (frames : List Frame) (frame : Frame) (r : Routine) → AreFirstFrames program count frames
-    → r ≡ routine_at program count → IsFrame r frame → AreHomes program r frame.homes → AreIdle program r frame.homes frame.idle → AreFirstFrames program (count + 1) (frames ++ frame ∷ [])
-more_frames program count frames frame r are is framed homes idle = record {
+    → r ≡ routine_at program count → IsFrame r frame → AreHomes program r frame.homes → AreIdle program r frame.homes frame.idle → AreFillable program r frame.homes frame.fills → AreFirstFrames program (count + 1) (frames ++ frame ∷ [])
+more_frames program count frames frame r are is framed homes idle fills = record {
   as_many = omega (arith, length-append frames (frame ∷ []), are.as_many);
   each = λ k below. of (λ (k : ℕ) (f : Frame). IsFrame (routine_at program k) f) are.each (subst (λ (r : Routine). IsFrame r frame) is framed) k below;
   homes = λ k below. of (λ (k : ℕ) (f : Frame). AreHomes program (routine_at program k) f.homes) are.homes (subst (λ (r : Routine). AreHomes program r frame.homes) is homes) k below;
   idle = λ k below. of (λ (k : ℕ) (f : Frame). AreIdle program (routine_at program k) f.homes f.idle) are.idle (subst (λ (r : Routine). AreIdle program r frame.homes frame.idle) is idle) k below;
+  fills = λ k below. of (λ (k : ℕ) (f : Frame). AreFillable program (routine_at program k) f.homes f.fills) are.fills (subst (λ (r : Routine). AreFillable program r frame.homes frame.fills) is fills) k below;
 }
   where
     of : (P : ℕ → Frame → Type 0) → ((k : ℕ) → k < count → P k (frame_at frames k)) → P count frame
@@ -190,4 +193,4 @@ module _ (program : Program) (functions : List Function) (are : map routine_of f
       → first_too_large (map routine_of functions) ≡ None → Answers program (Ok frames)
   framed frames made none =
       decides (IsAccepted program) AreFrames (IsTooLarge program) (IsTooLarge program) (layout_is_decided program) (Ok frames)
-      (program, (refl, small_frames none), record { as_many = made.as_many; each = made.each; homes = made.homes; idle = made.idle }) tt
+      (program, (refl, small_frames none), record { as_many = made.as_many; each = made.each; homes = made.homes; idle = made.idle; fills = made.fills }) tt

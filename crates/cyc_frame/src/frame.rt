@@ -1,6 +1,7 @@
 //! The frames of a program's functions.
 ghost use Rattle.std.specs.Prelude.{◌≡◌};
 ghost use Rattle.cyc_registers.specs.inside.Interference.{home_of};
+ghost use Rattle.cyc_registers.specs.inside.Fills.{fills_at};
 ghost use Rattle.cyc_registers.specs.inside.Idle.{idle_at};
 
 use cyc_registers::Home;
@@ -20,6 +21,8 @@ pub struct Frame {
     pub homes: Vec<Home>,
     /// Whether each place of the function's code is idle. Nothing is to be done there.
     pub idle: Vec<bool>,
+    /// Whether what each place makes may be made in front of the branches that lead there, and fill their slots.
+    pub fills: Vec<bool>,
 }
 
 impl Model for Frame {
@@ -33,6 +36,7 @@ impl Model for Frame {
       first_slot = a.first_slot;
       homes = a.homes.items;
       idle = a.idle.items;
+      fills = a.fills.items;
     } };
 }
 
@@ -53,6 +57,16 @@ impl Frame {
     {
         match self.idle.get(index) {
             Some(is_idle) => *is_idle,
+            None => false,
+        }
+    }
+
+    /// Whether the place of this index fills slots.
+    pub fn fills_slots(&self, index: usize) -> bool
+        ensures { result ≡ fills_at self.now.fills index }
+    {
+        match self.fills.get(index) {
+            Some(fills) => *fills,
             None => false,
         }
     }

@@ -4,6 +4,7 @@ ghost use Rattle.std.specs.Prelude.{◌≡◌, ◌+◌, ◌≤◌, length, map, 
 ghost use Rattle.cyc_words.specs.Decision.{Decides};
 ghost use Rattle.cyc_plain.specs.inside.Program.{routine_of};
 ghost use Rattle.cyc_registers.specs.inside.Interference.{AreHomes};
+ghost use Rattle.cyc_registers.specs.inside.Fills.{AreFillable};
 ghost use Rattle.cyc_registers.specs.inside.Idle.{AreIdle};
 ghost use Rattle.cyc_frame.specs.inside.Layout.{AreFirstFrames, AreFrames, HasSmallFrames, IsAccepted, IsFrame, IsTooLarge, first_too_large, loses, loses_any};
 
@@ -57,6 +58,7 @@ fn frame_of(alloc: Global, plain: &Plain, function: &Function) -> Result<Frame, 
     ensures frame { IfOk result (λ frame. IsFrame (routine_of function.now) frame) }
     ensures homes { IfOk result (λ frame. AreHomes plain.now (routine_of function.now) frame.homes) }
     ensures idle { IfOk result (λ frame. AreIdle plain.now (routine_of function.now) frame.homes frame.idle) }
+    ensures fills { IfOk result (λ frame. AreFillable plain.now (routine_of function.now) frame.homes frame.fills) }
 {
     let given = allocate(alloc, plain, function)?;
     Ok(Frame {
@@ -65,6 +67,7 @@ fn frame_of(alloc: Global, plain: &Plain, function: &Function) -> Result<Frame, 
         first_slot: LAYOUT_WORDS,
         homes: given.homes,
         idle: given.idle,
+        fills: given.fills,
     })
 }
 

@@ -13,7 +13,7 @@ use Rattle.cyc_registers.specs.declared.liveness.TheConstants.{MOST_CHOSEN, MOST
 use Rattle.cyc_registers.specs.inside.Interference.{HasRegister, register_of, home_of, both_count, AreHomes}
 use Rattle.cyc_registers.specs.inside.Masks.{mask_at, HasBit, AreMasks}
 use Rattle.cyc_registers.specs.inside.LivenessTable.{IsSound, may_have}
-use Rattle.cyc_registers.specs.inside.Assignment.{register_count, Suits, IsHomeOf, AreFirstHomes}
+use Rattle.cyc_registers.specs.inside.Assignment.{register_count, Suits, IsHomeOf, AreFirstHomes, HaveOwnRegisters}
 use Rattle.cyc_registers.proofs.Bits.{apart_bits}
 use Rattle.cyc_registers.proofs.CheckedLiveness.{live_bit, behind_bit, clause_bit, barred_bit}
 use Rattle.cyc_registers.specs.inside.Liveness.{IsLiveAt}
@@ -210,3 +210,6 @@ module _ (program : Program) (r : Routine) where
     clause = λ index first handler a at wanted. (are.each a).clause index first handler at wanted;
     barred = λ index a i at barred. (are.each a).barred index i at barred;
   }
+
+  pub own_registers : (given both : ℕ) (hs : List Home) → AreFirstHomes program r r.slots given both hs → HaveOwnRegisters hs
+  own_registers given both hs are = are.one

@@ -5,3 +5,4 @@ pub mod CheckedLiveness
 pub mod InMemory
 pub mod AssignedHomes
 pub mod IdleCode
+pub mod FillCode

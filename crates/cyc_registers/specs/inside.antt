@@ -3,8 +3,10 @@ pub mod Bars
 pub mod Liveness
 pub mod Interference
 pub mod Idle
+pub mod Fills
 -- the functions inside the crate
 pub mod Masks
 pub mod LivenessTable
 pub mod IdlePlaces
+pub mod FillPlaces
 pub mod Assignment

@@ -3,8 +3,10 @@ ghost use Rattle.std.specs.Prelude.{IfOk};
 ghost use Rattle.cyc_plain.specs.inside.Program.{routine_of};
 ghost use Rattle.cyc_registers.specs.inside.Interference.{AreHomes};
 ghost use Rattle.cyc_registers.specs.inside.Idle.{AreIdle};
+ghost use Rattle.cyc_registers.specs.inside.Fills.{AreFillable};
 
 use crate::assignment::{homes_in, in_memory, masks_of};
+use crate::fills::fills_of;
 use crate::home::Home;
 use crate::idle::idle_places;
 use crate::liveness::{is_sound, liveness_of};
@@ -19,13 +21,17 @@ pub struct Allocation {
     pub homes: Vec<Home>,
     /// Whether each place of the code is idle. Those behind the last are not.
     pub idle: Vec<bool>,
+    /// Whether what each place makes may be made in front of the branches that lead there, and fill their slots. What those
+    /// behind the last make may not.
+    pub fills: Vec<bool>,
 }
 
 /// A home for each slot of a function, and the places that are idle by them. Those slots that cost most in memory get registers,
 /// in order, while there are some.
-#[tactic(auto, using(crate::proofs::IdleCode::none_idle))]
+#[tactic(auto, using(crate::proofs::IdleCode::none_idle, crate::proofs::FillCode::none_fillable))]
 pub fn allocate(alloc: Global, plain: &Plain, function: &Function) -> Result<Allocation, AllocError>
     ensures homes { IfOk result (λ given. AreHomes plain.now (routine_of function.now) given.homes.items) }
+    ensures fills { IfOk result (λ given. AreFillable plain.now (routine_of function.now) given.homes.items given.fills.items) }
     ensures idle { IfOk result (λ given. AreIdle plain.now (routine_of function.now) given.homes.items given.idle.items) }
 {
     let costs = spill_costs_of(alloc, function)?;
@@ -35,10 +41,12 @@ pub fn allocate(alloc: Global, plain: &Plain, function: &Function) -> Result<All
         return Ok(Allocation {
             homes: in_memory(alloc, plain, function)?,
             idle: Vec::new(alloc),
+            fills: Vec::new(alloc),
         });
     }
     let taken = costs.taken(&masks, &lives);
     let homes = homes_in(alloc, plain, function, &masks, &lives, taken)?;
     let idle = idle_places(alloc, plain, function, &masks, &lives, &homes)?;
-    Ok(Allocation { homes, idle })
+    let fills = fills_of(alloc, plain, function, &masks, &lives, &homes)?;
+    Ok(Allocation { homes, idle, fills })
 }

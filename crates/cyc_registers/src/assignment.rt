@@ -1,7 +1,7 @@
 //! Assignment: which register each of the slots has that are taken for one.
 ghost use Rattle.std.specs.Prelude.{◌≡◌, ◌+◌, ◌≤◌, length, IfOk};
 ghost use Rattle.cyc_plain.specs.inside.Program.{routine_of};
-ghost use Rattle.cyc_registers.specs.inside.Assignment.{AreFirstHomes, IsHomeOf, register_count};
+ghost use Rattle.cyc_registers.specs.inside.Assignment.{AreFirstHomes, HaveOwnRegisters, IsHomeOf, register_count};
 ghost use Rattle.cyc_registers.specs.inside.Interference.{AreHomes, both_count};
 ghost use Rattle.cyc_registers.specs.inside.LivenessTable.{IsSound};
 ghost use Rattle.cyc_registers.specs.inside.Masks.{AreMasks};
@@ -92,7 +92,7 @@ fn both_in(home: Home) -> usize
 }
 
 /// A home for each slot of a function: those that are taken get registers, in order, while there are some.
-#[tactic(auto, using(crate::proofs::AssignedHomes::no_homes, crate::proofs::AssignedHomes::more_homes, crate::proofs::AssignedHomes::are_homes))]
+#[tactic(auto, using(crate::proofs::AssignedHomes::no_homes, crate::proofs::AssignedHomes::more_homes, crate::proofs::AssignedHomes::are_homes, crate::proofs::AssignedHomes::own_registers))]
 pub(crate) fn homes_in(
     alloc: Global,
     plain: &Plain,
@@ -103,7 +103,8 @@ pub(crate) fn homes_in(
 ) -> Result<Vec<Home>, AllocError>
     requires numbered { AreMasks masks.now MOST_CHOSEN }
     requires sound { IsSound plain.now (routine_of function.now) masks.now lives.now.live.items lives.now.kept lives.now.barred }
-    ensures { IfOk result (λ homes. AreHomes plain.now (routine_of function.now) homes.items) }
+    ensures homes { IfOk result (λ homes. AreHomes plain.now (routine_of function.now) homes.items) }
+    ensures own { IfOk result (λ homes. HaveOwnRegisters homes.items) }
 {
     let mut homes = Vec::with_capacity(alloc, function.slots)?;
     let mut given = 0;

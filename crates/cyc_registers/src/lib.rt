@@ -3,6 +3,7 @@
 
 mod allocation;
 mod assignment;
+mod fills;
 mod home;
 mod idle;
 mod liveness;

@@ -1,5 +1,6 @@
 -- one instruction each
 pub mod Answers
+pub mod Hoisting
 pub mod Simple
 pub mod Moves
 pub mod Accesses

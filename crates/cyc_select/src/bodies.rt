@@ -6,8 +6,9 @@ ghost use Rattle.cyc_select.specs.inside.Selection.{body, behind, place_lines, i
 ghost use Rattle.cyc_select.specs.inside.Emission.{AddsLines, IsKnown, most_lines};
 
 use crate::code::Line;
-use crate::counting::{is_idle, spills_count};
+use crate::counting::{code_of, is_idle, spills_count};
 use crate::emitter::Emitter;
+use crate::hoisting::hoisted;
 use crate::operators::Parts;
 use crate::plan::{test_of, unary_plan};
 use crate::tables::Tables;
@@ -62,7 +63,12 @@ impl Emitter {
                 left,
                 right,
                 target,
-            } => self.branch_where(frame, test_of(comparison, left, right), tables.line(target)),
+            } => {
+                let test = test_of(comparison, left, right);
+                let code = code_of(tables.plain, tables.function);
+                let first = hoisted(frame, code, test, target);
+                self.branch_where(frame, test, first, tables.line(target))
+            }
             Instruction::Call {
                 function,
                 arguments,

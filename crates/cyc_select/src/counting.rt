@@ -10,12 +10,13 @@ ghost use Rattle.cyc_select.specs.inside.Emission.{AreFew, most_lines, instructi
 use crate::asking::ask_count;
 use crate::constants::START_LINES;
 use crate::globals::reach_count;
+use crate::hoisting::branch_count;
 use crate::memory::address_count;
 use crate::operands::{
     give_count, is_kept, keep_count, load_count, move_count, operand_count, passed_from,
     reload_count, word_count,
 };
-use crate::operators::{Parts, is_tested, plan_count, test_count};
+use crate::operators::{Parts, is_tested, plan_count};
 use crate::plan::{binary_plan, test_of, unary_plan};
 use cyc_frame::Frame;
 use cyc_plain::{
@@ -30,6 +31,14 @@ pub(crate) fn results_of(plain: &Plain, function: usize) -> usize
     ensures { result ≡ (routine_at plain.now function).results }
 {
     plain.function(function).results
+}
+
+/// The code of a function.
+pub(crate) fn code_of<'a>(plain: &'a Plain, function: usize) -> &'a [Instruction]
+    requires { function < length plain.now.functions }
+    ensures { result.now ≡ (routine_at plain.now function).code }
+{
+    &plain.function(function).code
 }
 
 fn known_frame(frames: &[Frame], function: usize) -> &Frame
@@ -239,8 +248,13 @@ fn body_count(plain: &Plain, frames: &[Frame], function: usize, instruction: Ins
             comparison,
             left,
             right,
-            ..
-        } => test_count(frame, test_of(comparison, left, right)) + 1,
+            target,
+        } => branch_count(
+            frame,
+            code_of(plain, function),
+            test_of(comparison, left, right),
+            target,
+        ),
         Instruction::Call {
             function: callee,
             arguments,

@@ -10,6 +10,7 @@ mod counting;
 mod emitter;
 mod globals;
 mod handling;
+mod hoisting;
 mod instructions;
 mod memory;
 mod numbers;

@@ -1,6 +1,6 @@
 //! The lines of an operator, of a test, and of what else a function does with its own slots.
 ghost use Rattle.std.specs.Prelude.{◌≡◌, ◌+◌, ◌*◌, ◌<◌, ◌≤◌, ◌^◌, [], ◌∷◌, ◌++◌, OnOk};
-ghost use Rattle.cyc_select.specs.inside.Selection.{give_code, small, syscall, arithmetic_of, immediate_of, shift_of, shift_by_of, multiply_divide_of, move_from_of, operation_code, outcome_code, operands_code, operation_of, computed_code, plan_code, test_code, branch_on, branch_line, operation_count, outcome_count, count_of_operation, plan_count, test_count, ordinary, product_code, quotient_code, divided_code, divide_code, is_tested, part_of, operator_code, move_code, branch_code, write_code, uncaught_code};
+ghost use Rattle.cyc_select.specs.inside.Selection.{give_code, small, syscall, arithmetic_of, immediate_of, shift_of, shift_by_of, multiply_divide_of, move_from_of, operation_code, outcome_code, operands_code, operation_of, computed_code, plan_code, test_code, branch_on, condition_of, operation_count, outcome_count, count_of_operation, plan_count, test_count, ordinary, product_code, quotient_code, divided_code, divide_code, is_tested, part_of, operator_code, move_code, branch_code, write_code, uncaught_code};
 ghost use Rattle.cyc_select.specs.inside.Emission.{AddsLines, IsReached, IsFound, IsPlanFound, IsTestFound, most_lines};
 
 use crate::code::{Condition, Line};
@@ -40,7 +40,7 @@ pub(crate) fn arithmetic(op: ArithmeticOp, target: u8, left: u8, right: u8) -> I
     }
 }
 
-fn shift(op: ShiftOp, target: u8, source: u8, by: u8) -> Instr
+pub(crate) fn shift(op: ShiftOp, target: u8, source: u8, by: u8) -> Instr
     ensures { result ≡ shift_of op target source by }
 {
     Instr::ShiftVariable {
@@ -52,7 +52,7 @@ fn shift(op: ShiftOp, target: u8, source: u8, by: u8) -> Instr
 }
 
 /// An operation on a register and a number.
-fn immediate(op: ImmediateOp, target: u8, left: u8, half: u16) -> Instr
+pub(crate) fn immediate(op: ImmediateOp, target: u8, left: u8, half: u16) -> Instr
     ensures { result ≡ immediate_of op target left half }
 {
     Instr::Immediate {
@@ -158,11 +158,11 @@ fn branch_on(outcome: Outcome) -> BranchOp
     }
 }
 
-/// The branch of a test, behind what it tests.
-fn branch_line(frame: &Frame, test: Test, label: usize) -> Line
-    ensures { result ≡ branch_line frame.now test label }
+/// When the branch of a test is taken, behind what it tests.
+pub(crate) fn condition_of(frame: &Frame, test: Test) -> Condition
+    ensures { result ≡ condition_of frame.now test }
 {
-    let condition = match test {
+    match test {
         Test::Operands { op, left, right } => Condition::Registers {
             op,
             left: register(operand_register(frame, FIRST, left)),
@@ -177,8 +177,7 @@ fn branch_line(frame: &Frame, test: Test, label: usize) -> Line
             left: register(FIRST),
             right: register(ZERO),
         },
-    };
-    Line::Branch { condition, label }
+    }
 }
 
 /// Whether a division has lines of its own, since its divisor may be -1.
@@ -334,18 +333,30 @@ impl Emitter {
         }
     }
 
-    /// A jump where a test holds.
+    /// A jump where a test holds, with what was hoisted in front of it.
     pub(crate) fn branch_where(
         &mut self,
         frame: &Frame,
         test: Test,
+        first: Option<Instr>,
         label: usize,
     ) -> Result<(), AllocError>
-        requires { IsTestFound frame.now test }
-        ensures { AddsLines result self.old self.new (branch_code frame.now test label) }
+        requires found { IsTestFound frame.now test }
+        requires fits { label ≤ most_lines }
+        ensures { AddsLines result self.old self.new (branch_code frame.now test first label) }
     {
+        let condition = condition_of(frame, test);
         self.test(frame, test)?;
-        self.line(branch_line(frame, test, label))
+        match first {
+            Some(first) => {
+                self.ordinary(&[first])?;
+                self.line(Line::Branch {
+                    condition,
+                    label: label + 1,
+                })
+            }
+            None => self.line(Line::Branch { condition, label }),
+        }
     }
 
     /// Dividend and divisor are in registers, and -1 comes into a third.

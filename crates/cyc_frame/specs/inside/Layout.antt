@@ -11,6 +11,7 @@ use Rattle.cyc_plain.specs.declared.limits.TheConstants.{MOST_FRAME_WORDS}
 use Rattle.cyc_frame.specs.inside.Frame.{Frame}
 use Rattle.cyc_registers.specs.inside.Interference.{AreHomes}
 use Rattle.cyc_registers.specs.inside.Idle.{AreIdle}
+use Rattle.cyc_registers.specs.inside.Fills.{AreFillable}
 
 -- the word of a frame that holds a slot
 abbrev pub slot_word : Frame → ℕ → ℕ
@@ -41,14 +42,17 @@ pub record IsFrame (r : Routine) (frame : Frame) : Type 0 where
 -- the frame of the function of this index; where there is none, an empty one
 abbrev pub frame_at : List Frame → ℕ → Frame
 frame_at frames function =
-    slice_index_or frames function (record { return_address = 0; saves = false; first_slot = 0; homes = []; idle = [] })
+    slice_index_or frames function
+    (record { return_address = 0; saves = false; first_slot = 0; homes = []; idle = []; fills = [] })
 
--- frames of the first functions, so many of them, with homes of their slots and idle places
+-- frames of the first functions, so many of them, with homes of their slots, idle places, and places that fill slots
 pub record AreFirstFrames (program : Program) (count : ℕ) (frames : List Frame) : Type 0 where
   pub as_many : length frames ≡ count
   pub each : (k : ℕ) → k < count → IsFrame (routine_at program k) (frame_at frames k)
   pub homes : (k : ℕ) → k < count → AreHomes program (routine_at program k) (frame_at frames k).homes
   pub idle : (k : ℕ) → k < count → AreIdle program (routine_at program k) (frame_at frames k).homes (frame_at frames k).idle
+  pub fills : (k : ℕ) → k < count
+      → AreFillable program (routine_at program k) (frame_at frames k).homes (frame_at frames k).fills
 
 -- there is a frame for each function
 pub record AreFrames (program : Program) (frames : List Frame) : Type 0 where
@@ -57,6 +61,8 @@ pub record AreFrames (program : Program) (frames : List Frame) : Type 0 where
   pub homes : (k : ℕ) → k < length program.functions → AreHomes program (routine_at program k) (frame_at frames k).homes
   pub idle : (k : ℕ) → k < length program.functions
       → AreIdle program (routine_at program k) (frame_at frames k).homes (frame_at frames k).idle
+  pub fills : (k : ℕ) → k < length program.functions
+      → AreFillable program (routine_at program k) (frame_at frames k).homes (frame_at frames k).fills
 
 -- where the name stands of the first function whose frame is too large
 abbrev pub is_too_large : Routine → Bool

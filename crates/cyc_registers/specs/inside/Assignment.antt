@@ -31,6 +31,10 @@ pub record IsHomeOf (program : Program) (r : Routine) (slot given : ℕ) (home :
   pub suits : Suits program r slot home
   pub register : (k : ℕ) → register_of home ≡ Some k → (k ≡ FIRST_REGISTER + given) × (given < MOST_REGISTERS)
 
+-- no two slots have one register
+abbrev pub HaveOwnRegisters : List Home → Type 0
+HaveOwnRegisters hs = (a c k : ℕ) → HasRegister hs a k → HasRegister hs c k → a ≡ c
+
 -- the homes of the first slots, with so many registers; behind them all is memory
 pub record AreFirstHomes (program : Program) (r : Routine) (count given both_so_far : ℕ) (homes : List Home) : Type 0 where
   pub as_many : length homes ≡ count

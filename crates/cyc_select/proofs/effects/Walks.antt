@@ -231,6 +231,31 @@ module _ (code : Labelled) (formed : IsFormed code) (addresses : ℕ → ℕ) (g
   pub walk_few : {Late : State → Type 0} (m n lo hi : ℕ) (out : List ℕ) (Goal : State → Type 0) (t : State) → m ≤ n → Walk n lo hi out Late Goal t → Walk m lo hi out Late Goal t
   walk_few m n lo hi out Goal t fewer walk = record { places = walk.places; enough = omega (arith, walk.enough); rises = walk.rises; comes = walk.comes }
 
+  -- to another goal
+  pub walk_to : {Late : State → Type 0} (n lo hi : ℕ) (out : List ℕ) (Goal Goal' : State → Type 0) (t : State) → ((u : State) → Goal u → Goal' u) → Walk n lo hi out Late Goal t → Walk n lo hi out Late Goal' t
+  walk_to {Late} n lo hi out Goal Goal' t goals walk = record {
+    places = walk.places;
+    enough = walk.enough;
+    rises = walk.rises;
+    comes = comes_map (machine code addresses) (Quiet out (input_of t) Late) Goal (Quiet out (input_of t) Late) Goal' walk.places t (λ u quiet. quiet) goals walk.comes;
+  }
+
+  -- behind its first step the rest of a walk is left, which meets the lines behind
+  pub walk_rest : {Late : State → Type 0} (n lo hi : ℕ) (out : List ℕ) (Goal : State → Type 0) (c d : Configuration) → d.input ≡ c.input → Walk (suc n) lo hi out Late Goal (Running c)
+      → Step code addresses (Running c) (Running d) → Walk n (suc c.line) hi out Late Goal (Running d)
+  walk_rest {Late} n lo hi out Goal c d unread walk step = by walk.places walk.enough walk.rises walk.comes
+    where
+      by : (places : List ℕ) → suc n ≤ length places → Rises lo hi places → Comes (machine code addresses) (Quiet out c.input Late) Goal places (Running c) → Walk n (suc c.line) hi out Late Goal (Running d)
+      by [] enough rises comes = absurd (omega (arith, enough))
+      by (p ∷ places) enough (first, rises) (stands, way, goes) =
+          let here : c.line ≡ p = stands in
+          record {
+            places = places;
+            enough = omega (arith, enough);
+            rises = subst (λ (x : ℕ). Rises (suc x) hi places) (sym here) rises;
+            comes = subst (λ (left : List ℕ). Comes (machine code addresses) (Quiet out left Late) Goal places (Running d)) (sym unread) (goes (Running d) step);
+          }
+
   rises_from : (lo from hi : ℕ) (places : List ℕ) → lo ≤ from → Rises from hi places → Rises lo hi places
   rises_from lo from hi [] below rises = omega arith
   rises_from lo from hi (p ∷ places) below (first, rest) = ((omega arith), rest)
@@ -271,6 +296,18 @@ module _ (code : Labelled) (formed : IsFormed code) (addresses : ℕ → ℕ) (g
       → Now (k + 1) out input (does_r i r w) (does_w i r w) (moved c i)
   moved_now k out input r w c i now fits view = record { view = view; r_words = does_words_r i r w fits now.r_words now.w_words; w_words = does_words_w i r w now.r_words now.w_words; at_line = ap (λ (n : ℕ). n + 1) now.at_line; output = now.output; input = now.input }
 
+  -- one safe instruction, behind which the run is known
+  pub walk_one : {Late : State → Type 0} (i : Instr) (n k lo hi : ℕ) (out input : List ℕ) (Goal : State → Type 0) (r : Words) (w : Contents) (c : Configuration)
+      → Now k out input r w c → slice_get code.lines k ≡ Some (lines.Ordinary i) → IsSafe globals stack i r → lo ≤ k
+      → (Now (k + 1) out input (does_r i r w) (does_w i r w) (moved c i) → Walk n (k + 1) hi out Late Goal (Running (moved c i)))
+      → Walk (suc n) lo hi out Late Goal (Running c)
+  walk_one i n k lo hi out input Goal r w c now stands safe from goes =
+      let fits = (holds_at (IsFormedLine (length code.lines)) code.lines k (lines.Ordinary i) formed stands).1 in
+      walk_step n lo hi out Goal c (Running (moved c i)) (omega (arith, from, now.at_line)) now.output refl
+      (λ next step. performed globals stack c r w now.view i next safe (performs_now k out input r w c i next now stands (safe_ordinary globals stack i r safe) step))
+      (walk_from n (suc c.line) (k + 1) hi out Goal (Running (moved c i)) (omega (arith, now.at_line))
+      (goes (moved_now k out input r w c i now fits (moved_view globals stack c r w now.view i safe))))
+
   -- A stretch of safe instructions. (The view of what is left does not depend on what is next.)
   pub walk_block : {Late : State → Type 0} (is : List Instr) (n k lo hi : ℕ) (out input : List ℕ) (Goal : State → Type 0) (r : Words) (w : Contents) (c : Configuration)
       → Now k out input r w c → Stands code k (ordinary is) → AreSafe globals stack is r w → lo ≤ k
@@ -280,16 +317,13 @@ module _ (code : Labelled) (formed : IsFormed code) (addresses : ℕ → ℕ) (g
       walk_few (0 + n) n lo hi out Goal (Running c) (omega arith)
       (walk_from n lo (k + 0) hi out Goal (Running c) (omega arith) (goes c (now_at k (k + 0) out input r w c (omega arith) now)))
   walk_block (i ∷ is) n k lo hi out input Goal r w c now (stands, rest) (safe, others) from goes =
-      let ordinary_one = safe_ordinary globals stack i r safe in
-      let view = moved_view globals stack c r w now.view i safe in
-      let fits = (holds_at (IsFormedLine (length code.lines)) code.lines k (lines.Ordinary i) formed stands).1 in
       walk_few (suc (length is) + n) (suc (length is + n)) lo hi out Goal (Running c) (omega arith)
-      (walk_step (length is + n) lo hi out Goal c (Running (moved c i)) (omega (arith, from, now.at_line)) now.output refl (λ next step. performed globals stack c r w now.view i next safe (performs_now k out input r w c i next now stands ordinary_one step))
-      (walk_from (length is + n) (suc c.line) (k + 1) hi out Goal (Running (moved c i)) (omega (arith, now.at_line))
-      (walk_block is n (k + 1) (k + 1) hi out input Goal (does_r i r w) (does_w i r w) (moved c i) (moved_now k out input r w c i now fits view) rest others (omega arith)
+      (walk_one i (length is + n) k lo hi out input Goal r w c now stands safe from
+      (λ after.
+      walk_block is n (k + 1) (k + 1) hi out input Goal (does_r i r w) (does_w i r w) (moved c i) after rest others (omega arith)
       (λ d later.
       walk_from n (k + 1 + length is) (k + suc (length is)) hi out Goal (Running d) (omega arith)
-      (goes d (now_at (k + 1 + length is) (k + suc (length is)) out input _ _ d (omega arith) later))))))
+      (goes d (now_at (k + 1 + length is) (k + suc (length is)) out input _ _ d (omega arith) later)))))
 
   -- ---- words of live blocks
 
@@ -335,7 +369,7 @@ module _ (code : Labelled) (formed : IsFormed code) (addresses : ℕ → ℕ) (g
 
   -- ---- branches, jumps, calls and returns
 
-  at_now : (k j : ℕ) (out input : List ℕ) (r : Words) (w : Contents) (c : Configuration) → Now k out input r w c → Now j out input r w (at c j)
+  pub at_now : (k j : ℕ) (out input : List ℕ) (r : Words) (w : Contents) (c : Configuration) → Now k out input r w c → Now j out input r w (at c j)
   at_now k j out input r w c now = record { view = view_at globals stack c r w now.view j; r_words = now.r_words; w_words = now.w_words; at_line = refl; output = now.output; input = now.input }
 
   holds_now : (k : ℕ) (out input : List ℕ) (r : Words) (w : Contents) (c : Configuration) → Now k out input r w c → (condition : Condition) → holds_of (word_in c) condition ≡ holds_of r condition
@@ -343,12 +377,12 @@ module _ (code : Labelled) (formed : IsFormed code) (addresses : ℕ → ℕ) (g
       ap (λ (x : ℕ). branch_taken op x (word_in c right.number)) (now.view.reg left.number left.in_range) ∙ ap (branch_taken op (r left.number)) (now.view.reg right.number right.in_range)
   holds_now k out input r w c now (conditions.Sign op source) = ap (branch_zero_taken op) (now.view.reg source.number source.in_range)
 
-  pub walk_branch : {Late : State → Type 0} (n k lo hi : ℕ) (out input : List ℕ) (Goal : State → Type 0) (r : Words) (w : Contents) (c : Configuration) (condition : Condition) (label target : ℕ)
+  pub walk_branch_to : {Late : State → Type 0} (n k lo hi : ℕ) (out input : List ℕ) (Goal : State → Type 0) (r : Words) (w : Contents) (c : Configuration) (condition : Condition) (label target : ℕ)
       → Now k out input r w c → slice_get code.lines k ≡ Some (lines.Branch condition label) → lo ≤ k
       → (if holds_of r condition then label else k + 1) ≡ target
-      → ((d : Configuration) → Now target out input r w d → Walk n (suc k) hi out Late Goal (Running d))
+      → (Now target out input r w (at c target) → Walk n (suc k) hi out Late Goal (Running (at c target)))
       → Walk (suc n) lo hi out Late Goal (Running c)
-  walk_branch n k lo hi out input Goal r w c condition label target now stands from goes_to rest =
+  walk_branch_to n k lo hi out input Goal r w c condition label target now stands from goes_to rest =
       let there : (if holds_of (word_in c) condition then label else c.line + 1) ≡ target =
       ap (λ (b : Bool). if b then label else c.line + 1) (holds_now k out input r w c now condition)
       ∙ (ap (λ (x : ℕ). if holds_of r condition then label else x + 1) now.at_line ∙ goes_to) in
@@ -356,7 +390,15 @@ module _ (code : Labelled) (formed : IsFormed code) (addresses : ℕ → ℕ) (g
       (λ next step.
       executes_line c (lines.Branch condition label) next (stands_now k out input r w c (lines.Branch condition label) now stands) step
       ∙ ap (λ (x : ℕ). Running (at c x)) there)
-      (walk_from n (suc c.line) (suc k) hi out Goal (Running (at c target)) (omega (arith, now.at_line)) (rest (at c target) (at_now k target out input r w c now)))
+      (walk_from n (suc c.line) (suc k) hi out Goal (Running (at c target)) (omega (arith, now.at_line)) (rest (at_now k target out input r w c now)))
+
+  pub walk_branch : {Late : State → Type 0} (n k lo hi : ℕ) (out input : List ℕ) (Goal : State → Type 0) (r : Words) (w : Contents) (c : Configuration) (condition : Condition) (label target : ℕ)
+      → Now k out input r w c → slice_get code.lines k ≡ Some (lines.Branch condition label) → lo ≤ k
+      → (if holds_of r condition then label else k + 1) ≡ target
+      → ((d : Configuration) → Now target out input r w d → Walk n (suc k) hi out Late Goal (Running d))
+      → Walk (suc n) lo hi out Late Goal (Running c)
+  walk_branch n k lo hi out input Goal r w c condition label target now stands from goes_to rest =
+      walk_branch_to n k lo hi out input Goal r w c condition label target now stands from goes_to (λ after. rest (at c target) after)
 
   pub walk_jump : {Late : State → Type 0} (n k lo hi : ℕ) (out input : List ℕ) (Goal : State → Type 0) (r : Words) (w : Contents) (c : Configuration) (label : ℕ)
       → Now k out input r w c → slice_get code.lines k ≡ Some (lines.Jump label) → lo ≤ k

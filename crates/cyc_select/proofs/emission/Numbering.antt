@@ -18,15 +18,15 @@ use Rattle.cyc_registers.specs.inside.Interference.{AreHomes}
 use Rattle.cyc_frame.specs.inside.Layout.{IsFrame, AreFrames, frame_at, loses, loses_any}
 use Rattle.cyc_frame.specs.inside.Frame.{Frame}
 use Rattle.cyc_select.specs.declared.constants.TheConstants.{START_LINES}
-use Rattle.cyc_select.specs.inside.Selection.{reload_count, ending_count, body_count, behind_count, is_idle, count_of, code_count, function_count, functions_count, function_line, instruction_line, behind, place_lines, code_lines, function_lines, saving_count, routine_lines}
+use Rattle.cyc_select.specs.inside.Selection.{reload_count, ending_count, body_count, behind_count, is_idle, count_of, code_count, function_count, functions_count, function_line, instruction_line, behind, place_lines, code_lines, function_lines, saving_count, routine_lines, hoisted}
 use Rattle.cyc_select.specs.inside.Plans.{test_of}
 use Rattle.cyc_select.specs.inside.Emission.{AreReached, AreFew, most_lines, instruction_lines, function_starts, AreReady, AreTables}
 use Rattle.cyc_words.proofs.Lists.{slice_get_below}
 use Rattle.cyc_select.proofs.layout.Lines.{line_next}
-use Rattle.cyc_select.proofs.emission.Counts.{move_small, move_words_small, spills_few, copies_few, give_small, keep_few, argument_small, regions_small, gives_small, word_small, load_small, operand_small, address_small, unary_small, test_small, operator_small, reach_few}
+use Rattle.cyc_select.proofs.emission.Counts.{move_small, move_words_small, spills_few, copies_few, give_small, keep_few, argument_small, regions_small, gives_small, word_small, load_small, operand_small, address_small, unary_small, test_small, operator_small, reach_few, hoisted_few}
 
 abbrev no_frame : Frame
-no_frame = record { return_address = 0; saves = false; first_slot = 0; homes = []; idle = [] }
+no_frame = record { return_address = 0; saves = false; first_slot = 0; homes = []; idle = []; fills = [] }
 
 -- ---- an instruction has few lines for each unit of its size
 
@@ -89,7 +89,7 @@ body_small program frames function fit few (plain.Move destination source) = ome
 body_small program frames function fit few (plain.Unary operator destination operand) = omega (arith, unary_small (frame_at frames function) operator operand destination)
 body_small program frames function fit few (plain.Binary operator destination left right) = omega (arith, operator_small (frame_at frames function) operator destination left right, operator_fits operator)
 body_small program frames function fit few (plain.Jump target) = omega arith
-body_small program frames function fit few (plain.Branch comparison left right target) = omega (arith, test_small (frame_at frames function) (test_of comparison left right))
+body_small program frames function fit few (plain.Branch comparison left right target) = omega (arith, test_small (frame_at frames function) (test_of comparison left right), hoisted_few (hoisted (frame_at frames function) (routine_at program function).code (test_of comparison left right) target))
 body_small program frames function fit few (plain.Call f a n r) = omega (arith, few f, fit, spills_few (frame_at frames function) (frame_at frames f) a 0 n, copies_few (frame_at frames function) (frame_at frames f) a 0 n)
 body_small program frames function fit few (plain.Return v) = omega (arith, few function, ending_small program function, saving_small (frame_at frames function))
 body_small program frames function fit few (plain.ReadByte destination) = omega (arith, give_small (frame_at frames function) destination)

@@ -1,6 +1,6 @@
 -- The code has few words for each unit of the program's size.
 use Rattle.std.proofs.Common.{◌≡◌, ℕ, suc, ◌+◌, ◌*◌, ◌≤◌, Bool, true, false, List, [], ◌∷◌, ◌++◌, length, refl, ap, arith, length-append}
-use Rattle.std.specs.Prelude.{sum_by, ◌==◌, if◌then◌else◌}
+use Rattle.std.specs.Prelude.{Option, sum_by, ◌==◌, if◌then◌else◌}
 use Rattle.std.specs.List.{range_with_len}
 use Rattle.std.proofs.lemmas.List.Sums.{sum_by-cons, sum_by-append}
 use Rattle.std.proofs.lemmas.Option.{get_or_from_slice_get}
@@ -24,14 +24,13 @@ use Rattle.cyc_select.specs.declared.code.Line.TheVariants as lines
 use Rattle.cyc_select.specs.declared.constants.TheConstants.{FIRST, SECOND, THIRD, FRAME, LOWEST, HANDLERS, REGIONS, ZERO}
 use Rattle.cyc_select.specs.declared.plan.Plan.{Plan}
 use Rattle.cyc_select.specs.declared.plan.Test.{Test}
-use Rattle.cyc_select.specs.declared.plan.Test.TheVariants as tests
 use Rattle.cyc_select.specs.inside.Plans.{unary_plan, binary_plan, test_of}
 use Rattle.cyc_select.specs.inside.Labelled.{Labelled, words_of, all_words}
 use Rattle.cyc_select.specs.inside.Selected.{words_at}
-use Rattle.cyc_select.specs.inside.Selection.{product_code, quotient_code, operand_count, operand_register, slot_offset, recorded_code, caught_code, reload_count, value_register, move_to, keep_code, give_code, moved_code, reloads, opened_code, made_in, ordinary, argument_code, service_number, answer_code, unwound_code, address_code, at_address, copies, bring_all, word_code, load_code, load_count, operand_code, plan_code, test_code, branch_line, branch_code, divided_code, divide_code, is_tested, part_of, result_registers, ending_code, operator_code, body, behind, place_lines, is_idle, count_of, function_count, function_line, instruction_line, code_lines, function_lines, small, syscall, store, add_immediate, push_frame, load, regions_code, load_at, store_at, spills, spills_count, calling_code, global_code, saving_code, restoring_code, saving_count, returning_code, routine_lines}
+use Rattle.cyc_select.specs.inside.Selection.{product_code, quotient_code, operand_count, operand_register, slot_offset, recorded_code, caught_code, reload_count, value_register, move_to, keep_code, give_code, moved_code, reloads, opened_code, made_in, ordinary, argument_code, service_number, answer_code, unwound_code, address_code, at_address, copies, bring_all, word_code, load_code, load_count, operand_code, plan_code, test_code, condition_of, hoisted, with_hoisted, behind_hoisted, branch_code, divided_code, divide_code, is_tested, part_of, result_registers, ending_code, operator_code, body, behind, place_lines, is_idle, count_of, function_count, function_line, instruction_line, code_lines, function_lines, small, syscall, store, add_immediate, push_frame, load, regions_code, load_at, store_at, spills, spills_count, calling_code, global_code, saving_code, restoring_code, saving_count, returning_code, routine_lines}
 use Rattle.cyc_isa.specs.Decoding.{register_of}
 use Rattle.cyc_isa.specs.declared.instr.BranchOp.TheVariants as branch
-use Rattle.cyc_select.proofs.emission.Counts.{length_keep, length_give, length_move, length_moved, length_spills, spills_few, length_copies, copies_few, move_words_small, keep_few, give_small, move_small, argument_small, regions_small, gives_small, length_argument, length_answer, length_regions, length_results, length_registers, word_small, load_small, operand_small, address_small, plan_small, unary_small, test_small, length_word, length_load, length_operand, length_address, length_plan, length_test, length_divided, reach_few, length_global}
+use Rattle.cyc_select.proofs.emission.Counts.{length_keep, length_give, length_move, length_moved, length_spills, spills_few, length_copies, copies_few, move_words_small, keep_few, give_small, move_small, argument_small, regions_small, gives_small, length_argument, length_answer, length_regions, length_results, length_registers, word_small, load_small, operand_small, address_small, plan_small, unary_small, test_small, length_word, length_load, length_operand, length_address, length_plan, length_test, length_divided, reach_few, length_global, length_hoisted, hoisted_few}
 use Rattle.cyc_select.proofs.steps.Returns.{loaded, length_loaded}
 use Rattle.cyc_select.proofs.emission.Numbering.{ReadsFew, losing, losing_next, AreSaved, saved_first, saved_next}
 use Rattle.cyc_select.proofs.relation.Values.{length_reloads}
@@ -75,14 +74,10 @@ module _ (program : Program) (frames : List Frame) (reads_few : (function : ℕ)
   operator_words frame here binary.Remainder destination left right = omega (arith, tested_words frame here binary.Remainder destination left right)
   operator_words frame here operator destination left right = omega (arith, plan_words frame (binary_plan operator left right) destination)
 
-  branch_words : (frame : Frame) (test : Test) (label : ℕ) → words_of (branch_line frame test label) ≤ 4
-  branch_words frame (tests.Operands op left right) label = omega arith
-  branch_words frame (tests.Sign op operand) label = omega arith
-  branch_words frame (tests.Computed plan) label = omega arith
-
-  test_words : (frame : Frame) (test : Test) (label : ℕ) → all_words (branch_code frame test label) ≤ 10
-  test_words frame test label =
-      omega (arith, sum_by-append words_of (ordinary (test_code frame test)) (branch_line frame test label ∷ []), words_ordinary (test_code frame test), length_test frame test, test_small frame test, branch_words frame test label)
+  test_words : (frame : Frame) (test : Test) (first : Option Instr) (label : ℕ) → all_words (branch_code frame test first label) ≤ 11
+  test_words frame test first label =
+      let is : List Instr = with_hoisted (test_code frame test) first in
+      omega (arith, sum_by-append words_of (ordinary is) (lines.Branch (condition_of frame test) (behind_hoisted first label) ∷ []), words_ordinary is, length_hoisted (test_code frame test) first, hoisted_few first, length_test frame test, test_small frame test)
 
   ending_words : (b : Bool) (frame : Frame) (here value : ℕ) → all_words (ending_code b frame here value) ≤ 7
   ending_words true frame here value = omega arith
@@ -126,7 +121,7 @@ module _ (program : Program) (frames : List Frame) (reads_few : (function : ℕ)
       omega (arith, words_ordinary (plan_code (frame_at frames function) (unary_plan operator operand) destination), length_plan (frame_at frames function) (unary_plan operator operand) destination, unary_small (frame_at frames function) operator operand destination)
   body_words function here (plain.Binary operator destination left right) = omega (arith, operator_words (frame_at frames function) here operator destination left right)
   body_words function here (plain.Jump target) = omega arith
-  body_words function here (plain.Branch comparison left right target) = omega (arith, test_words (frame_at frames function) (test_of comparison left right) (instruction_line program frames function target))
+  body_words function here (plain.Branch comparison left right target) = omega (arith, test_words (frame_at frames function) (test_of comparison left right) (hoisted (frame_at frames function) (routine_at program function).code (test_of comparison left right) target) (instruction_line program frames function target))
   body_words function here (plain.Call callee arguments count result) =
       let spilled : ℕ = here + spills_count (frame_at frames function) (frame_at frames callee) arguments 0 count in
       let calling : List Line = calling_code (frame_at frames function) (frame_at frames callee) spilled (function_line program frames callee) arguments count in

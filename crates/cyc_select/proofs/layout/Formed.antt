@@ -2,7 +2,7 @@
 use Rattle.std.proofs.Common.{◌≡◌, ℕ, zero, suc, ◌+◌, ◌-◌, ◌*◌, ◌/◌, ◌%◌, ◌^◌, ◌<◌, ◌≤◌, Bool, true, false, List, [], ◌∷◌, ◌++◌, length, take, Option, None, Some, slice_get, refl, sym, ap, subst, ◌∙◌, arith, inl, inr}
 use Rattle.std.specs.Prelude.{All, ◌==◌, ◌&&◌, nat_lt, if◌then◌else◌, slice_index_or}
 use Rattle.std.specs.List.{AllByRecursion}
-use Rattle.std.proofs.lemmas.Bool.{cases_Bool, cases_lt, eqb-true, ltb-true}
+use Rattle.std.proofs.lemmas.Bool.{cases_Bool, cases_lt, eqb-true, ltb-true, false≢true}
 use Rattle.std.proofs.lemmas.List.{get_or_past}
 use Rattle.cyc_words.specs.Word.{IsWord}
 use Rattle.cyc_words.proofs.Lists.{slice_get_below, all_append}
@@ -38,6 +38,7 @@ use Rattle.cyc_registers.specs.declared.home.Home.{Home}
 use Rattle.cyc_registers.specs.declared.home.Home.TheVariants as homes
 use Rattle.cyc_select.specs.declared.constants.TheConstants.{FIRST, SECOND, THIRD, ZERO, START_LINES, HANDLERS, REGIONS, GLOBALS}
 use Rattle.cyc_select.specs.declared.code.Line.{Line}
+use Rattle.cyc_select.specs.declared.code.Condition.{Condition}
 use Rattle.cyc_select.specs.declared.code.Condition.TheVariants as conditions
 use Rattle.cyc_select.specs.declared.code.Line.TheVariants as lines
 use Rattle.cyc_select.specs.declared.plan.Operation.{Operation}
@@ -50,10 +51,12 @@ use Rattle.cyc_select.specs.declared.plan.Test.TheVariants as tests
 use Rattle.cyc_select.specs.inside.Plans.{unary_plan, binary_plan, test_of}
 use Rattle.cyc_select.specs.inside.Labelled.{Labelled, IsFormed, IsFormedLine}
 use Rattle.cyc_select.specs.inside.Numbers.{fits_signed, is_zero_word}
-use Rattle.cyc_select.specs.inside.Selection.{value_register, product_code, quotient_code, passed_from, spill_from, pass_from, pass, is_kept, load_from, fetch_from, move_to, keep_code, give_to, give_code, bring_code, bring_all, load_words, reloads_from, reloads, opened_code, made_in, slot_offset, ordinary, result_registers, argument_code, service_number, answer_code, unwound_code, far_plan, address_code, near_half, at_address, copies, load_all, store_all, moves, all_moved, store_slot, pop_frame, load_upper, constant, or_immediate, is_tested, part_of, plan_count, small, syscall, add_immediate, minus, upper_of_global, word_code, load_code, load_count, operand_code, operand_register, operands_code, operation_code, outcome_code, operation_of, computed_code, plan_code, test_code, branch_line, divided_code, divide_code, divide_count, ending_code, ending_count, operator_code, operator_count, body, behind, place_lines, is_idle, body_count, count_of, code_count, function_count, functions_count, function_line, instruction_line, code_lines, function_lines, start_lines, select_of, regions_code, load_at, store_at, spill, spills, spills_count, calling_code, operand_count, global_code, is_near, global_address, load, store, saving_code, restoring_code, saving_count, returning_code, routine_lines}
+use Rattle.cyc_select.specs.inside.Selection.{value_register, product_code, quotient_code, passed_from, spill_from, pass_from, pass, is_kept, load_from, fetch_from, move_to, keep_code, give_to, give_code, bring_code, bring_all, load_words, reloads_from, reloads, opened_code, made_in, slot_offset, ordinary, result_registers, argument_code, service_number, answer_code, unwound_code, far_plan, address_code, near_half, at_address, copies, load_all, store_all, moves, all_moved, store_slot, pop_frame, load_upper, constant, or_immediate, is_tested, part_of, plan_count, small, syscall, add_immediate, minus, upper_of_global, word_code, load_code, load_count, operand_code, operand_register, operands_code, operation_code, outcome_code, operation_of, computed_code, plan_code, test_code, condition_of, hoisted, branch_code, behind_count, divided_code, divide_code, divide_count, ending_code, ending_count, operator_code, operator_count, body, behind, place_lines, is_idle, body_count, count_of, code_count, function_count, functions_count, function_line, instruction_line, code_lines, function_lines, start_lines, select_of, regions_code, load_at, store_at, spill, spills, spills_count, calling_code, operand_count, global_code, is_near, global_address, load, store, saving_code, restoring_code, saving_count, returning_code, routine_lines}
 use Rattle.cyc_select.proofs.layout.Lines.{line_first, line_next}
 use Rattle.cyc_select.proofs.values.Plans.{AllOfTest, all_unary, all_binary, all_test}
 use Rattle.cyc_select.proofs.emission.Counts.{operation_some, move_some, move_words_some, give_some, length_registers, answer_few, service_small}
+use Rattle.cyc_select.proofs.relation.Matches.{is_straight}
+use Rattle.cyc_select.proofs.steps.Hoisting.{Hoists, hoists}
 use Rattle.cyc_select.proofs.steps.Returns.{loaded}
 use Rattle.cyc_select.proofs.layout.Structure.{length_body, stand}
 use Rattle.cyc_select.proofs.effects.Walks.{Stands, stands_front}
@@ -445,11 +448,6 @@ module _ (program : Program) (well : IsWellFormed program) (words : HasWords pro
     test_formed (tests.Sign op operand) o = operand_formed FIRST operand o
     test_formed (tests.Computed plan) there = operation_of_formed FIRST plan there
 
-    branch_formed : (test : Test) (label : ℕ) → label < length (select_of program frames).lines → IsFormedLine (length (select_of program frames).lines) (branch_line frame test label)
-    branch_formed (tests.Operands op left right) label below = below
-    branch_formed (tests.Sign op operand) label below = below
-    branch_formed (tests.Computed plan) label below = below
-
     divide_formed : (which : MoveFromOp) (destination : ℕ) (left right : Operand) (n : ℕ) → destination < slots → IsThere left → IsThere right → n + (divide_count frame destination left right) ≤ length (select_of program frames).lines
         → Formed (divide_code frame n which destination left right)
     divide_formed which destination left right n below l r long =
@@ -547,6 +545,37 @@ module _ (program : Program) (well : IsWellFormed program) (words : HasWords pro
         formed_append (address_code frame address offset) (js ++ last) (address_formed address offset there near)
         (formed_append js last (operand_formed SECOND source also) ((refl, near_fits offset), tt))
 
+    straight_formed : (i : Instruction) (n : ℕ) → is_straight i ≡ true → IsInRange program (routine_at program function) i → HasWord i → n + body_count program frames function i ≤ length (select_of program frames).lines → Formed (body program frames function n i)
+    straight_formed (plain.Move destination source) n straight (a, b) fits long = move_formed destination source a (b, fits)
+    straight_formed (plain.Unary operator destination operand) n straight (a, b) fits long =
+        plan_formed (unary_plan operator operand) destination (unary_there operator operand (b, fits)) a
+    straight_formed (plain.Binary operator destination left right) n straight (a, b, e) (fits, also) long = operator_formed operator destination left right n a (b, fits) (e, also) long
+    straight_formed i n straight in_range fits long = absurd (false≢true straight)
+
+    -- it leads to the next instruction
+    straight_stays : (i : Instruction) → is_straight i ≡ true → leaves i ≡ false
+    straight_stays (plain.Move destination source) straight = refl
+    straight_stays (plain.Unary operator destination operand) straight = refl
+    straight_stays (plain.Binary operator destination left right) straight = refl
+    straight_stays i straight = absurd (false≢true straight)
+
+    -- a line that was hoisted is formed, and so is the label behind it
+    module _ (target : ℕ) (condition : Condition) (x : Instr) (its : Hoists program frames function target condition x) where
+      hoisted_formed : IsFormedLine (length (select_of program frames).lines) (lines.Ordinary x)
+      hoisted_formed =
+          let line : ℕ = instruction_line program frames function target in
+          let begins = its.first (instruction_line program frames function target) in
+          (subst Formed begins.1
+          (straight_formed its.i line its.straight (range_at program well (record { function = function; index = target }) its.i its.at) (holds_at HasWord (routine_at program function).code target its.i (words.functions function no_routine known) its.at)
+          (line_known function target its.i its.at its.busy))).0
+
+      behind_known : instruction_line program frames function target + 1 < length (select_of program frames).lines
+      behind_known =
+          let further = goes_behind program (routine_at program function) target its.i (routine_in program function well known) its.at (straight_stays its.i its.straight) in
+          let some = count_some program frames function its.i (range_at program well (record { function = function; index = target }) its.i its.at) in
+          let counted = ap (λ (b : Bool). (if b then 0 else body_count program frames function its.i) + behind_count program frames function its.i) its.busy in
+          omega (arith, target_known function (target + 1) further, line_next program frames function target its.i its.at, counted, some)
+
     body_formed : (i : Instruction) (n : ℕ) → IsInRange program (routine_at program function) i → HasWord i → n + body_count program frames function i ≤ length (select_of program frames).lines → Formed (body program frames function n i)
     body_formed (plain.Move destination source) n (a, b) fits long = move_formed destination source a (b, fits)
     body_formed (plain.Unary operator destination operand) n (a, b) fits long =
@@ -554,10 +583,23 @@ module _ (program : Program) (well : IsWellFormed program) (words : HasWords pro
     body_formed (plain.Binary operator destination left right) n (a, b, e) (fits, also) long = operator_formed operator destination left right n a (b, fits) (e, also) long
     body_formed (plain.Jump target) n below fits long = (target_known function target below, tt)
     body_formed (plain.Branch comparison left right target) n (a, b, below) (fits, also) long =
-        let test : Test = test_of comparison left right in
-        all_append (IsFormedLine (length (select_of program frames).lines)) (ordinary (test_code frame (test_of comparison left right))) (branch_line frame (test_of comparison left right) (instruction_line program frames function target) ∷ [])
-        (test_formed test (all_test IsThere zero_there IsPlanThere (λ op l r outcome x y. (x, y, tt)) (λ op l half outcome small x. (x, zero_there, small)) comparison left right (a, fits) (b, also)))
-        (branch_formed test (instruction_line program frames function target) (target_known function target below), tt)
+        go (hoisted frame (routine_at program function).code (test_of comparison left right) target) refl
+      where
+        test_there : Formed (ordinary (test_code frame (test_of comparison left right)))
+        test_there =
+            test_formed (test_of comparison left right) (all_test IsThere zero_there IsPlanThere (λ op l r outcome x y. (x, y, tt)) (λ op l half outcome small x. (x, zero_there, small)) comparison left right (a, fits) (b, also))
+
+        go : (first : Option Instr) → hoisted frame (routine_at program function).code (test_of comparison left right) target ≡ first
+            → Formed (branch_code frame (test_of comparison left right) first (instruction_line program frames function target))
+        go None is =
+            all_append (IsFormedLine (length (select_of program frames).lines)) (ordinary (test_code frame (test_of comparison left right))) (lines.Branch (condition_of frame (test_of comparison left right)) (instruction_line program frames function target) ∷ [])
+            test_there (target_known function target below, tt)
+        go (Some x) is =
+            let test : Test = test_of comparison left right in
+            let its = hoists program frames function target (test_of comparison left right) x is in
+            all_append (IsFormedLine (length (select_of program frames).lines)) (ordinary (test_code frame (test_of comparison left right) ++ x ∷ [])) (lines.Branch (condition_of frame (test_of comparison left right)) (instruction_line program frames function target + 1) ∷ [])
+            (formed_append (test_code frame test) (x ∷ []) test_there (hoisted_formed target (condition_of frame test) x its, tt))
+            (behind_known target (condition_of frame test) x its, tt)
     body_formed (plain.Call callee arguments count result) n in_range fits long =
         let its = fit.each callee in_range.function_in_range in
         let spilled : ℕ = n + spills_count frame (frame_at frames callee) arguments 0 count in

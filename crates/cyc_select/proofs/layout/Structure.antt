@@ -1,5 +1,5 @@
 -- The code of a program, put together: how long its parts are, and where each stands.
-use Rattle.std.proofs.Common.{◌≡◌, ℕ, zero, suc, ◌+◌, ◌<◌, ◌≤◌, Bool, true, false, List, [], ◌∷◌, ◌++◌, length, take, Some, None, slice_get, refl, subst, ◌∙◌, arith, length-append, append_assoc, ◌*◌}
+use Rattle.std.proofs.Common.{◌≡◌, ℕ, zero, suc, ◌+◌, ◌<◌, ◌≤◌, Bool, true, false, List, [], ◌∷◌, ◌++◌, length, take, Option, Some, None, slice_get, refl, subst, ◌∙◌, arith, length-append, append_assoc, ◌*◌}
 use Rattle.std.specs.Prelude.{◌==◌, if◌then◌else◌, slice_index_or}
 use Rattle.cyc_plain.specs.declared.instruction.Instruction.{Instruction}
 use Rattle.cyc_plain.specs.declared.instruction.Instruction.TheVariants as plain
@@ -23,11 +23,12 @@ use Rattle.cyc_select.specs.declared.code.Line.{Line}
 use Rattle.cyc_select.specs.declared.code.Condition.TheVariants as conditions
 use Rattle.cyc_select.specs.declared.code.Line.TheVariants as lines
 use Rattle.cyc_select.specs.declared.plan.Plan.{Plan}
+use Rattle.cyc_select.specs.declared.plan.Test.{Test}
 use Rattle.cyc_select.specs.inside.Labelled.{Labelled}
 use Rattle.cyc_select.specs.inside.Plans.{unary_plan, binary_plan, test_of}
-use Rattle.cyc_select.specs.inside.Selection.{value_register, product_code, quotient_code, copies_count, move_to, keep_code, keep_count, give_code, give_count, moved_code, reloads, reload_count, opened_code, made_in, ordinary, argument_code, service_number, answer_code, unwound_code, address_code, at_address, copies, bring_all, small, syscall, word_code, load_code, load_count, operand_code, operand_register, plan_code, plan_count, test_code, branch_line, divided_code, divide_code, divide_count, is_tested, part_of, result_registers, ending_code, ending_count, operator_code, operator_count, body, behind, place_lines, is_idle, body_count, behind_count, place_count, count_of, code_count, function_count, functions_count, function_line, instruction_line, code_lines, function_lines, start_lines, select_of, regions_code, load_at, store_at, address_count, operand_count, spills, spills_count, calling_code, global_code, load, store, saving_code, restoring_code, saving_count, returning_code, routine_lines}
+use Rattle.cyc_select.specs.inside.Selection.{value_register, product_code, quotient_code, copies_count, move_to, keep_code, keep_count, give_code, give_count, moved_code, reloads, reload_count, opened_code, made_in, ordinary, argument_code, service_number, answer_code, unwound_code, address_code, at_address, copies, bring_all, small, syscall, word_code, load_code, load_count, operand_code, operand_register, plan_code, plan_count, test_code, condition_of, hoisted, with_hoisted, behind_hoisted, divided_code, divide_code, divide_count, is_tested, part_of, result_registers, ending_code, ending_count, operator_code, operator_count, body, behind, place_lines, is_idle, body_count, behind_count, place_count, count_of, code_count, function_count, functions_count, function_line, instruction_line, code_lines, function_lines, start_lines, select_of, regions_code, load_at, store_at, address_count, operand_count, spills, spills_count, calling_code, global_code, load, store, saving_code, restoring_code, saving_count, returning_code, routine_lines}
 use Rattle.cyc_select.proofs.steps.Calls.{length_ordinary}
-use Rattle.cyc_select.proofs.emission.Counts.{length_keep, length_give, length_move, length_moved, length_spills, length_copies, length_argument, length_answer, length_regions, length_results, length_registers, length_word, length_load, length_operand, length_address, length_plan, length_test, length_divided, length_global}
+use Rattle.cyc_select.proofs.emission.Counts.{length_keep, length_give, length_move, length_moved, length_spills, length_copies, length_argument, length_answer, length_regions, length_results, length_registers, length_word, length_load, length_operand, length_address, length_plan, length_test, length_hoisted, length_divided, length_global}
 use Rattle.cyc_select.proofs.steps.Returns.{loaded, length_loaded}
 use Rattle.cyc_select.proofs.relation.Values.{length_reloads}
 use Rattle.cyc_select.proofs.effects.Walks.{Stands, stands_front, stands_back}
@@ -97,8 +98,11 @@ module _ (program : Program) (frames : List Frame) (few_results : (function : �
   length_body function here (plain.Binary operator destination left right) = length_operator (frame_at frames function) here operator destination left right
   length_body function here (plain.Jump target) = refl
   length_body function here (plain.Branch comparison left right target) =
-      let last : List Line = branch_line (frame_at frames function) (test_of comparison left right) (instruction_line program frames function target) ∷ [] in
-      omega (arith, length-append (ordinary (test_code (frame_at frames function) (test_of comparison left right))) last, length_ordinary (test_code (frame_at frames function) (test_of comparison left right)), length_test (frame_at frames function) (test_of comparison left right))
+      let test : Test = test_of comparison left right in
+      let first : Option Instr = hoisted (frame_at frames function) (routine_at program function).code (test_of comparison left right) target in
+      let is : List Instr = with_hoisted (test_code (frame_at frames function) test) first in
+      let last : List Line = lines.Branch (condition_of (frame_at frames function) test) (behind_hoisted first (instruction_line program frames function target)) ∷ [] in
+      omega (arith, length-append (ordinary is) last, length_ordinary is, length_hoisted (test_code (frame_at frames function) test) first, length_test (frame_at frames function) test)
   length_body function here (plain.Call callee arguments count result) =
       let spilled : ℕ = here + spills_count (frame_at frames function) (frame_at frames callee) arguments 0 count in
       let calling : List Line = calling_code (frame_at frames function) (frame_at frames callee) spilled (function_line program frames callee) arguments count in

@@ -24,7 +24,7 @@ use Rattle.cyc_frame.specs.inside.Frame.{Frame}
 use Rattle.cyc_select.specs.inside.Labelled.{Labelled, IsFormed}
 use Rattle.cyc_select.specs.inside.Machine as labelled
 use Rattle.cyc_select.specs.inside.Machine.{State, Running, Ended}
-use Rattle.cyc_select.specs.inside.Selection.{slot_offset, value_register, is_kept, function_line, instruction_line, count_of}
+use Rattle.cyc_select.specs.inside.Selection.{slot_offset, value_register, is_kept, is_idle, function_line, instruction_line, count_of}
 use Rattle.cyc_select.proofs.values.Blocks.{ValuesSame, lasting}
 use Rattle.cyc_select.proofs.layout.Lines.{line_next}
 use Rattle.cyc_select.proofs.effects.Views.{Contents, written}
@@ -40,6 +40,13 @@ result_register k = slice_index (2 ∷ 3 ∷ 5 ∷ []) k
 abbrev pub After : (program : Program) (pages calls : ℕ) → Configuration → State → Type 0
 After program pages calls c t =
     (labelled.status_of t ≡ simulation.Running) × (next : states.State) × Step program pages calls (states.Running c) next × (labelled.seen_of t ≡ states.seen_of next)
+
+-- an instruction that makes a word, and leads to the next
+abbrev pub is_straight : Instruction → Bool
+is_straight (plain.Move destination source) = true
+is_straight (plain.Unary operator destination operand) = true
+is_straight (plain.Binary operator destination left right) = true
+is_straight i = false
 
 module _ (program : Program) (well : IsWellFormed program) (frames : List Frame) (fit : AreFrames program frames) (code : Labelled) (formed : IsFormed code) (addresses : ℕ → ℕ) (pages calls : ℕ) (few : calls ≤ 4096) where
   abbrev pub At : ℕ → (out input : List ℕ) → (r : Words) (w : Contents) → labelled.Configuration → Type 0
@@ -109,8 +116,23 @@ module _ (program : Program) (well : IsWellFormed program) (frames : List Frame)
     pub standing : Standing program frames addresses pages calls (record c { active = record c.active { handlers = handlers } }) r w base (w.words (base + 4 * (frame_at frames c.active.function).return_address)) true waiting
     pub slots : c.active.slots ≡ put (put waiting first (r 4)) (suc first) (r 5)
 
+  -- The first of the instruction's own lines was executed already, in front of the branch that led to it. Where the run came from it
+  -- was not so: this is where it would have been.
+  pub record Begun (c : Configuration) (t : State) : Type 0 where
+    pub run : labelled.Configuration
+    pub before : labelled.Configuration
+    pub i : Instruction
+    pub is : t ≡ Running run
+    pub ready : Ready c (Running before)
+    pub at : instruction_at program (states.place_of (states.Running c)) ≡ Some i
+    pub straight : is_straight i ≡ true
+    pub busy : is_idle (frame_at frames c.active.function) c.active.next i ≡ false
+    pub output : run.output ≡ c.output
+    pub input : run.input ≡ c.input
+    pub goes : labelled.Step code addresses (Running before) (Running run)
+
   abbrev pub Matches : states.State → State → Type 0
-  Matches (states.Running c) t = Ready c t ⊎ (Back c t ⊎ (Landed c t ⊎ Entered c t))
+  Matches (states.Running c) t = Ready c t ⊎ (Back c t ⊎ (Landed c t ⊎ (Entered c t ⊎ Begun c t)))
   Matches (states.Ended ending out input) t = t ≡ Ended ending out input
   Matches (states.Stuck out input) t = ⊥
 
@@ -187,7 +209,36 @@ module _ (program : Program) (well : IsWellFormed program) (frames : List Frame)
           caches = made_caches program frames c.active.function (fit.homes c.active.function s.known) c.active.next destination word r r' c.active.slots i at unwritten gets led result others caches;
         }))
 
-    -- an instruction that goes to a place of the same code, and may print
+    -- what is left by an instruction that goes to a place of the same code, and may print
+    pub ready_by : (d : Configuration) (line : ℕ) (run : labelled.Configuration) (r' : Words) (w' : Contents)
+        → d.active.function ≡ c.active.function → d.active.base ≡ c.active.base → d.active.handlers ≡ c.active.handlers → d.active.slots ≡ c.active.slots → d.frames ≡ c.frames → d.globals ≡ c.globals → d.store ≡ c.store → d.input ≡ c.input
+        → line ≡ instruction_line program frames d.active.function d.active.next
+        → r' 0 ≡ r 0 → r' FRAME ≡ r FRAME → r' LOWEST ≡ r LOWEST → r' RETURN_ADDRESS ≡ r RETURN_ADDRESS → lasting r' ≡ lasting r → w' ≡ w
+        → Caches program frames c.active.function d.active.next r' d.active.slots
+        → At line d.output d.input r' w' run → Ready d (Running run)
+    ready_by d line run r' w' function_same place_same handlers_same slots_same frames_same globals_same store_same input_same line_is zero_same base_same lowest_same back_same lasts_same unchanged cached now =
+        let in_r' = standing_registers program well frames fit addresses pages calls few c r w base back (keeps_back frames c) c.active.slots s r' zero_same base_same lowest_same (λ outside. back_same) lasts_same in
+        let fine : AllByRecursion IsWord d.input = subst (λ (l : List ℕ). AllByRecursion IsWord l) (sym input_same) s.input in
+        let there = standing_at program well frames fit addresses pages calls few c r' w base back (keeps_back frames c) c.active.slots in_r' d function_same place_same handlers_same frames_same globals_same store_same fine in
+        let with_slots = subst (λ (x : Words). Standing program frames addresses pages calls d r' w base back (keeps_back frames c) x) (sym slots_same) there in
+        let with_function = subst (λ (f : ℕ). Standing program frames addresses pages calls d r' w base back (frame_at frames f).saves d.active.slots) (sym function_same) with_slots in
+        record {
+          run = run;
+          r = r';
+          w = w';
+          base = base;
+          back = back;
+          is = refl;
+          now = now_at code formed addresses globals_length (words_per_call * calls) line (instruction_line program frames d.active.function d.active.next) d.output d.input r' w' run line_is now;
+          standing = subst (λ (x : Contents). Standing program frames addresses pages calls d r' x base back (keeps_back frames d) d.active.slots) (sym unchanged) with_function;
+          caches = subst (λ (n : ℕ). Caches program frames n d.active.next r' d.active.slots) (sym function_same) cached;
+        }
+
+    -- the step of such an instruction
+    pub steps_by : (d : Configuration) (u : State) → Ready d u → performed program zeros c i ≡ states.Running d → Step program pages calls (states.Running c) (states.Running d)
+    steps_by d u ready does =
+        steps_to c zeros i (states.Running d) (zeros_at program c i at free) at does (within d ready.standing.laid.paged ready.standing.deep)
+
     pub reached_at : (d : Configuration) (line : ℕ) (run : labelled.Configuration) (r' : Words) (w' : Contents)
         → d.active.function ≡ c.active.function → d.active.base ≡ c.active.base → d.active.handlers ≡ c.active.handlers → d.active.slots ≡ c.active.slots → d.frames ≡ c.frames → d.globals ≡ c.globals → d.store ≡ c.store → d.input ≡ c.input
         → performed program zeros c i ≡ states.Running d
@@ -196,25 +247,7 @@ module _ (program : Program) (well : IsWellFormed program) (frames : List Frame)
         → ((slot : ℕ) → writes program i slot ≡ false) → leads i c.active.next d.active.next ≡ true
         → At line d.output d.input r' w' run → Reached c (Running run)
     reached_at d line run r' w' function_same place_same handlers_same slots_same frames_same globals_same store_same input_same does line_is zero_same base_same lowest_same back_same lasts_same values unchanged unwritten led now =
-        let in_r' = standing_registers program well frames fit addresses pages calls few c r w base back (keeps_back frames c) c.active.slots s r' zero_same base_same lowest_same (λ outside. back_same) lasts_same in
-        let fine : AllByRecursion IsWord d.input = subst (λ (l : List ℕ). AllByRecursion IsWord l) (sym input_same) s.input in
-        let there = standing_at program well frames fit addresses pages calls few c r' w base back (keeps_back frames c) c.active.slots in_r' d function_same place_same handlers_same frames_same globals_same store_same fine in
-        let with_slots = subst (λ (x : Words). Standing program frames addresses pages calls d r' w base back (keeps_back frames c) x) (sym slots_same) there in
-        let with_function = subst (λ (f : ℕ). Standing program frames addresses pages calls d r' w base back (frame_at frames f).saves d.active.slots) (sym function_same) with_slots in
-        let with_memory = subst (λ (x : Contents). Standing program frames addresses pages calls d r' x base back (keeps_back frames d) d.active.slots) (sym unchanged) with_function in
-        reached c zeros i (states.Running d) (Running run) (zeros_at program c i at free) at does
-        (within d with_memory.laid.paged with_memory.deep)
-        (inl (record {
-          run = run;
-          r = r';
-          w = w';
-          base = base;
-          back = back;
-          is = refl;
-          now = now_at code formed addresses globals_length (words_per_call * calls) line (instruction_line program frames d.active.function d.active.next) d.output d.input r' w' run line_is now;
-          standing = with_memory;
-          caches =
-              subst (λ (n : ℕ). Caches program frames n d.active.next r' d.active.slots) (sym function_same)
-              (caches_past program frames c.active.function (fit.homes c.active.function s.known) c.active.next d.active.next r r' c.active.slots d.active.slots i at led
-              (λ slot k has. unwritten slot) (λ slot k has. ap (λ (x : Words). x slot) slots_same) values caches);
-        }))
+        let ready = ready_by d line run r' w' function_same place_same handlers_same slots_same frames_same globals_same store_same input_same line_is zero_same base_same lowest_same back_same lasts_same unchanged
+        (caches_past program frames c.active.function (fit.homes c.active.function s.known) c.active.next d.active.next r r' c.active.slots d.active.slots i at led
+        (λ slot k has. unwritten slot) (λ slot k has. ap (λ (x : Words). x slot) slots_same) values caches) now in
+        (states.Running d, steps_by d (Running run) ready does, inl ready)

@@ -2,7 +2,7 @@
 use Rattle.std.proofs.Common.{◌≡◌, ◌≢◌, ℕ, zero, suc, ◌+◌, ◌-◌, ◌*◌, ◌^◌, ◌<◌, ◌≤◌, Bool, true, false, not, List, [], ◌∷◌, ◌++◌, length, Option, Some, None, slice_get, refl, sym, ap, subst, ◌∙◌, arith, inl, inr}
 use Rattle.std.specs.Prelude.{if◌then◌else◌}
 use Rattle.std.specs.List.{range_with_len}
-use Rattle.std.proofs.lemmas.Bool.{cases_lt, eq-eqb, ne_eqb}
+use Rattle.std.proofs.lemmas.Bool.{cases_lt, eq-eqb, ne_eqb, false≢true}
 use Rattle.cyc_words.specs.Ending.{Ending}
 use Rattle.std.proofs.lemmas.List.{get_or_past}
 use Rattle.cyc_words.specs.Word.{IsWord}
@@ -16,7 +16,7 @@ use Rattle.cyc_plain.specs.declared.instruction.Instruction.TheVariants as plain
 use Rattle.cyc_plain.specs.declared.instruction.BinaryOperator.{BinaryOperator}
 use Rattle.cyc_plain.specs.declared.instruction.BinaryOperator.TheVariants as binary
 use Rattle.cyc_plain.specs.declared.instruction.Operand.{Operand}
-use Rattle.cyc_plain.specs.inside.Operators.{binary_result, has_no_result}
+use Rattle.cyc_plain.specs.inside.Operators.{unary_result, binary_result, has_no_result}
 use Rattle.cyc_plain.specs.inside.Program.{Routine, Program, CodePlace, no_routine, routine_at}
 use Rattle.cyc_words.specs.Simulation as simulation
 use Rattle.cyc_words.specs.inside.Following.{IsOnTheWay, Matching, IsMatchedStep, IsStepped, Steps}
@@ -28,7 +28,7 @@ use Rattle.cyc_plain.specs.inside.WellFormed.{IsOperand, IsWellFormed, IsInRange
 use Rattle.cyc_words.proofs.SeenLemmas.{seen_same}
 use Rattle.cyc_words.proofs.Matching.{way_before, way_after}
 use Rattle.cyc_plain.proofs.Placed.{holds_at, routine_in, below_of_get, goes_behind}
-use Rattle.cyc_plain.proofs.RunLaws.{lawful, limited-within, zeros, zeros_allowed, zeros_at, stuck_within}
+use Rattle.cyc_plain.proofs.RunLaws.{lawful, limited-within, limited_either, zeros, zeros_allowed, zeros_at, stuck_within}
 use Rattle.cyc_plain.proofs.Steps.{function_known}
 use Rattle.cyc_frame.specs.inside.Layout.{AreFrames, frame_at}
 use Rattle.cyc_frame.specs.inside.Frame.{Frame}
@@ -48,9 +48,9 @@ use Rattle.cyc_select.proofs.values.Operations.{product_quotient, product_remain
 use Rattle.cyc_select.proofs.values.Plans.{multiply_divide_result, if_low}
 use Rattle.cyc_select.proofs.relation.Values.{Caches}
 use Rattle.cyc_select.proofs.effects.Views.{Contents}
-use Rattle.cyc_select.proofs.effects.Walks.{Stands, stands_front, stands_back, stands_until, Rises, rising_distinct, rising_inside, comes_map, Quiet, Walk, walk_end}
+use Rattle.cyc_select.proofs.effects.Walks.{Stands, stands_front, stands_back, stands_until, Rises, rising_distinct, rising_inside, comes_map, Quiet, Walk, walk_end, walk_to, walk_rest}
 use Rattle.cyc_select.proofs.relation.Standing.{IsNewest, keeps_back, Standing, behind_line}
-use Rattle.cyc_select.proofs.relation.Matches.{After, At, Ready, Matches, Reached, Passed, weight}
+use Rattle.cyc_select.proofs.relation.Matches.{After, At, Ready, Begun, Matches, Reached, Passed, weight, is_straight}
 use Rattle.cyc_select.proofs.steps.Simple.{address_goes, move_goes, unary_goes, binary_goes, divide_goes, jump_goes, branch_goes, read_goes, write_goes, load_global_goes, count_lexical_goes, store_global_goes, uncaught_goes}
 use Rattle.cyc_select.proofs.steps.Accesses.{move_words_goes, load_goes, store_goes, load_byte_goes, store_byte_goes}
 use Rattle.cyc_select.proofs.steps.Requests.{ask_goes}
@@ -308,7 +308,8 @@ module _ (program : Program) (well : IsWellFormed program) (words : HasWords pro
     instruction_goes (plain.Unary operator destination operand) at busy (a, b) fits stands = unary_goes program well frames fit code formed addresses pages calls few c run r w base back now s caches operator destination operand at a (b, fits) (omega (arith, counted (plain.Unary operator destination operand) busy)) stands
     instruction_goes (plain.Binary operator destination left right) at busy (a, b, e) (fits, also) stands = operator_goes operator destination left right at busy a (b, fits) (e, also) stands
     instruction_goes (plain.Jump target) at busy below fits stands = jump_goes program well frames fit code formed addresses pages calls few c run r w base back now s caches target at stands
-    instruction_goes (plain.Branch comparison left right target) at busy (a, b, below) (fits, also) stands = branch_goes program well frames fit code formed addresses pages calls few c run r w base back now s caches comparison left right target at (a, fits) (b, also) (omega (arith, counted (plain.Branch comparison left right target) busy)) stands
+    instruction_goes (plain.Branch comparison left right target) at busy (a, b, below) (fits, also) stands = branch_goes program well frames fit code formed addresses pages calls few c run r w base back now s caches comparison left right target at (a, fits) (b, also) (omega (arith, counted (plain.Branch comparison left right target) busy))
+        (λ j there is_busy. stands_front code (instruction_line program frames c.active.function target) (body program frames c.active.function (instruction_line program frames c.active.function target) j) (behind program frames c.active.function j) (body_stands program well frames fit code stand long c.active.function target j there is_busy)) stands
     instruction_goes (plain.Call callee arguments count result) at busy in_range fits stands =
         call_goes program well frames fit code formed addresses pages calls few lie c run r w base back now s caches callee arguments count result at in_range (returns_to c.active.function c.active.next callee arguments count result at).inside stands
     instruction_goes (plain.Return value) at busy in_range fits stands =
@@ -356,7 +357,8 @@ module _ (program : Program) (well : IsWellFormed program) (words : HasWords pro
   seen_alike (states.Running c) t (inl ready) = now_seen c _ ready.r ready.w ready.run t ready.is ready.now
   seen_alike (states.Running c) t (inr (inl back)) = now_seen c _ back.r back.w back.run t back.is back.now
   seen_alike (states.Running c) t (inr (inr (inl landed))) = now_seen c _ landed.r landed.w landed.run t landed.is landed.now
-  seen_alike (states.Running c) t (inr (inr (inr entered))) = now_seen c _ entered.r entered.w entered.run t entered.is entered.now
+  seen_alike (states.Running c) t (inr (inr (inr (inl entered)))) = now_seen c _ entered.r entered.w entered.run t entered.is entered.now
+  seen_alike (states.Running c) t (inr (inr (inr (inr begun)))) = ap labelled.seen_of begun.is ∙ seen_same begun.run.output c.output begun.run.input c.input begun.output begun.input
   seen_alike (states.Ended ending out input) t is = ap labelled.seen_of is
   seen_alike (states.Stuck out input) t is = absurd is
 
@@ -459,6 +461,46 @@ module _ (program : Program) (well : IsWellFormed program) (words : HasWords pro
         line_first program frames function,
       )
 
+  abbrev IsLighter : Configuration → states.State → Type 0
+  IsLighter c u = weight program well frames fit code formed addresses pages calls few u < length (routine_at program c.active.function).code - c.active.next
+
+  -- by a word that is made the run comes nearer to the end of the code
+  straight_lighter : (c : Configuration) (i : Instruction) → instruction_at program (states.place_of (states.Running c)) ≡ Some i → is_straight i ≡ true → (next : states.State) → Step program pages calls (states.Running c) next
+      → weight program well frames fit code formed addresses pages calls few next < weight program well frames fit code formed addresses pages calls few (states.Running c)
+  straight_lighter c i at straight next (choice, allowed, is) =
+      subst (IsLighter c) (sym is)
+      (limited_either (IsLighter c) pages calls (states.Running c) (step program choice (states.Running c)) (λ within. subst (IsLighter c) (sym (ap (executed program choice c) at)) (performed_lighter i straight)) some)
+    where
+      some : 0 < length (routine_at program c.active.function).code - c.active.next
+      some = omega (arith, below_of_get (routine_at program c.active.function).code c.active.next i at)
+
+      given_lighter : (destination word : ℕ) → IsLighter c (gives c destination word)
+      given_lighter destination word = omega (arith, some)
+
+      performed_lighter : (j : Instruction) → is_straight j ≡ true → IsLighter c (performed program choice c j)
+      performed_lighter (plain.Move destination source) is_one = given_lighter destination (operand_word c.active.slots source)
+      performed_lighter (plain.Unary operator destination operand) is_one = given_lighter destination (unary_result operator (operand_word c.active.slots operand))
+      performed_lighter (plain.Binary operator destination left right) is_one = go (has_no_result operator (operand_word c.active.slots right))
+        where
+          go : (b : Bool) → IsLighter c (if b then states.Stuck c.output c.input else gives c destination (binary_result operator (operand_word c.active.slots left) (operand_word c.active.slots right)))
+          go true = some
+          go false = given_lighter destination (binary_result operator (operand_word c.active.slots left) (operand_word c.active.slots right))
+      performed_lighter j is_one = absurd (false≢true is_one)
+
+  -- behind its first line, which was executed in front of a branch
+  begun_goes : (c : Configuration) (t : State) → Begun program well frames fit code formed addresses pages calls few c t → Never c → IsStepped above below_machine matching (states.Running c) t
+  begun_goes c t begun never =
+      let line : ℕ = instruction_line program frames c.active.function c.active.next in
+      let same : begun.before ≡ begun.ready.run = (let e : Running begun.before ≡ Running begun.ready.run = begun.ready.is in cc) in
+      let before_line : begun.before.line ≡ instruction_line program frames c.active.function c.active.next = ap (λ (d : labelled.Configuration). d.line) same ∙ begun.ready.now.at_line in
+      let unread : begun.run.input ≡ begun.before.input = begun.input ∙ sym (ap (λ (d : labelled.Configuration). d.input) same ∙ begun.ready.now.input) in
+      let whole = subst (Walk code formed addresses globals_length (words_per_call * calls) 1 line (end_of c begun.i) c.output (After program pages calls c) (Comes_to false c)) (sym begun.ready.is)
+      (ready_goes false c (Running begun.before) never begun.ready begun.i begun.at begun.busy) in
+      stepped true c t begun.run (suc begun.before.line) begun.i begun.input begun.at (omega (arith, before_line)) begun.is
+      (walk_to code formed addresses globals_length (words_per_call * calls) 0 (suc begun.before.line) (end_of c begun.i) c.output (Comes_to false c) (Comes_to true c) (Running begun.run)
+      (λ u reached. (reached.0, reached.1, reached.2, straight_lighter c begun.i begun.at begun.straight reached.0 reached.1))
+      (walk_rest code formed addresses globals_length (words_per_call * calls) 0 line (end_of c begun.i) c.output (Comes_to false c) begun.before begun.run unread whole begun.goes))
+
   known_goes : (c : Configuration) (t : State) → Matches program well frames fit code formed addresses pages calls few (states.Running c) t → Never c → (i : Instruction) → instruction_at program (states.place_of (states.Running c)) ≡ Some i
       → IsStepped above below_machine matching (states.Running c) t
   known_goes c t matches never i at = go (is_idle (frame_at frames c.active.function) c.active.next i) refl matches
@@ -472,10 +514,11 @@ module _ (program : Program) (well : IsWellFormed program) (words : HasWords pro
 
       go : (idle : Bool) → is_idle (frame_at frames c.active.function) c.active.next i ≡ idle → Matches program well frames fit code formed addresses pages calls few (states.Running c) t → IsStepped above below_machine matching (states.Running c) t
       go idle is (inl ready) = stepped idle c t ready.run (instruction_line program frames c.active.function c.active.next) i ready.now.input at (omega arith) ready.is (ready_goes idle c t never ready i at is)
-      go idle is (inr (inr (inr entered))) =
+      go idle is (inr (inr (inr (inl entered)))) =
           stepped idle c t entered.run (function_line program frames c.active.function) i entered.now.input at
           (entry_before c.active.function c.active.next entered.first) entered.is
           (entered_goes program well frames fit code formed addresses pages calls few c t entered (stand_saving c.active.function entered.standing.known) (least_of idle) (end_of c i) (Comes_to idle c) (then_goes idle is))
+      go idle is (inr (inr (inr (inr begun)))) = begun_goes c t begun never
       go idle is (inr (inr (inl landed))) =
           let place : instruction_at program (states.place_of (states.Running c)) ≡ Some (plain.Try landed.first landed.handler) = landed.opened in
           stepped false c t landed.run (instruction_line program frames c.active.function c.active.next + 3) (plain.Try landed.first landed.handler) landed.now.input place (omega arith) landed.is

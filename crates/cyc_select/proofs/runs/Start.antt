@@ -293,7 +293,7 @@ module _ (program : Program) (well : IsWellFormed program) (words : HasWords pro
       (stands_back code 0 (ordinary first) (lines.Jump (function_line program frames program.main) ∷ []) starts).0 (omega arith)
       (λ e jumped.
       walk_end code formed addresses globals_length (words_per_call * calls) (suc (0 + 5)) START_LINES [] _ (Running e) (omega arith)
-      (inr (inr (inr (record {
+      (inr (inr (inr (inl (record {
         run = e;
         r = q;
         w = w;
@@ -303,7 +303,7 @@ module _ (program : Program) (well : IsWellFormed program) (words : HasWords pro
         now = jumped;
         standing = standing;
         caches = λ slot k has wanted. absurd (let parameters = well.main_parameters in omega (arith, parameters, (fit.homes program.main well.main).entry slot k has wanted));
-      })))))))
+      }))))))))
 
   pub follows : NeverFails (steps.machine program pages calls) (steps.start program (main_place program frames) store input)
       → Follows (steps.machine program pages calls) (machine code addresses) (range_with_len 0 START_LINES) (own_of program frames) (steps.start program (main_place program frames) store input) (start code store calls input)

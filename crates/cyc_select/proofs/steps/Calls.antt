@@ -314,7 +314,7 @@ module _ (program : Program) (well : IsWellFormed program) (frames : List Frame)
         reached program well frames fit code formed addresses pages calls few c choice (plain.Call callee arguments count result) (states.Running entered) (Running d)
         (called_at program c callee choice (ap callee_of at_i) (λ slot. later.w_words (low + slot_offset its slot)) new_below) at_i refl
         (within program well frames fit code formed addresses pages calls few entered s.laid.paged deeper)
-        (inr (inr (inr (record {
+        (inr (inr (inr (inl (record {
           run = d;
           r = r3;
           w = w2;
@@ -324,7 +324,7 @@ module _ (program : Program) (well : IsWellFormed program) (frames : List Frame)
           now = later;
           standing = entered_stands;
           caches = entered_caches;
-        }))))
+        })))))
 
     room_goes : (d : labelled.Configuration) → AtLine (here + 3) r w d → Goes 0 (suc here) (here + (5 + copies_count (frame_at frames c.active.function) (frame_at frames callee) arguments 0 count)) (Running d)
     room_goes d later =

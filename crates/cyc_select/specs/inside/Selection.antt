@@ -3,7 +3,7 @@
 --
 -- Frames grow downward from the end of the stack. The return address of the call that starts the program is 0. Which
 -- registers have what is in the module `constants`.
-use Rattle.std.specs.Prelude.{ℕ, zero, suc, ◌+◌, ◌-◌, ◌*◌, ◌/◌, ◌%◌, ◌^◌, ◌==◌, ◌&&◌, ◌||◌, Bool, true, false, not, nat_lt, if◌then◌else◌, List, [], ◌∷◌, ◌++◌, length, map, sum_by, take, Option, Some, None}
+use Rattle.std.specs.Prelude.{ℕ, zero, suc, ◌+◌, ◌-◌, ◌*◌, ◌/◌, ◌%◌, ◌^◌, ◌==◌, ◌&&◌, ◌||◌, Bool, true, false, not, nat_lt, if◌then◌else◌, List, [], ◌∷◌, ◌++◌, length, map, sum_by, take, Option, Some, None, slice_get}
 use Rattle.cyc_plain.specs.declared.limits.TheConstants.{MOST_FRAME_WORDS}
 use Rattle.cyc_registers.specs.inside.Bars.{is_crossing}
 use Rattle.cyc_isa.specs.Decoding.{register_of, shift_amount_of, trap_code_of}
@@ -41,9 +41,11 @@ use Rattle.cyc_registers.specs.declared.home.Home.{Home}
 use Rattle.cyc_registers.specs.declared.home.Home.TheVariants as homes
 use Rattle.cyc_registers.specs.inside.Interference as homing
 use Rattle.cyc_frame.specs.inside.Frame.{Frame}
+use Rattle.cyc_registers.specs.inside.Fills.{fills_at}
 use Rattle.cyc_registers.specs.inside.Idle.{idle_at}
 use Rattle.cyc_select.specs.declared.constants.TheConstants.{ZERO, FIRST_RESULT, SECOND_RESULT, THIRD_RESULT, FIRST, SECOND, THIRD, FRAME, FRAME_SHIFT, LOWEST, HANDLERS, REGIONS, START_LINES, GLOBALS, GLOBALS_MIDDLE, NEAR_GLOBALS}
 use Rattle.cyc_select.specs.declared.code.Line.{Line}
+use Rattle.cyc_select.specs.declared.code.Condition.{Condition}
 use Rattle.cyc_select.specs.declared.code.Condition.TheVariants as conditions
 use Rattle.cyc_select.specs.declared.code.Line.TheVariants as lines
 use Rattle.cyc_select.specs.inside.Labelled.{Labelled}
@@ -311,12 +313,12 @@ branch_on outcomes.AsItIs = branch.NotEqual
 branch_on outcomes.WhetherZero = branch.Equal
 branch_on outcomes.WhetherNotZero = branch.NotEqual
 
-abbrev pub branch_line : Frame → Test → (label : ℕ) → Line
-branch_line frame (tests.Operands op left right) label =
-    lines.Branch (conditions.Registers op (register_of (operand_register frame FIRST left)) (register_of (operand_register frame SECOND right))) label
-branch_line frame (tests.Sign op operand) label = lines.Branch (conditions.Sign op (register_of (operand_register frame FIRST operand))) label
-branch_line frame (tests.Computed plan) label =
-    lines.Branch (conditions.Registers (branch_on plan.outcome) (register_of FIRST) (register_of ZERO)) label
+abbrev pub condition_of : Frame → Test → Condition
+condition_of frame (tests.Operands op left right) =
+    conditions.Registers op (register_of (operand_register frame FIRST left)) (register_of (operand_register frame SECOND right))
+condition_of frame (tests.Sign op operand) = conditions.Sign op (register_of (operand_register frame FIRST operand))
+condition_of frame (tests.Computed plan) =
+    conditions.Registers (branch_on plan.outcome) (register_of FIRST) (register_of ZERO)
 
 -- ---- addresses
 
@@ -597,6 +599,123 @@ move_words_count frame destination source count =
     then 2 * length (result_registers count)
     else moves_count frame destination source count
 
+-- An idle place has no lines of its own: where its frame says so, of an instruction that may be idle.
+abbrev pub is_idle : Frame → (index : ℕ) → Instruction → Bool
+is_idle frame index (plain.Move destination source) = idle_at frame.idle index
+is_idle frame index (plain.Unary operator destination operand) = idle_at frame.idle index
+is_idle frame index (plain.Binary operator destination left right) = idle_at frame.idle index
+is_idle frame index (plain.Jump target) = idle_at frame.idle index
+is_idle frame index (plain.Branch comparison left right target) = idle_at frame.idle index
+is_idle frame index instruction = false
+
+-- ---- what a branch does of its target
+
+-- Where the first line of a branch's target makes a word of what is in registers, and the frame says so, a copy of it stands in
+-- front of the branch, which leads to the line behind: so the slot of the branch is filled.
+
+-- the first line of what brings a word into a register
+abbrev pub word_first : (target word : ℕ) → Instr
+word_first target word =
+    if fits_signed word
+    then small target (word % 2 ^ 16)
+    else (if nat_lt word (2 ^ 16) then or_immediate target word else load_upper target word)
+
+-- The first line of what brings an operand into a register, or else this one of what stands behind; none where it is loaded.
+abbrev pub slot_first : Option ℕ → (behind : Option Instr) → Option Instr
+slot_first None behind = None
+slot_first (Some own) behind = behind
+
+abbrev pub operand_first : Frame → (register : ℕ) → Operand → (behind : Option Instr) → Option Instr
+operand_first frame register (operands.Slot number) behind = slot_first (value_register frame number) behind
+operand_first frame register (operands.Word word) behind =
+    if is_zero_word (operands.Word word) then behind else Some (word_first register word)
+
+abbrev pub operation_first : Operation → (target left right : ℕ) → Option Instr
+operation_first (operations.Arithmetic op) target left right = Some (arithmetic_of op target left right)
+operation_first (operations.Immediate op half) target left right = Some (immediate_of op target left half)
+operation_first (operations.Shift op) target left right = Some (shift_of op target left right)
+operation_first (operations.ShiftBy op amount) target left right = Some (shift_by_of op target left amount)
+operation_first (operations.MultiplyDivide op from) target left right = None
+
+-- the first line of a plan, and of a copy
+abbrev pub plan_first : Frame → Plan → (destination : ℕ) → Option Instr
+plan_first frame plan destination =
+    operand_first frame FIRST plan.left
+    (operand_first frame SECOND plan.right
+    (operation_first plan.operation (made_in frame destination) (operand_register frame FIRST plan.left) (operand_register frame SECOND plan.right)))
+
+abbrev pub copy_first : Option ℕ → (register : ℕ) → Option Instr
+copy_first None register = None
+copy_first (Some own) register = Some (copy register own)
+
+abbrev pub load_first : Frame → (register : ℕ) → Operand → Option Instr
+load_first frame register (operands.Slot number) = copy_first (value_register frame number) register
+load_first frame register (operands.Word word) = Some (word_first register word)
+
+abbrev pub move_first : Option ℕ → Frame → Operand → Option Instr
+move_first None frame source = operand_first frame FIRST source None
+move_first (Some register) frame source = load_first frame register source
+
+-- the register that an instruction makes a word in, of what is in registers alone
+abbrev pub target_of : Instr → Option ℕ
+target_of (machine.Immediate op target source half) = Some target.number
+target_of (machine.LoadUpper target half) = Some target.number
+target_of (machine.Shift op destination source amount) = Some destination.number
+target_of (machine.ShiftVariable op destination source by) = Some destination.number
+target_of (machine.Arithmetic op destination left right) = Some destination.number
+target_of instruction = None
+
+abbrev pub tests_register : Condition → (register : ℕ) → Bool
+tests_register (conditions.Registers op left right) register = left.number == register || right.number == register
+tests_register (conditions.Sign op source) register = source.number == register
+
+-- A line may stand in front of the branch where it makes a word that no value has or the slot's own, and none that is tested.
+abbrev pub may_write : Frame → Condition → (destination : ℕ) → Option ℕ → Bool
+may_write frame condition destination None = false
+may_write frame condition destination (Some register) =
+    (register == FIRST || register == SECOND || register == made_in frame destination)
+    && not (tests_register condition register)
+
+abbrev pub copied_if : Frame → Condition → (destination : ℕ) → Option Instr → Option Instr
+copied_if frame condition destination None = None
+copied_if frame condition destination (Some first) =
+    if may_write frame condition destination (target_of first) then Some first else None
+
+abbrev pub copied : Frame → Condition → Instruction → Option Instr
+copied frame condition (plain.Move destination source) =
+    copied_if frame condition destination (move_first (value_register frame destination) frame source)
+copied frame condition (plain.Unary operator destination operand) =
+    copied_if frame condition destination (plan_first frame (unary_plan operator operand) destination)
+copied frame condition (plain.Binary operator destination left right) =
+    if is_tested operator right
+    then None
+    else copied_if frame condition destination (plan_first frame (binary_plan operator left right) destination)
+copied frame condition instruction = None
+
+abbrev pub hoisted_at : Frame → Condition → (target : ℕ) → Option Instruction → Option Instr
+hoisted_at frame condition target None = None
+hoisted_at frame condition target (Some instruction) =
+    if fills_at frame.fills target && not (is_idle frame target instruction)
+    then copied frame condition instruction
+    else None
+
+-- what stands in front of a branch by this test to this place of the code
+abbrev pub hoisted : Frame → List Instruction → Test → (target : ℕ) → Option Instr
+hoisted frame code test target = hoisted_at frame (condition_of frame test) target (slice_get code target)
+
+abbrev pub hoisted_count : Option Instr → ℕ
+hoisted_count None = 0
+hoisted_count (Some first) = 1
+
+abbrev pub with_hoisted : List Instr → Option Instr → List Instr
+with_hoisted instructions None = instructions
+with_hoisted instructions (Some first) = instructions ++ first ∷ []
+
+-- the line that the branch leads to
+abbrev pub behind_hoisted : Option Instr → (label : ℕ) → ℕ
+behind_hoisted None label = label
+behind_hoisted (Some first) label = label + 1
+
 -- the lines of an instruction up to what it does
 abbrev pub body_count : Program → List Frame → (function : ℕ) → Instruction → ℕ
 body_count program frames function (plain.Move destination source) =
@@ -609,7 +728,9 @@ body_count program frames function (plain.Binary operator destination left right
     operator_count (frame_at frames function) operator destination left right
 body_count program frames function (plain.Jump target) = 1
 body_count program frames function (plain.Branch comparison left right target) =
-    test_count (frame_at frames function) (test_of comparison left right) + 1
+    test_count (frame_at frames function) (test_of comparison left right)
+    + hoisted_count (hoisted (frame_at frames function) (routine_at program function).code (test_of comparison left right) target)
+    + 1
 body_count program frames function (plain.Call callee arguments count result) =
     spills_count (frame_at frames function) (frame_at frames callee) arguments 0 count + 5
     + copies_count (frame_at frames function) (frame_at frames callee) arguments 0 count
@@ -646,15 +767,6 @@ abbrev pub behind_count : Program → List Frame → (function : ℕ) → Instru
 behind_count program frames function (plain.Call callee arguments count result) =
     (routine_at program callee).results + reload_count (frame_at frames function)
 behind_count program frames function instruction = 0
-
--- An idle place has no lines of its own: where its frame says so, of an instruction that may be idle.
-abbrev pub is_idle : Frame → (index : ℕ) → Instruction → Bool
-is_idle frame index (plain.Move destination source) = idle_at frame.idle index
-is_idle frame index (plain.Unary operator destination operand) = idle_at frame.idle index
-is_idle frame index (plain.Binary operator destination left right) = idle_at frame.idle index
-is_idle frame index (plain.Jump target) = idle_at frame.idle index
-is_idle frame index (plain.Branch comparison left right target) = idle_at frame.idle index
-is_idle frame index instruction = false
 
 -- the lines of an instruction at this index up to what it does, and all of them
 abbrev pub place_count : Program → List Frame → (function index : ℕ) → Instruction → ℕ
@@ -699,9 +811,11 @@ abbrev pub move_code : Frame → (destination : ℕ) → Operand → List Line
 move_code frame destination source =
     ordinary (move_to (value_register frame destination) frame destination source)
 
--- a jump where a test holds
-abbrev pub branch_code : Frame → Test → (label : ℕ) → List Line
-branch_code frame test label = ordinary (test_code frame test) ++ branch_line frame test label ∷ []
+-- a jump where a test holds, with what was hoisted in front of it
+abbrev pub branch_code : Frame → Test → (first : Option Instr) → (label : ℕ) → List Line
+branch_code frame test first label =
+    ordinary (with_hoisted (test_code frame test) first)
+    ++ lines.Branch (condition_of frame test) (behind_hoisted first label) ∷ []
 
 -- an operand's low byte is printed
 abbrev pub write_code : Frame → Operand → List Line
@@ -888,7 +1002,9 @@ body program frames function here (plain.Binary operator destination left right)
 body program frames function here (plain.Jump target) =
     lines.Jump (instruction_line program frames function target) ∷ []
 body program frames function here (plain.Branch comparison left right target) =
-    branch_code (frame_at frames function) (test_of comparison left right) (instruction_line program frames function target)
+    branch_code (frame_at frames function) (test_of comparison left right)
+    (hoisted (frame_at frames function) (routine_at program function).code (test_of comparison left right) target)
+    (instruction_line program frames function target)
 body program frames function here (plain.Call callee arguments count result) =
     ordinary (spills (frame_at frames function) (frame_at frames callee) arguments 0 count)
     ++ calling_code (frame_at frames function) (frame_at frames callee) (here + spills_count (frame_at frames function) (frame_at frames callee) arguments 0 count) (function_line program frames callee) arguments count

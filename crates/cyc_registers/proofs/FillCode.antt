@@ -1,0 +1,132 @@
+-- The places that are said to fill slots may.
+use Rattle.std.proofs.Common.{◌≡◌, ℕ, suc, ◌+◌, ◌<◌, Bool, false, true, List, length, [], Option, None, Some, refl, sym, ap, subst, ◌∙◌, arith, inl, inr}
+use Rattle.std.specs.Prelude.{◌==◌, ◌&&◌, not, nat_lt, if◌then◌else◌, bit_and, slice_get, slice_set, replicate}
+use Rattle.std.proofs.lemmas.Bool.{and_parts, or_cases, cases_eq, cases_lt, cases_Bool, ltb-true, lt-ltb, eqb-true, false≢true}
+use Rattle.std.proofs.lemmas.List.{get_or-set_same, get_or-set_other, set_past, length-set, length-replicate}
+use Rattle.cyc_plain.proofs.Placed.{below_of_get}
+use Rattle.cyc_plain.specs.declared.instruction.Comparison.{Comparison}
+use Rattle.cyc_plain.specs.declared.instruction.Instruction.{Instruction}
+use Rattle.cyc_plain.specs.declared.instruction.Instruction.TheVariants as instructions
+use Rattle.cyc_plain.specs.declared.instruction.Operand.{Operand}
+use Rattle.cyc_plain.specs.inside.Program.{Routine, Program}
+use Rattle.cyc_plain.specs.inside.Uses.{writes}
+use Rattle.cyc_registers.specs.declared.home.Home.{Home}
+use Rattle.cyc_registers.specs.declared.home.Home.TheVariants as homes
+use Rattle.cyc_registers.specs.declared.liveness.TheConstants.{MOST_CHOSEN}
+use Rattle.cyc_registers.specs.inside.Assignment.{HaveOwnRegisters}
+use Rattle.cyc_registers.specs.inside.Fills.{AreFillable, fills_at}
+use Rattle.cyc_registers.specs.inside.FillPlaces.{AreLeft, barring, has_register, is_free, may_fill}
+use Rattle.cyc_registers.specs.inside.Interference.{HasRegister, register_of, home_of}
+use Rattle.cyc_registers.specs.inside.Liveness.{IsLiveAt}
+use Rattle.cyc_registers.specs.inside.LivenessTable.{IsSound}
+use Rattle.cyc_registers.specs.inside.Masks.{AreMasks, mask_at}
+use Rattle.cyc_registers.proofs.Bits.{apart_bits}
+use Rattle.cyc_registers.proofs.CheckedLiveness.{live_bit}
+
+pub none_fillable : (program : Program) (r : Routine) (hs : List Home) → AreFillable program r hs []
+none_fillable program r hs index target d a k comparison left right i at there written fills has_d has_a live = absurd (false≢true fills)
+
+-- ---- one by one
+
+pub none_barred : (masks live : List ℕ) (hs : List Home) (code : List Instruction) → AreLeft masks live hs code 0 (replicate (length code) true)
+none_barred masks live hs code = record {
+  as_many = length-replicate (length code) true;
+  each = λ index target comparison left right i below at there fills. absurd (omega (arith, below));
+}
+
+module _ (masks live : List ℕ) (hs : List Home) (code : List Instruction) (count : ℕ) (fills : List Bool) (left_so_far : AreLeft masks live hs code count fills) where
+  -- the instruction bars nothing, or its target alone
+  length-barring : (last : Instruction) → length (barring masks live hs code count last fills) ≡ length code
+  length-barring (instructions.Branch comparison left right target) = go (nat_lt target (length fills) && not (may_fill masks live hs count (slice_get code target)))
+    where
+      go : (b : Bool) → length (if b then slice_set fills target false else fills) ≡ length code
+      go true = length-set fills target false ∙ left_so_far.as_many
+      go false = left_so_far.as_many
+  length-barring i = left_so_far.as_many
+
+  -- what fills slots then did so before
+  fills_before : (target at : ℕ) (b : Bool) → fills_at (if b then slice_set fills at false else fills) target ≡ true → fills_at fills target ≡ true
+  fills_before target at false is = is
+  fills_before target at true is = elim (cases_eq target at) [
+    | inl same ↦ elim (cases_lt at (length fills)) [
+      | inl inside ↦ absurd (false≢true (sym (get_or-set_same fills at false false inside) ∙ (ap (fills_at (slice_set fills at false)) (sym same) ∙ is)))
+      | inr outside ↦ sym (ap (λ (flags : List Bool). fills_at flags target) (set_past fills at false outside)) ∙ is
+    ]
+    | inr other ↦ sym (get_or-set_other fills at target false false other) ∙ is
+  ]
+
+  -- and the target of the instruction is not one of these, where it may not fill
+  barred_here : (index target : ℕ) (comparison : Comparison) (left right : Operand) (i : Instruction) → slice_get code target ≡ Some i
+      → fills_at (barring masks live hs code count (instructions.Branch comparison left right target) fills) target ≡ true → may_fill masks live hs count (Some i) ≡ true
+  barred_here index target comparison left right i there is = elim (cases_Bool (may_fill masks live hs count (Some i))) [
+    | inl fine ↦ fine
+    | inr refused ↦
+        let inside : target < length fills = omega (arith, below_of_get code target i there, left_so_far.as_many) in
+        let barred : (nat_lt target (length fills) && not (may_fill masks live hs count (slice_get code target))) ≡ true =
+        ap (λ (b : Bool). b && not (may_fill masks live hs count (slice_get code target))) (lt-ltb target (length fills) inside)
+        ∙ (ap (λ (o : Option Instruction). not (may_fill masks live hs count o)) there ∙ ap not refused) in
+        absurd (false≢true (sym (get_or-set_same fills target false false inside)
+        ∙ (sym (ap (λ (b : Bool). fills_at (if b then slice_set fills target false else fills) target) barred) ∙ is)))
+  ]
+
+  -- an instruction more
+  pub more_barred : (last : Instruction) → slice_get code count ≡ Some last → AreLeft masks live hs code (count + 1) (barring masks live hs code count last fills)
+  more_barred last at_last = record {
+    as_many = length-barring last;
+    each = λ index target comparison left right i below at there is. elim (cases_eq index count) [
+      | inl same ↦
+          let its : last ≡ instructions.Branch comparison left right target = (let e : Some last ≡ Some (instructions.Branch comparison left right target) = sym at_last ∙ (ap (slice_get code) (sym same) ∙ at) in cc) in
+          subst (λ (n : ℕ). may_fill masks live hs n (Some i) ≡ true) (sym same)
+          (barred_here index target comparison left right i there (subst (λ (j : Instruction). fills_at (barring masks live hs code count j fills) target ≡ true) its is))
+      | inr other ↦ left_so_far.each index target comparison left right i (omega (arith, below, other)) at there (earlier last target is)
+    ];
+  }
+    where
+      earlier : (j : Instruction) (target : ℕ) → fills_at (barring masks live hs code count j fills) target ≡ true → fills_at fills target ≡ true
+      earlier (instructions.Branch comparison left right to) target is = fills_before target to _ is
+      earlier j target is = is
+
+-- ---- by the table
+
+no_register : (home : Home) (k : ℕ) → has_register home ≡ false → register_of home ≡ Some k → ⊥
+no_register homes.Memory k none has = absurd (let e : None ≡ Some k = has in cc)
+no_register (homes.Both register) k none has = absurd (false≢true (sym none))
+no_register (homes.Register register) k none has = absurd (false≢true (sym none))
+
+is_false : (b : Bool) → not b ≡ true → b ≡ false
+is_false true is = absurd (false≢true is)
+is_false false is = refl
+
+module _ (program : Program) (r : Routine) (masks live : List ℕ) (kept barred : ℕ) (sound : IsSound program r masks live kept barred)
+    (are : AreMasks masks MOST_CHOSEN) (hs : List Home) (own : HaveOwnRegisters hs) where
+  -- a slot of a register that is not live, or has none
+  free : (index slot a k : ℕ) → is_free masks live hs index slot ≡ true → HasRegister hs slot k → HasRegister hs a k → IsLiveAt program r a (suc index) → ⊥
+  free index slot a k is has has_a wanted =
+      let dead : Bool = bit_and (mask_at live (index + 1)) (mask_at masks slot) == 0 in
+      elim (or_cases (not (has_register (home_of hs slot))) (nat_lt 0 (mask_at masks slot) && dead) is) [
+        | inl without ↦ no_register (home_of hs slot) k (is_false (has_register (home_of hs slot)) without) has
+        | inr by_table ↦
+            let parts = and_parts (nat_lt 0 (mask_at masks slot)) dead by_table in
+            let (j, bit) = are.some slot (ltb-true 0 (mask_at masks slot) parts.0) in
+            let same : a ≡ slot = own a slot k has_a has in
+            let live_slot : IsLiveAt program r slot (index + 1) =
+            subst (λ (n : ℕ). IsLiveAt program r slot n) (let e : suc index ≡ index + 1 = omega arith in e) (subst (λ (n : ℕ). IsLiveAt program r n (suc index)) same wanted) in
+            apart_bits (mask_at live (index + 1)) (mask_at masks slot) j
+            (eqb-true (bit_and (mask_at live (index + 1)) (mask_at masks slot)) 0 parts.1) bit
+            (live_bit program r masks live kept barred sound slot j are bit (index + 1) live_slot)
+      ]
+
+  free_at : (destination index d a k : ℕ) → is_free masks live hs index destination ≡ true → (destination == d) ≡ true → HasRegister hs d k → HasRegister hs a k → IsLiveAt program r a (suc index) → ⊥
+  free_at destination index d a k is written has has_a wanted =
+      free index destination a k is (subst (λ (n : ℕ). HasRegister hs n k) (sym (eqb-true destination d written)) has) has_a wanted
+
+  -- what is written by an instruction that may fill
+  free_of : (i : Instruction) (index d a k : ℕ) → may_fill masks live hs index (Some i) ≡ true → writes program i d ≡ true → HasRegister hs d k → HasRegister hs a k → IsLiveAt program r a (suc index) → ⊥
+  free_of (instructions.Move destination source) index d a k is written has has_a wanted = free_at destination index d a k is written has has_a wanted
+  free_of (instructions.Unary operator destination operand) index d a k is written has has_a wanted = free_at destination index d a k is written has has_a wanted
+  free_of (instructions.Binary operator destination left right) index d a k is written has has_a wanted = free_at destination index d a k is written has has_a wanted
+  free_of i index d a k is written has has_a wanted = absurd (false≢true is)
+
+  pub fillable : (fills : List Bool) → AreLeft masks live hs r.code (length r.code) fills → AreFillable program r hs fills
+  fillable fills left_at_end index target d a k comparison left right i at there written is has has_a wanted =
+      free_of i index d a k (left_at_end.each index target comparison left right i (below_of_get r.code index (instructions.Branch comparison left right target) at) at there is) written has has_a wanted
