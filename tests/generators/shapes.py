@@ -126,9 +126,9 @@ PROGRAM_BEHIND = " int main ( ) { return 0 ; }"
 AS_MANY, IN_BODY, IN_VALUE = 64, 199, 198
 
 
-def listed(item, between=" , ", count=AS_MANY):
+def listed(item, between=" , ", count=AS_MANY, first=0):
     """A list whose items have their numbers for `%`."""
-    return between.join(item.replace("%", str(number)) for number in range(count))
+    return between.join(item.replace("%", str(number)) for number in range(first, first + count))
 
 
 def nested(opening, middle, closing, count):
@@ -310,6 +310,11 @@ EXPRESSIONS = {
     "assignments in 190 operands of `&&`": value(
         f"int f ( {listed('int a%')} ) {{ return a0 ; }} " + WITH_INTS,
         nested("1 && ( ", chained(f"f ( {listed('x = 1')} )", "+", 9), ") ", 190), compiled=FRAME),
+    "moves in 190 operands of `&&`": Shape(
+        f"int f ( {listed('int @ `U u%')} ) {{ return 1 ; }} ", "void g# ( ) { int x = 1 ; "
+        + listed("int @ `U u% = rnew ( unique_region ) 1", " ; ", 320) + " ; x = "
+        + nested("1 && ( ", " + ".join(f"f ( {listed('u%', first=64 * call)} )" for call in range(5)), " ) ", 190) + " ; } ",
+        PROGRAM_BEHIND, compiled=FRAME),
     "objects": Shape(IN_MAIN + "int * p = NULL ; ", "p = new 1 ; ", BEHIND),
     "objects of 64 fields": Shape(
         "struct S { " + FIELDS + "} ; " + IN_MAIN + "struct S * p = NULL ; ", f"p = new S {{ {listed('%')} }} ; ", BEHIND),

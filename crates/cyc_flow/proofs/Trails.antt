@@ -1,9 +1,10 @@
 -- Changes of what is known that are undone, and the meeting with what was known before them.
-use Rattle.std.proofs.Common.{◌≡◌, ℕ, zero, suc, List, [], ◌∷◌, ◌++◌, get_or, set, refl, sym, ap, ◌∙◌}
+use Rattle.std.proofs.Common.{◌≡◌, ℕ, zero, suc, true, false, List, [], ◌∷◌, ◌++◌, get_or, set, refl, sym, ap, ◌∙◌}
 use Rattle.std.proofs.lemmas.List.{set-get_or}
-use Rattle.cyc_types.specs.flow.States.{Fullness, Vacant, Locked, Full, State, Unreached, Reached, lower, lower_each, meet, fullness, with_fullness}
+use Rattle.cyc_types.specs.flow.States.{Fullness, Vacant, Locked, Full, State, Unreached, Reached, lower, lower_each, meet, fullness, with_fullness, is_vacant}
 use Rattle.cyc_flow.specs.declared.state.Change.{Change}
-use Rattle.cyc_flow.specs.inside.Code.{view_fullness, undone, lowered, lowered_to}
+use Rattle.cyc_flow.specs.inside.Code.{view_fullness, undone, lowered, lowered_to, are_emptied}
+use Rattle.cyc_words.proofs.Booleans.{and_left, and_right}
 
 -- ---- one change more
 
@@ -139,3 +140,28 @@ meet_undone cs (Reached bs) =
     ap (λ (f : State). meet f (Reached bs)) (undone_reached cs bs)
     ∙ ap Reached (met cs bs)
     ∙ sym (ap (lowered_to (Reached bs) cs) (undone_reached cs bs) ∙ lowered_reached bs cs (undone_list cs bs))
+
+-- ---- where each local that was changed may hold nothing
+
+vacant_lower : (a b : Fullness) → is_vacant b ≡ true → lower a b ≡ b
+vacant_lower Vacant Vacant h = refl
+vacant_lower Locked Vacant h = refl
+vacant_lower Full Vacant h = refl
+vacant_lower a Locked h = absurd (let e : false ≡ true = h in cc)
+vacant_lower a Full h = absurd (let e : false ≡ true = h in cc)
+
+met_emptied : (cs : List Change) (bs : List Fullness) → are_emptied cs (Reached bs) ≡ true → lower_each (undone_list cs bs) bs ≡ bs
+met_emptied [] bs h = lower_all_same bs
+met_emptied (c ∷ cs) bs h =
+    let n = c.number in
+    let b = view_fullness c.before in
+    let now = known_now bs n in
+    lower_set (undone_list cs bs) bs n b
+    ∙ ap (λ as'. set as' n (lower b now)) (met_emptied cs bs (and_right (is_vacant now) (are_emptied cs (Reached bs)) h))
+    ∙ ap (λ a. set bs n a) (vacant_lower b now (and_left (is_vacant now) (are_emptied cs (Reached bs)) h))
+    ∙ set-get_or bs n Vacant
+
+-- Nothing is fuller than what is known, since each that was changed is known to be empty.
+pub meet_emptied : (cs : List Change) (g : State) → are_emptied cs g ≡ true → meet (undone cs g) g ≡ g
+meet_emptied cs Unreached h = ap (λ (f : State). meet f Unreached) (undone_unreached cs)
+meet_emptied cs (Reached bs) h = ap (λ (f : State). meet f (Reached bs)) (undone_reached cs bs) ∙ ap Reached (met_emptied cs bs h)

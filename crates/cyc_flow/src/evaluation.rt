@@ -2,7 +2,7 @@
 ghost use Rattle.std.specs.Prelude.{◌≡◌, ◌++◌, [], IfOk};
 ghost use Rattle.cyc_types.specs.flow.States.{meet, with_fullness};
 ghost use Rattle.cyc_types.specs.flow.Touched.{and_local};
-ghost use Rattle.cyc_flow.specs.inside.Code.{view_fullness, view_state, undone, begun, lowered, Notes};
+ghost use Rattle.cyc_flow.specs.inside.Code.{view_fullness, view_state, undone, begun, lowered, Notes, are_emptied};
 
 use crate::expressions::Tracked;
 use crate::state::{Change, Fullness, State};
@@ -30,6 +30,19 @@ fn changed(alloc: Global, state: &State, trail: &[Change]) -> Result<Vec<Change>
         })?;
     }
     Ok(changed)
+}
+
+/// Whether each local that was changed may hold nothing now.
+#[tactic(auto, using(std::proofs::lemmas::List::drop_more))]
+fn are_emptied(state: &State, trail: &[Change]) -> bool
+    ensures { result ≡ are_emptied trail.now (view_state state.now) }
+{
+    for change in trail {
+        if !state.fullness(change.number).is_vacant() {
+            return false;
+        }
+    }
+    true
 }
 
 impl Evaluation {
@@ -105,13 +118,17 @@ impl Evaluation {
         Ok(())
     }
 
-    /// What is known now meets what was known at the start.
-    #[tactic(auto, using(crate::proofs::Trails::meet_undone))]
+    /// What is known now meets what was known at the start. Where an operand has only consumed, that is what is known now: operators in each
+    /// other go through the same changes, so that little is done with each.
+    #[tactic(auto, using(crate::proofs::Trails::meet_undone, crate::proofs::Trails::meet_emptied))]
     pub(crate) fn meet_start(&mut self, alloc: Global) -> Result<(), AllocError>
         ensures state { IfOk result (λ _. view_state self.new.state ≡ meet (begun self.old) (view_state self.old.state)) }
         ensures touched { IfOk result (λ _. self.new.touched.items ≡ self.old.touched.items) }
         ensures begun { IfOk result (λ _. begun self.new ≡ begun self.old) }
     {
+        if are_emptied(&self.state, &self.trail) {
+            return Ok(());
+        }
         let changed = changed(alloc, &self.state, &self.trail)?;
         self.undo();
         self.lower(&changed)
@@ -124,6 +141,9 @@ impl Evaluation {
         ensures touched { IfOk result (λ _. self.new.touched.items ≡ self.old.touched.items) }
         ensures begun { IfOk result (λ _. begun self.new ≡ undone outer.items (begun self.old)) }
     {
+        if outer.is_empty() {
+            return Ok(());
+        }
         let mut all = outer;
         all.extend_from_slice(&self.trail)?;
         self.trail = all;

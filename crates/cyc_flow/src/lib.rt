@@ -5,6 +5,9 @@ pub use cause::{Cause, Change};
 pub use check::{Explained, Flowed, explain, flow};
 
 mod cause;
+mod cause_expressions;
+mod cause_state;
+mod cause_statements;
 mod check;
 mod evaluation;
 mod expressions;

@@ -1,5 +1,5 @@
 -- What the code has to do with the flow rules: the states that it holds, and what its functions answer.
-use Rattle.std.specs.Prelude.{◌≡◌, ℕ, List, [], ◌∷◌, map, Option, Some, None, Result, Ok, Err}
+use Rattle.std.specs.Prelude.{◌≡◌, ℕ, Bool, true, ◌&&◌, List, [], ◌∷◌, map, Option, Some, None, Result, Ok, Err}
 use Rattle.cyc_words.specs.declared.fault.Fault.{Fault}
 use Rattle.cyc_words.specs.Fault.{memory_fault}
 use Rattle.cyc_flow.specs.declared.state.Fullness.{Fullness as FullnessCode}
@@ -12,7 +12,7 @@ use Rattle.cyc_flow.specs.declared.state.Change.{Change}
 use Rattle.cyc_flow.specs.declared.expressions.Tracked.{Tracked}
 use Rattle.cyc_flow.specs.declared.evaluation.Evaluation.{Evaluation}
 use Rattle.cyc_types.specs.Rules.{Checked, run}
-use Rattle.cyc_types.specs.flow.States.{Fullness, Vacant, Locked, Full, State, Unreached, Reached, lower, fullness, with_fullness}
+use Rattle.cyc_types.specs.flow.States.{Fullness, Vacant, Locked, Full, State, Unreached, Reached, lower, fullness, with_fullness, is_vacant}
 use Rattle.cyc_types.specs.TypedTrees.{Clauses}
 use Rattle.cyc_types.specs.flow.Touched.{touched_clauses}
 use Rattle.cyc_types.specs.flow.Statements.{Around, Known, rule_clauses}
@@ -48,6 +48,11 @@ lowered_to g (c ∷ cs) f = lowered_to g cs (with_fullness (lower (fullness f c.
 -- what is known in this state of each local that was changed
 abbrev pub Notes : (now : List Change) → State → (changes : List Change) → Type 0
 Notes vs g cs = (f : State) → lowered vs f ≡ lowered_to g cs f
+
+-- each local that was changed may hold nothing in this state
+abbrev pub are_emptied : List Change → State → Bool
+are_emptied [] f = true
+are_emptied (c ∷ cs) f = is_vacant (fullness f c.number) && are_emptied cs f
 
 -- the fault that is answered
 abbrev pub fault_of : Stop → Fault
