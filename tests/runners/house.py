@@ -120,7 +120,7 @@ def blocks(text):
 
 
 # Files that are read for themselves: programs that are worked through, and what laws rest on by name.
-READ_ALONE = re.compile(r"Examples|Programs\.antt|Texts\.antt|/laws/|KeyFields|LaterRegions|ReadsFirst|/Answers\.antt")
+READ_ALONE = re.compile(r"Examples|Programs\.antt|Texts\.antt|/laws/|KeyFields|LaterRegions|ReadsFirst|/(Answers|Invariants|Proof)\.antt")
 
 
 def lemmas_that_nothing_names():

@@ -10,17 +10,17 @@ use Rattle.cyc_types.specs.declared.region.Region.TheVariants as regions
 use Rattle.cyc_types.specs.declared.scope.Kind.TheVariants as kinds
 use Rattle.cyc_types.specs.Types.{Handle, Key}
 use Rattle.cyc_types.specs.typing.Formation.{region_of}
-use Rattle.cyc_types.specs.typing.Scopes.{Scope, Ordinary, OfRegion, with_opened, with_region, with_key_opened, item_locals, one_item_locals, item_regions, one_item_regions, item_names, one_item_names, locals_in, regions_in, names_in, behind, in_block, in_labelled, in_body}
+use Rattle.cyc_types.specs.typing.Scopes.{Scope, Ordinary, OfRegion, with_opened, with_region, with_key_opened, item_locals, one_item_locals, item_regions, one_item_regions, item_names, one_item_names, locals_in, regions_in, names_in, behind, in_block, in_labelled}
 use Rattle.cyc_types.specs.typing.Statements.{declared_type, behind_item, rule_items, rule_item}
 use Rattle.cyc_types.specs.Rules.{and_then, run}
 use Rattle.cyc_scope.specs.declared.stop.Stop.{Stop}
 use Rattle.cyc_scope.specs.declared.stop.Stop.TheVariants as stops
 use Rattle.cyc_scope.specs.inside.Code.{Stops}
 use Rattle.cyc_scope.specs.declared.scope.Mark.{Mark}
-use Rattle.cyc_scope.specs.inside.Marks.{IsInOrder, mark_of, left_to}
+use Rattle.cyc_scope.specs.inside.Marks.{mark_of, left_to}
 use Rattle.cyc_check.specs.inside.Walks.{IsBehindItems, behind_block, behind_labelled}
 use Rattle.cyc_check.specs.inside.Inside.{Inside}
-use Rattle.cyc_check.proofs.Inside.{inside_itself, inside_through, inside_local, inside_opened, inside_region, inside_key, inside_behind, inside_block, inside_labelled, inside_body, numbered_as, left, order_left}
+use Rattle.cyc_check.proofs.Inside.{inside_itself, inside_through, inside_local, inside_opened, inside_region, inside_key, inside_behind, inside_block, inside_labelled, numbered_as, left}
 use Rattle.cyc_expressions.proofs.Loops.{onto, with_front, regroup, onto_nothing}
 
 -- what was made of the items so far, and where the walk stands
@@ -100,9 +100,6 @@ onto_items (i ∷ is) = ap (typed.MoreItems (view_item i)) (onto_items is)
 pub walk_gives : (start now : Scope) (made : List ItemCode) (whole : Items) → Walked start now made NoItems whole → run (rule_items start whole) ≡ Ok (items_of made)
 walk_gives start now made whole w = sym w.gives ∙ ap Ok (onto_items made)
 
-pub walk_ends : (start now : Scope) (made : List ItemCode) (whole : Items) → Walked start now made NoItems whole → IsBehindItems start whole now
-walk_ends start now made whole w = record { inside = w.inside; numbers = omega (arith, w.numbers); regions = omega (arith, w.regions); taken = w.taken }
-
 -- ---- blocks that are left
 
 pub block_left : (g n : Scope) (is : Items) → IsBehindItems (in_block g) is n → left_to (mark_of g) n ≡ behind_block g is
@@ -113,9 +110,6 @@ block_left g n is b =
     ∙ ap (λ (k : ℕ). record (numbered_as g n) { next_local = g.next_local + item_locals is; next_region = k }) count
     ∙ ap (λ (ns : List ℕ). record (behind_block g is) { taken = ns }) b.taken
 
-pub block_order : (g n : Scope) (is : Items) → IsInOrder g → IsBehindItems (in_block g) is n → IsInOrder (left_to (mark_of g) n)
-block_order g n is o b = order_left g n o (inside_through g (in_block g) n (inside_block g) b.inside) (omega (arith, b.regions))
-
 pub labelled_left : (g n : Scope) (l : Named) (is : Items) → IsBehindItems (in_labelled l g) is n → left_to (mark_of g) n ≡ behind_labelled g l is
 labelled_left g n l is b =
     let count : n.next_region ≡ g.next_region + suc (item_regions is) = omega (arith, b.regions) in
@@ -124,37 +118,15 @@ labelled_left g n l is b =
     ∙ ap (λ (k : ℕ). record (numbered_as g n) { next_local = g.next_local + item_locals is; next_region = k }) count
     ∙ ap (λ (ns : List ℕ). record (behind_labelled g l is) { taken = ns }) (b.taken ∙ sym (append_assoc (item_names is) (l.name ∷ []) g.taken))
 
-pub labelled_order : (g n : Scope) (l : Named) (is : Items) → IsInOrder g → IsBehindItems (in_labelled l g) is n → IsInOrder (left_to (mark_of g) n)
-labelled_order g n l is o b = order_left g n o (inside_through g (in_labelled l g) n (inside_labelled l g) b.inside) (omega (arith, b.regions))
-
 -- ---- bodies of loops
-
-pub body_left : (g : Scope) (s : Statement) → left_to (mark_of g) (behind (in_body g) s) ≡ behind g s
-body_left g s = left g (behind (in_body g) s) (inside_body g s)
-
-pub body_order : (g : Scope) (s : Statement) → IsInOrder g → IsInOrder (left_to (mark_of g) (behind (in_body g) s))
-body_order g s o = order_left g (behind (in_body g) s) o (inside_body g s) (omega arith)
 
 -- ---- the same by the scopes and the mark that the code holds
 
 pub block_is_left : (g h n : Scope) (m : Mark) (is : Items) → m ≡ mark_of g → h ≡ in_block g → IsBehindItems h is n → left_to m n ≡ behind_block g is
 block_is_left g h n m is at entered b = ap (λ (x : Mark). left_to x n) at ∙ block_left g n is (subst (λ x. IsBehindItems x is n) entered b)
 
-pub block_in_order : (g h n : Scope) (m : Mark) (is : Items) → m ≡ mark_of g → h ≡ in_block g → IsInOrder g → IsBehindItems h is n → IsInOrder (left_to m n)
-block_in_order g h n m is at entered o b = subst (λ (x : Mark). IsInOrder (left_to x n)) (sym at) (block_order g n is o (subst (λ x. IsBehindItems x is n) entered b))
-
 pub labelled_is_left : (g h n : Scope) (m : Mark) (l : Named) (is : Items) → m ≡ mark_of g → h ≡ in_labelled l g → IsBehindItems h is n → left_to m n ≡ behind_labelled g l is
 labelled_is_left g h n m l is at entered b = ap (λ (x : Mark). left_to x n) at ∙ labelled_left g n l is (subst (λ x. IsBehindItems x is n) entered b)
-
-pub labelled_in_order : (g h n : Scope) (m : Mark) (l : Named) (is : Items) → m ≡ mark_of g → h ≡ in_labelled l g → IsInOrder g → IsBehindItems h is n → IsInOrder (left_to m n)
-labelled_in_order g h n m l is at entered o b = subst (λ (x : Mark). IsInOrder (left_to x n)) (sym at) (labelled_order g n l is o (subst (λ x. IsBehindItems x is n) entered b))
-
-pub body_is_left : (g h n : Scope) (m : Mark) (s : Statement) → m ≡ mark_of g → h ≡ in_body g → n ≡ behind h s → left_to m n ≡ behind g s
-body_is_left g h n m s at entered b = ap (λ (x : Mark). left_to x n) at ∙ ap (left_to (mark_of g)) (b ∙ ap (λ x. behind x s) entered) ∙ body_left g s
-
-pub body_in_order : (g h n : Scope) (m : Mark) (s : Statement) → m ≡ mark_of g → h ≡ in_body g → IsInOrder g → n ≡ behind h s → IsInOrder (left_to m n)
-body_in_order g h n m s at entered o b =
-    subst (λ (x : Mark). IsInOrder (left_to x n)) (sym at) (subst (λ x. IsInOrder (left_to (mark_of g) x)) (sym (b ∙ ap (λ x. behind x s) entered)) (body_order g s o))
 
 pub on_ok : {A E : Type 0} (r : Result A E) (P : Type 0) → P → OnOk r P
 on_ok (Ok a) P p = p

@@ -60,10 +60,6 @@ regrouped : (made : List ClauseCode) (c : ClauseCode) (checked : Checked typed.C
 regrouped made c (Ok ds) = ap Ok (sym (clauses-append made c ds))
 regrouped made c (Err f) = refl
 
-nothing_made : (checked : Checked typed.Clauses) → behind_made [] checked ≡ checked
-nothing_made (Ok ds) = refl
-nothing_made (Err f) = refl
-
 -- where the walk stands; a clause leaves nothing but numbers and names that are taken
 pub record CaughtSoFar (start now : Scope) (before : List ℕ) (made : List ClauseCode) (rest whole : Clauses) : Type 0 where
   pub gives : behind_made made (run (rule_clauses now before rest)) ≡ run (rule_clauses start [] whole)
@@ -71,9 +67,6 @@ pub record CaughtSoFar (start now : Scope) (before : List ℕ) (made : List Clau
   pub numbers : now.next_local + clause_locals rest ≡ start.next_local + clause_locals whole
   pub regions : now.next_region + clause_regions rest ≡ start.next_region + clause_regions whole
   pub taken : clause_names rest ++ now.taken ≡ clause_names whole ++ start.taken
-
-pub catch_starts : (g : Scope) (whole : Clauses) → CaughtSoFar g g [] [] whole whole
-catch_starts g whole = record { gives = nothing_made (run (rule_clauses g [] whole)); same = refl; numbers = refl; regions = refl; taken = refl }
 
 -- behind one clause
 abbrev pub behind_one : Scope → Option Named → Items → Scope
@@ -105,17 +98,6 @@ catch_stops stops.Memory start now before made x v is rest whole w h = tt
 catch_stops (stops.Refused f) start now before made x v is rest whole w h =
     sym w.gives
     ∙ ap (behind_made made) (stopped (run (caught now (exception_among now.exceptions x.name) before x v)) (run (rule_items (with_caught v (in_block now)) is)) (option_map (λ (y : Named). now.next_local) v) now.next_region (run (rule_clauses (behind_one now v is) (x.name ∷ before) rest)) (stops.Refused f) h)
-
-pub catch_gives : (start now : Scope) (before : List ℕ) (made : List ClauseCode) (whole : Clauses) → CaughtSoFar start now before made NoClauses whole → run (rule_clauses start [] whole) ≡ Ok (view.clauses_of made typed.NoClauses)
-catch_gives start now before made whole w = sym w.gives
-
-pub catch_ends : (start now : Scope) (before : List ℕ) (made : List ClauseCode) (whole : Clauses) → CaughtSoFar start now before made NoClauses whole → now ≡ behind_clauses start whole
-catch_ends start now before made whole w =
-    let n : now.next_local ≡ start.next_local + clause_locals whole = omega (arith, w.numbers) in
-    let r : now.next_region ≡ start.next_region + clause_regions whole = omega (arith, w.regions) in
-    w.same ∙ ap (λ (k : ℕ). record (numbered_as start now) { next_local = k }) n
-    ∙ ap (λ (k : ℕ). record (numbered_as start now) { next_local = start.next_local + clause_locals whole; next_region = k }) r
-    ∙ ap (λ (ns : List ℕ). record (behind_clauses start whole) { taken = ns }) w.taken
 
 -- ---- with a default clause behind them
 

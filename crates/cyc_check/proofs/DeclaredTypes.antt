@@ -1,6 +1,5 @@
 -- How the code reads off what a typed body declares: item by item, clause by clause.
-use Rattle.std.proofs.Common.{◌≡◌, ℕ, ◌+◌, List, [], ◌∷◌, ◌++◌, Option, None, Some, drop, refl, sym, ap, ◌∙◌, append_assoc}
-use Rattle.std.proofs.lemmas.List.{append-nil}
+use Rattle.std.proofs.Common.{◌≡◌, ◌+◌, List, [], ◌∷◌, ◌++◌, Option, None, Some, refl, sym, ap, ◌∙◌, append_assoc}
 use Rattle.std.specs.declared.vec.Vec.{Vec}
 use Rattle.std.specs.declared.boxed.Box.{Box}
 use Rattle.std.specs.declared.alloc.Global.{Global as Heap}
@@ -11,34 +10,10 @@ use Rattle.cyc_types.specs.declared.typed.Item.{Item as ItemCode}
 use Rattle.cyc_types.specs.declared.typed.Clause.{Clause}
 use Rattle.cyc_types.specs.declared.typed.Stmt.{Stmt as StmtCode}
 use Rattle.cyc_types.specs.declared.typed.Stmt.TheVariants as stmt
-use Rattle.cyc_types.specs.TypedTrees.{Statement, Items, NoItems, MoreItems, Item, Execute, Declare, DeclareRegion, OpenRegion, DeclareAlias, DeclareKey, Clauses, NoClauses, Try}
-use Rattle.cyc_types.specs.TypedTreeView.{view_statement, view_item, items_of, default_of, clauses_of}
+use Rattle.cyc_types.specs.TypedTrees.{Statement, Clauses, NoClauses, Try}
+use Rattle.cyc_types.specs.TypedTreeView.{view_statement, items_of, default_of, clauses_of}
 use Rattle.cyc_types.specs.Declarations.{declared_types, item_types, clause_types, caught_types}
 use Rattle.cyc_types.proofs.TypedTreeViewLemmas.{view_try}
-
-pub item_types_first : (i : Item) (js : Items) → item_types (MoreItems i js) ≡ item_types (MoreItems i NoItems) ++ item_types js
-item_types_first (Execute s) js = ap (λ ts. ts ++ item_types js) (sym (append-nil (declared_types s)))
-item_types_first (Declare n t v) js = refl
-item_types_first (DeclareRegion r n) js = refl
-item_types_first (OpenRegion r n p k) js = refl
-item_types_first (DeclareAlias r n t p m) js = refl
-item_types_first (DeclareKey r n) js = refl
-
--- behind one more item
-pub one_item_more : (ts us : List Ty) (is : List ItemCode) (n : ℕ) (i : ItemCode) → drop n is ≡ i ∷ drop (n + 1) is → us ≡ ts ++ item_types (MoreItems (view_item i) NoItems)
-    → us ++ item_types (items_of (drop (n + 1) is)) ≡ ts ++ item_types (items_of (drop n is))
-one_item_more ts us is n i e added =
-    ap (λ vs. vs ++ item_types (items_of (drop (n + 1) is))) added ∙ append_assoc ts (item_types (MoreItems (view_item i) NoItems)) (item_types (items_of (drop (n + 1) is)))
-    ∙ ap (λ vs. ts ++ vs) (sym (item_types_first (view_item i) (items_of (drop (n + 1) is)))) ∙ sym (ap (λ xs. ts ++ item_types (items_of xs)) e)
-
--- behind one more clause
-pub one_clause_more : (ts us : List Ty) (cs : List Clause) (n : ℕ) (c : Clause) → drop n cs ≡ c ∷ drop (n + 1) cs → us ≡ ts ++ (caught_types c.number ++ item_types (items_of c.items.items))
-    → us ++ clause_types (clauses_of (drop (n + 1) cs) NoClauses) ≡ ts ++ clause_types (clauses_of (drop n cs) NoClauses)
-one_clause_more ts us cs n c e added =
-    ap (λ vs. vs ++ clause_types (clauses_of (drop (n + 1) cs) NoClauses)) added
-    ∙ append_assoc ts (caught_types c.number ++ item_types (items_of c.items.items)) (clause_types (clauses_of (drop (n + 1) cs) NoClauses))
-    ∙ ap (λ vs. ts ++ vs) (append_assoc (caught_types c.number) (item_types (items_of c.items.items)) (clause_types (clauses_of (drop (n + 1) cs) NoClauses)))
-    ∙ sym (ap (λ xs. ts ++ clause_types (clauses_of xs NoClauses)) e)
 
 -- clauses with a default behind them
 pub with_default : (cs : List Clause) (d : Clauses) → clause_types (clauses_of cs d) ≡ clause_types (clauses_of cs NoClauses) ++ clause_types d

@@ -50,12 +50,6 @@ adds front p r x ps b d zs tree f whole is e h so_far =
     ∙ regroup view_function (λ f fs. f ∷ fs) front f (run (rule_functions p tree)))
     ∙ so_far
 
-pub stops_at : (e : Stop) (front : List FunctionCode) (p : Program) (r : Option WrittenType) (x : Named) (ps : Parameters) (b : Body) (d : Declaration) (zs tree : List Declaration) (whole : Checked (List typed.Function))
-    → zs ≡ d ∷ tree → d ≡ Function r x ps b → Stops e (one_function p r x ps b) → with_functions front (run (rule_functions p zs)) ≡ whole → Stops e whole
-stops_at stops.Memory front p r x ps b d zs tree whole is same h so_far = tt
-stops_at (stops.Refused f) front p r x ps b d zs tree whole is same h so_far =
-    sym so_far ∙ ap (with_functions front) (by_function p r x ps b d zs tree is same ∙ ap (λ o. and_then o (λ h. and_then (run (rule_functions p tree)) (λ hs. Ok (h ∷ hs)))) h)
-
 onto_functions : (front : List FunctionCode) → onto view_function (λ f fs. f ∷ fs) front [] ≡ map view_function front
 onto_functions [] = refl
 onto_functions (f ∷ fs) = ap (λ gs. view_function f ∷ gs) (onto_functions fs)

@@ -3,12 +3,12 @@ use Rattle.std.proofs.Common.{◌≡◌, ℕ, ◌-◌, ◌≤◌, List, [], ◌�
 use Rattle.std.proofs.lemmas.List.{append_assoc, length-append}
 use Rattle.cyc_types.specs.declared.scope.Scope.{Scope as Opened}
 use Rattle.cyc_syntax.specs.Trees.{Named, Statement}
-use Rattle.cyc_types.specs.typing.Scopes.{Scope, RegionName, LocalVariable, Sort, OfLoop, behind, in_block, in_labelled, in_body, with_local, with_counter, with_opened, with_region, with_key_opened}
+use Rattle.cyc_types.specs.typing.Scopes.{Scope, RegionName, LocalVariable, Sort, behind, in_block, in_labelled, in_body, with_local, with_opened, with_region, with_key_opened}
 use Rattle.cyc_types.specs.declared.region.Region.TheVariants as regions
 use Rattle.cyc_types.specs.declared.scope.Kind.{Kind}
 use Rattle.cyc_types.specs.declared.scope.Kind.TheVariants as kinds
 use Rattle.cyc_types.specs.declared.region.Region.{Region}
-use Rattle.cyc_types.specs.Types.{Ty, Int}
+use Rattle.cyc_types.specs.Types.{Ty}
 use Rattle.cyc_check.specs.inside.Inside.{Inside, extended}
 use Rattle.cyc_scope.specs.inside.Marks.{IsInOrder, mark_of, left_to}
 
@@ -31,9 +31,6 @@ inside_through g m n i j = record {
 
 pub inside_local : (k : Sort) (x : Named) (t : Ty) (g : Scope) → Inside g (with_local k x t g)
 inside_local k x t g = record { locals = record { name = x.name; number = g.next_local; of_type = t; region = g.region; sort = k } ∷ []; names = []; opened = []; same = refl }
-
-pub inside_counter : (x : Named) (g : Scope) → Inside g (with_counter x g)
-inside_counter x g = record { locals = record { name = x.name; number = g.counters; of_type = Int; region = g.region; sort = OfLoop } ∷ []; names = []; opened = []; same = refl }
 
 pub inside_opened : (k : Kind) (r : Named) (g : Scope) → Inside g (with_opened k r g)
 inside_opened k r g = record {

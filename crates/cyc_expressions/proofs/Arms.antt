@@ -9,7 +9,6 @@ use Rattle.cyc_syntax.specs.Symbols.{Place}
 use Rattle.cyc_syntax.specs.Trees.{Expression, Binary, RegionNew, Initial, place_of}
 use Rattle.cyc_syntax.specs.inside.TreeView.{view_name, view_expression, postfixes_of, operations_of}
 use Rattle.cyc_types.specs.Types.{ValueType}
-use Rattle.cyc_types.specs.TypedTrees.{type_of}
 use Rattle.cyc_types.specs.TypedTrees as typed
 use Rattle.cyc_types.specs.Rules.{Checked, Rule, Part, and_then, fault_at, gives, run}
 use Rattle.cyc_types.specs.typing.Scopes.{Scope}
@@ -19,10 +18,6 @@ use Rattle.cyc_scope.specs.declared.stop.Stop.TheVariants as stops
 use Rattle.cyc_scope.specs.inside.Code.{Stops}
 use Rattle.cyc_expressions.specs.inside.Walks.{one_operation, one_postfix, rule_rest}
 use Rattle.cyc_expressions.proofs.Chains.{further, next_further}
-
-pub stops_within : {A B : Type 0} (e : Stop) (o : Checked A) (next : A → Checked B) → Stops e o → Stops e (and_then o next)
-stops_within stops.Memory o next h = tt
-stops_within (stops.Refused f) o next h = ap (λ p. and_then p next) h
 
 -- ---- postfixes, and what is made of the cell that they lead to
 
@@ -105,11 +100,3 @@ pub load_stops : (e : Stop) (g : Scope) (p : Place) (w : Reached) (zs us : List 
 load_stops stops.Memory g p w zs us z whole is h so_far = tt
 load_stops (stops.Refused f) g p w zs us z whole is h so_far =
     sym so_far ∙ ap (λ vs. run (rule_further g p w (postfixes_of vs))) is ∙ next_further g p w z us ∙ ap (λ o. and_then o (λ b. and_then (one_postfix g p b z) (λ x. run (rule_further g p x (postfixes_of us))))) h
-
-pub postfix_stops : (e : Stop) (g : Scope) (p : Place) (w : Reached) (a : typed.Expression) (zs us : List Postfix) (z : Postfix) (whole : Checked Reached) → zs ≡ z ∷ us → run (loaded p w) ≡ Ok a → Stops e (one_postfix g p a z)
-    → run (rule_further g p w (postfixes_of zs)) ≡ whole → Stops e whole
-postfix_stops stops.Memory g p w a zs us z whole is load h so_far = tt
-postfix_stops (stops.Refused f) g p w a zs us z whole is load h so_far =
-    sym so_far ∙ ap (λ vs. run (rule_further g p w (postfixes_of vs))) is ∙ next_further g p w z us
-    ∙ ap (λ o. and_then o (λ b. and_then (one_postfix g p b z) (λ x. run (rule_further g p x (postfixes_of us))))) load
-    ∙ ap (λ o. and_then o (λ x. run (rule_further g p x (postfixes_of us)))) h

@@ -1,6 +1,6 @@
 -- How the code walks the values of a list, the operations of a chain, and postfixes.
 use Rattle.std.proofs.Common.{◌≡◌, ℕ, List, [], ◌∷◌, ◌++◌, Option, Some, None, Ok, Err, refl, sym, ap, ◌∙◌}
-use Rattle.std.proofs.lemmas.List.{append_assoc, append-nil}
+use Rattle.std.proofs.lemmas.List.{append_assoc}
 use Rattle.std.proofs.lemmas.Option.{same_Some}
 use Rattle.cyc_syntax.specs.declared.tree.Expr.{Expr}
 use Rattle.cyc_syntax.specs.declared.tree.Operation.{Operation as OperationCode}
@@ -19,9 +19,6 @@ use Rattle.cyc_types.specs.Rules.{Checked, and_then, Rule, gives, unless, run}
 use Rattle.cyc_types.specs.typing.Scopes.{Scope, meaning_of}
 use Rattle.cyc_types.specs.typing.Expressions.{looked, Reached, loaded, rule, rule_looked, rule_all, rule_chain, rule_postfixed, rule_further}
 use Rattle.cyc_types.proofs.RuleLaws.{from_ok}
-use Rattle.cyc_scope.specs.declared.stop.Stop.{Stop}
-use Rattle.cyc_scope.specs.declared.stop.Stop.TheVariants as stops
-use Rattle.cyc_scope.specs.inside.Code.{Stops}
 use Rattle.cyc_forms.specs.inside.Forms.{put_operation, GivesOne}
 use Rattle.cyc_expressions.specs.inside.Walks.{name_in, one_operation, one_postfix}
 use Rattle.cyc_expressions.proofs.Loops.{onto, onto-append}
@@ -52,10 +49,6 @@ looked_unnamed g e walked h = refl
 abbrev pub behind_values : List typed.Expression → Checked (List typed.Expression) → Checked (List typed.Expression)
 behind_values xs checked = and_then checked (λ as'. Ok (xs ++ as'))
 
-pub no_values : (checked : Checked (List typed.Expression)) → behind_values [] checked ≡ checked
-no_values (Ok as') = refl
-no_values (Err f) = refl
-
 regrouped : (xs : List typed.Expression) (a : typed.Expression) (checked : Checked (List typed.Expression)) → behind_values xs (and_then checked (λ as'. Ok (a ∷ as'))) ≡ behind_values (xs ++ a ∷ []) checked
 regrouped xs a (Ok as') = ap Ok (sym (append_assoc xs (a ∷ []) as'))
 regrouped xs a (Err f) = refl
@@ -67,17 +60,6 @@ values_go_on g xs ys zs us z a whole is h more so_far =
     ap (λ vs. run (rule_all g (expressions_of vs))) is ∙ ap (λ o. and_then o (λ b. and_then (run (rule_all g (expressions_of us))) (λ as'. Ok (b ∷ as')))) h in
     ap (λ vs. behind_values vs (run (rule_all g (expressions_of us)))) more ∙ sym (regrouped xs a (run (rule_all g (expressions_of us)))) ∙ sym (ap (behind_values xs) step) ∙ so_far
 
-pub values_stop : (e : Stop) (g : Scope) (xs : List typed.Expression) (zs us : List Expr) (z : Expr) (whole : Checked (List typed.Expression)) → zs ≡ z ∷ us
-    → Stops e (run (rule g (view_expression z))) → behind_values xs (run (rule_all g (expressions_of zs))) ≡ whole → Stops e whole
-values_stop stops.Memory g xs zs us z whole is h so_far = tt
-values_stop (stops.Refused f) g xs zs us z whole is h so_far =
-    let step : run (rule_all g (expressions_of zs)) ≡ Err f =
-    ap (λ vs. run (rule_all g (expressions_of vs))) is ∙ ap (λ o. and_then o (λ b. and_then (run (rule_all g (expressions_of us))) (λ as'. Ok (b ∷ as')))) h in
-    sym so_far ∙ ap (behind_values xs) step
-
-pub values_end : (g : Scope) (xs : List typed.Expression) (zs : List Expr) (whole : Checked (List typed.Expression)) → zs ≡ [] → behind_values xs (run (rule_all g (expressions_of zs))) ≡ whole → whole ≡ Ok xs
-values_end g xs zs whole is so_far = sym so_far ∙ ap (λ vs. behind_values xs (run (rule_all g (expressions_of vs)))) is ∙ ap Ok (append-nil xs)
-
 -- ---- chains
 
 abbrev pub then_all : List Operation → typed.Operations → typed.Operations
@@ -86,10 +68,6 @@ then_all xs os = onto put_operation (λ f rest. f rest) xs os
 -- the operations so far, and those behind them
 abbrev pub behind_operations : List Operation → Checked (typed.Operations × Ty) → Checked (typed.Operations × Ty)
 behind_operations xs checked = and_then checked (λ bs. Ok (then_all xs bs.0, bs.1))
-
-pub no_operations : (checked : Checked (typed.Operations × Ty)) → behind_operations [] checked ≡ checked
-no_operations (Ok bs) = refl
-no_operations (Err f) = refl
 
 chained : (xs : List Operation) (o : Operation) (checked : Checked (typed.Operations × Ty)) → behind_operations xs (and_then checked (λ bs. Ok (put_operation o bs.0, bs.1))) ≡ behind_operations (xs ++ o ∷ []) checked
 chained xs o (Ok bs) = ap (λ os. Ok (os, bs.1)) (sym (onto-append put_operation (λ f rest. f rest) xs o bs.0))
@@ -103,15 +81,6 @@ chain_goes_on g p k left xs ys zs us z o t whole is h more so_far =
     ap (λ vs. run (rule_chain g p k left (operations_of vs))) is
     ∙ ap (λ c. and_then c (λ put. and_then (run (rule_chain g p None (Value put.1) (operations_of us))) (λ bs. Ok (put.0 bs.0, bs.1)))) h in
     ap (λ vs. behind_operations vs (run (rule_chain g p None (Value t) (operations_of us)))) more ∙ sym (chained xs o (run (rule_chain g p None (Value t) (operations_of us)))) ∙ sym (ap (behind_operations xs) step) ∙ so_far
-
-pub chain_stops : (e : Stop) (g : Scope) (p : Place) (k : Option ℕ) (left : ValueType) (xs : List Operation) (zs us : List OperationCode) (z : OperationCode) (whole : Checked (typed.Operations × Ty)) → zs ≡ z ∷ us
-    → Stops e (one_operation g p k left z.operator (view_expression z.operand)) → behind_operations xs (run (rule_chain g p k left (operations_of zs))) ≡ whole → Stops e whole
-chain_stops stops.Memory g p k left xs zs us z whole is h so_far = tt
-chain_stops (stops.Refused f) g p k left xs zs us z whole is h so_far =
-    let step : run (rule_chain g p k left (operations_of zs)) ≡ Err f =
-    ap (λ vs. run (rule_chain g p k left (operations_of vs))) is
-    ∙ ap (λ c. and_then c (λ put. and_then (run (rule_chain g p None (Value put.1) (operations_of us))) (λ bs. Ok (put.0 bs.0, bs.1)))) h in
-    sym so_far ∙ ap (behind_operations xs) step
 
 pub then_all_view : (xs : List Operation) → then_all xs typed.NoOperations ≡ view.operations_of xs
 then_all_view [] = refl

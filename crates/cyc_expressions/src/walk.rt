@@ -125,6 +125,7 @@ fn place_through(
     as_place(scope.alloc(), cell)
 }
 
+/// The typed tree of an expression, or the first refusal of the typing rules in it.
 #[cycle(expression)]
 pub fn check_expression(scope: &mut Scope<'_>, expression: &Expr) -> Result<Box<typed::Expr>, Stop>
     ensures gives { Gives view_boxed result (run (rule scope.old (view_expression expression.now))) }

@@ -1,16 +1,15 @@
 -- Values that are passed, in loops over expressions, values and types.
-use Rattle.std.proofs.Common.{◌≡◌, ℕ, zero, suc, nat_eq, not, ◌+◌, ◌<◌, ◌≤◌, List, [], ◌∷◌, ◌++◌, length, map, take, drop, get_or, slice_get, option_map, Option, Some, None, Ok, refl, sym, ap, ◌∙◌, arith}
+use Rattle.std.proofs.Common.{◌≡◌, ℕ, zero, suc, nat_eq, not, ◌+◌, ◌≤◌, List, [], ◌∷◌, ◌++◌, length, map, take, drop, slice_get, option_map, Option, Some, None, Ok, refl, sym, ap, ◌∙◌, arith}
 use Rattle.std.specs.List.{list_any}
 use Rattle.std.proofs.lemmas.Bool.{eqb-true}
 use Rattle.std.proofs.lemmas.List.{length-map, drop_all}
 use Rattle.std.proofs.lemmas.Option.{same_Some}
 use Rattle.cyc_words.specs.declared.fault.Fault.{Fault}
 use Rattle.cyc_words.specs.declared.fault.Code.TheVariants as codes
-use Rattle.cyc_words.proofs.Lists.{drop_read}
 use Rattle.cyc_syntax.specs.declared.tree.Expr.{Expr}
 use Rattle.cyc_syntax.specs.Symbols.{Place}
 use Rattle.cyc_syntax.specs.Trees.{Expression, Expressions, NoExpressions, MoreExpressions, place_of}
-use Rattle.cyc_syntax.specs.inside.TreeView.{view_expression, expressions_of}
+use Rattle.cyc_syntax.specs.inside.TreeView.{expressions_of}
 use Rattle.cyc_types.specs.declared.ty.Ty.{Ty as TyCode}
 use Rattle.cyc_types.specs.declared.signature.Signature.{Signature as SignatureCode}
 use Rattle.cyc_types.specs.declared.typed.Callee.{Callee}
@@ -27,10 +26,9 @@ use Rattle.cyc_types.specs.Rules.{Demand, demand, AllKept, settled, unless, run}
 use Rattle.cyc_types.specs.typing.Scopes.{Scope}
 use Rattle.cyc_types.specs.typing.Tests.{kind_of_value}
 use Rattle.cyc_types.specs.typing.Expressions.{conversion, converted, passed, passed_demanded, paired_argument, is_unique_for_variable, variables_demanded, instantiated, call_demanded, called_by}
-use Rattle.cyc_types.proofs.RuleLaws.{settled_append, settled_kept}
+use Rattle.cyc_types.proofs.RuleLaws.{settled_kept}
 use Rattle.cyc_forms.specs.inside.Forms.{value_in}
 use Rattle.cyc_forms.specs.inside.Passing.{with_kinds, with_kinds_at, all_with_kinds}
-use Rattle.cyc_forms.proofs.Lists.{lost}
 use Rattle.cyc_forms.proofs.TypeTests.{kind_at}
 
 -- ---- what is asked of each, as far as there are all three
@@ -46,25 +44,6 @@ module _ (one : Expression → typed.Expression → Ty → List Demand) (many : 
   -- of these expressions, values and types
   abbrev pub asked : List Expr → List ConvertedCode → List TyCode → List Demand
   asked es cs ts = many (expressions_of es) (map value_in cs) (map view_ty ts)
-
-  pub asked_next : (known : Option Fault) (es : List Expr) (cs : List ConvertedCode) (ts : List TyCode) (i : ℕ) (e : Expr) (c : ConvertedCode) (t : TyCode)
-      → i < length es → e ≡ get_or es i e → i < length cs → c ≡ get_or cs i c → i < length ts → t ≡ get_or ts i t
-      → settled known (asked (drop i es) (drop i cs) (drop i ts)) ≡ settled (settled known (one (view_expression e) (value_in c) (view_ty t))) (asked (drop (i + 1) es) (drop (i + 1) cs) (drop (i + 1) ts))
-  asked_next known es cs ts i e c t lt_e is_e lt_c is_c lt_t is_t =
-      ap (λ xs. settled known (asked xs (drop i cs) (drop i ts))) (drop_read es i e lt_e is_e)
-      ∙ ap (λ xs. settled known (asked (e ∷ drop (i + 1) es) xs (drop i ts))) (drop_read cs i c lt_c is_c)
-      ∙ ap (λ xs. settled known (asked (e ∷ drop (i + 1) es) (c ∷ drop (i + 1) cs) xs)) (drop_read ts i t lt_t is_t)
-      ∙ ap (settled known) (asks.step (view_expression e) (expressions_of (drop (i + 1) es)) (value_in c) (map value_in (drop (i + 1) cs)) (view_ty t) (map view_ty (drop (i + 1) ts)))
-      ∙ settled_append known (one (view_expression e) (value_in c) (view_ty t)) (asked (drop (i + 1) es) (drop (i + 1) cs) (drop (i + 1) ts))
-
-  -- where one of the lists ends
-  pub asked_no_expression : (known : Option Fault) (es : List Expr) (cs : List ConvertedCode) (ts : List TyCode) (i : ℕ) → slice_get es i ≡ None → settled known (asked (drop i es) (drop i cs) (drop i ts)) ≡ known
-  asked_no_expression known es cs ts i h =
-      ap (λ xs. settled known (asked xs (drop i cs) (drop i ts))) (lost es i h) ∙ ap (settled known) (asks.no_expressions (map value_in (drop i cs)) (map view_ty (drop i ts)))
-
-  pub asked_no_value : (known : Option Fault) (es : List Expr) (cs : List ConvertedCode) (ts : List TyCode) (i : ℕ) → slice_get cs i ≡ None → settled known (asked (drop i es) (drop i cs) (drop i ts)) ≡ known
-  asked_no_value known es cs ts i h =
-      ap (λ xs. settled known (asked (drop i es) xs (drop i ts))) (lost cs i h) ∙ ap (settled known) (asks.no_values (expressions_of (drop i es)) (map view_ty (drop i ts)))
 
   pub asked_no_type : (known : Option Fault) (es : List Expr) (cs : List ConvertedCode) (ts : List TyCode) (i : ℕ) → length ts ≤ i → settled known (asked (drop i es) (drop i cs) (drop i ts)) ≡ known
   asked_no_type known es cs ts i le =

@@ -43,6 +43,7 @@ pub fn type_of_place(place: &typed::Dereference) -> &Ty
 }
 
 impl<'a> Given<'a> {
+    /// The type of an expression that is typed, by its form.
     pub fn by(value: &'a typed::Expr) -> Given<'a>
         ensures { view_given result ≡ type_of (view_expression value.now) }
     {
@@ -91,6 +92,7 @@ impl<'a> Given<'a> {
         }
     }
 
+    /// Whether it has no value, as a call of a function without a result.
     pub fn is_void(self) -> bool
         ensures { result ≡ is_void (view_given self.entry) }
     {
@@ -107,6 +109,7 @@ impl<'a> Given<'a> {
         }
     }
 
+    /// Whether it is an int.
     pub fn is_int(self) -> bool
         ensures { result ≡ is_int (view_given self.entry) }
     {
@@ -117,6 +120,7 @@ impl<'a> Given<'a> {
         }
     }
 
+    /// Whether it is a char.
     pub fn is_char(self) -> bool
         ensures { result ≡ is_char (view_given self.entry) }
     {
@@ -138,6 +142,7 @@ impl<'a> Given<'a> {
         }
     }
 
+    /// Whether it is a pointer of a type: `NULL` alone is none.
     pub fn is_pointer(self) -> bool
         ensures { result ≡ is_value is_pointer (view_given self.entry) }
     {
@@ -176,6 +181,7 @@ impl<'a> Given<'a> {
         }
     }
 
+    /// Whether it is a pointer into the unique region.
     pub fn is_unique(self) -> bool
         ensures { result ≡ is_value is_unique (view_given self.entry) }
     {
@@ -185,6 +191,7 @@ impl<'a> Given<'a> {
         }
     }
 
+    /// Whether it is the key of a dynamic region.
     pub fn is_key(self) -> bool
         ensures { result ≡ is_value is_key (view_given self.entry) }
     {
@@ -194,6 +201,7 @@ impl<'a> Given<'a> {
         }
     }
 
+    /// Whether it is the handle of a region.
     pub fn is_handle(self) -> bool
         ensures { result ≡ is_value is_handle (view_given self.entry) }
     {

@@ -10,15 +10,17 @@ pub use objects::{Made, Placed, array_made, as_unique, by_handle, created, on_he
 pub use operands::{
     int_wanted, is_looking, peeked_local, span_inside, span_of, test_wanted, value_wanted,
 };
-pub use operators::{Left, as_int, binary, computed, freed, join, number_of_elements};
+pub use operators::{Left, binary, join};
 pub use passing::push_value;
 pub use places::{
     Found, Reached, addressed, as_place, assigned, indexed, loaded, pointed, selected, type_of_side,
 };
+pub use unary::{as_int, computed, freed, number_of_elements};
 pub use variables::{key_freed, looked, place_meant, read};
 
 mod at_call;
 mod calls;
+mod comparisons;
 mod conversion;
 mod fields;
 mod given;
@@ -30,4 +32,5 @@ mod operators;
 mod passing;
 mod places;
 pub mod types;
+mod unary;
 mod variables;

@@ -9,6 +9,7 @@ use cyc_scope::Stop;
 use cyc_types::typed;
 use std::alloc::Global;
 
+/// A typed expression in a box of its own.
 #[inline(always)]
 pub fn boxed(alloc: Global, expression: typed::Expr) -> Result<Box<typed::Expr>, Stop>
     ensures { Gives view_boxed result (Ok (view_expression expression)) }
@@ -16,6 +17,7 @@ pub fn boxed(alloc: Global, expression: typed::Expr) -> Result<Box<typed::Expr>,
     Ok(Box::new(alloc, expression)?)
 }
 
+/// The node of a constant.
 #[inline(never)]
 pub fn number(alloc: Global, value: u32) -> Result<Box<typed::Expr>, Stop>
     ensures { Gives view_boxed result (Ok (nodes.Number value)) }
@@ -23,6 +25,7 @@ pub fn number(alloc: Global, value: u32) -> Result<Box<typed::Expr>, Stop>
     boxed(alloc, typed::Expr::Number { value })
 }
 
+/// The node of `NULL`.
 #[inline(never)]
 pub fn null_pointer(alloc: Global) -> Result<Box<typed::Expr>, Stop>
     ensures { Gives view_boxed result (Ok nodes.NullPointer) }
@@ -30,6 +33,7 @@ pub fn null_pointer(alloc: Global) -> Result<Box<typed::Expr>, Stop>
     boxed(alloc, typed::Expr::NullPointer)
 }
 
+/// The node of `heap_region`.
 #[inline(never)]
 pub fn heap_region(alloc: Global) -> Result<Box<typed::Expr>, Stop>
     ensures { Gives view_boxed result (Ok nodes.HeapRegion) }

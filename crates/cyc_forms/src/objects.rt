@@ -13,8 +13,8 @@ ghost use Rattle.cyc_forms.specs.inside.Forms.{view_given, view_boxed, IsPlaced,
 
 use crate::given::Given;
 use crate::nodes::boxed;
-use crate::operators::as_int;
 use crate::places::live_wanted;
+use crate::unary::as_int;
 use cyc_scope::{Scope, Settled, Stop};
 use cyc_syntax::PointerKind;
 use cyc_types::typed::{Initial, Kind, Placement};
@@ -40,6 +40,7 @@ pub struct Made {
     pub mark: PointerKind,
 }
 
+/// Where `new` makes its object: on the heap, and nothing more is asked of it.
 #[inline(never)]
 pub fn on_heap(alloc: Global) -> Result<Box<Placed>, Stop>
     ensures { GivesOne IsPlaced result (Ok on_heap) }
@@ -55,6 +56,7 @@ pub fn on_heap(alloc: Global) -> Result<Box<Placed>, Stop>
     )?)
 }
 
+/// Where `rnew(unique_region)` makes its object.
 #[inline(never)]
 pub fn as_unique(alloc: Global) -> Result<Box<Placed>, Stop>
     ensures { GivesOne IsPlaced result (Ok as_unique) }

@@ -15,8 +15,8 @@ ghost use Rattle.cyc_forms.specs.inside.Forms.{view_given, view_boxed, found_of,
 use crate::conversion::{convert, converted};
 use crate::given::{Given, type_of_place};
 use crate::nodes::boxed;
-use crate::operators::as_int;
 use crate::types::{arguments_of, is_key, is_moved, is_struct, is_unique, same_region, struct_of};
+use crate::unary::as_int;
 use cyc_scope::{Field, Scope, Settled, Stop};
 use cyc_syntax::{Ident, PointerKind};
 use cyc_types::typed::{Converted, Dereference, Kind, Lvalue, Side, ValueType};
@@ -62,6 +62,7 @@ pub(crate) fn variable_found(
     boxed_place(alloc, Side::Variable { place, of_type }, home)
 }
 
+/// The type of what stands in a place.
 pub fn type_of_side(side: &Side) -> &Ty
     ensures { view_ty result.now ≡ type_of_side (view_side side.now) }
 {

@@ -49,6 +49,7 @@ pub(crate) fn is_char_type(of_type: &Ty) -> bool
     matches!(of_type, Ty::Char)
 }
 
+/// Whether it is the type of a pointer, with any mark.
 pub fn is_pointer(of_type: &Ty) -> bool
     ensures { result ≡ is_pointer (view_ty of_type.now) }
 {
@@ -77,12 +78,14 @@ pub fn is_unique(of_type: &Ty) -> bool
     }
 }
 
+/// Whether it is the type of a key.
 pub fn is_key(of_type: &Ty) -> bool
     ensures { result ≡ is_key (view_ty of_type.now) }
 {
     matches!(of_type, Ty::Key { .. })
 }
 
+/// Whether it is the type of a struct.
 pub fn is_struct(of_type: &Ty) -> bool
     ensures { result ≡ is_struct (view_ty of_type.now) }
 {
@@ -105,6 +108,7 @@ pub(crate) fn is_fat(of_type: &Ty) -> bool
     }
 }
 
+/// Whether it is the type of a handle.
 pub fn is_handle(of_type: &Ty) -> bool
     ensures { result ≡ is_handle (view_ty of_type.now) }
 {

@@ -1,5 +1,4 @@
 -- what the crates above cite
-pub mod Orders
 -- the tables of names
 pub mod TableLemmas
 pub mod EntryLemmas

@@ -27,6 +27,7 @@ pub struct Tables {
 }
 
 impl Tables {
+    /// No names, and no locals.
     pub fn new(alloc: Global) -> Tables
         ensures { result.names ≡ [] }
     {

@@ -3,6 +3,7 @@
 use cyc_types::typed::{Callee, Lvalue};
 use cyc_types::{Region, Signature, Ty};
 
+/// What a name stands for where it is used.
 #[derive(Clone, Copy)]
 pub enum Meaning<'a> {
     Unknown,

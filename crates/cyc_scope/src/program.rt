@@ -107,6 +107,7 @@ impl Program {
         Ok(())
     }
 
+    /// Declares an exception of the program behind those that are there.
     pub fn add_exception(&mut self, name: usize, has_int: bool) -> Result<(), Stop>
         ensures added { OnOk result (self.new ≡ record self.old { exceptions = self.old.exceptions ++ record { name = name; has_int = has_int } ∷ [] }) }
         ensures memory { IfErr result (λ e. e ≡ Memory) }
@@ -114,6 +115,7 @@ impl Program {
         self.exceptions.declare(name, has_int)
     }
 
+    /// Declares the global of this number, which lives on the heap.
     pub fn declare_global(&mut self, name: usize, number: usize, of_type: Ty) -> Result<(), Stop>
         ensures declared { OnOk result (self.new ≡ record self.old { declared = self.old.declared ++ record { name = name; meaning = scopes.Variable (typed.Global number) (view_ty of_type) regions.Heap } ∷ [] }) }
         ensures memory { IfErr result (λ e. e ≡ Memory) }
@@ -122,6 +124,7 @@ impl Program {
             .declare(name, Entity::Global { number, of_type })
     }
 
+    /// Declares the function of this number with its signature.
     pub fn declare_function(
         &mut self,
         name: usize,

@@ -97,6 +97,7 @@ impl<'a> Scope<'a> {
     ghost use Rattle.cyc_scope.specs.inside.Entries.{view_field, view_sort};
     ghost use Rattle.cyc_scope.specs.inside.Marks.{IsInOrder, mark_of, left_to, with_next_opened};
 
+    /// The allocator of all that a check makes.
     pub fn alloc(&self) -> Global {
         self.alloc
     }
@@ -154,6 +155,7 @@ impl<'a> Scope<'a> {
         self.next_region
     }
 
+    /// Whether a loop stands around, so that `break` and `continue` may.
     pub fn in_loop(&self) -> bool
         ensures { result ≡ self.now.in_loop }
     {
@@ -191,6 +193,7 @@ impl<'a> Scope<'a> {
         self.taken.has(name.name.number)
     }
 
+    /// Whether the region may be reached here.
     pub fn is_live(&self, region: Region) -> bool
         ensures { result ≡ is_live self.now region }
     {

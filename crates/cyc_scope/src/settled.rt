@@ -7,6 +7,7 @@ ghost use Rattle.cyc_scope.specs.inside.Code.{Ends};
 use crate::stop::Stop;
 use cyc_words::{Code, Fault, Span};
 
+/// The first of several demands that is not kept, where they are asked one after another.
 #[derive(Clone, Copy)]
 pub struct Settled {
     /// The fault so far.
@@ -14,12 +15,14 @@ pub struct Settled {
 }
 
 impl Settled {
+    /// All demands so far are kept.
     pub fn new() -> Settled
         ensures { result.known ≡ None }
     {
         Settled { known: None }
     }
 
+    /// Asks one demand more: where it is the first that is not kept, this is its fault.
     pub fn demand(&mut self, code: Code, span: Span, kept: bool)
         ensures { self.new.known ≡ noted self.old.known (demand code (place_of_span span) kept) }
     {

@@ -8,6 +8,7 @@ ghost use Rattle.cyc_scope.specs.inside.Code.{fault_of};
 use cyc_words::{Code, Fault, Span};
 use std::alloc::{AllocError, AllocFailed};
 
+/// Why a check goes no further.
 #[derive(Clone, Copy, Debug, PartialEq, Eq)]
 pub enum Stop {
     /// An allocation was refused, or more is counted than memory holds.

@@ -186,6 +186,7 @@ pub fn check_condition(scope: &mut Scope<'_>, condition: &Expr) -> Result<Box<ty
     Ok(value)
 }
 
+/// The typed statement of an expression that stands alone.
 pub fn check_evaluation(scope: &mut Scope<'_>, expression: &Expr) -> Result<Box<typed::Stmt>, Stop>
     ensures gives { Gives view_boxed_statement result (run (rule_statement scope.old (Evaluate (view_expression expression.now)))) }
     ensures same { OnOk result (scope.new ≡ scope.old) }
@@ -194,6 +195,7 @@ pub fn check_evaluation(scope: &mut Scope<'_>, expression: &Expr) -> Result<Box<
     evaluation(scope.alloc(), span_of(expression), value)
 }
 
+/// The typed statement of a swap of what two places hold.
 pub fn check_swap(
     scope: &mut Scope<'_>,
     left: &Expr,
@@ -229,6 +231,7 @@ fn check_returned(
     }
 }
 
+/// The typed `return`: with a value exactly where the function has a result.
 pub fn check_return(
     scope: &mut Scope<'_>,
     span: Span,
@@ -259,6 +262,7 @@ fn check_thrown(
     }
 }
 
+/// The typed `throw`: of an exception of the program, with a value exactly where it has an int.
 pub fn check_throw(
     scope: &mut Scope<'_>,
     span: Span,

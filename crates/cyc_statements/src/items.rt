@@ -225,6 +225,7 @@ fn declaration(span: Span, number: usize, local: Initialised) -> typed::Item
     }
 }
 
+/// The typed item of a local, which is in scope behind it.
 pub fn declare_local(
     scope: &mut Scope<'_>,
     written: &WrittenType,
@@ -365,6 +366,7 @@ fn opened(scope: &Scope<'_>, region: Ident, handle: Ident, key: Ident) -> Result
     }
 }
 
+/// The typed item that opens the dynamic region of a key, whose handle is in scope behind it.
 pub fn open_dynamic(
     scope: &mut Scope<'_>,
     region: Ident,

@@ -22,6 +22,7 @@ pub fn boxed(alloc: Global, statement: typed::Stmt) -> Result<Box<typed::Stmt>, 
     Ok(Box::new(alloc, statement)?)
 }
 
+/// The node of a statement that does nothing.
 #[inline(never)]
 pub fn empty(alloc: Global) -> Result<Box<typed::Stmt>, Stop>
     ensures { Gives view_boxed_statement result (Ok nodes.Empty) }
@@ -29,6 +30,7 @@ pub fn empty(alloc: Global) -> Result<Box<typed::Stmt>, Stop>
     boxed(alloc, typed::Stmt::Empty)
 }
 
+/// The node of an expression as a statement.
 #[inline(never)]
 pub fn evaluation(
     alloc: Global,
@@ -41,6 +43,7 @@ pub fn evaluation(
     boxed(alloc, typed::Stmt::Evaluate { span, value })
 }
 
+/// The node of a block, with the number of its region.
 #[inline(never)]
 pub fn block_of(
     alloc: Global,
@@ -52,6 +55,7 @@ pub fn block_of(
     boxed(alloc, typed::Stmt::Block { region, items })
 }
 
+/// The node of an `if`.
 #[inline(never)]
 pub fn choice(
     alloc: Global,
@@ -74,6 +78,7 @@ pub fn choice(
     )
 }
 
+/// The node of a loop.
 #[inline(never)]
 pub fn repetition(
     alloc: Global,
@@ -94,6 +99,7 @@ pub fn repetition(
     )
 }
 
+/// The node of a `return`.
 #[inline(never)]
 pub fn return_of(
     alloc: Global,
@@ -105,6 +111,7 @@ pub fn return_of(
     boxed(alloc, typed::Stmt::Return { span, value })
 }
 
+/// The node of a `throw`.
 #[inline(never)]
 pub fn throw_of(
     alloc: Global,
@@ -121,6 +128,7 @@ pub fn throw_of(
     boxed(alloc, typed::Stmt::Throw { span, tag, value })
 }
 
+/// The node of a `try` with its clauses.
 #[inline(never)]
 pub fn try_of(
     alloc: Global,
@@ -142,6 +150,7 @@ pub fn try_of(
     )
 }
 
+/// The item of a statement in a block.
 pub fn execution(statement: Box<typed::Stmt>) -> typed::Item
     ensures { typed_view.view_item result ≡ nodes.Execute (view_boxed_statement statement) }
 {

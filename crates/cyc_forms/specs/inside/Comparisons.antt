@@ -1,8 +1,8 @@
 -- What a comparison for equality does, by its operands' types.
 use Rattle.cyc_types.specs.TypedTrees as typed
 use Rattle.cyc_types.specs.typing.Expressions.{then_pointer}
-use Rattle.cyc_forms.specs.declared.operators.Comparison.{Comparison}
-use Rattle.cyc_forms.specs.declared.operators.Comparison.TheVariants as comparison
+use Rattle.cyc_forms.specs.declared.comparisons.Comparison.{Comparison}
+use Rattle.cyc_forms.specs.declared.comparisons.Comparison.TheVariants as comparison
 
 -- with its right operand, in front of the rest of its chain
 abbrev pub then_comparison : Comparison → typed.Expression → typed.Operations → typed.Operations
