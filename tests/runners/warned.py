@@ -3,10 +3,11 @@
 
     python3 tests/runners/warned.py [--program PATH] [--count N] [--seed N]
 
-Each text in docs/warnings.txt has its warning, with the words and at the place that stand there, and no other. Of the examples, and
-of N random programs, 2,000 where it is left out, some with one token changed, the program says what the second reading does: the
-places, the words and the order, up to the first twenty. The same seed gives the same programs. The last line is `N passed, M failed`,
-of texts.
+Each text in docs/warnings.txt has its warning, with the words and at the place that stand there, and no other. For each warning there
+are ten texts at least in tests/unwarned.txt that are near to it, and neither the program nor the second reading warns of any of them. Of
+the examples, and of N random programs, 2,000 where it is left out, some with one token changed, the program says what the second reading
+does: the places, the words and the order, up to the first twenty. The same seed gives the same programs. The last line is
+`N passed, M failed`, of texts and of warnings whose texts are counted.
 """
 import os
 import random
@@ -20,6 +21,9 @@ import reference
 from language import warned
 
 TABLE = os.path.join(suite.ROOT, "docs", "warnings.txt")
+UNWARNED = os.path.join(suite.TESTS, "unwarned.txt")
+# How many texts there are at least that are near to a warning.
+NEAR = 10
 EXAMPLES = os.path.join(suite.ROOT, "examples")
 MOST = 20
 LINE = re.compile(r"^main\.cyc:(\d+):(\d+): warning: (.*)$")
@@ -29,17 +33,54 @@ class Row:
     """A warning of the table, and the text that has it alone."""
 
     def __init__(self, lines):
-        parts = dict(line.split(None, 1) for line in lines)
+        parts = dict(lines)
         self.name, self.words = parts["warning"], parts["words"]
-        self.text = codes.characters(parts["text"]).encode("utf-8").decode("latin-1")
+        self.text = characters_of(parts["text"])
         line, column = parts["place"].split(":")
         self.wanted = [((int(line), int(column)), self.words)]
 
 
+def characters_of(text):
+    """A text as the string of its bytes."""
+    return codes.characters(text).encode("utf-8").decode("latin-1")
+
+
+def blocks_of(path):
+    """The blocks of a table, each a list of a word and what stands behind it."""
+    with open(path, encoding="ascii") as file:
+        blocks = [block.split("\n") for block in file.read().split("\n\n")]
+    blocks = [[line.split(None, 1) for line in block if line and not line.startswith("#")] for block in blocks]
+    return [block for block in blocks if block]
+
+
 def rows():
-    with open(TABLE, encoding="ascii") as file:
-        blocks = [[line for line in block.split("\n") if line and not line.startswith("#")] for block in file.read().split("\n\n")]
-    return [Row(block) for block in blocks if block]
+    return [Row(block) for block in blocks_of(TABLE)]
+
+
+class Near:
+    """A text that is near to a warning, and is warned of nothing."""
+
+    def __init__(self, name, number, text):
+        self.name, self.text, self.wanted = f"{name}, text {number} that is near to it", text, []
+        self.verdict = reference.verdict(text)
+        self.read = warned.warnings_of(reference.Program(text), text) if self.verdict == "done" else []
+
+
+def near_texts():
+    """The texts of tests/unwarned.txt, by their warnings."""
+    found = {}
+    for block in blocks_of(UNWARNED):
+        before = "".join(part + " " for word, part in block if word == "with")
+        name = dict(block)["warning"]
+        texts = [characters_of(f"{before}{part}\nint main(){{ return 0; }}") for word, part in block if word == "text"]
+        found[name] = [Near(name, number, text) for number, text in enumerate(dict.fromkeys(texts), 1)]
+    return found
+
+
+def faults_of_count(name, near):
+    """Whether a warning has so many texts that are near to it as it should."""
+    count = len(near.get(name, []))
+    return [] if count >= NEAR else [f"tests/unwarned.txt has {count} texts that are near to it, and {NEAR} are wanted"]
 
 
 class Text:
@@ -98,6 +139,8 @@ def faults_of(program, folder, thing):
     wanted = sorted(thing.wanted)
     # Of two at one place either may be the first.
     faults = [] if last == ["done"] else [f"the last line is {last}"]
+    if getattr(thing, "read", []):
+        faults.append(f"the second reading warns of {thing.read}")
     if are_more != (len(wanted) > MOST):
         faults.append(f"there are {len(wanted)}, and more than {MOST} are{'' if are_more else ' not'} said to be")
     if sorted(said) != wanted[:MOST] and [place for place, _ in said] != [place for place, _ in wanted[:MOST]] \
@@ -114,9 +157,13 @@ def main():
     program = suite.program_of(options, options.count)
     table = rows()
     words = {row.name: row.words for row in table}
+    near = near_texts()
     texts = reference.with_room(lambda: example_texts(words) + random_texts(options.seed, options.count, words))
+    texts += [text for texts in near.values() for text in texts]
     with tempfile.TemporaryDirectory() as folder:
-        suite.try_each(table + texts, lambda thing: thing.name, lambda thing: faults_of(program, folder, thing))
+        counted = [(f"texts near to {row.name}", lambda name=row.name: faults_of_count(name, near)) for row in table]
+        tried = [(thing.name, lambda thing=thing: faults_of(program, folder, thing)) for thing in table + texts]
+        suite.try_each(counted + tried, lambda one: one[0], lambda one: one[1]())
 
 
 if __name__ == "__main__":

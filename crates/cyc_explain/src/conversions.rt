@@ -260,6 +260,7 @@ fn better(notes: &Notes, lead: Message, more: Message) -> Message {
     match more {
         Message::OtherRegions | Message::OtherTarget => better_on_regions(notes, lead, more),
         Message::BytesWanted if notes.is_new => Message::NewBytes,
+        Message::TargetWanted if notes.is_new => better_on_made(lead),
         Message::NullWanted => better_on_null(notes, lead),
         _ => more,
     }
@@ -324,6 +325,42 @@ fn struct_of(of_type: &Ty) -> Option<usize> {
     }
 }
 
+/// Whether two types are pointers of any kinds to the same type but for regions.
+fn lead_alike(of_type: &Ty, wanted: &Ty) -> bool {
+    match (of_type, wanted) {
+        (
+            Ty::Pointer { target, .. },
+            Ty::Pointer {
+                target: wanted_target,
+                ..
+            },
+        ) => has_shape(target, wanted_target),
+        _ => false,
+    }
+}
+
+/// Whether what is found and what is wanted lead to pointers that differ by their marks alone.
+fn is_of_other_mark(notes: &Notes) -> bool {
+    match (&notes.found, &notes.wanted) {
+        (
+            Some(
+                ValueType::Value {
+                    of_type: Ty::Pointer { target, .. },
+                },
+            ),
+            Some(
+                ValueType::Value {
+                    of_type: Ty::Pointer {
+                        target: wanted_target,
+                        ..
+                    },
+                },
+            ),
+        ) => lead_alike(target, wanted_target),
+        _ => false,
+    }
+}
+
 /// The same where the regions inside of a type are others, or it leads to another type.
 fn better_on_regions(notes: &Notes, lead: Message, more: Message) -> Message {
     let is_written = match &notes.found {
@@ -339,9 +376,20 @@ fn better_on_regions(notes: &Notes, lead: Message, more: Message) -> Message {
         (Message::LocalType | Message::VariableType, Message::OtherRegions) => {
             Message::RegionsOfVariable
         }
+        (Message::LocalType | Message::VariableType, _) if notes.is_new => Message::TargetOfNew,
         (Message::LocalType | Message::VariableType, _) => Message::TargetOfVariable,
+        (Message::ArgumentType, _) if is_of_other_mark(notes) => Message::TargetOfParameter,
         (Message::ResultType, Message::OtherRegions) => Message::RegionsOfResult,
+        (Message::ResultType, _) if is_of_other_mark(notes) => Message::TargetOfResult,
         _ => more,
+    }
+}
+
+/// The same where a new object is given for an int.
+fn better_on_made(lead: Message) -> Message {
+    match lead {
+        Message::LocalType | Message::VariableType => Message::PointerMade,
+        _ => Message::TargetWanted,
     }
 }
 

@@ -120,6 +120,7 @@ pub(crate) enum Message {
     FatMoves,
     NoOrder,
     TargetWanted,
+    PointerMade,
     ElementFirst,
     FatCompared,
     NullCompared,
@@ -142,6 +143,9 @@ pub(crate) enum Message {
     TargetNamed,
     OtherTarget,
     TargetOfVariable,
+    TargetOfNew,
+    TargetOfParameter,
+    TargetOfResult,
     BytesWanted,
     IntsWanted,
     NewBytes,
@@ -287,6 +291,7 @@ main returns another type than int
 %/hint: only a ? pointer that is not unique moves on: declare it with ?
 %/hint: pointers have no order and no distance: keep the numbers of the elements in ints, and compare or subtract these
 %/hint: write *%v for what %v leads to
+%/hint: new gives a pointer: declare %t %n
 %/hint: take an element first: %v[0]->f
 %/hint: ? pointers are not compared: put both into * variables of one type first
 %/hint: compare what it leads to, as *p, or the pointer itself with NULL
@@ -308,6 +313,9 @@ an element of %n is %w, found %t
 %/hint: what a pointer leads to is not converted: name the region that the parameter leaves out, as `r, and write it on both sides
 %/hint: what a pointer leads to is not converted: put a value of that very type there
 %/hint: what a pointer leads to is not converted: declare %g %n, or put a value of that very type there
+%/hint: what a pointer leads to is not converted: declare %t %n, or put a value of that very type there
+%/hint: what a pointer leads to is not converted: write %h %n in the head of %o, or put a value of that very type there
+%/hint: what a pointer leads to is not converted: let %f return %g, or put a value of that very type there
 %/hint: char and int differ behind a pointer: copy the elements one by one, each by char(x)
 %/hint: char and int differ behind a pointer: copy the elements one by one
 %/hint: a new object has the type of its value: write char(0) for a byte

@@ -115,6 +115,15 @@ fn behind_byte(depth: Depth, byte: u8) -> Depth {
     }
 }
 
+/// How many starts there are up to a head that has its brackets and no body yet, behind a byte before which there are so many.
+fn heads_behind(heads: usize, starts: usize, depth: Depth, byte: u8) -> usize {
+    match byte {
+        b'(' if depth.braces == 0 => starts,
+        b'{' => usize::MAX,
+        _ => heads,
+    }
+}
+
 /// Where the declarations of a text begin, in order.
 pub fn starts_of(alloc: Global, text: &[u8]) -> Result<Vec<usize>, AllocError> {
     let mut starts = Vec::new(alloc);
@@ -123,7 +132,7 @@ pub fn starts_of(alloc: Global, text: &[u8]) -> Result<Vec<usize>, AllocError> {
         others: 0,
         is_ended: true,
     };
-    let (mut last, mut skipped) = (b'\n', 0usize);
+    let (mut last, mut skipped, mut heads) = (b'\n', 0usize, usize::MAX);
     for (n, byte) in text.iter().enumerate() {
         let rest = text.get(n..).unwrap_or(&[]);
         if skipped == 0 {
@@ -140,6 +149,11 @@ pub fn starts_of(alloc: Global, text: &[u8]) -> Result<Vec<usize>, AllocError> {
                 is_ended: false,
             };
         } else if !byte.is_ascii_whitespace() {
+            if *byte == b'{' && depth.is_ended {
+                // What stands between a head and its body declares parameters, as in C of old.
+                starts.truncate(heads);
+            }
+            heads = heads_behind(heads, starts.len(), depth, *byte);
             depth = behind_byte(depth, *byte);
         }
         last = *byte;

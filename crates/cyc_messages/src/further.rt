@@ -13,7 +13,7 @@ ghost use Rattle.cyc_system.specs.Front.{IsRefusedText};
 use crate::declarations::{Extent, extent_of, starts_of};
 use crate::expected::{expected_at, text_before};
 use crate::refusal::tree_of;
-use crate::told::{Refusal, name_of_ended};
+use crate::told::{Refusal, name_of_ended, words_on_variable};
 use cyc_check::check;
 use cyc_explain::explain;
 use cyc_flow::explain as explain_flow;
@@ -33,9 +33,9 @@ const MOST_FURTHER: usize = 20;
 
 /// How many tokens may be read again of the heads of a text, all of which are read for each refusal by types behind the first: so many times
 /// as many as the text has, and so many more.
-const MOST_TIMES: usize = 5;
+const MOST_TIMES: usize = 4;
 
-const MOST_MORE: usize = 5000;
+const MOST_MORE: usize = 4000;
 
 /// The place of a fault.
 fn span_of(fault: Fault) -> Span {
@@ -260,7 +260,8 @@ fn tell_types(
     let mut mended = ManuallyDrop::new(Mended::new(alloc, tree)?);
     let mut fault = first;
     for _ in 0..=most {
-        if !mended.mend(fault)? {
+        // Where no more is told, it is not sought either.
+        if told.len() >= most || !mended.mend(fault)? {
             return Ok(());
         }
         match check(alloc, &mended.tree) {
@@ -271,7 +272,7 @@ fn tell_types(
                 return tell_flow(alloc, text, &mended.tree, typed, first, told);
             }
             Err(found) => {
-                if found.code == Code::Memory || told.len() >= most {
+                if found.code == Code::Memory {
                     return Ok(());
                 }
                 let words = explain(alloc, &mended.tree, found);
@@ -315,8 +316,11 @@ fn tell_flow(
             if told.len() >= MOST_FURTHER {
                 return Ok(());
             }
-            let name = name_of_ended(alloc, text, tree, found.fault);
-            told.push(Refusal::of_flow(found.fault, name, found.cause))?;
+            let words = match found.fault.code {
+                Code::MissingReturn => name_of_ended(alloc, text, tree, found.fault),
+                _ => words_on_variable(alloc, text, found.fault, found.cause),
+            };
+            told.push(Refusal::of_flow(found.fault, words, found.cause))?;
         }
         let refused = count_up_to(&typed.functions, found.fault);
         let behind = typed.functions.split_off(refused)?;

@@ -8,6 +8,7 @@ pub use told::{Refusal, refusal_of};
 pub use warnings::Warnings;
 
 mod declarations;
+mod empty_pointer;
 mod expected;
 mod flow_cause;
 mod further;

@@ -1,4 +1,5 @@
 //! A refusal with what is told of it.
+use crate::empty_pointer::words_on_empty;
 use crate::expected::expected_at;
 use crate::flow_cause::{cause_of, name_at};
 use crate::refusal::{tree_of, words_for};
@@ -37,7 +38,21 @@ pub fn name_of_ended(alloc: Global, text: &[u8], tree: &Tree, fault: Fault) -> O
     None
 }
 
-/// The same of a text.
+/// What is said of a variable that is empty or locked, where it has not come to be so at a place: what to write for a pointer that never
+/// had a value.
+pub fn words_on_variable(
+    alloc: Global,
+    text: &[u8],
+    fault: Fault,
+    cause: Option<Cause>,
+) -> Option<Vec<u8>> {
+    match (fault.code, cause) {
+        (Code::EmptyVariable, None) => words_on_empty(alloc, text, fault),
+        _ => None,
+    }
+}
+
+/// The name of the function of a text whose end a fault says that a path reaches.
 fn ended_in(alloc: Global, text: &[u8], fault: Fault) -> Option<Vec<u8>> {
     let tree = tree_of(alloc, text).ok()?;
     name_of_ended(alloc, text, &tree, fault)
@@ -68,11 +83,11 @@ impl Refusal {
         }
     }
 
-    /// A refusal by flow, with the name of the function whose end a path reaches, or how the variable came to be so.
-    pub fn of_flow(fault: Fault, name: Option<Vec<u8>>, cause: Option<Cause>) -> Refusal {
+    /// A refusal by flow, with what is said of it, or how the variable came to be so.
+    pub fn of_flow(fault: Fault, words: Option<Vec<u8>>, cause: Option<Cause>) -> Refusal {
         Refusal {
             fault,
-            words: name,
+            words,
             place: None,
             cause,
         }
@@ -87,7 +102,8 @@ pub fn refusal_of(alloc: Global, text: &[u8], fault: Fault) -> Refusal {
         }
         Code::MissingReturn => Refusal::of_flow(fault, ended_in(alloc, text, fault), None),
         Code::EmptyVariable | Code::LockedVariable | Code::LoopEmptiesVariable => {
-            Refusal::of_flow(fault, None, cause_of(alloc, text, fault))
+            let cause = cause_of(alloc, text, fault);
+            Refusal::of_flow(fault, words_on_variable(alloc, text, fault, cause), cause)
         }
         _ => Refusal::explained(fault, words_for(alloc, text, fault)),
     }

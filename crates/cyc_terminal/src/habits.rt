@@ -95,6 +95,7 @@ region ~~ any ~~ `<` ~~ a region has its name and a handle: region<`r> h;
 rnew~open~numelts~ufree~free_ukey ~~ any ~~ `(` ~~ what stands behind it is in brackets, as in rnew(h) 3, open(key), numelts(a) and ufree(p)
 rnew( ..~rnew ( .. ~~ , ~~ any ~~ the value stands behind the brackets: rnew(h) 3
 region< .. ~~ ( ~~ any ~~ a region is opened without brackets: region<`r> h;
+main(~main ( ~~ name ~~ any ~~ main has no parameters: what it needs it reads by getchar
 main .. ~~ [ ~~ any ~~ main has no parameters: what it needs it reads by getchar
 (u8)~(u16)~(u32)~(u64)~(i8)~(i16)~(i32)~(i64)~(byte)~(BYTE)~(DWORD)~(uint)~(uchar)~(size_t)~(ssize_t)~(int8_t)~(int16_t)~(int32_t)~(int64_t)~(uint8_t)~(uint16_t)~(uint32_t)~(uint64_t) ~~ any ~~ any ~~ there are no casts: an int needs none, and NULL is the null pointer, and char(x) is the low byte of x
 any ~~ for ~~ any ~~ for stands only in new {for i < n : e}: write i = 0; while (i < n) { ..; i = i + 1; }
@@ -102,6 +103,7 @@ any ~~ for ~~ any ~~ for stands only in new {for i < n : e}: write i = 0; while 
 any ~~ ++ ~~ any ~~ there is no ++: write i = i + 1
 any ~~ + ~~ an expression~a constant ~~ there is no + before a number, and x += 5 is written x = x + 5
 -- ~~ any ~~ any ~~ there is no --: write i = i - 1
+- ~~ -> ~~ any ~~ there is no --: write i = i - 1
 +~-~*~/~%~&~|~^~<<~>> ~~ = ~~ any ~~ there is no assignment with an operator, as +=: write s = s + 5
 any ~~ ? ~~ any ~~ there is no ?:, so write if (a > b) y = a; else y = b;
 sizeof~sizeof(~sizeof (~sizeof(char~sizeof (char ~~ any ~~ any ~~ there is no sizeof: numelts(a) is the number of elements behind a ? pointer
@@ -112,6 +114,7 @@ sizeof~sizeof(~sizeof (~sizeof(char~sizeof (char ~~ any ~~ any ~~ there is no si
 (char ~~ * ~~ any ~~ there are no casts: an int needs none, and NULL is the null pointer
 any ~~ short~long~signed~unsigned~float~double~bool~_Bool~size_t~int8_t~uint8_t~int32_t~uint32_t~int64_t~uint64_t~i8~u8~i16~u16~i32~u32~i64~u64~usize~isize~boolean~byte~Integer~ssize_t~ptrdiff_t~intptr_t~uintptr_t~int16_t~uint16_t~uint~uchar~ulong~ushort ~~ any ~~ int and char are the only number types: an int has 32 bits, and a char is 0 to 255
 short~long~signed~unsigned~float~double~bool~_Bool~size_t~int8_t~uint8_t~int32_t~uint32_t~int64_t~uint64_t~i8~u8~i16~u16~i32~u32~i64~u64~usize~isize~boolean~byte~Integer~ssize_t~ptrdiff_t~intptr_t~uintptr_t~int16_t~uint16_t~uint~uchar~ulong~ushort ~~ any ~~ any ~~ int and char are the only number types: an int has 32 bits, and a char is 0 to 255
+final ~~ any ~~ any ~~ there is no final: leave the word out
 any ~~ const~static~extern~inline~register~volatile~restrict~unsafe ~~ any ~~ there is no const, static, extern, inline, register, volatile or restrict: leave the word out
 static ~~ any ~~ any ~~ there is no static: leave the word out, and keep in a global what lives from call to call
 const~static~extern~inline~register~volatile~restrict~unsafe ~~ any ~~ any ~~ there is no const, static, extern, inline, register, volatile or restrict: leave the word out
@@ -141,6 +144,7 @@ any ~~ [ ~~ any ~~ an array is made by new, and a ? pointer leads to it: int ?a 
 int~char ~~ ,~) ~~ any ~~ each parameter has a name, as in int max(int a, int b)
 int~void ~~ ( ~~ any ~~ there are no pointers to functions: an int tells which one, and if calls it
 catch ~~ ( ~~ any ~~ what is caught stands in braces: catch { case &E: ..; default: ..; }
+) ~~ -> ~~ `{` ~~ a function begins with the type of its result: int f(int n) { .. }
 ) ~~ { ~~ any ~~ a block stands behind if, else, while, try and catch, or alone, and behind the head of a function
 any ~~ ( ~~ any ~~ no function stands in another one, so see whether a } is missing above; and only a name is called
 void ~~ * ~~ any ~~ there is no void *: the type of a pointer says what it leads to
@@ -150,6 +154,7 @@ struct ~~ { ~~ any ~~ each struct has a name: struct P { int x; int y; };
 any ~~ { ~~ a name or `<` ~~ a struct is declared outside of functions, beside main
 = ~~ { ~~ any ~~ a struct is made by new P{1, 2}, and an array by new {for i < 10 : 0}
 any ~~ @ ~~ any ~~ the type of a struct has the word struct: struct P @p = new P{1, 2};
+number ~~ ,0~,1~,2~,3~,4~,5~,6~,7~,8~,9 ~~ `;` .. ~~ no comma stands in a number: write 1000 for 1,000
 any ~~ , ~~ any ~~ a comma stands only between arguments, parameters and the like: write int a; int b;, or a = 1; b = 2;
 =0~= 0~(0~[0~, 0~+ 0~return 0 ~~ 0~1~2~3~4~5~6~7~8~9 ~~ any ~~ there are no octal numbers, and no other number than 0 begins with 0: write 8 for 010
 number ~~ u~U~l~L~ul~uL~Ul~UL~lu~LU~ll~LL~ull~uLL~Ull~ULL~llu ~~ any ~~ a number has no suffix: leave it out
@@ -160,11 +165,16 @@ number ~~ name ~~ `;` ..~`)` .. ~~ an operator stands between: write 2 * x for 2
 any ~~ call ~~ a declaration ~~ a function begins with the type of its result, as int main() { .. }, and a call stands in one: see whether a } before it is too many
 any ~~ name ~~ a type, `)` or `;`~a type ~~ a parameter begins with its type, int, char or struct P, as in int add(int a, int b)
 any ~~ { ~~ `;`, `=` or `(` ~~ a function has brackets behind its name: int main() { .. }
+any ~~ name ~~ a type or `}` ~~ a field begins with its type, int, char or struct P, as in struct P *next;
 any ~~ name ~~ a region ~~ a region begins with a backquote: `r
 marked ~~ name ~~ `;`, `=` or `(`~`)`, `,` or `;`~`;` or `=` ~~ a region begins with a backquote: int *`r p
 } ~~ any ~~ a declaration ~~ a } before it is one too many: structs, exceptions, globals and functions alone stand outside of functions
 any ~~ any ~~ a declaration ~~ structs, exceptions, globals and functions alone stand outside of functions: put it into main
 any ~~ } ~~ `;` .. ~~ write ; before it; and what a function gives back stands behind return
+retrun ..~reutrn ..~retunr ..~retrn ..~retun ..~rturn ..~whlie ..~wihle ..~whiel ..~whille .. ~~ any ~~ `;` .. ~~ a word before it is spelled otherwise: return, while
+any ~~ = ~~ `;` ~~ a field has no value of its own: a new object gives one to each, as new P{1, 2}
+any ~~ name ~~ `;`, an operator or `:` ~~ a declaration begins with int, char or struct P, as struct P @p = new P{1, 2};, and a call has brackets, as f(x)
+any ~~ 0~1~2~3~4~5~6~7~8~9~' ~~ `;` .. ~~ an operator is missing before it, or the brackets of a call, as in f(3)
 any ~~ any ~~ `;` .. ~~ write ; before it: each statement, each declaration and each struct ends so
 any ~~ ;~{~}~return~if~while~for~else ~~ `)` .. ~~ write ) before it: a ( is not closed
 any ~~ any ~~ `)`, `,` .. ~~ write , or ) before it: arguments and parameters are separated by commas
@@ -172,6 +182,7 @@ any ~~ any ~~ `)` .. ~~ write ) before it: a ( is not closed
 any ~~ any ~~ `]` .. ~~ write ] before it: a [ is not closed
 any ~~ any ~~ `,`, an operator or `}` ~~ write , or } before it: a { is not closed
 any ~~ any ~~ `catch` ~~ a try has its clauses behind it: try .. catch { case &E: ..; default: ..; }
+* ~~ / ~~ any ~~ comments do not nest: the first */ ends one
 any ~~ if ~~ an expression .. ~~ an if has no value: if (a > b) y = a; else y = b;
 any ~~ any ~~ an expression .. ~~ a value is missing before it: a variable, a number, a call or what stands in brackets";
 

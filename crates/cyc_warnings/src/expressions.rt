@@ -5,7 +5,10 @@ use crate::locals::{Local, Use};
 use crate::places::{is_next, leading_minus, minus_of, span_of};
 use crate::shapes::{CHAR, INT, Shape};
 use crate::warning::Warning;
-use cyc_syntax::{BinaryOperator, Expr, Ident, Initial, Operation, Postfix, PrefixOperator};
+use cyc_syntax::{
+    BinaryOperator, Expr, GlobalValue, Ident, Initial, Operation, Postfix, PrefixOperator,
+    WrittenType,
+};
 use cyc_words::Span;
 
 /// The largest char.
@@ -86,6 +89,11 @@ fn is_order(operator: BinaryOperator) -> bool {
 
 fn is_comparison(operator: BinaryOperator) -> bool {
     matches!(operator, BinaryOperator::Equal | BinaryOperator::NotEqual) || is_order(operator)
+}
+
+/// Whether an expression is a constant that is neither of the two truth values.
+fn is_no_truth(expression: &Expr) -> bool {
+    is_more_than(expression, 1)
 }
 
 /// Whether an expression is a comparison with no brackets round it.
@@ -280,7 +288,10 @@ impl<'t> Finder<'t> {
     fn look_at_effect(&mut self, expression: &'t Expr, use_of: Use) {
         self.effects = self.effects.saturating_add(1);
         match expression {
-            Expr::Call { arguments, .. } => self.add_values(arguments),
+            Expr::Call {
+                function,
+                arguments,
+            } => self.look_at_call(*function, arguments),
             Expr::FreeUnique { pointer, .. } => self.add_expression(pointer, Use::Value),
             Expr::FreeKey { key, .. } => self.note(*key, Use::Value),
             Expr::New { value, .. } => self.add_initial(value),
@@ -293,7 +304,50 @@ impl<'t> Finder<'t> {
         }
     }
 
+    /// Looks at a value that becomes a char.
+    pub(crate) fn look_at_byte(&mut self, value: &Expr) {
+        if is_more_than(value, LARGEST_CHAR) {
+            self.warn(span_of(value), Warning::CharConstant);
+        }
+    }
+
+    /// Looks at what a global begins with.
+    pub(crate) fn look_at_global(&mut self, of_type: &WrittenType, value: GlobalValue) {
+        if Shape::written(of_type, self.known.unique).is_char() {
+            match value {
+                GlobalValue::Number { span, value } if value > LARGEST_CHAR => {
+                    self.warn(span, Warning::CharConstant);
+                }
+                GlobalValue::Negative { span, value } if value > 0 => {
+                    self.warn(span, Warning::CharConstant);
+                }
+                _ => {}
+            }
+        }
+    }
+
+    fn look_at_call(&mut self, function: Ident, arguments: &'t [Expr]) {
+        for (n, argument) in arguments.iter().enumerate() {
+            if self.known.takes_char(function.name.number, n) {
+                self.look_at_byte(argument);
+            }
+        }
+        self.add_values(arguments);
+    }
+
+    fn look_at_fields(&mut self, owner: Ident, values: &'t [Expr]) {
+        for (n, value) in values.iter().enumerate() {
+            if self.known.keeps_char(owner.name.number, n) {
+                self.look_at_byte(value);
+            }
+        }
+        self.add_values(values);
+    }
+
     fn look_at_assigned(&mut self, target: &'t Expr, value: &'t Expr, use_of: Use) {
+        if is_more_than(value, LARGEST_CHAR) && self.is_char(target) {
+            self.warn(span_of(value), Warning::CharConstant);
+        }
         if let Some(name) = named(target) {
             if !is_null(value) {
                 self.fill(name);
@@ -312,7 +366,7 @@ impl<'t> Finder<'t> {
     fn add_initial(&mut self, initial: &'t Initial) {
         match initial {
             Initial::Plain { value } => self.add_expression(value, Use::Value),
-            Initial::Fields { values, .. } => self.add_values(values),
+            Initial::Fields { name, values, .. } => self.look_at_fields(*name, values),
             Initial::Array {
                 length,
                 element,
@@ -440,6 +494,7 @@ impl<'t> Finder<'t> {
                     self.warn(span, Warning::AddedMinus);
                 }
             }
+            BinaryOperator::OrElse | BinaryOperator::AndThen => self.look_at_truths(left, operand),
             operator if is_comparison(operator) => {
                 if let Some(left) = left {
                     if self.is_settled(left, operand) || self.is_settled(operand, left) {
@@ -448,6 +503,18 @@ impl<'t> Finder<'t> {
                 }
             }
             _ => {}
+        }
+    }
+
+    /// Looks at an operand of `||` or `&&`, and at the one on its left where that is the first of the chain.
+    fn look_at_truths(&mut self, left: Option<&Expr>, operand: &Expr) {
+        if let Some(left) = left {
+            if is_no_truth(left) {
+                self.warn(span_of(left), Warning::ConstantOperand);
+            }
+        }
+        if is_no_truth(operand) {
+            self.warn(span_of(operand), Warning::ConstantOperand);
         }
     }
 

@@ -4,7 +4,7 @@ use crate::locals::{Local, Locals, Use};
 use crate::shapes::{INT, OTHER, Shape};
 use crate::warning::{Findings, Found, Warning};
 use cyc_syntax::{
-    Block, Expr, Ident, Initial, Item, Member, ParameterList, Parameters, Stmt, Tree,
+    Block, Expr, Ident, Initial, Item, Member, ParameterList, Parameters, Stmt, Tree, WrittenType,
 };
 use cyc_words::Span;
 use std::alloc::Global;
@@ -37,6 +37,8 @@ pub(crate) struct Finder<'t> {
     pub(crate) locals: Locals,
     pending: Vec<Part<'t>>,
     found: Findings,
+    /// Whether the function gives a char.
+    pub(crate) gives_char: bool,
     /// How many calls, assignments and objects that are made or freed were met.
     pub(crate) effects: usize,
     /// Whether memory did not run out.
@@ -51,6 +53,7 @@ impl<'t> Finder<'t> {
             locals: Locals::new(alloc),
             pending: Vec::new(alloc),
             found: Findings::new(alloc),
+            gives_char: false,
             effects: 0,
             is_whole: true,
         }
@@ -72,7 +75,16 @@ impl<'t> Finder<'t> {
     // ---- functions
 
     /// Goes through a function.
-    pub(crate) fn look_over(&mut self, parameters: &'t Parameters, body: &'t Block) {
+    pub(crate) fn look_over(
+        &mut self,
+        returned: &Option<WrittenType>,
+        parameters: &'t Parameters,
+        body: &'t Block,
+    ) {
+        self.gives_char = match self.known.shape_of_result(returned) {
+            Some(shape) => shape.is_char(),
+            None => false,
+        };
         if let ParameterList::Listed { members } = &parameters.list {
             self.declare_parameters(members);
         }

@@ -10,13 +10,19 @@ use std::alloc::Global;
 pub fn find_warnings(alloc: Global, tree: &Tree, text: &[u8]) -> Vec<Found> {
     let mut finder = Finder::new(alloc, tree);
     for declaration in &tree.declarations {
-        if let Declaration::Function {
-            parameters,
-            body,
-            ..
-        } = declaration
-        {
-            finder.look_over(parameters, body);
+        match declaration {
+            Declaration::Function {
+                result,
+                parameters,
+                body,
+                ..
+            } => finder.look_over(result, parameters, body),
+            Declaration::Global {
+                of_type,
+                value: Some(value),
+                ..
+            } => finder.look_at_global(of_type, *value),
+            _ => {}
         }
     }
     if let Some(span) = find_hidden(text) {

@@ -1,6 +1,6 @@
 //! What names mean: the declarations of a program, and the locals in scope, each found in constant time.
 use crate::shapes::Shape;
-use cyc_syntax::{Declaration, Member, Tree};
+use cyc_syntax::{Declaration, Member, ParameterList, Tree, WrittenType};
 use std::alloc::Global;
 
 /// The number of no name, no local and no field.
@@ -16,6 +16,8 @@ struct Entry {
     result: Option<Shape>,
     /// Where the fields of the struct begin.
     fields: usize,
+    /// Where the parameters of the function begin.
+    parameters: usize,
 }
 
 const NOTHING: Entry = Entry {
@@ -23,6 +25,7 @@ const NOTHING: Entry = Entry {
     global: None,
     result: None,
     fields: NONE,
+    parameters: NONE,
 };
 
 /// A field, with the name of its struct.
@@ -47,6 +50,8 @@ pub(crate) struct Known {
     entries: Vec<Entry>,
     /// Those of one struct stand together.
     fields: Vec<Field>,
+    /// Of each parameter whether it is a char; those of one function stand together.
+    parameters: Vec<bool>,
     /// The names of locals in scope, the newest last.
     bindings: Vec<Binding>,
     /// The number of the name that the region of unique pointers has.
@@ -60,6 +65,7 @@ impl Known {
         let mut known = Known {
             entries: Vec::new(alloc),
             fields: Vec::new(alloc),
+            parameters: Vec::new(alloc),
             bindings: Vec::new(alloc),
             unique: NONE,
             is_whole: true,
@@ -84,16 +90,37 @@ impl Known {
                 }
             }
             Declaration::Function {
-                result: Some(result),
+                result,
                 name,
+                parameters,
                 ..
             } => {
-                let shape = Shape::written(result, self.unique);
+                let shape = self.shape_of_result(result);
+                let start = self.parameters.len();
                 if let Some(entry) = self.entries.get_mut(name.name.number) {
-                    entry.result = Some(shape);
+                    entry.result = shape;
+                    entry.parameters = start;
+                }
+                if let ParameterList::Listed { members } = &parameters.list {
+                    self.add_parameters(members);
                 }
             }
-            _ => {}
+            Declaration::Exceptions { .. } => {}
+        }
+    }
+
+    /// The type of what a function gives, if it gives something.
+    pub(crate) fn shape_of_result(&self, returned: &Option<WrittenType>) -> Option<Shape> {
+        match returned {
+            Some(written) => Some(Shape::written(written, self.unique)),
+            None => None,
+        }
+    }
+
+    fn add_parameters(&mut self, members: &[Member]) {
+        for member in members {
+            let is_char = Shape::written(&member.of_type, self.unique).is_char();
+            self.is_whole = self.parameters.push(is_char).is_ok() && self.is_whole;
         }
     }
 
@@ -162,6 +189,30 @@ impl Known {
         match self.entries.get(name) {
             Some(entry) => entry.result,
             None => None,
+        }
+    }
+
+    /// Whether the parameter of this number is a char, of the function of a name.
+    pub(crate) fn takes_char(&self, function: usize, number: usize) -> bool {
+        let start = match self.entries.get(function) {
+            Some(entry) => entry.parameters,
+            None => NONE,
+        };
+        match self.parameters.get(start.saturating_add(number)) {
+            Some(is_char) => *is_char,
+            None => false,
+        }
+    }
+
+    /// Whether the field of this number is a char, of the struct of a name.
+    pub(crate) fn keeps_char(&self, owner: usize, number: usize) -> bool {
+        let start = match self.entries.get(owner) {
+            Some(entry) => entry.fields,
+            None => NONE,
+        };
+        match self.fields.get(start.saturating_add(number)) {
+            Some(field) => field.owner == owner && field.shape.is_char(),
+            None => false,
         }
     }
 

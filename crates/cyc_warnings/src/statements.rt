@@ -90,9 +90,12 @@ impl<'t> Finder<'t> {
     pub(crate) fn look_at_item(&mut self, item: &'t Item) {
         match item {
             Item::Statement { statement } => self.look_at_statement(statement),
-            Item::Local { value, .. } => {
+            Item::Local { of_type, value, .. } => {
                 self.add(Part::Declared(item));
                 if let Some(value) = value {
+                    if Shape::written(of_type, self.known.unique).is_char() {
+                        self.look_at_byte(value);
+                    }
                     self.add_expression(value, Use::Value);
                 }
             }
@@ -169,7 +172,8 @@ impl<'t> Finder<'t> {
                 condition,
                 body,
             } => self.look_at_while(*span, condition, body),
-            Stmt::Return { value, .. } | Stmt::Throw { value, .. } => {
+            Stmt::Return { value, .. } => self.look_at_returned(value),
+            Stmt::Throw { value, .. } => {
                 if let Some(value) = value {
                     self.add_expression(value, Use::Value);
                 }
@@ -187,6 +191,15 @@ impl<'t> Finder<'t> {
                 self.add(Part::Statement(body));
             }
             Stmt::Empty { .. } | Stmt::Break { .. } | Stmt::Continue { .. } => {}
+        }
+    }
+
+    fn look_at_returned(&mut self, value: &'t Option<Expr>) {
+        if let Some(value) = value {
+            if self.gives_char {
+                self.look_at_byte(value);
+            }
+            self.add_expression(value, Use::Value);
         }
     }
 

@@ -16,6 +16,8 @@ pub enum Warning {
     ShiftCount,
     /// `c != -1` of a char
     CharCompared,
+    /// `char c = 300;`
+    CharConstant,
     /// `if (x);`
     EmptyIf,
     /// `while (x);`
@@ -24,6 +26,8 @@ pub enum Warning {
     NoEffect,
     /// `1 < x < 3`
     OrderChain,
+    /// `x == 3 || 4`
+    ConstantOperand,
     /// `f & 1 == 0`
     ComparedFirst,
     /// `x / 0`
@@ -54,6 +58,8 @@ pub fn text_of(warning: Warning) -> &'static str {
         Warning::ShiftCount => "the count of a shift is taken modulo 32",
         Warning::CharCompared =>
             "a char is 0 to 255, so this comparison has the same answer always: keep what getchar() gives in an int",
+        Warning::CharConstant =>
+            "a char is 0 to 255, so it keeps the low byte of this constant alone: make it an int, or write that byte",
         Warning::EmptyIf =>
             "nothing hangs on this `if`: its statement is the `;` behind the condition",
         Warning::EmptyWhile =>
@@ -61,6 +67,8 @@ pub fn text_of(warning: Warning) -> &'static str {
         Warning::NoEffect => "the value of this statement is used for nothing: to assign write =",
         Warning::OrderChain =>
             "0 or 1 is compared here, the answer of the comparison before: write a < b && b < c",
+        Warning::ConstantOperand =>
+            "a constant other than 0 is true always: to compare with it too write x == 3 || x == 4",
         Warning::ComparedFirst =>
             "a comparison binds tighter than `&`, `^` and `|`: put brackets round what comes first",
         Warning::DivisionByZero => "the divisor is 0: this throws Div_zero",

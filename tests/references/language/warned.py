@@ -73,6 +73,8 @@ class Warned:
             self.order(items)
         for node in self.nodes:
             getattr(self, "at_" + node.kind, lambda node: None)(node)
+            if getattr(node, "wanted", None) == CHAR and constant(node) is not None and not 0 <= constant(node) <= 255:
+                self.warn(node.start, "CharConstant")
         for node in function.parameters + [node for node in self.nodes if node.kind == "local"]:
             self.local(node)
 
@@ -160,6 +162,9 @@ class Warned:
                 self.warn(node.at, "AddedMinus")
         if sign in ("&", "|", "^"):
             self.bits(node)
+        for operand in (left, right) if sign in ("&&", "||") else ():
+            if constant(operand) not in (None, 0, 1):
+                self.warn(operand.start, "ConstantOperand")
 
     def bits(self, node):
         """A chain of one of the signs of bits, once, at its last operator."""
@@ -238,6 +243,13 @@ def hidden_in(text):
     return []
 
 
+def of_globals(program):
+    """The constants of globals that are chars."""
+    return [(part.value.place, "CharConstant") for part in program.tree
+            if part.kind == "global" and program.globals[part.name].type == CHAR and part.value and not 0 <= part.value.value <= 255]
+
+
 def warnings_of(program, text):
     """What a program is warned of: the places, in order, and the names."""
-    return sorted([found for function in program.functions.values() for found in Warned(function).found] + hidden_in(text))
+    found = [found for function in program.functions.values() for found in Warned(function).found]
+    return sorted(found + of_globals(program) + hidden_in(text))
