@@ -1,7 +1,7 @@
 //! A block of words, as lists. Nothing here or above has a raw pointer.
 
 ghost use Rattle.std.specs.Prelude.{◌≡◌, ℕ, ◌+◌, ◌<◌, ◌≤◌, ◌^◌, None, Some, IfOk, get_or, length, replicate, slice_index, slice_set};
-ghost use Rattle.cyc_rawpages.specs.inside.Words.{headed};
+ghost use Rattle.cyc_rawpages.specs.inside.Words.{headed, headed_all};
 
 use super::cells::{Cells, Lease, Start, acquire, release};
 use std::alloc::{AllocError, Global};
@@ -89,6 +89,19 @@ impl Block {
         ensures { self.new ≡ headed self.old index word }
     {
         self.cells.write(self.start, index, word)
+    }
+
+    /// Writes the same word at so many heads, from one on.
+    pub fn set_heads(&mut self, first: usize, count: usize, word: u32)
+        requires inside { first + count ≤ length self.old.heads }
+        requires few { first + count < 2 ^ 32 }
+        ensures { self.new ≡ headed_all self.old first count word }
+    {
+        // Read here, it is not read again behind each word that is written.
+        let start = self.start;
+        for number in 0..count {
+            self.cells.write(start, first + number, word);
+        }
     }
 
     /// Of how many words, from the first on, each is written.

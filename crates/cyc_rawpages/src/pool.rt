@@ -2,7 +2,6 @@
 
 ghost use Rattle.std.specs.Prelude.{◌==◌, ◌≡◌, ◌≢◌, ℕ, [], ◌∷◌, ◌++◌, ◌+◌, ◌*◌, ◌%◌, ◌^◌, ◌<◌, ◌≤◌, ◌⊎◌, IfOk, MatchOption, false, length, replicate, set, slice_index, slice_index_or};
 ghost use Rattle.cyc_rawpages.specs.inside.Lists.{chain_at, freed};
-ghost use Rattle.cyc_rawpages.specs.inside.Words.{headed_all};
 ghost use Rattle.cyc_rawpages.specs.inside.Pool.{IsFree, IsHead, LinksAll, between, new_pool};
 
 use super::block::Block;
@@ -66,17 +65,6 @@ fn link_all(block: &mut Block, pages: u32) -> u32
         first = left;
     }
     first
-}
-
-/// Writes the same word at so many heads, from one on.
-fn set_heads(block: &mut Block, first: usize, count: usize, word: u32)
-    requires inside { first + count ≤ length block.old.heads }
-    requires few { first + count < 2 ^ 32 }
-    ensures { block.new ≡ headed_all block.old first count word }
-{
-    for number in 0..count {
-        block.set_head(first + number, word);
-    }
 }
 
 impl Pool {
@@ -277,6 +265,6 @@ impl Pool {
     {
         let first = bits_at(page.number, bit);
         let marks = marked_from(0, 0, 32, value);
-        set_heads(&mut self.block, first, (count / 32) as usize, marks);
+        self.block.set_heads(first, (count / 32) as usize, marks);
     }
 }

@@ -1,7 +1,7 @@
 use Rattle.std.proofs.Common.{◌≡◌, ℕ, ◌+◌, ◌*◌, ◌/◌, ◌≤◌, false, length, sym, ap, subst, ◌∙◌, arith}
 use Rattle.std.specs.Prelude.{slice_index_or}
 use Rattle.cyc_rawpages.specs.inside.Words.{headed_all}
-use Rattle.cyc_rawpages.specs.inside.Pool.{PoolState, bits_at, bit_of, between, tabulate, state_of, IsPool}
+use Rattle.cyc_rawpages.specs.inside.Pool.{PoolState, bit_of, between, tabulate, state_of, IsPool}
 use Rattle.cyc_rawpages.proofs.Columns.{length-tab}
 use Rattle.cyc_rawpages.proofs.BitRuns.{words-pool, words-same, words-are}
 use Rattle.cyc_rawpages.proofs.PoolLemmas.{there-in}
@@ -31,7 +31,7 @@ returns-clause-same c =
 pub returns-clause-whole : goal.returns-clause-whole
 returns-clause-whole c =
     let s = c.self.inside in
-    length-tab (1024 * s.pages) (bit_of c.set_heads.new.block) ∙ sym (length-tab (1024 * s.pages) (bit_of s.block)) ∙ ap (λ (t : PoolState). length t.bits) c.self.view_is
+    length-tab (1024 * s.pages) (bit_of c.set_heads.new.self) ∙ sym (length-tab (1024 * s.pages) (bit_of s.block)) ∙ ap (λ (t : PoolState). length t.bits) c.self.view_is
 
 pub returns-clause-bits : goal.returns-clause-bits
 returns-clause-bits c = λ number.
