@@ -66,6 +66,7 @@ cases:
 	@python3 tests/runners/warned.py
 	@python3 tests/runners/formatted.py
 	@python3 tests/runners/whereabouts.py
+	@python3 tests/runners/bounded.py
 	@python3 tests/runners/told.py
 	@python3 tests/runners/documents.py
 	@python3 tests/runners/scripts.py

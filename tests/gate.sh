@@ -64,6 +64,7 @@ add "codes" python3 tests/runners/codes.py
 add "warnings" python3 tests/runners/warned.py
 add "formatted" python3 tests/runners/formatted.py
 add "whereabouts" python3 tests/runners/whereabouts.py
+add "bounded" python3 tests/runners/bounded.py
 add "told" python3 tests/runners/told.py
 add "documents" python3 tests/runners/documents.py
 add "trusted" python3 tests/runners/trusted.py

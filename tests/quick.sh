@@ -68,13 +68,14 @@ begin "codes" on codes.py
 begin "warnings" on warned.py --count 100
 begin "formatted" on formatted.py --count 20 --part random
 begin "whereabouts" on whereabouts.py --count 60
+begin "bounded" on bounded.py --count 60
 begin "told" on told.py --count 100
 begin "examples" on examples.py
 begin "sessions" on sessions.py
 begin "judged" on judged.py --count 60
 begin "dialogs" on interactive.py
 wait
-for name in "command line" "whole language" "codes" "warnings" "formatted" "whereabouts" "told" "documents" "trusted" "scripts" "places of wrong bodies" "examples" "dialogs" "sessions" "judged" "editors" "language server" "random programs"; do
+for name in "command line" "whole language" "codes" "warnings" "formatted" "whereabouts" "bounded" "told" "documents" "trusted" "scripts" "places of wrong bodies" "examples" "dialogs" "sessions" "judged" "editors" "language server" "random programs"; do
   add "$name"
 done
 echo "$passed passed, $failed failed"

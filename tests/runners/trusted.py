@@ -24,6 +24,7 @@ CALLS = (
     ("a", "accept", "cyc_system", None),
     ("c", "compile", "cyc_system", None),
     ("c", "compile_with", "cyc_system", None),
+    ("b", "bounds", "cyc_system", None),
     ("r", "run", "cyc_system", None),
     ("r", "run_counting", "cyc_system", None),
     ("r", "run_with", "cyc_system", None),
@@ -34,9 +35,9 @@ CALLS = (
     ("f", "format", "cyc_format", None),
 )
 # The crates whose public contracts `specs/` is for.
-PUBLIC = ("cyc_system", "cyc_machine", "cyc_store", "cyc_elf", "cyc_isa", "cyc_format")
+PUBLIC = ("cyc_system", "cyc_machine", "cyc_store", "cyc_elf", "cyc_isa", "cyc_format", "cyc_bound")
 # What the program's messages take from the front end is no promise of the page: what the phases made of a text, as the code holds it.
-FOR_MESSAGES = ("run_phases", "Phases", "compile_with_tokens", "Compilation", "compile_with_places", "Placed")
+FOR_MESSAGES = ("run_phases", "Phases", "compile_with_tokens", "Compilation", "compile_with_places", "Placed", "bounds_with_tokens", "Bounded")
 # Each public source, by the words that name it in the head of a file.
 SOURCES = (
     ("Cyclone's manual", r"Cyclone (User's )?[Mm]anual|User's Manual"),

@@ -17,6 +17,9 @@ use Rattle.cyc_types.specs.TypedTreeView.{view_program}
 use Rattle.cyc_types.specs.typing.Programs.{IsTypedProgram, IsRefusedProgram}
 use Rattle.cyc_types.specs.flow.Programs.{IsAllowedProgram, IsStoppedProgram}
 use Rattle.cyc_flow.specs.declared.check.Flowed.{Flowed}
+use Rattle.cyc_bound.specs.Bound.{IsAnswer}
+use Rattle.cyc_system.specs.declared.bounded.Bounds.{Bounds}
+use Rattle.cyc_system.specs.declared.bounded.Bounded.{Bounded}
 use Rattle.cyc_system.specs.declared.front.Phases.{Phases}
 use Rattle.cyc_system.specs.Front.{names_in, IsAcceptedText, IsStoppedText, IsRefusedText, HasFault}
 use Rattle.cyc_system.specs.inside.Phases.{HasTree}
@@ -106,6 +109,12 @@ HasProgram p v = view_program v.tree ≡ p
 
 abbrev pub HasPhases : Program → Phases → Type 0
 HasPhases p v = HasProgram p v.program
+
+abbrev pub HasBounds : Program → Bounds → Type 0
+HasBounds p bounds = IsAnswer p p.main bounds.calls
+
+abbrev pub HasBoundsBeside : Program → Bounded → Type 0
+HasBoundsBeside p bounded = HasBounds p bounded.bounds
 
 abbrev pub IsAnswered : List ℕ → Result Flowed Fault → Type 0
 IsAnswered = IsAnsweredBy HasProgram

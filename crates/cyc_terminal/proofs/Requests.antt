@@ -11,9 +11,9 @@ use Rattle.clap.specs.declared.parser.matches.ArgMatches.TheViews.{out-ArgMatche
 use Rattle.clap.specs.declared.parser.matches.Found.{Found}
 use Rattle.clap.specs.declared.parser.matches.SubCommand.{SubCommand}
 use Rattle.cyc_terminal.specs.inside.Limits.{Given}
-use Rattle.cyc_terminal.specs.inside.Request.{AreLimitsOf, IsAskedOf, IsCodeOf, IsCompileRequest, IsNumberIfGiven, IsRequestOf, IsRunRequest, IsWithinBudget, AreCapsOf, IsFlagOf}
+use Rattle.cyc_terminal.specs.inside.Request.{AreLimitsOf, IsAskedOf, IsCodeOf, IsCompileRequest, IsNumberIfGiven, IsRequestOf, IsRunRequest, AreCapsOf, IsFlagOf}
 use Rattle.cyc_terminal.specs.declared.arguments.Request.{Request}
-use Rattle.cyc_terminal.specs.declared.arguments.Request.TheVariants.{Check, Compile, Run, Disassemble, Explain, Describe, Format}
+use Rattle.cyc_terminal.specs.declared.arguments.Request.TheVariants.{Check, Compile, Run, Disassemble, Explain, Describe, Bound, Format}
 
 -- ---- the request of a command, by its name
 
@@ -24,6 +24,7 @@ compiled name given (Ok (Run image limits caps budget report peaks places)) name
 compiled name given (Ok (Disassemble image)) named is = absurd is
 compiled name given (Ok (Explain code)) named is = absurd is
 compiled name given (Ok (Describe image places)) named is = absurd is
+compiled name given (Ok (Bound source)) named is = absurd is
 compiled name given (Ok (Format source output)) named is = absurd is
 compiled name given (Err e) named is = tt
 
@@ -34,18 +35,9 @@ run name given (Ok (Compile source image limits places json)) named is = absurd 
 run name given (Ok (Disassemble image)) named is = absurd is
 run name given (Ok (Explain code)) named is = absurd is
 run name given (Ok (Describe image places)) named is = absurd is
+run name given (Ok (Bound source)) named is = absurd is
 run name given (Ok (Format source output)) named is = absurd is
 run name given (Err e) named is = tt
-
-pub within_budget : {E : Type 0} (name : List ℕ) (given : List ℕ → Option (List ℕ)) (r : Result Request E) → IfOk r (IsRequestOf name given) → IfOk r IsWithinBudget
-within_budget name given (Ok (Run image limits caps budget report peaks places)) (named, (_, _, _, _, least, most, _, _, _)) = (least, most)
-within_budget name given (Ok (Check source json)) is = tt
-within_budget name given (Ok (Compile source image limits places json)) is = tt
-within_budget name given (Ok (Disassemble image)) is = tt
-within_budget name given (Ok (Explain code)) is = tt
-within_budget name given (Ok (Describe image places)) is = tt
-within_budget name given (Ok (Format source output)) is = tt
-within_budget name given (Err e) is = tt
 
 -- ---- what the parser found, by its rows
 
@@ -85,6 +77,7 @@ by_rows name f (Run image limits caps budget report peaks places) (named, (i, l,
 by_rows name f (Disassemble image) (named, i) = (named, sym (first_value-rows f (codes "image")) ∙ i)
 by_rows name f (Explain code) (named, c) = (named, subst (λ (o : Option (List ℕ)). IsCodeOf o code) (first_value-rows f (codes "code")) c)
 by_rows name f (Describe image places) (named, i, p) = (named, sym (first_value-rows f (codes "image")) ∙ i, sym (first_value-rows f (codes "places")) ∙ p)
+by_rows name f (Bound source) (named, s) = (named, sym (first_value-rows f (codes "source")) ∙ s)
 by_rows name f (Format source output) (named, s, o) = (named, sym (first_value-rows f (codes "source")) ∙ s, sym (first_value-rows f (codes "output")) ∙ o)
 
 -- the subcommand that the parser entered, of which the name and the rows are known

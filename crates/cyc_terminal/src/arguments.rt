@@ -32,8 +32,8 @@ pub enum Request<'a> {
         is_json: bool,
     },
     /// `run IMAGE`: to run an image with these limits, else its own, but with none above those of `caps`, for at most `budget`
-    /// instructions; to write what is reported of the run to the file `report`, where one is named, with the most calls under way
-    /// where `peaks` says so; and to say by the file `places`, where one is named, where in the program the run ended.
+    /// instructions; to write what is reported of the run to the file `report`, where one is named, with the most calls under way and the
+    /// most pages in use where `peaks` says so; and to say by the file `places`, where one is named, where in the program the run ended.
     Run {
         image: &'a str,
         limits: GivenLimits,
@@ -56,6 +56,10 @@ pub enum Request<'a> {
         image: &'a str,
         places: Option<&'a str>,
     },
+    /// `bound SOURCE`: to say how many calls the program in the file `source` may have under way.
+    Bound {
+        source: &'a str,
+    },
     /// `format SOURCE`: to lay out the program in the file `source` anew, and to write it to the file `output`, or to print it where none is
     /// given.
     Format {
@@ -77,6 +81,7 @@ const EXAMPLES: &str = "Examples:
   cyclone disasm hello.elf                  list its instructions
   cyclone explain 22                        say what a refusal with fault 22 is about
   cyclone info hello.elf                    say what it is: its segments and its limits
+  cyclone bound hello.cyc                   say how many calls its runs have at most
   cyclone format hello.cyc                  print the program in the one style
 
 Exit status: 0 done, or the low 8 bits of what the program returned; 2 the source file was
@@ -130,6 +135,13 @@ const INFO_HELP: &str = "Examples:
 The lines say where the image is entered, which segments it has, which limits it carries for
 its runs, and whether it has the form of what this compiler makes. With the file of places that
 compile wrote, a line for each function has its address and its size.";
+
+const BOUND_HELP: &str = "Example:
+  cyclone bound hello.cyc
+
+The line says how many calls a run of the program has under way at most, whatever its input, that
+of main among them: a run whose limit allows as many never ends for want of calls. Where functions
+lead back to themselves there is no such number, and a line for each says where it calls the next.";
 
 const FORMAT_HELP: &str = "Examples:
   cyclone format hello.cyc
@@ -268,7 +280,7 @@ const PEAKS: Word = Word {
     id: "peaks",
     shown: "",
     form: Form::Flag,
-    help: "With --report: count the most calls under way too; the run takes several times as long",
+    help: "With --report: count the most calls under way and the most pages in use too; the run takes several times as long",
 };
 
 const PLACES: Word = Word {
@@ -358,6 +370,13 @@ const COMMANDS: &[Plan] = &[
         about: "Says what an image is",
         after_help: INFO_HELP,
         words: &[IMAGE, PLACES_OF_IMAGE],
+    },
+    Plan {
+        name: "bound",
+        path: "cyclone bound",
+        about: "Says how many calls a program needs",
+        after_help: BOUND_HELP,
+        words: &[SOURCE],
     },
     Plan {
         name: "format",
@@ -676,6 +695,10 @@ fn request_of<'a>(alloc: Global, name: &str, matches: &ArgMatches<'a>) -> Result
                 image,
                 places: matches.get_str("places"),
             })
+        }
+        "bound" => {
+            let source = file_of(&mut command, matches, "source")?;
+            Ok(Request::Bound { source })
         }
         "format" => {
             let source = file_of(&mut command, matches, "source")?;

@@ -1,13 +1,15 @@
 //! The standard input and the standard output of a run, as devices. What the run prints is held in a buffer, which is passed on before the
 //! run waits for input, so that a person sees a question before it is to be answered; on a terminal also at the end of each line.
-ghost use Rattle.std.specs.Prelude.{◌≡◌, [], false, IfOk, IsTrue, OnOk};
+ghost use Rattle.std.specs.Prelude.{◌≡◌, [], ◌∷◌, false, IfOk, IsTrue, MatchOption, OnOk};
 ghost use Rattle.std.specs.Io.{ReadsAtMost};
-ghost use Rattle.std.specs.Io.KnownBytes.{Keeps, ReadConsumes};
+ghost use Rattle.std.specs.Io.Buffered.{reader_remaining};
+ghost use Rattle.std.specs.Io.KnownBytes.{Consumes, Keeps, ReadConsumes};
+ghost use Rattle.cyc_words.specs.Device.{Gives};
 
 use cyc_words::{ByteIn, ByteOut, Failed};
 use std::alloc::Global;
 use std::io;
-use std::io::{BufReader, BufWriter, ErrorKind, Read, Write};
+use std::io::{BufRead, BufReader, BufWriter, ErrorKind, Read, Write};
 
 /// The standard output, behind a buffer.
 #[derive(Drop)]
@@ -141,6 +143,34 @@ fn read_byte<R: Read>(input: &mut R, byte: &mut [u8]) -> io::Result<usize>
     input.read(byte)
 }
 
+/// Takes the first of the bytes that are held, if one is.
+fn take_held<R: Read>(input: &mut BufReader<R>) -> Option<u8>
+    ensures { MatchOption result (input.new ≡ input.old) (λ byte. Consumes (reader_remaining R.remaining input.old) (reader_remaining R.remaining input.new) (byte ∷ [])) }
+{
+    let held = input.buffer();
+    if held.is_empty() {
+        return None;
+    }
+    let byte = held[0];
+    input.consume(1);
+    Some(byte)
+}
+
+/// The next byte of an input, which is read where none is held.
+fn next_byte<R: Read>(input: &mut BufReader<R>) -> io::Result<Option<u8>>
+    ensures { Gives (reader_remaining R.remaining input.old) result (reader_remaining R.remaining input.new) }
+{
+    if let Some(byte) = take_held(input) {
+        return Ok(Some(byte));
+    }
+    let mut byte = [0];
+    match read_byte(input, &mut byte) {
+        Ok(0) => Ok(None),
+        Ok(_) => Ok(Some(byte[0])),
+        Err(error) => Err(error),
+    }
+}
+
 impl<R: Read + Drop> Keyboard<R> {
     ghost use Rattle.cyclone.specs.inside.Console.{keyboard_remaining};
 
@@ -189,15 +219,16 @@ impl<R: Read> ByteIn for Keyboard<R> {
         if self.has_failed {
             return Err(Failed);
         }
-        let mut byte = [0];
-        match read_byte(&mut self.input, &mut byte) {
-            Ok(0) => {
+        match next_byte(&mut self.input) {
+            Ok(Some(byte)) => {
+                if self.kept.is_some() {
+                    self.kept = kept_with(self.kept.take(), byte);
+                }
+                Ok(Some(byte))
+            }
+            Ok(None) => {
                 self.has_ended = true;
                 Ok(None)
-            }
-            Ok(_) => {
-                self.kept = kept_with(self.kept.take(), byte[0]);
-                Ok(Some(byte[0]))
             }
             Err(_) => {
                 self.has_failed = true;

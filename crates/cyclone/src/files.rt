@@ -39,6 +39,17 @@ fn report_write_failure<R: Eprint>(rt: &R, name: &str, error: &io::Error) -> Ans
     Answer::WriteFault
 }
 
+/// For how many bytes of a file there is to be room, of which at most so many are read: for all that it has and one more, so that none is
+/// moved as it is read, and its end is seen. A pipe does not say how many it has.
+fn room_for<R: Files>(rt: &R, path: &str, most: u64) -> usize {
+    match fs::metadata(rt, path) {
+        Ok(metadata) if metadata.len() > 0 => {
+            usize::try_from(metadata.len().saturating_add(1).min(most)).unwrap_or(0)
+        }
+        _ => 0,
+    }
+}
+
 /// The first bytes of a file, at most so many.
 fn read_file<R: Files + AllocGlobal + Eprint>(
     rt: &R,
@@ -49,7 +60,7 @@ fn read_file<R: Files + AllocGlobal + Eprint>(
         Ok(file) => file,
         Err(error) => return Err(report_read_failure(rt, path, &error)),
     };
-    match read_up_to(rt.alloc(), file, most) {
+    match read_up_to(rt.alloc(), file, most, room_for(rt, path, most)) {
         Ok(bytes) => Ok(bytes),
         Err(error) => Err(report_read_failure(rt, path, &error)),
     }

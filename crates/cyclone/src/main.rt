@@ -2,6 +2,7 @@
 #![tactic(auto)]
 
 mod answer;
+mod bounds;
 mod console;
 mod files;
 mod formatting;
@@ -14,6 +15,7 @@ mod report;
 mod said;
 mod session;
 mod system;
+mod telling;
 mod whereabouts;
 mod work;
 

@@ -1,9 +1,6 @@
 //! From the words of the command line to the answer, over files and the standard streams.
-ghost use Rattle.std.specs.Prelude.{◌≡◌, ◌⊎◌};
-ghost use Rattle.cyclone.specs.inside.Answer.{answer_of_fault};
-ghost use Rattle.cyclone.specs.declared.answer.Answer.TheVariants.{WriteFault};
-
 use crate::answer::{Answer, ending, explanation};
+use crate::bounds::Needs;
 use crate::console::{Keyboard, Screen};
 use crate::files::{is_one_file, read_image, read_places, read_text, write_file};
 use crate::formatting::format_text;
@@ -14,6 +11,7 @@ use crate::places::{PlacesText, Table, Unread, sum_of, table_in};
 use crate::report::RunReport;
 use crate::said::{say, within_bounds};
 use crate::system::{STACK, is_enough_stack, stack_limit};
+use crate::telling::{Source, report_refusal, tell_refusal, tell_warnings};
 use crate::whereabouts::Whereabouts;
 use crate::work::{
     check, compile, compile_placed, describe_image, limits_of_run, list_image, run_image,
@@ -22,158 +20,14 @@ use crate::work::{
 use clap::error::ErrorKind;
 use cyc_format::format;
 use cyc_machine::Limits;
-use cyc_messages::{
-    Message, Warnings, line_of_refusal, line_of_warning, refusal_of, refusals_behind,
-};
-use cyc_system::{Report, follow};
+use cyc_system::{Report, bounds_with_tokens, follow};
 use cyc_terminal::{FileName, GivenLimits, Lines, Request, read_request};
-use cyc_warnings::{Found, MOST_WARNINGS, find_warnings};
+use cyc_warnings::find_warnings;
 use cyc_words::{Code, Fault};
 use std::env::{Env, FillError};
 use std::io::{IsTerminal, Write};
 use std::mem::ManuallyDrop;
 use std::{env, io};
-
-/// Says to a person what a program is refused for behind its first fault, if that is mended.
-fn report_behind(rt: &HostRuntime, name: &str, text: &[u8], first: Fault) {
-    let refusals = refusals_behind(rt.alloc(), text, first);
-    if !refusals.is_empty() {
-        let _ = rt.eprintln("further, if that is mended:");
-    }
-    for refusal in &refusals {
-        let message = Message {
-            name,
-            text,
-            refusal,
-        };
-        say(rt, message);
-    }
-}
-
-/// The answer to a refused program, whose message for a person goes to standard error.
-fn report_refusal(rt: &HostRuntime, name: &str, text: &[u8], fault: Fault) -> Answer
-    // What is said to a person changes nothing of it.
-    ensures { result ≡ answer_of_fault fault }
-{
-    let answer = Answer::from(fault);
-    if let Answer::Refused(fault) = answer {
-        let refusal = refusal_of(rt.alloc(), text, fault);
-        let message = Message {
-            name,
-            text,
-            refusal: &refusal,
-        };
-        say(rt, message);
-        report_behind(rt, name, text, fault);
-    }
-    answer
-}
-
-/// Says to a person what an accepted program has that most likely means something else than its author thinks.
-fn report_warnings(rt: &HostRuntime, name: &str, text: &[u8], found: &[Found]) {
-    let _ = rt.eprint(Warnings { name, text, found });
-}
-
-/// Prints a refusal as an object on a line.
-fn print_refusal(
-    rt: &HostRuntime,
-    output: &mut Output<'_>,
-    message: &Message<'_>,
-    is_first: bool,
-) -> io::Result<()> {
-    let line = line_of_refusal(rt.alloc(), message, is_first)?;
-    output.write_all(line.as_bytes())
-}
-
-/// Prints what a program is refused for, first and behind that, as objects.
-fn print_all(rt: &HostRuntime, name: &str, text: &[u8], first: Fault) -> io::Result<()> {
-    let mut output = Output::new(rt);
-    let refusal = refusal_of(rt.alloc(), text, first);
-    let message = Message {
-        name,
-        text,
-        refusal: &refusal,
-    };
-    print_refusal(rt, &mut output, &message, true)?;
-    let refusals = refusals_behind(rt.alloc(), text, first);
-    for refusal in &refusals {
-        let message = Message {
-            name,
-            text,
-            refusal,
-        };
-        print_refusal(rt, &mut output, &message, false)?;
-    }
-    output.flush()
-}
-
-/// The answer to objects that were to be printed, of which none is left out but for want of memory.
-fn answer_printed(answer: Answer, printed: io::Result<()>) -> Answer
-    ensures { (result ≡ answer) ⊎ (result ≡ WriteFault) }
-{
-    match printed {
-        Err(error) if error.kind() != io::ErrorKind::OutOfMemory => Answer::WriteFault,
-        _ => answer,
-    }
-}
-
-/// The answer to a refused program, whose refusals go to standard output as objects.
-fn print_refusals(rt: &HostRuntime, name: &str, text: &[u8], fault: Fault) -> Answer
-    ensures { (result ≡ answer_of_fault fault) ⊎ (result ≡ WriteFault) }
-{
-    let answer = Answer::from(fault);
-    match answer {
-        Answer::Refused(fault) => answer_printed(answer, print_all(rt, name, text, fault)),
-        _ => answer,
-    }
-}
-
-/// Prints what an accepted program is warned of as objects, at most as many as are told a person.
-fn print_warnings(rt: &HostRuntime, name: &str, text: &[u8], found: &[Found]) -> io::Result<()> {
-    let mut output = Output::new(rt);
-    for found in found.iter().take(MOST_WARNINGS) {
-        let line = line_of_warning(rt.alloc(), name, text, found)?;
-        output.write_all(line.as_bytes())?;
-    }
-    output.flush()
-}
-
-/// A source file, and how what is found in it is told.
-#[derive(Clone, Copy)]
-struct Source<'a> {
-    name: &'a str,
-    text: &'a [u8],
-    /// As objects on standard output, or to a person on standard error.
-    is_json: bool,
-}
-
-/// Tells why a program is refused: the answer to that.
-fn tell_refusal(rt: &HostRuntime, source: Source<'_>, fault: Fault) -> Answer
-    ensures { (result ≡ answer_of_fault fault) ⊎ (result ≡ WriteFault) }
-{
-    if source.is_json {
-        print_refusals(rt, source.name, source.text, fault)
-    } else {
-        report_refusal(rt, source.name, source.text, fault)
-    }
-}
-
-/// Tells what an accepted program is warned of: whether it could be told.
-fn tell_warnings(rt: &HostRuntime, source: Source<'_>, found: &[Found]) -> Result<(), Answer> {
-    let Source {
-        name,
-        text,
-        is_json,
-    } = source;
-    if !is_json {
-        report_warnings(rt, name, text, found);
-        return Ok(());
-    }
-    match answer_printed(Answer::Done, print_warnings(rt, name, text, found)) {
-        Answer::Done => Ok(()),
-        answer => Err(answer),
-    }
-}
 
 /// `check SOURCE`.
 fn check_file(rt: &HostRuntime, source: &str, is_json: bool) -> Result<Answer, Answer> {
@@ -476,6 +330,34 @@ fn describe_file(rt: &HostRuntime, image: &str, places: Option<&str>) -> Result<
     Ok(answer)
 }
 
+/// Prints what a program needs.
+fn print_needs(rt: &HostRuntime, needs: Needs<'_>) -> io::Result<()> {
+    let mut output = Output::new(rt);
+    write!(output, "{needs}")?;
+    output.flush()
+}
+
+/// `bound SOURCE`.
+fn bound_file(rt: &HostRuntime, source: &str) -> Result<Answer, Answer> {
+    let text = read_text(rt, source)?;
+    let text = text.as_slice();
+    widen_heap(rt.alloc());
+    match bounds_with_tokens(rt.alloc(), text) {
+        Ok(bounded) => {
+            let needs = Needs {
+                name: source,
+                text,
+                bounded: &bounded,
+            };
+            match print_needs(rt, needs) {
+                Ok(()) => Ok(Answer::Done),
+                Err(_) => Err(Answer::WriteFault),
+            }
+        }
+        Err(fault) => Err(report_refusal(rt, source, text, fault)),
+    }
+}
+
 /// Lays a program out anew, and prints it.
 fn print_formatted(rt: &HostRuntime, text: &[u8]) -> Result<Answer, Fault> {
     let Ok(mut screen) = Screen::new(rt.alloc(), Output::new(rt), false) else {
@@ -535,6 +417,7 @@ fn carry_out(rt: &HostRuntime, request: &Request<'_>) -> Answer {
         Request::Disassemble { image } => list_file(rt, image),
         Request::Explain { code } => explain_code(rt, *code),
         Request::Describe { image, places } => describe_file(rt, image, *places),
+        Request::Bound { source } => bound_file(rt, source),
         Request::Format { source, output } => format_file(rt, source, *output),
     };
     match result {

@@ -25,11 +25,16 @@ use std::io;
 use std::io::{Read, Write};
 use std::mem::ManuallyDrop;
 
-/// The first bytes of a reader, at most so many.
-pub fn read_up_to<R: Read + Drop>(alloc: Global, reader: R, most: u64) -> io::Result<Vec<u8>>
+/// The first bytes of a reader, at most so many. There is room for so many before the first is read.
+pub fn read_up_to<R: Read + Drop>(
+    alloc: Global,
+    reader: R,
+    most: u64,
+    room: usize,
+) -> io::Result<Vec<u8>>
     ensures { IfOk result (λ v. IfSome (R.remaining reader) (λ bytes. v.items ≡ take most bytes)) }
 {
-    let mut bytes = Vec::new(alloc);
+    let mut bytes = Vec::with_capacity(alloc, room)?;
     reader.take(most).read_to_end(&mut bytes)?;
     Ok(bytes)
 }

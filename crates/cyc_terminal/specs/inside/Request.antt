@@ -7,7 +7,7 @@ use Rattle.cyc_words.specs.Fault.{number_of}
 use Rattle.cyc_words.specs.declared.fault.Code.{Code}
 use Rattle.cyc_terminal.specs.inside.Limits.{Given}
 use Rattle.cyc_terminal.specs.declared.arguments.Request.{Request}
-use Rattle.cyc_terminal.specs.declared.arguments.Request.TheVariants.{Check, Compile, Run, Disassemble, Explain, Describe, Format}
+use Rattle.cyc_terminal.specs.declared.arguments.Request.TheVariants.{Check, Compile, Run, Disassemble, Explain, Describe, Bound, Format}
 
 -- a run is allowed from 1 to 1,000,000,000,000 instructions
 abbrev pub IsWithinBudget : Request → Type 0
@@ -17,6 +17,7 @@ IsWithinBudget (Compile source image limits places json) = Unit {0}
 IsWithinBudget (Disassemble image) = Unit {0}
 IsWithinBudget (Explain code) = Unit {0}
 IsWithinBudget (Describe image places) = Unit {0}
+IsWithinBudget (Bound source) = Unit {0}
 IsWithinBudget (Format source output) = Unit {0}
 
 -- the number is what the text of the option writes in decimal
@@ -53,10 +54,11 @@ IsCompileRequest given (Run image limits caps budget report peaks places) = ⊥
 IsCompileRequest given (Disassemble image) = ⊥
 IsCompileRequest given (Explain code) = ⊥
 IsCompileRequest given (Describe image places) = ⊥
+IsCompileRequest given (Bound source) = ⊥
 IsCompileRequest given (Format source output) = ⊥
 
 -- the request is to run the image that was given, with the limits, the caps and the budget that were given, to report to the file that
--- was given, or to none, with the most calls where that was asked for, and with its file of places, if one was given
+-- was given, or to none, with its peaks where these were asked for, and with its file of places, if one was given
 abbrev pub IsRunRequest : (List ℕ → Option (List ℕ)) → Request → Type 0
 IsRunRequest given (Run image limits caps budget report peaks places) = (given (codes "image") ≡ Some image.now)
     × AreLimitsOf given limits
@@ -71,6 +73,7 @@ IsRunRequest given (Compile source image limits places json) = ⊥
 IsRunRequest given (Disassemble image) = ⊥
 IsRunRequest given (Explain code) = ⊥
 IsRunRequest given (Describe image places) = ⊥
+IsRunRequest given (Bound source) = ⊥
 IsRunRequest given (Format source output) = ⊥
 
 -- the code is that of the number that is written
@@ -87,6 +90,7 @@ IsRequestOf name given (Disassemble image) = (name ≡ codes "disasm") × (given
 IsRequestOf name given (Explain code) = (name ≡ codes "explain") × IsCodeOf (given (codes "code")) code
 IsRequestOf name given (Describe image places) = (name ≡ codes "info") × (given (codes "image") ≡ Some image.now)
     × (given (codes "places") ≡ option_map (λ path. path.now) places)
+IsRequestOf name given (Bound source) = (name ≡ codes "bound") × (given (codes "source") ≡ Some source.now)
 IsRequestOf name given (Format source output) = (name ≡ codes "format") × (given (codes "source") ≡ Some source.now)
     × (given (codes "output") ≡ option_map (λ path. path.now) output)
 

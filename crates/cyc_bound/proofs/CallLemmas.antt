@@ -1,0 +1,57 @@
+-- Rows of calls, and lists of what a function calls.
+use Rattle.std.proofs.Common.{◌≡◌, ℕ, suc, ◌≤◌, List, [], ◌∷◌, ◌++◌, Option, Some, subst, sym, arith}
+use Rattle.std.specs.Prelude.{slice_get, Contains}
+use Rattle.std.specs.List.{AllByRecursion}
+use Rattle.cyc_types.specs.TypedTrees.{Function, Program}
+use Rattle.cyc_types.proofs.ClosureLemmas.{Contains-head, Contains-tail}
+use Rattle.cyc_meaning.specs.State.{Entry, Needs, NeedsPlace, Discard, Rest, Join, Loop, CloseRegion, CloseLexical, EndLoan, Handler, Caller, Main, calls_in}
+use Rattle.cyc_bound.specs.Callees.{items_callees}
+use Rattle.cyc_bound.specs.Bound.{callees_of, Calls, Row, Alone, Before}
+use Rattle.cyc_bound.specs.inside.UnderWay.{AreOf, Waits}
+
+-- ---- rows
+
+module _ (program : Program) where
+  -- a row goes on with what its last function calls
+  pub behind : (first last next count : ℕ) → Row program first last count → Calls program last next → Row program first next (suc count)
+  behind first last next count (Alone function) call = Before function next next 1 call (Alone next)
+  behind first last next count (Before f g l n here row) call = Before f g next (suc n) here (behind g l next n row call)
+
+  -- as many calls are under way as the row from `main` to the newest has, or fewer
+  pub row_of : (function : ℕ) (stack : List Entry) → Waits program function stack → (count : ℕ) × Row program program.main function count × (calls_in stack ≤ count)
+  row_of function [] h = (1, subst (λ (f : ℕ). Row program program.main f 1) (sym h) (Alone program.main), omega arith)
+  row_of function (Caller outer ∷ stack) (caller, call, h) =
+      let (count, row, less) = row_of caller stack h in
+      (suc count, behind program.main caller function count row call, omega (arith, less))
+  row_of function (Main ∷ []) h = (1, subst (λ (f : ℕ). Row program program.main f 1) (sym h) (Alone program.main), omega arith)
+  row_of function (Main ∷ entry ∷ stack) h = absurd h
+  row_of function (Needs a ∷ stack) h = row_of function stack h.1
+  row_of function (NeedsPlace a ∷ stack) h = row_of function stack h.1
+  row_of function (Discard ∷ stack) h = row_of function stack h.1
+  row_of function (Rest items ∷ stack) h = row_of function stack h.1
+  row_of function (Join ∷ stack) h = row_of function stack h.1
+  row_of function (Loop condition body ∷ stack) h = row_of function stack h.1
+  row_of function (CloseRegion region home ∷ stack) h = row_of function stack h.1
+  row_of function (CloseLexical region ∷ stack) h = row_of function stack h.1
+  row_of function (EndLoan lent ∷ stack) h = row_of function stack h.1
+  row_of function (Handler handler ∷ stack) h = row_of function stack h.1
+
+-- ---- what a function calls
+
+-- what holds of two lists of calls
+pub both : (P : ℕ → Type 0) (xs ys : List ℕ) → AllByRecursion P (xs ++ ys) → AllByRecursion P xs × AllByRecursion P ys
+both P [] ys h = (tt, h)
+both P (x ∷ xs) ys h = let k = both P xs ys h.1 in ((h.0, k.0), k.1)
+
+pub joined : (P : ℕ → Type 0) (xs ys : List ℕ) → AllByRecursion P xs → AllByRecursion P ys → AllByRecursion P (xs ++ ys)
+joined P [] ys first second = second
+joined P (x ∷ xs) ys first second = (first.0, joined P xs ys first.1 second)
+
+all_contained : (P : ℕ → Type 0) (xs : List ℕ) → ((x : ℕ) → Contains xs x → P x) → AllByRecursion P xs
+all_contained P [] h = tt
+all_contained P (x ∷ xs) h = (h x (Contains-head x xs), all_contained P xs (λ y k. h y (Contains-tail x xs y k)))
+
+-- a function calls what stands in its body
+pub body_is_of : (program : Program) (function : ℕ) (h : Function) → slice_get program.functions function ≡ Some h → AreOf program function (items_callees h.body)
+body_is_of program function h there =
+    all_contained (λ (callee : ℕ). Calls program function callee) (items_callees h.body) (λ callee k. subst (λ (o : Option Function). Contains (callees_of o) callee) (sym there) k)

@@ -1,0 +1,5 @@
+-- which functions a program calls, and how many calls may be under way
+pub mod Callees
+pub mod Bound
+-- What the functions of this crate promise each other and what its proofs say: no public contract of the product means it.
+pub mod inside

@@ -1,0 +1,8 @@
+use Rattle.std.proofs.lemmas.Result.{err_from_is_err_and}
+use Rattle.cyc_system.proofs.Fronts.{HasBounds, HasBoundsBeside, refused_alike}
+use Rattle.cyc_system.proofs.needs.bounds.Goals as goal
+
+pub returns-in_err-bounded : goal.returns-in_err-bounded
+returns-in_err-bounded c =
+    let e = err_from_is_err_and c.from_residual.result c.from_residual.ensures.1 in
+    record { decides = rw (e.1, e.2) (refused_alike HasBoundsBeside HasBounds c.in_err-bounded.field-0.0 c.in_err-bounded.ensures.decides) }
