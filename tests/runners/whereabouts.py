@@ -9,6 +9,7 @@ the place, the exception by its name, and the calls under way, each with its fun
 end, where it is one, and with one call fewer than it needs. A run whose budget is spent tells calls that the text has at their places. The
 image is the same as without the file of places. The same seed gives the same programs. The last line is `N passed, M failed`, of programs.
 """
+import itertools
 import os
 import random
 import re
@@ -201,7 +202,7 @@ def main():
     def all_faults():
         passed, failed = 0, 0
         tried = Tried(program, numbers)
-        for subject in [*examples(numbers), *random_programs(options.seed, options.count)]:
+        for subject in itertools.chain(examples(numbers), random_programs(options.seed, options.count)):
             faults = tried.faults(subject)
             failed += bool(faults)
             passed += not faults
