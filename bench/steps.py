@@ -2,14 +2,20 @@
 """What the dearest steps of a run cost, beside those of arithmetic. Not a test: it prints figures.
 
     make bench
-    python3 bench/steps.py [--program PATH]
+    python3 bench/steps.py [--program PATH] [--instructions]
 
 Each case is a loop that does one kind of step again and again, with as few others as there can be. It is run under two budgets, in turn, five
 times each; the least processor time under each counts, and the difference of the two is what the further steps took. Behind the
 nanoseconds for a step of the loop, the others in it among them, stands what a run of the default budget takes so, in seconds.
+
+With --instructions the host's instructions for a step are counted in their place (`valgrind`), which other work on the machine does not
+change.
 """
 import argparse
 import os
+import re
+import subprocess
+import sys
 import tempfile
 
 from machine import (DATA, PROGRAM, SYSCALL, TEXT, NOP, addiu, addu, allocate, executable, jump, lui, lw, processor_time, registers,
@@ -20,6 +26,10 @@ DEFAULT = 1_000_000_000
 TIMES = 5
 COPIES = 32
 SPENT = 7
+# Where instructions are counted, which takes longer and need not be repeated, the budgets are so many times smaller.
+SMALLER = 100
+COUNTER = ["valgrind", "--tool=cachegrind", "--cache-sim=no", f"--cachegrind-out-file={os.devnull}"]
+COUNTED = re.compile(rb"I +refs: +([\d,]+)")
 
 
 def service(number):
@@ -67,28 +77,43 @@ def looped(once, again):
     return once + again * COPIES + [jump(2, len(once)), NOP]
 
 
-def steps_price(program, folder, once, again):
-    """The nanoseconds for a step of such a loop."""
-    path = os.path.join(folder, "loop.elf")
-    with open(path, "wb") as file:
-        file.write(executable(looped(once, again)))
+def instructions(words):
+    """The host's instructions of a run."""
+    counted = subprocess.run(COUNTER + words, stdin=subprocess.DEVNULL, stdout=subprocess.DEVNULL, stderr=subprocess.PIPE, check=False)
+    if counted.returncode != SPENT:
+        sys.exit(f"{words[0]}: status {counted.returncode} in place of {SPENT}")
+    return int(COUNTED.search(counted.stderr)[1].replace(b",", b""))
+
+
+def steps_price(program, path, is_counted):
+    """What a step of the loop in a file takes: nanoseconds, or instructions where they are counted."""
+    few, many = (budget // SMALLER if is_counted else budget for budget in (FEW, MANY))
     taken = {}
-    for _ in range(TIMES):
-        for budget in (FEW, MANY):
-            time = processor_time([program, "run", "--steps", str(budget), path], SPENT)
-            taken[budget] = min(taken.get(budget, time), time)
-    return (taken[MANY] - taken[FEW]) / (MANY - FEW) * 1e9
+    for _ in range(1 if is_counted else TIMES):
+        for budget in (few, many):
+            words = [program, "run", "--steps", str(budget), path]
+            cost = instructions(words) if is_counted else processor_time(words, SPENT) * 1e9
+            taken[budget] = min(taken.get(budget, cost), cost)
+    return (taken[many] - taken[few]) / (many - few)
 
 
 def main():
     parser = argparse.ArgumentParser(description=__doc__.split("\n")[0])
     parser.add_argument("--program", default=PROGRAM)
-    program = parser.parse_args().program
-    print("nanoseconds for a step of a loop of each, and seconds for a run of the default budget")
+    parser.add_argument("--instructions", action="store_true")
+    options = parser.parse_args()
+    if options.instructions:
+        print("the host's instructions for a step of a loop of each")
+    else:
+        print("nanoseconds for a step of a loop of each, and seconds for a run of the default budget")
     with tempfile.TemporaryDirectory() as folder:
+        path = os.path.join(folder, "loop.elf")
         for name, (once, again) in CASES.items():
-            price = steps_price(program, folder, once, again)
-            print(f"{name}: {price:.1f}, {price * DEFAULT / 1e9:.0f}", flush=True)
+            with open(path, "wb") as file:
+                file.write(executable(looped(once, again)))
+            price = steps_price(options.program, path, options.instructions)
+            behind = "" if options.instructions else f", {price * DEFAULT / 1e9:.0f}"
+            print(f"{name}: {price:.1f}{behind}", flush=True)
 
 
 if __name__ == "__main__":
