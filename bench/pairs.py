@@ -8,11 +8,12 @@ Each pair of bench/pairs/ is NAME.cyc and NAME.c, with the input NAME.in if they
 one, and mips-linux-gnu-gcc two of the other, without optimisation (-O0) and with its first level (-O1), for the same machine: its
 services are in start.s, and machine.h declares them. A fourth is what mips-linux-gnu-g++ makes of the program in C with its first level
 where pointers are those of checked.h, which tests of each access what this language does: that is the same work, by a good optimiser. All
-four have to print the same and to return the same. The machine counts: the least budget with which a run ends is the number of its
-instructions. The pairs stand in groups by their style, each with its geometric means.
+four have to print the same and to return the same. The machine counts the instructions, which `run --report` tells. The pairs stand in
+groups by their style, each with its geometric means.
 """
 import argparse
 import concurrent.futures
+import json
 import math
 import os
 import shutil
@@ -55,29 +56,13 @@ def compiled(words):
         raise Fault(f"{os.path.basename(words[0])} refuses it: {done.stderr.strip()}")
 
 
-def run(program, image, given, steps):
-    """What an image prints within a budget of instructions, and its last line."""
-    done = subprocess.run([program, "run", image, "--steps", str(steps)], input=given, capture_output=True)
-    return done.stdout, done.stderr.decode("latin-1").rstrip("\n").split("\n")[-1]
-
-
-def count_of(program, image, given):
-    """The instructions of a run: the least budget with which it ends."""
-
-    def ends_within(steps):
-        return run(program, image, given, steps)[1] != "budget spent"
-
-    enough = 1
-    while not ends_within(enough):
-        enough *= 2
-    too_few = enough // 2
-    while enough - too_few > 1:
-        middle = (enough + too_few) // 2
-        if ends_within(middle):
-            enough = middle
-        else:
-            too_few = middle
-    return enough
+def run(program, image, given):
+    """What an image prints and its last line, and how many instructions it executes."""
+    report = image + ".json"
+    done = subprocess.run([program, "run", image, "--steps", str(MOST), "--report", report], input=given, capture_output=True)
+    with open(report, encoding="utf-8") as file:
+        count = json.load(file)["instructions"]
+    return (done.stdout, done.stderr.decode("latin-1").rstrip("\n").split("\n")[-1]), count
 
 
 def difference(in_c, here):
@@ -99,13 +84,14 @@ def counts_of(name, options):
         for level, image in zip(LEVELS, images[1:]):
             compiled([options.gcc, level, "-I", PAIRS] + FLAGS + [source + ".c", "-o", image] + LINKED)
         compiled([options.gxx] + FLAGS + AS_CHECKED + [source + ".c", "-o", images[-1]] + LINKED)
-        ends = [run(options.program, image, given, MOST) for image in images]
+        runs = [run(options.program, image, given) for image in images]
+        ends = [end for end, _ in runs]
         for level, end in zip((*LEVELS, CHECKED), ends[1:]):
             if not end[1].startswith("returned "):
                 raise Fault(f"with {level} it ends with: {end[1]}")
             if end != ends[0]:
                 raise Fault(f"with {level} {difference(end, ends[0])}")
-        return [count_of(options.program, image, given) for image in images]
+        return [count for _, count in runs]
 
 
 def mean(ratios):

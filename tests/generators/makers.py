@@ -33,6 +33,8 @@ class Maker:
 
     # What numbers are called, by which their types are told.
     NAMES = NAMES
+    # What prints a number.
+    SHOW = SHOW
 
     def __init__(self, random_numbers):
         self.random = random_numbers
@@ -86,8 +88,12 @@ class Maker:
     def begin(self):
         """What `main` does first."""
 
+    def callees(self):
+        """The functions that may be called where the text stands."""
+        return self.functions
+
     def text(self):
-        parts = [SHOW.splitlines()] + self.declarations()
+        parts = [self.SHOW.splitlines()] + self.declarations()
         self.lines = []
         for name in self.globals:
             value = self.pick(["", " = " + self.literal(), " = -" + self.literal()])
@@ -186,7 +192,7 @@ class Maker:
 
     def effect(self, depth):
         """An expression whose value nothing uses."""
-        void = [function for function in self.functions if function[2]]
+        void = [function for function in self.callees() if function[2]]
         self.put((self.call(self.pick(void), 2) if void and self.chance(60) else self.expression(3)) + ";")
 
     def open(self, line):
@@ -285,7 +291,7 @@ class Maker:
         return self.pick(["getchar()", f"putchar({self.expression(depth)})"])
 
     def called(self, depth):
-        with_result = [function for function in self.functions if not function[2]]
+        with_result = [function for function in self.callees() if not function[2]]
         return self.call(self.pick(with_result), depth) if with_result else self.literal()
 
     def call(self, function, depth):
@@ -1069,6 +1075,50 @@ class ByteMaker(Chars, RegionMaker):
 
 PROFILES = {"ints": Maker, "pointers": PointerMaker, "heap": HeapMaker, "exceptions": ExceptionMaker, "unique": UniqueMaker}
 PROFILES.update({"regions": RegionMaker, "chars": CharMaker, "bytes": ByteMaker})
+
+
+class InRows:
+    """Before a profile: each function calls those before it alone, so that none leads back to itself."""
+
+    SHOW = """int deep(int n) { return n; }
+void show(int n) {
+  int place = 1;
+  if (n < 0) putchar('-'); else n = -n;
+  while (n / place / 10 != 0) place = place * 10;
+  while (place > 0) { putchar('0' - n / place % 10); place = place / 10; }
+  putchar('\\n');
+}
+"""
+    caller = None
+
+    def function(self, function):
+        self.caller = function
+        super().function(function)
+        self.caller = None
+
+    def callees(self):
+        return self.functions if self.caller is None else self.functions[: self.functions.index(self.caller)]
+
+
+class WithoutLoops(InRows):
+    """Before a profile: beside that, no statement of the program's own functions is a loop."""
+
+    SHOW = """int deep(int n) { return n; }
+void digit(int n) { if ((n & 15) < 10) putchar('0' + (n & 15)); else putchar('a' - 10 + (n & 15)); }
+void show(int n) { digit(n >> 12); digit(n >> 8); digit(n >> 4); digit(n); putchar('\\n'); }
+"""
+
+    def nested_statements(self):
+        return [statement for statement in super().nested_statements() if statement != self.loop]
+
+
+def before(way):
+    """The profiles with what stands before them."""
+    return {name: type(f"{way.__name__}{maker.__name__}", (way, maker), {}) for name, maker in PROFILES.items()}
+
+
+# Those whose calls, and those whose steps too, have a bound where no routine of theirs stands in the way.
+IN_ROWS, WITHOUT_LOOPS = before(InRows), before(WithoutLoops)
 # Those that have nothing but ints and chars.
 OF_NUMBERS = ("ints", "chars")
 # Those whose programs are run beside the same in C.

@@ -144,7 +144,7 @@ def items_without_words():
         lines = text.split("\n")
         for number, line in enumerate(lines):
             above = number - 1
-            while above >= 0 and lines[above].lstrip().startswith("#["):
+            while above >= 0 and re.match(r" *(#\[|//(?!/))", lines[above]):
                 above -= 1
             if ITEM.match(line) and not lines[above].lstrip().startswith("///"):
                 found.append(f"{path}:{number + 1}")

@@ -16,11 +16,10 @@ import re
 import tempfile
 
 import suite  # first: it says where the references and the generators are
-import makers
 import reference
+import texts
 from language import placed, runs
 
-EXAMPLES = os.path.join(suite.ROOT, "examples")
 STEPS_AT_MOST = 10_000
 # In how many places of a program a mistake is planted.
 PLANTED = 2
@@ -164,33 +163,6 @@ class Tried:
         return None if not lines or inside == "main" else f"{subject.text}\nis told up to {inside}"
 
 
-def examples(numbers):
-    for name in sorted(name[:-4] for name in os.listdir(EXAMPLES) if name.endswith(".out")):
-        with open(os.path.join(EXAMPLES, f"{name}.cyc"), encoding="latin-1") as file:
-            text = file.read()
-        path, given = os.path.join(EXAMPLES, f"{name}.in"), b""
-        if os.path.exists(path):
-            with open(path, "rb") as file:
-                given = file.read()
-        yield Subject(f"examples/{name}.cyc", text, given, numbers)
-
-
-def random_programs(seed, count):
-    profiles, made = list(makers.PROFILES), 0
-    numbers = random.Random(f"whereabouts {seed}")
-    while made < count:
-        profile = profiles[made % len(profiles)]
-        text = makers.PROFILES[profile](numbers).text()
-        given = bytes(numbers.choice([0, 1, 10, 48, 65, 255]) for _ in range(numbers.randint(0, 12)))
-        try:
-            reference.Program(text).hold_to_sizes()
-            subject = Subject(f"{profile} {seed} {made}", text, given, numbers)
-        except (reference.Refused, runs.Dead, runs.Wrong):
-            continue
-        made += 1
-        yield subject
-
-
 def main():
     parser = suite.command_line(__doc__)
     parser.add_argument("--count", type=int, default=300)
@@ -202,7 +174,8 @@ def main():
     def all_faults():
         passed, failed = 0, 0
         tried = Tried(program, numbers)
-        for subject in itertools.chain(examples(numbers), random_programs(options.seed, options.count)):
+        examples = (Subject(*example, numbers) for example in texts.examples())
+        for subject in itertools.chain(examples, texts.random_programs("whereabouts", options.seed, options.count, Subject)):
             faults = tried.faults(subject)
             failed += bool(faults)
             passed += not faults
