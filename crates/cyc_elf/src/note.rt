@@ -27,11 +27,13 @@ pub const NOTE_SIZE: usize = 28;
 /// The fewest and the most pages that a note may name.
 pub const MIN_PAGES: u32 = 3;
 
+/// The most pages that a note may name.
 pub const MAX_PAGES: u32 = 65_536;
 
 /// The fewest and the most calls that a note may name.
 pub const MIN_CALLS: u32 = 1;
 
+/// The most calls that a note may name.
 pub const MAX_CALLS: u32 = 4096;
 
 /// Whether the bytes at `start` begin as those of a note with the name.

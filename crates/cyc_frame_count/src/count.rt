@@ -452,6 +452,7 @@ fn kept_by_item(item: &Item) -> usize
     }
 }
 
+/// How many words of its frame a call keeps for items of a block.
 #[cycle(kept)]
 pub fn kept_by_items(items: &[Item]) -> usize
     requires { kept_by_items (items_of items.now) ≤ most_frame_count }

@@ -21,6 +21,7 @@ pub struct FailingReader<'a> {
 }
 
 impl<'a> FailingReader<'a> {
+    /// A reader of this text whose call behind so many fails.
     pub fn new(text: &'a [u8], calls_before: usize) -> FailingReader<'a> {
         FailingReader {
             rest: text,
@@ -56,6 +57,7 @@ pub struct FailingWriter {
 }
 
 impl FailingWriter {
+    /// A writer whose call behind so many fails, in this way.
     pub fn new(calls_before: usize, failure: Failure) -> FailingWriter {
         FailingWriter {
             calls_before,

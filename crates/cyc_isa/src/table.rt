@@ -24,6 +24,7 @@ impl Code {
     }
 }
 
+/// The name of an operation with an immediate operand, and its primary opcode.
 pub fn immediate(op: ImmediateOp) -> Code
     ensures name { result.name.now ≡ (immediate op).name }
     ensures number { result.number ≡ (immediate op).number }
@@ -39,6 +40,7 @@ pub fn immediate(op: ImmediateOp) -> Code
     }
 }
 
+/// The name of a load or store, and its primary opcode.
 pub fn memory(op: MemoryOp) -> Code
     ensures name { result.name.now ≡ (memory op).name }
     ensures number { result.number ≡ (memory op).number }
@@ -52,6 +54,7 @@ pub fn memory(op: MemoryOp) -> Code
     }
 }
 
+/// The name of a branch that compares two registers, and its primary opcode.
 pub fn branch(op: BranchOp) -> Code
     ensures name { result.name.now ≡ (branch op).name }
     ensures number { result.number ≡ (branch op).number }
@@ -63,6 +66,7 @@ pub fn branch(op: BranchOp) -> Code
     }
 }
 
+/// The name of a branch that compares a register with zero, and its primary opcode: two of them share that one.
 pub fn branch_zero(op: BranchZeroOp) -> Code
     ensures name { result.name.now ≡ (branch_zero op).0.name }
     ensures number { result.number ≡ (branch_zero op).0.number }
@@ -76,6 +80,7 @@ pub fn branch_zero(op: BranchZeroOp) -> Code
     }
 }
 
+/// The name of a jump, and its primary opcode.
 pub fn jump(op: JumpOp) -> Code
     ensures name { result.name.now ≡ (jump op).name }
     ensures number { result.number ≡ (jump op).number }
@@ -87,6 +92,7 @@ pub fn jump(op: JumpOp) -> Code
     }
 }
 
+/// The name of a shift by a constant, and its function field.
 pub fn shift(op: ShiftOp) -> Code
     ensures name { result.name.now ≡ (shift op).name }
     ensures number { result.number ≡ (shift op).number }
@@ -99,6 +105,7 @@ pub fn shift(op: ShiftOp) -> Code
     }
 }
 
+/// The name of a shift by a register, and its function field.
 pub fn shift_variable(op: ShiftOp) -> Code
     ensures name { result.name.now ≡ (shift_variable op).name }
     ensures number { result.number ≡ (shift_variable op).number }
@@ -111,6 +118,7 @@ pub fn shift_variable(op: ShiftOp) -> Code
     }
 }
 
+/// The name of an instruction that raises an exception, and its function field.
 pub fn exception(op: ExceptionOp) -> Code
     ensures name { result.name.now ≡ (exception op).name }
     ensures number { result.number ≡ (exception op).number }
@@ -122,6 +130,7 @@ pub fn exception(op: ExceptionOp) -> Code
     }
 }
 
+/// The name of a move from `hi` or `lo`, and its function field.
 pub fn move_from(op: MoveFromOp) -> Code
     ensures name { result.name.now ≡ (move_from op).name }
     ensures number { result.number ≡ (move_from op).number }
@@ -133,6 +142,7 @@ pub fn move_from(op: MoveFromOp) -> Code
     }
 }
 
+/// The name of a multiplication or division, and its function field.
 pub fn multiply_divide(op: MultiplyDivideOp) -> Code
     ensures name { result.name.now ≡ (multiply_divide op).name }
     ensures number { result.number ≡ (multiply_divide op).number }
@@ -144,6 +154,7 @@ pub fn multiply_divide(op: MultiplyDivideOp) -> Code
     }
 }
 
+/// The name of an operation of three registers, and its function field.
 pub fn arithmetic(op: ArithmeticOp) -> Code
     ensures name { result.name.now ≡ (arithmetic op).name }
     ensures number { result.number ≡ (arithmetic op).number }

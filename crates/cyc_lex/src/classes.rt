@@ -16,6 +16,7 @@ pub fn is_name_byte(b: u8) -> bool
     is_letter(b) || b.is_ascii_digit()
 }
 
+/// Whether a byte is a hexadecimal digit, of either case.
 pub fn is_hex_digit(b: u8) -> bool
     ensures { result ≡ spec.is_hex_digit b }
 {

@@ -13,6 +13,7 @@ pub fn name_len(bytes: &[u8]) -> usize
     bytes.iter().take_while(|b| is_name_byte(**b)).count()
 }
 
+/// How many decimal digits the bytes begin with.
 pub fn digits_len(bytes: &[u8]) -> usize
     ensures len { result ≡ prefix_len spec.is_digit bytes.now }
     ensures within { result ≤ length bytes.now }
@@ -20,6 +21,7 @@ pub fn digits_len(bytes: &[u8]) -> usize
     bytes.iter().take_while(|b| b.is_ascii_digit()).count()
 }
 
+/// How many hexadecimal digits the bytes begin with.
 pub fn hex_digits_len(bytes: &[u8]) -> usize
     ensures len { result ≡ prefix_len spec.is_hex_digit bytes.now }
     ensures within { result ≤ length bytes.now }

@@ -12,6 +12,7 @@ pub struct FailsOnce {
 }
 
 impl FailsOnce {
+    /// A device that does so many calls right, fails the next one and then goes on.
     pub fn new(calls_before: usize) -> FailsOnce {
         FailsOnce {
             calls_before,

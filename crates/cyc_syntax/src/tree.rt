@@ -86,6 +86,7 @@ pub enum BinaryOperator {
     Remainder,
 }
 
+/// An expression, with the places that messages speak of.
 #[cycle(expression)]
 #[derive(Drop)]
 pub enum Expr {
@@ -178,6 +179,7 @@ pub struct Operation {
     pub operand: Expr,
 }
 
+/// What may follow an operand, and leads on from it.
 #[cycle(expression)]
 #[derive(Drop)]
 pub enum Postfix {
@@ -208,6 +210,7 @@ pub enum Initial {
     },
 }
 
+/// A statement.
 #[cycle(statement)]
 #[derive(Drop)]
 pub enum Stmt {
@@ -264,6 +267,7 @@ pub enum Stmt {
     },
 }
 
+/// Statements and declarations between braces, with their place.
 #[cycle(statement)]
 #[derive(Drop)]
 pub struct Block {
@@ -282,6 +286,7 @@ pub struct Clause {
     pub items: Vec<Item>,
 }
 
+/// A part of a block: a statement or a declaration.
 #[cycle(statement)]
 #[derive(Drop)]
 pub enum Item {
@@ -344,6 +349,7 @@ pub struct Constraint {
     pub shorter: Ident,
 }
 
+/// The parameters of a function, in order.
 #[derive(Drop)]
 pub enum ParameterList {
     /// `void` in place of a list.
@@ -360,6 +366,7 @@ pub struct Parameters {
     pub constraints: Vec<Constraint>,
 }
 
+/// A part of a program.
 #[derive(Drop)]
 pub enum Declaration {
     /// At least one field.

@@ -72,6 +72,7 @@ impl Known {
         })
     }
 
+    /// The structs that are declared.
     pub fn structs(&self) -> &StructNames
         ensures { result.now ≡ self.now.structs }
     {

@@ -27,6 +27,7 @@ impl NameSet {
     ghost use Rattle.std.specs.Prelude.{◌≡◌, [], ◌∷◌, nat_eq, OnOk};
     ghost use Rattle.std.specs.List.{list_any};
 
+    /// A set without names.
     pub fn new(alloc: Global) -> NameSet
         ensures { result ≡ [] }
     {
@@ -46,6 +47,7 @@ impl NameSet {
         }
     }
 
+    /// Adds a name, which the set may have. An error leaves the names as they were.
     pub fn add(&mut self, name: usize) -> Result<(), AllocError>
         ensures { OnOk result (self.new ≡ name ∷ self.old) }
     {

@@ -38,6 +38,7 @@ impl RegionNames {
     ghost use Rattle.cyc_types.specs.typing.Scopes.{region_among};
     ghost use Rattle.cyc_types.specs.typing.Heads.{region_numbers};
 
+    /// No names.
     pub fn new(alloc: Global) -> RegionNames
         ensures { result ≡ [] }
     {
@@ -47,6 +48,7 @@ impl RegionNames {
         }
     }
 
+    /// How many names were declared and are not forgotten, those that hide another among them.
     pub fn len(&self) -> usize
         ensures { result ≡ length self.now }
     {
@@ -63,6 +65,7 @@ impl RegionNames {
         }
     }
 
+    /// Declares a name, which hides an older one that is the same.
     pub fn declare(&mut self, name: usize, region: Region) -> Result<(), AllocError>
         ensures { OnOk result (self.new ≡ record { name = name; region = region } ∷ self.old) }
     {

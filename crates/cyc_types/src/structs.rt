@@ -42,6 +42,7 @@ impl StructNames {
     ghost use Rattle.cyc_types.specs.typing.Formation.{struct_number, parameters_among};
     ghost use Rattle.cyc_types.specs.inside.StructTables.{known_from};
 
+    /// No structs.
     pub fn new(alloc: Global) -> StructNames
         ensures { result ≡ [] }
     {
@@ -89,6 +90,7 @@ impl StructNames {
         }
     }
 
+    /// Declares a struct with so many region parameters. Where one of its name is there, that one is found as before.
     pub fn declare(&mut self, name: usize, parameters: usize) -> Result<(), AllocError>
         ensures { OnOk result (self.new ≡ self.old ++ record { name = name; parameters = parameters } ∷ []) }
     {

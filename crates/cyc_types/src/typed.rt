@@ -118,6 +118,7 @@ pub enum Lvalue {
     Global { number: usize },
 }
 
+/// An expression whose names, types and moves are settled.
 #[cycle(expression)]
 #[derive(Drop)]
 pub enum Expr {
@@ -323,6 +324,7 @@ pub enum Side {
     Cell { place: Box<Dereference> },
 }
 
+/// A statement whose names and types are settled.
 #[cycle(statement)]
 #[derive(Drop)]
 pub enum Stmt {
@@ -395,6 +397,7 @@ pub struct Clause {
     pub items: Vec<Item>,
 }
 
+/// A part of a block: a statement, or what a declaration makes.
 #[cycle(statement)]
 #[derive(Drop)]
 pub enum Item {
@@ -445,6 +448,7 @@ pub enum Constant {
     Null,
 }
 
+/// A global, with what it holds at the start.
 #[derive(Drop)]
 pub struct Global {
     pub name: Name,
@@ -452,6 +456,7 @@ pub struct Global {
     pub value: Constant,
 }
 
+/// A struct: what its values are made of.
 #[derive(Drop)]
 pub struct StructType {
     /// The number of its region parameters.
