@@ -1,41 +1,33 @@
 //! The code of expressions. Each method adds its code behind what there is. A value comes to a slot by the last instruction;
 //! else only the slots from `free` on are written, and those of locals that are assigned.
-ghost use Rattle.std.specs.Prelude.{◌≡◌, ◌+◌, ◌<◌, ◌≤◌, [], ◌∷◌, ◌++◌, None, length};
-ghost use Rattle.cyc_types.specs.Types.{Void};
-ghost use Rattle.cyc_types.specs.TypedTreeView.{view_dereference, view_initial, view_expression, view_converted, view_lvalue, arguments_of, operations_of};
+ghost use Rattle.std.specs.Prelude.{◌≡◌, ◌+◌, ◌<◌, ◌≤◌, ◌++◌, None, length};
+ghost use Rattle.cyc_types.specs.TypedTreeView.{view_dereference, view_initial, view_expression, view_converted, view_lvalue, operations_of};
 ghost use Rattle.cyc_types.specs.TypedTrees.{Call};
 ghost use Rattle.cyc_meaning.specs.Values.{words_of_kind};
-ghost use Rattle.cyc_plain.specs.declared.instruction.Operand.TheVariants as operands;
-ghost use Rattle.cyc_plain.specs.declared.instruction.Instruction.TheVariants as instructions;
-ghost use Rattle.cyc_lower.specs.inside.ValueCode.{operand_or, check_code, conversion_code, divisor_code, operator_code, truth_code, copy_code, all_passed, first_two, index_code, pointer_instructions, address_code, addressed_by, reached_operand, code_unless_slot, span_of};
+ghost use Rattle.cyc_lower.specs.inside.ValueCode.{operand_or, addressed_by, code_unless_slot};
 ghost use Rattle.cyc_lower.specs.inside.ObjectCode.{elements_code, last_element, saved_code};
-ghost use Rattle.cyc_lower.specs.inside.ExpressionCode.{operand_of, left_of, left_slot, value_operand, converted_operand, printed_operand, expression_code, arguments_code, brought_code, converted_operand_code, printed_code, initial_code, operations_code, made_code, place_operand, place_offset, place_code, pointer_of, pointer_slot};
+ghost use Rattle.cyc_lower.specs.inside.ExpressionCode.{operand_of, left_of, left_slot, value_operand, converted_operand, expression_code, brought_code, converted_operand_code, initial_code, made_code, place_operand, place_offset, place_code, pointer_of, pointer_slot};
 ghost use Rattle.cyc_lower.specs.inside.Lowering.{assignment_code, assigned_operand, discarded_code};
 ghost use Rattle.cyc_lower.specs.inside.Slots.{with_counter};
-ghost use Rattle.cyc_lower.specs.inside.Emission.{Appends, Gives, most_locals, value_code, source_code, slot_code, print_code, converted_slot, converted_slot_code, left_code, operation_code, view_starts, pointer_operation_code};
+ghost use Rattle.cyc_lower.specs.inside.Emission.{Appends, Gives, most_locals, value_code, source_code, slot_code, converted_slot, converted_slot_code, left_code, view_starts};
 
-use crate::checks::{DIVISION_BY_ZERO, NULL_EXCEPTION};
+use crate::checks::NULL_EXCEPTION;
 use crate::emitter::Emitter;
 use crate::globals::global_of;
 use crate::locals::{counter_of, field_of, slot_of, with_counter};
-use crate::marks::{place_of_access, place_of_operation, place_of_value};
+use crate::marks::{place_of_access, place_of_value};
 use crate::objects::{kinds_passed, last_element};
 use crate::operands::{
-    converts_there, index_of, is_in, keeps_words, kind_at, kind_behind, masks, operand_of,
-    pointer_of, slot_behind, span_in, span_of, takes_operand, value_slot,
+    converts_there, keeps_words, kind_at, kind_behind, masks, operand_of, pointer_of, slot_behind,
+    span_in, takes_operand, value_slot,
 };
-use crate::operators::{
-    binary_operator, left_kind, low_byte, move_of, pointer_operator, test_jump, unary_instruction,
-};
+use crate::operators::{low_byte, move_of, unary_instruction};
 use crate::starts::Starts;
 use cyc_frame_count::{words_of, words_of_kind};
-use cyc_plain::{BinaryOperator, Instruction, Operand, UnaryOperator};
+use cyc_plain::{Instruction, Operand, UnaryOperator};
 use cyc_store::{HEAP, UNIQUE};
 use cyc_types::typed;
-use cyc_types::typed::{
-    Callee, Converted, Dereference, Expr, Initial, Kind, Lvalue, Operation, Operator, Placement,
-    PointerOperator,
-};
+use cyc_types::typed::{Converted, Dereference, Expr, Initial, Kind, Lvalue, Operation, Placement};
 use std::alloc::AllocError;
 
 /// How many bytes are to be added to an address.
@@ -49,140 +41,6 @@ fn place_offset(starts: &Starts, place: &Dereference) -> u32
 }
 
 impl Emitter {
-    /// A conversion of a value where it is: where it may not be null, it is tested, a thin pointer gets the other words of a fat one, and a
-    /// fat pointer leads to its cell.
-    fn convert(
-        &mut self,
-        starts: &Starts,
-        conversion: &Converted,
-        value: Operand,
-    ) -> Result<(), AllocError>
-        ensures { Appends result self.old self.new (conversion_code (view_starts starts.now) conversion.now.from conversion.now.to (span_of (view_expression conversion.now.value)) value (length self.old.code.items)) }
-    {
-        let outer = self.enter(place_of_value(&conversion.value));
-        self.change(starts, conversion, value)?;
-        self.leave(outer);
-        Ok(())
-    }
-
-    /// The same, at the place of the value.
-    fn change(
-        &mut self,
-        starts: &Starts,
-        conversion: &Converted,
-        value: Operand,
-    ) -> Result<(), AllocError>
-        ensures { Appends result self.old self.new (conversion_code (view_starts starts.now) conversion.now.from conversion.now.to (span_of (view_expression conversion.now.value)) value (length self.old.code.items)) }
-    {
-        if keeps_words(conversion.from, conversion.to) {
-            if matches!(conversion.to, Kind::NonNull) {
-                return self.check(starts, NULL_EXCEPTION, value);
-            }
-            return Ok(());
-        }
-        if matches!(conversion.to, Kind::Fat) {
-            return self.widen(value);
-        }
-        let span = span_of(&conversion.value);
-        self.thin(starts, conversion.to, span, value)
-    }
-
-    /// A divisor is tested, but a number other than 0.
-    fn check_divisor(&mut self, starts: &Starts, value: Operand) -> Result<(), AllocError>
-        ensures { Appends result self.old self.new (divisor_code (view_starts starts.now) value) }
-    {
-        match value {
-            Operand::Word { word: 0 } | Operand::Slot { .. } => {
-                self.check(starts, DIVISION_BY_ZERO, value)
-            }
-            Operand::Word { .. } => Ok(()),
-        }
-    }
-
-    /// An operator on two operands.
-    fn lower_operator(
-        &mut self,
-        starts: &Starts,
-        operator: Operator,
-        left: Operand,
-        right: Operand,
-        slot: usize,
-    ) -> Result<(), AllocError>
-        ensures { Appends result self.old self.new (operator_code (view_starts starts.now) operator left right slot) }
-    {
-        if matches!(operator, Operator::Divide | Operator::Remainder) {
-            self.check_divisor(starts, right)?;
-        }
-        self.emit(Instruction::Binary {
-            operator: binary_operator(operator),
-            destination: slot,
-            left,
-            right,
-        })
-    }
-
-    /// The truth of the word in `free`: 0 stays 0, and any other word becomes 1.
-    fn make_truth(&mut self, free: usize, slot: usize) -> Result<(), AllocError>
-        ensures { Appends result self.old self.new (truth_code free slot) }
-    {
-        let operand = Operand::Slot { number: free };
-        self.emit(Instruction::Unary {
-            operator: UnaryOperator::Not,
-            destination: free,
-            operand,
-        })?;
-        self.emit(Instruction::Unary {
-            operator: UnaryOperator::Not,
-            destination: slot,
-            operand,
-        })
-    }
-
-    /// A value of a kind comes to a slot, where it is not there yet.
-    pub(crate) fn copy(
-        &mut self,
-        kind: Kind,
-        source: Operand,
-        slot: usize,
-    ) -> Result<(), AllocError>
-        ensures { Appends result self.old self.new (copy_code (words_of_kind kind) source slot) }
-    {
-        if is_in(source, slot) {
-            return Ok(());
-        }
-        self.emit(move_of(words_of_kind(kind), slot, source))
-    }
-
-    /// An address comes to a slot: the word of an operand, and so many bytes more.
-    pub(crate) fn bring_address(
-        &mut self,
-        address: Operand,
-        offset: u32,
-        slot: usize,
-    ) -> Result<(), AllocError>
-        ensures { Appends result self.old self.new (address_code address offset slot) }
-    {
-        match offset {
-            0 => self.copy(Kind::NonNull, address, slot),
-            _ => self.emit(Instruction::Binary {
-                operator: BinaryOperator::Add,
-                destination: slot,
-                left: address,
-                right: Operand::Word { word: offset },
-            }),
-        }
-    }
-
-    /// A number comes to a slot.
-    fn bring_word(&mut self, word: u32, slot: usize) -> Result<(), AllocError>
-        ensures { Appends result self.old self.new (instructions.Move slot (operands.Word word) ∷ []) }
-    {
-        self.emit(Instruction::Move {
-            destination: slot,
-            source: Operand::Word { word },
-        })
-    }
-
     /// The value of an expression comes to a slot.
     #[cycle(expression)]
     pub(crate) fn lower_expression(
@@ -518,82 +376,9 @@ impl Emitter {
         }
     }
 
-    /// A call, whose result comes to a slot.
-    #[cycle(expression)]
-    fn call(
-        &mut self,
-        starts: &Starts,
-        callee: Callee,
-        arguments: &[Converted],
-        slot: usize,
-        free: usize,
-    ) -> Result<(), AllocError>
-        requires { free ≤ most_locals + length self.old.code.items }
-        ensures { Appends result self.old self.new (expression_code (view_starts starts.now) (Call callee (arguments_of arguments.now) Void) (length self.old.code.items) slot free) }
-    {
-        match callee {
-            Callee::Putchar => {
-                let byte = self.print(starts, arguments, free)?;
-                self.emit(low_byte(byte, slot))
-            }
-            Callee::Getchar => {
-                self.lower_arguments(starts, arguments, free)?;
-                self.emit(Instruction::ReadByte { destination: slot })
-            }
-            Callee::Function { number } => {
-                let count = self.lower_arguments(starts, arguments, free)?;
-                self.emit(Instruction::Call {
-                    function: number,
-                    arguments: free,
-                    count,
-                    result: slot,
-                })
-            }
-        }
-    }
-
-    /// `putchar` of its only argument.
-    #[cycle(expression)]
-    fn print(
-        &mut self,
-        starts: &Starts,
-        arguments: &[Converted],
-        free: usize,
-    ) -> Result<Operand, AllocError>
-        requires { free ≤ most_locals + length self.old.code.items }
-        ensures { Gives (printed_operand (view_starts starts.now) (arguments_of arguments.now) (operands.Slot free) free) result self.old self.new (print_code (view_starts starts.now) (arguments_of arguments.now) (length self.old.code.items) free) }
-    {
-        let mut byte = Operand::Slot { number: free };
-        for argument in arguments {
-            byte = self.lower_converted(starts, argument, free)?;
-        }
-        self.emit(Instruction::WriteByte { source: byte })?;
-        Ok(byte)
-    }
-
-    /// Each argument comes into the slots behind those of the one before. How many words they have is answered.
-    #[cycle(expression)]
-    fn lower_arguments(
-        &mut self,
-        starts: &Starts,
-        arguments: &[Converted],
-        first: usize,
-    ) -> Result<usize, AllocError>
-        requires { first ≤ most_locals + length self.old.code.items }
-        ensures { Gives (all_passed (arguments_of arguments.now)) result self.old self.new (arguments_code (view_starts starts.now) (arguments_of arguments.now) (length self.old.code.items) first) }
-    {
-        let mut slot = first;
-        for argument in arguments {
-            self.bring(starts, argument, slot, slot)?;
-            self.convert(starts, argument, Operand::Slot { number: slot })?;
-            slot = slot_behind(slot, argument.to)?;
-        }
-        Ok(slot - first)
-    }
-
     /// A value that is to be converted comes to a slot, and of an int that becomes a char only its low byte.
     #[cycle(expression)]
-    fn bring(
+    pub(crate) fn bring(
         &mut self,
         starts: &Starts,
         value: &Converted,
@@ -630,7 +415,7 @@ impl Emitter {
 
     /// A value that is converted where it is.
     #[cycle(expression)]
-    fn lower_converted(
+    pub(crate) fn lower_converted(
         &mut self,
         starts: &Starts,
         value: &Converted,
@@ -708,187 +493,6 @@ impl Emitter {
         let to = if rest.is_empty() { slot } else { free };
         self.lower_expression(starts, first, to, free)?;
         Ok(Operand::Slot { number: to })
-    }
-
-    /// One operator of a chain with its right operand. What it gives comes to a slot.
-    #[cycle(expression)]
-    fn lower_operation(
-        &mut self,
-        starts: &Starts,
-        operation: &Operation,
-        left: Operand,
-        slot: usize,
-        free: usize,
-    ) -> Result<(), AllocError>
-        requires { free ≤ most_locals + length self.old.code.items }
-        ensures { Appends result self.old self.new (operation_code (view_starts starts.now) operation.now (length self.old.code.items) left slot free) }
-    {
-        let outer = self.enter(place_of_operation(operation));
-        self.apply(starts, operation, left, slot, free)?;
-        self.leave(outer);
-        Ok(())
-    }
-
-    /// The same, at its place.
-    #[cycle(expression)]
-    fn apply(
-        &mut self,
-        starts: &Starts,
-        operation: &Operation,
-        left: Operand,
-        slot: usize,
-        free: usize,
-    ) -> Result<(), AllocError>
-        requires { free ≤ most_locals + length self.old.code.items }
-        ensures { Appends result self.old self.new (operation_code (view_starts starts.now) operation.now (length self.old.code.items) left slot free) }
-    {
-        match operation {
-            Operation::Compute {
-                operator,
-                operand,
-                ..
-            } => {
-                let behind = slot_behind(free, Kind::Int)?;
-                let right = self.lower_operand(starts, operand, behind)?;
-                self.lower_operator(starts, *operator, left, right, slot)
-            }
-            Operation::Test { operator, operand } => {
-                let jump = self.place();
-                self.emit(test_jump(*operator, free, 0))?;
-                self.lower_expression(starts, operand, free, free)?;
-                let behind = self.place();
-                self.patch(jump, test_jump(*operator, free, behind));
-                self.make_truth(free, slot)
-            }
-            Operation::Pointer { operator, operand } => self.lower_pointer_operation(
-                starts, *operator, operand, left, slot, free,
-            ),
-            Operation::PointerPeek {
-                operator,
-                operand,
-                ..
-            } => self.lower_pointer_operation(starts, *operator, operand, left, slot, free),
-        }
-    }
-
-    /// An operator on pointers, whose left operand is in the first free slots, with its right one.
-    #[cycle(expression)]
-    fn lower_pointer_operation(
-        &mut self,
-        starts: &Starts,
-        operator: PointerOperator,
-        operand: &Expr,
-        left: Operand,
-        slot: usize,
-        free: usize,
-    ) -> Result<(), AllocError>
-        ensures { Appends result self.old self.new (pointer_operation_code (view_starts starts.now) operator (view_expression operand.now) (length self.old.code.items) left slot free) }
-    {
-        let behind = slot_behind(free, left_kind(operator))?;
-        let right = self.lower_operand(starts, operand, behind)?;
-        self.apply_pointer(operator, left, right, slot)
-    }
-
-    /// An operator on pointers: their first words are compared, or an index changes and the first two words come before it.
-    fn apply_pointer(
-        &mut self,
-        operator: PointerOperator,
-        left: Operand,
-        right: Operand,
-        slot: usize,
-    ) -> Result<(), AllocError>
-        ensures { Appends result self.old self.new (pointer_instructions operator left right slot) }
-    {
-        if matches!(
-            operator,
-            PointerOperator::AddFat | PointerOperator::SubtractFat
-        ) {
-            return self.change_index(pointer_operator(operator), left, right, slot);
-        }
-        self.emit(Instruction::Binary {
-            operator: pointer_operator(operator),
-            destination: slot,
-            left,
-            right,
-        })
-    }
-
-    /// An index changes, and the first two words of its pointer come before it, where they are not there yet.
-    fn change_index(
-        &mut self,
-        operator: BinaryOperator,
-        left: Operand,
-        right: Operand,
-        slot: usize,
-    ) -> Result<(), AllocError>
-        ensures { Appends result self.old self.new (index_code operator left right slot) }
-    {
-        let behind = slot_behind(slot, Kind::Fat)?;
-        self.emit(Instruction::Binary {
-            operator,
-            destination: behind - 1,
-            left: index_of(left)?,
-            right,
-        })?;
-        self.move_first_two(left, slot)
-    }
-
-    fn move_first_two(&mut self, pointer: Operand, slot: usize) -> Result<(), AllocError>
-        ensures { Appends result self.old self.new (first_two pointer slot) }
-    {
-        match pointer {
-            Operand::Slot { number } if number != slot => self.emit(Instruction::MoveWords {
-                destination: slot,
-                source: number,
-                count: 2,
-            }),
-            Operand::Slot { .. } | Operand::Word { .. } => Ok(()),
-        }
-    }
-
-    /// A chain, from its first operator on. What the last one gives comes to a slot.
-    #[cycle(expression)]
-    fn lower_operations(
-        &mut self,
-        starts: &Starts,
-        operations: &[Operation],
-        first: Operand,
-        slot: usize,
-        free: usize,
-    ) -> Result<(), AllocError>
-        requires { free ≤ most_locals + length self.old.code.items }
-        ensures { Appends result self.old self.new (operations_code (view_starts starts.now) (operations_of operations.now) (length self.old.code.items) first slot free) }
-    {
-        let mut left = first;
-        let mut behind = operations.len();
-        for operation in operations {
-            behind -= 1;
-            let to = if behind == 0 { slot } else { free };
-            self.lower_operation(starts, operation, left, to, free)?;
-            left = Operand::Slot { number: to };
-        }
-        Ok(())
-    }
-
-    /// A call whose value nobody wants.
-    fn discard_call(
-        &mut self,
-        starts: &Starts,
-        callee: Callee,
-        arguments: &[Converted],
-        free: usize,
-    ) -> Result<(), AllocError>
-        requires { free ≤ most_locals + length self.old.code.items }
-        ensures { Appends result self.old self.new (discarded_code (view_starts starts.now) (Call callee (arguments_of arguments.now) Void) (length self.old.code.items) free) }
-    {
-        match callee {
-            Callee::Putchar => {
-                self.print(starts, arguments, free)?;
-                Ok(())
-            }
-            Callee::Getchar => self.call(starts, callee, arguments, free, free),
-            Callee::Function { .. } => self.call(starts, callee, arguments, free, free),
-        }
     }
 
     /// An expression whose value nobody wants.

@@ -5,8 +5,11 @@ pub use limits::MOST_FUNCTIONS;
 pub use marks::{Mark, Marks, marks_of};
 pub use program::lower;
 
+mod calls;
+mod chains;
 mod checks;
 mod conditions;
+mod conversions;
 mod emitter;
 mod expressions;
 mod functions;

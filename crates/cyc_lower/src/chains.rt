@@ -1,0 +1,230 @@
+//! The code of chains of operators: each is applied to the value of all before it and to its right operand.
+ghost use Rattle.std.specs.Prelude.{◌+◌, ◌≤◌, length};
+ghost use Rattle.cyc_types.specs.TypedTreeView.{view_expression, operations_of};
+ghost use Rattle.cyc_plain.specs.declared.instruction.Operand.TheVariants as operands;
+ghost use Rattle.cyc_lower.specs.inside.ValueCode.{divisor_code, operator_code, truth_code, first_two, index_code, pointer_instructions};
+ghost use Rattle.cyc_lower.specs.inside.ExpressionCode.{operations_code};
+ghost use Rattle.cyc_lower.specs.inside.Emission.{Appends, most_locals, operation_code, view_starts, pointer_operation_code};
+
+use crate::checks::DIVISION_BY_ZERO;
+use crate::emitter::Emitter;
+use crate::marks::place_of_operation;
+use crate::operands::{index_of, slot_behind};
+use crate::operators::{binary_operator, left_kind, pointer_operator, test_jump};
+use crate::starts::Starts;
+use cyc_plain::{BinaryOperator, Instruction, Operand, UnaryOperator};
+use cyc_types::typed::{Expr, Kind, Operation, Operator, PointerOperator};
+use std::alloc::AllocError;
+
+impl Emitter {
+    /// A divisor is tested, but a number other than 0.
+    fn check_divisor(&mut self, starts: &Starts, value: Operand) -> Result<(), AllocError>
+        ensures { Appends result self.old self.new (divisor_code (view_starts starts.now) value) }
+    {
+        match value {
+            Operand::Word { word: 0 } | Operand::Slot { .. } => {
+                self.check(starts, DIVISION_BY_ZERO, value)
+            }
+            Operand::Word { .. } => Ok(()),
+        }
+    }
+
+    /// An operator on two operands.
+    fn lower_operator(
+        &mut self,
+        starts: &Starts,
+        operator: Operator,
+        left: Operand,
+        right: Operand,
+        slot: usize,
+    ) -> Result<(), AllocError>
+        ensures { Appends result self.old self.new (operator_code (view_starts starts.now) operator left right slot) }
+    {
+        if matches!(operator, Operator::Divide | Operator::Remainder) {
+            self.check_divisor(starts, right)?;
+        }
+        self.emit(Instruction::Binary {
+            operator: binary_operator(operator),
+            destination: slot,
+            left,
+            right,
+        })
+    }
+
+    /// The truth of the word in `free`: 0 stays 0, and any other word becomes 1.
+    fn make_truth(&mut self, free: usize, slot: usize) -> Result<(), AllocError>
+        ensures { Appends result self.old self.new (truth_code free slot) }
+    {
+        let operand = Operand::Slot { number: free };
+        self.emit(Instruction::Unary {
+            operator: UnaryOperator::Not,
+            destination: free,
+            operand,
+        })?;
+        self.emit(Instruction::Unary {
+            operator: UnaryOperator::Not,
+            destination: slot,
+            operand,
+        })
+    }
+
+    /// One operator of a chain with its right operand. What it gives comes to a slot.
+    #[cycle(expression)]
+    fn lower_operation(
+        &mut self,
+        starts: &Starts,
+        operation: &Operation,
+        left: Operand,
+        slot: usize,
+        free: usize,
+    ) -> Result<(), AllocError>
+        requires { free ≤ most_locals + length self.old.code.items }
+        ensures { Appends result self.old self.new (operation_code (view_starts starts.now) operation.now (length self.old.code.items) left slot free) }
+    {
+        let outer = self.enter(place_of_operation(operation));
+        self.apply(starts, operation, left, slot, free)?;
+        self.leave(outer);
+        Ok(())
+    }
+
+    /// The same, at its place.
+    #[cycle(expression)]
+    fn apply(
+        &mut self,
+        starts: &Starts,
+        operation: &Operation,
+        left: Operand,
+        slot: usize,
+        free: usize,
+    ) -> Result<(), AllocError>
+        requires { free ≤ most_locals + length self.old.code.items }
+        ensures { Appends result self.old self.new (operation_code (view_starts starts.now) operation.now (length self.old.code.items) left slot free) }
+    {
+        match operation {
+            Operation::Compute {
+                operator,
+                operand,
+                ..
+            } => {
+                let behind = slot_behind(free, Kind::Int)?;
+                let right = self.lower_operand(starts, operand, behind)?;
+                self.lower_operator(starts, *operator, left, right, slot)
+            }
+            Operation::Test { operator, operand } => {
+                let jump = self.place();
+                self.emit(test_jump(*operator, free, 0))?;
+                self.lower_expression(starts, operand, free, free)?;
+                let behind = self.place();
+                self.patch(jump, test_jump(*operator, free, behind));
+                self.make_truth(free, slot)
+            }
+            Operation::Pointer { operator, operand } => self.lower_pointer_operation(
+                starts, *operator, operand, left, slot, free,
+            ),
+            Operation::PointerPeek {
+                operator,
+                operand,
+                ..
+            } => self.lower_pointer_operation(starts, *operator, operand, left, slot, free),
+        }
+    }
+
+    /// An operator on pointers, whose left operand is in the first free slots, with its right one.
+    #[cycle(expression)]
+    fn lower_pointer_operation(
+        &mut self,
+        starts: &Starts,
+        operator: PointerOperator,
+        operand: &Expr,
+        left: Operand,
+        slot: usize,
+        free: usize,
+    ) -> Result<(), AllocError>
+        ensures { Appends result self.old self.new (pointer_operation_code (view_starts starts.now) operator (view_expression operand.now) (length self.old.code.items) left slot free) }
+    {
+        let behind = slot_behind(free, left_kind(operator))?;
+        let right = self.lower_operand(starts, operand, behind)?;
+        self.apply_pointer(operator, left, right, slot)
+    }
+
+    /// An operator on pointers: their first words are compared, or an index changes and the first two words come before it.
+    fn apply_pointer(
+        &mut self,
+        operator: PointerOperator,
+        left: Operand,
+        right: Operand,
+        slot: usize,
+    ) -> Result<(), AllocError>
+        ensures { Appends result self.old self.new (pointer_instructions operator left right slot) }
+    {
+        if matches!(
+            operator,
+            PointerOperator::AddFat | PointerOperator::SubtractFat
+        ) {
+            return self.change_index(pointer_operator(operator), left, right, slot);
+        }
+        self.emit(Instruction::Binary {
+            operator: pointer_operator(operator),
+            destination: slot,
+            left,
+            right,
+        })
+    }
+
+    /// An index changes, and the first two words of its pointer come before it, where they are not there yet.
+    fn change_index(
+        &mut self,
+        operator: BinaryOperator,
+        left: Operand,
+        right: Operand,
+        slot: usize,
+    ) -> Result<(), AllocError>
+        ensures { Appends result self.old self.new (index_code operator left right slot) }
+    {
+        let behind = slot_behind(slot, Kind::Fat)?;
+        self.emit(Instruction::Binary {
+            operator,
+            destination: behind - 1,
+            left: index_of(left)?,
+            right,
+        })?;
+        self.move_first_two(left, slot)
+    }
+
+    fn move_first_two(&mut self, pointer: Operand, slot: usize) -> Result<(), AllocError>
+        ensures { Appends result self.old self.new (first_two pointer slot) }
+    {
+        match pointer {
+            Operand::Slot { number } if number != slot => self.emit(Instruction::MoveWords {
+                destination: slot,
+                source: number,
+                count: 2,
+            }),
+            Operand::Slot { .. } | Operand::Word { .. } => Ok(()),
+        }
+    }
+
+    /// A chain, from its first operator on. What the last one gives comes to a slot.
+    #[cycle(expression)]
+    pub(crate) fn lower_operations(
+        &mut self,
+        starts: &Starts,
+        operations: &[Operation],
+        first: Operand,
+        slot: usize,
+        free: usize,
+    ) -> Result<(), AllocError>
+        requires { free ≤ most_locals + length self.old.code.items }
+        ensures { Appends result self.old self.new (operations_code (view_starts starts.now) (operations_of operations.now) (length self.old.code.items) first slot free) }
+    {
+        let mut left = first;
+        let mut behind = operations.len();
+        for operation in operations {
+            behind -= 1;
+            let to = if behind == 0 { slot } else { free };
+            self.lower_operation(starts, operation, left, to, free)?;
+            left = Operand::Slot { number: to };
+        }
+        Ok(())
+    }
+}
