@@ -15,7 +15,7 @@ use Rattle.cyc_plain.specs.inside.Requests.{destination_of}
 use Rattle.cyc_plain.specs.inside.Program.{Program, routine_at}
 use Rattle.cyc_plain.specs.inside.State.{put, Handler, Open, Caught, Activation, Frame, Configuration, State, Running, Ended, Stuck, place_of}
 use Rattle.cyc_plain.specs.inside.Memory.{slots_end, IsBelow, AreBelow, LieBelow, Range, OfGlobals, OfStore, OfSlots, range_of, global_at, slot_at, memory_at, with_global, with_slot, with_word}
-use Rattle.cyc_plain.specs.inside.Step.{Choice, MayLie, gives, operand_word, returns, loads, saves, loads_byte, saves_byte, advanced, asks, is_intact, tries, closes, lands, throws, finishes, call_in, callee_of, called, performed, executed, instruction_at, step, Step, start, machine}
+use Rattle.cyc_plain.specs.inside.Step.{Choice, MayLie, gives, operand_word, returns, loads, saves, loads_byte, saves_byte, advanced, asks, is_intact, tries, closes, lands, throws, finishes, call_in, callee_of, called, performed, executed, instruction_at, step, limit_at, Step, start, machine}
 use Rattle.cyc_plain.proofs.RunLaws.{limited_either, if_either}
 use Rattle.cyc_plain.proofs.MemoryLaws.{waiting-below}
 
@@ -120,6 +120,7 @@ module _ (program : Program) (choice : Choice) (c : Configuration) (lie : AreBel
   performs (instructions.Throw tag value) may = thrown (operand_word c.active.slots tag) (operand_word c.active.slots value) c.active c.frames lie
   performs (instructions.Finish value) may = finished value (routine_at program c.active.function).results c.active.handlers
   performs (instructions.Uncaught tag value) may = tt
+  performs (instructions.Enter function) may = lie
 
   executes : (o : Option Instruction) → MayLie program choice.base (callee_of o) (Running c) → LieBelow program (executed program choice c o)
   executes (Some i) may = performs i may
@@ -127,7 +128,7 @@ module _ (program : Program) (choice : Choice) (c : Configuration) (lie : AreBel
 
 pub below_step : (program : Program) (pages calls : ℕ) (old new : State) → LieBelow program old → Step program pages calls old new → LieBelow program new
 below_step program pages calls old new lie (choice, allowed, is) =
-    subst (LieBelow program) (sym is) (limited_either (LieBelow program) pages calls old (step program choice old) (λ within. steps old lie allowed.lies) tt)
+    subst (LieBelow program) (sym is) (limited_either (LieBelow program) pages (limit_at program old calls) old (step program choice old) (λ within. steps old lie allowed.lies) tt)
   where
     steps : (s : State) → LieBelow program s → MayLie program choice.base (called program s) s → LieBelow program (step program choice s)
     steps (Running c) lie may = executes program choice c lie (instruction_at program (place_of (Running c))) may

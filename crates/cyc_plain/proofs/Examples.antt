@@ -188,8 +188,23 @@ full_prints = refl
 recursion_depth : depth (after 9 5 recursion []) ≡ 3
 recursion_depth = refl
 
-call_counts_its_argument : size (function 0 (Move 0 (Word 3) ∷ Call 1 0 1 0 ∷ Return 0 ∷ [])) ≡ 47
+call_counts_its_argument : size (function 0 (Move 0 (Word 3) ∷ Call 1 0 1 0 ∷ Return 0 ∷ [])) ≡ 68
 call_counts_its_argument = refl
+
+-- ---- room for a call that is not made
+
+-- main asks room for a call of itself and returns
+abbrev asking : Program
+asking = program (instructions.Enter 0 ∷ Move 0 (Word 7) ∷ Return 0 ∷ [])
+
+room_for_one_more : status_of (after 3 2 asking []) ≡ Ended (Returned (pos 7))
+room_for_one_more = refl
+
+no_room_for_one_more : status_of (after 1 1 asking []) ≡ Ended Full
+no_room_for_one_more = refl
+
+enter_is_no_call : depth (after 1 2 asking []) ≡ 1
+enter_is_no_call = refl
 
 -- ---- services, globals and exceptions
 

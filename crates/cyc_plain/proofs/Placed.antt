@@ -22,7 +22,7 @@ use Rattle.cyc_words.proofs.Lists.{slice_get_below}
 use Rattle.cyc_plain.specs.inside.Program.{Routine, Program, no_routine, routine_at}
 use Rattle.cyc_plain.specs.inside.State.{put, Handler, Open, Caught, Activation, Frame, Configuration, State, Running, Ended, Stuck, status_of, place_of}
 use Rattle.cyc_plain.specs.inside.Memory.{Range, OfGlobals, OfStore, OfSlots, range_of, global_at, slot_at, put_or, with_waiting, memory_at, with_global, with_slot, with_word}
-use Rattle.cyc_plain.specs.inside.Step.{Choice, gives, operand_word, returns, loads, saves, loads_byte, saves_byte, advanced, asks, is_intact, tries, closes, lands, throws, finishes, call_in, call_of, asked, performed, executed, instruction_at, step, Step, start, machine}
+use Rattle.cyc_plain.specs.inside.Step.{Choice, gives, operand_word, returns, loads, saves, loads_byte, saves_byte, advanced, asks, is_intact, tries, closes, lands, throws, finishes, call_in, call_of, asked, performed, executed, instruction_at, step, limit_at, Step, start, machine}
 use Rattle.cyc_plain.specs.inside.WellFormed.{IsInRange, IsRoutine, IsWellFormed, leaves, DividesByZero, AsksAt, AsksForNoWord, AsksInVain, AsksForHandlers}
 use Rattle.cyc_plain.proofs.RunLaws.{limited_either, if_either}
 
@@ -222,6 +222,7 @@ module _ (program : Program) (well : IsWellFormed program) (choice : Choice) (c 
       thrown (operand_word c.active.slots tag) (operand_word c.active.slots value) c.active c.frames inside handling waiting
   performs (instructions.Finish value) at range = finished value here.results c.active.handlers
   performs (instructions.Uncaught tag value) at range = tt
+  performs (instructions.Enter function) at range = (behind _ at refl, handling, waiting)
 
   executes : (o : Option Instruction) → slice_get here.code c.active.next ≡ o → IsPlaced program (executed program choice c o)
   executes (Some i) at = performs i at (holds_at (IsInRange program here) here.code c.active.next i routine.instructions at)
@@ -238,7 +239,7 @@ placed_run program pages calls zero old new well placed run = subst (IsPlaced pr
 placed_run program pages calls (suc n) old new well placed (mid, (choice, allowed, is), rest) =
     let next : IsPlaced program mid =
     subst (IsPlaced program) (sym is)
-    (limited_either (IsPlaced program) pages calls old (step program choice old) (λ within. placed_step program choice old well placed) tt) in
+    (limited_either (IsPlaced program) pages (limit_at program old calls) old (step program choice old) (λ within. placed_step program choice old well placed) tt) in
     placed_run program pages calls n mid new well next rest
 
 pub placed_start : (program : Program) (base : ℕ) (store : StoreState) (input : List ℕ) → IsWellFormed program → IsPlaced program (start program base store input)
@@ -312,6 +313,7 @@ fails program choice c (instructions.LoadGlobal destination global) at range fai
 fails program choice c (instructions.StoreGlobal global source) at range failed = absurd (running_not_failed c failed)
 fails program choice c (instructions.CountLexical destination) at range failed = absurd (running_not_failed c failed)
 fails program choice c (instructions.MoveWords destination source count) at range failed = absurd (running_not_failed c failed)
+fails program choice c (instructions.Enter function) at range failed = absurd (running_not_failed c failed)
 fails program choice c (instructions.Load destination address offset) at range failed =
     access_stops program c (instructions.Load destination address offset) (add_of (operand_word c.active.slots address) offset) (memory_at program c (add_of (operand_word c.active.slots address) offset)) (loads c destination) refl at refl (λ word. refl) failed
 fails program choice c (instructions.Store address offset source) at range failed =
@@ -334,7 +336,7 @@ pub few_get_stuck : (program : Program) (pages calls n base : ℕ) (store : Stor
     → status_of old ≡ simulation.Running → Step program pages calls old new → status_of new ≡ simulation.Failed → Stops program old
 few_get_stuck program pages calls n base store input old new well run running (choice, allowed, is) failed =
     let placed = placed_run program pages calls n (start program base store input) old well (placed_start program base store input well) run in
-    limited_either (λ (s : State). status_of s ≡ simulation.Failed → Stops program old) pages calls old (step program choice old)
+    limited_either (λ (s : State). status_of s ≡ simulation.Failed → Stops program old) pages (limit_at program old calls) old (step program choice old)
     (λ within fails. fails_placed program choice old well placed running fails)
     (λ fails. absurd (let e : simulation.Ended Full ≡ simulation.Failed = fails in cc))
     (ap status_of (sym is) ∙ failed)

@@ -1,7 +1,7 @@
 -- Laws of the plain machine.
-use Rattle.std.proofs.Common.{◌≡◌, ℕ, zero, suc, ◌%◌, ◌≤◌, Bool, true, false, List, [], ◌∷◌, ◌++◌, drop, Option, Some, None, refl, sym, ap, subst, ◌∙◌, arith}
-use Rattle.std.specs.Prelude.{◌==◌, if◌then◌else◌}
-use Rattle.std.proofs.lemmas.Bool.{le-leb, and_from}
+use Rattle.std.proofs.Common.{◌≡◌, ℕ, zero, suc, ◌%◌, ◌≤◌, Bool, true, false, List, [], ◌∷◌, ◌++◌, drop, Option, Some, None, refl, sym, ap, subst, ◌∙◌, arith, inl, inr}
+use Rattle.std.specs.Prelude.{◌==◌, ◌-◌, nat_le, if◌then◌else◌}
+use Rattle.std.proofs.lemmas.Bool.{cases_lt, le-leb, leb-true, and_from, and_parts, false_from_ne_true}
 use Rattle.cyc_words.specs.Ending.{Ending, Uncaught, Full}
 use Rattle.cyc_words.specs.Word.{signed, add_of}
 use Rattle.cyc_words.specs.Bytes.{with_byte, word_of}
@@ -19,10 +19,17 @@ use Rattle.cyc_words.specs.Simulation as simulation
 use Rattle.cyc_words.specs.Simulation.{Status, Run}
 use Rattle.cyc_words.specs.inside.Following.{IsLawful}
 use Rattle.cyc_plain.specs.inside.Program.{Program, routine_at}
-use Rattle.cyc_plain.specs.inside.State.{Words, AreWords, put, Handler, Open, Caught, Activation, Frame, Configuration, State, Running, Ended, Stuck, output_of, input_of, status_of, place_of}
+use Rattle.cyc_plain.specs.inside.State.{Words, AreWords, put, Handler, Open, Caught, Activation, Frame, Configuration, State, Running, Ended, Stuck, output_of, input_of, status_of, place_of, demand, depth}
 use Rattle.cyc_plain.specs.inside.Memory.{IsBelow, Range, OfGlobals, OfStore, OfSlots, range_of, global_at, slot_at, memory_at, with_global, with_slot, with_word}
-use Rattle.cyc_plain.specs.inside.Step.{Choice, IsAllowed, MayServe, MayLie, gives, operand_word, returns, loads, saves, loads_byte, saves_byte, advanced, asks, is_intact, tries, closes, lands, throws, finishes, call_in, call_of, asked, callee_of, called, performed, executed, instruction_at, step, is_within, limited, limited_step, Step, start, machine}
+use Rattle.cyc_plain.specs.inside.Step.{Choice, IsAllowed, MayServe, MayLie, gives, operand_word, returns, loads, saves, loads_byte, saves_byte, advanced, asks, is_intact, tries, closes, lands, throws, finishes, call_in, call_of, asked, callee_of, called, performed, executed, instruction_at, step, is_within, limit_of, limit_at, limited, limited_step, Step, start, machine}
 use Rattle.cyc_words.proofs.Simulation.{Run-grows, Run-stays}
+
+-- an instruction that calls neither a function nor the store, and asks room for no call
+abbrev pub calls_nothing : Instruction → Bool
+calls_nothing (instructions.Ask request) = false
+calls_nothing (instructions.Call function arguments count result) = false
+calls_nothing (instructions.Enter function) = false
+calls_nothing i = true
 
 -- ---- limits
 
@@ -31,6 +38,37 @@ over_within pages calls ending output input = and_from _ _ (le-leb 0 pages (omeg
 
 pub stuck_within : (pages calls : ℕ) (output input : List ℕ) → is_within pages calls (Stuck output input) ≡ true
 stuck_within pages calls output input = and_from _ _ (le-leb 0 pages (omega arith)) (le-leb 0 calls (omega arith))
+
+-- what is within a limit of calls is within a higher one, and no instruction raises the limit
+pub within_more : (pages less more : ℕ) (s : State) → less ≤ more → is_within pages less s ≡ true → is_within pages more s ≡ true
+within_more pages less more s over within =
+    let (paged, some) = and_parts (nat_le (demand s) pages) (nat_le (depth s) less) within in
+    and_from _ _ paged (le-leb (depth s) more (let d = leb-true (depth s) less some in omega (arith, d, over)))
+
+limit_of_most : (o : Option Instruction) (calls : ℕ) → limit_of o calls ≤ calls
+limit_of_most (Some (instructions.Enter function)) calls = omega arith
+limit_of_most (Some i) calls = omega arith
+limit_of_most None calls = omega arith
+
+pub limit_at_most : (program : Program) (s : State) (calls : ℕ) → limit_at program s calls ≤ calls
+limit_at_most program (Running c) calls = limit_of_most (instruction_at program (place_of (Running c))) calls
+limit_at_most program (Ended ending output input) calls = omega arith
+limit_at_most program (Stuck output input) calls = omega arith
+
+-- where nothing is called, none is lowered
+pub limit_free : (i : Instruction) (calls : ℕ) → calls_nothing i ≡ true → limit_of (Some i) calls ≡ calls
+limit_free (instructions.Enter function) calls free = absurd (let e : false ≡ true = free in cc)
+limit_free i calls free = refl
+
+-- room for one call more is as much as a call takes
+pub room_same : (n calls : ℕ) → nat_le (suc n) (calls - 1) ≡ nat_le (suc (suc n)) calls
+room_same n calls = elim (cases_lt (suc n) calls) [
+  | inl room ↦ le-leb (suc n) (calls - 1) (omega (arith, room)) ∙ sym (le-leb (suc (suc n)) calls (omega (arith, room)))
+  | inr none ↦ over (suc n) (calls - 1) (λ l. omega (arith, l, none)) ∙ sym (over (suc (suc n)) calls (λ l. omega (arith, l, none)))
+]
+  where
+    over : (a b : ℕ) → (a ≤ b → ⊥) → nat_le a b ≡ false
+    over a b more = false_from_ne_true (nat_le a b) (λ h. more (leb-true a b h))
 
 -- a step within the limits is the step, and any other ends the run
 pub limited-within : (pages calls : ℕ) (old new : State) → is_within pages calls new ≡ true → limited pages calls old new ≡ new
@@ -166,6 +204,7 @@ performs program choice c (instructions.Leave first) = closing_goes_on c first c
 performs program choice c (instructions.Throw tag value) = thrown c (operand_word c.active.slots tag) (operand_word c.active.slots value) c.active c.frames
 performs program choice c (instructions.Finish value) = finished c value (routine_at program c.active.function).results c.active.handlers
 performs program choice c (instructions.Uncaught tag value) = same c
+performs program choice c (instructions.Enter function) = same c
 
 executes : (program : Program) (choice : Choice) (c : Configuration) (o : Option Instruction) → GoesOn c (executed program choice c o)
 executes program choice c (Some i) = performs program choice c i
@@ -182,7 +221,7 @@ each_step_goes_on program choice (Stuck output input) = (IsPrefix-refl output, (
 limited_steps : (program : Program) (pages calls : ℕ) (old new : State) → Step program pages calls old new → StateGoesOn old new
 limited_steps program pages calls old new (choice, allowed, is) =
     subst (StateGoesOn old) (sym is)
-    (limited_either (StateGoesOn old) pages calls old (step program choice old) (λ within. each_step_goes_on program choice old) (IsPrefix-refl (output_of old), ([], refl)))
+    (limited_either (StateGoesOn old) pages (limit_at program old calls) old (step program choice old) (λ within. each_step_goes_on program choice old) (IsPrefix-refl (output_of old), ([], refl)))
 
 -- ---- a run that is over
 
@@ -214,18 +253,13 @@ zeros_allowed program s none nobody = record {
   serves = serves_none zeros.serving (asked program s) s none;
 }
 
--- an instruction that calls neither a function nor the store
-abbrev pub calls_nothing : Instruction → Bool
-calls_nothing (instructions.Ask request) = false
-calls_nothing (instructions.Call function arguments count result) = false
-calls_nothing i = true
-
 asks_none : (slots : Words) (i : Instruction) → calls_nothing i ≡ true → call_of slots (Some i) ≡ None
 asks_none slots (instructions.Ask request) free = absurd (let e : false ≡ true = free in cc)
 asks_none slots i free = refl
 
 callee_none : (i : Instruction) → calls_nothing i ≡ true → callee_of (Some i) ≡ None
 callee_none (instructions.Call function arguments count result) free = absurd (let e : false ≡ true = free in cc)
+callee_none (instructions.Enter function) free = absurd (let e : false ≡ true = free in cc)
 callee_none i free = refl
 
 pub zeros_at : (program : Program) (c : Configuration) (i : Instruction) → instruction_at program (place_of (Running c)) ≡ Some i → calls_nothing i ≡ true → IsAllowed program (Running c) zeros
@@ -250,6 +284,7 @@ refused_serves serving call why c refused none = absurd (let e : Some why ≡ No
 asking_calls : (slots : Words) (o : Option Instruction) (call : Call) → call_of slots o ≡ Some call → callee_of o ≡ None
 asking_calls slots None call asks = refl
 asking_calls slots (Some (instructions.Call function arguments count result)) call asks = absurd (let e : None ≡ Some call = asks in cc)
+asking_calls slots (Some (instructions.Enter function)) call asks = absurd (let e : None ≡ Some call = asks in cc)
 asking_calls slots (Some i) call asks = refl
 
 pub zeros_refused : (program : Program) (c : Configuration) (call : Call) (why : Refusal) → asked program (Running c) ≡ Some call → refusal c.store call ≡ Some why → IsAllowed program (Running c) zeros
@@ -318,7 +353,7 @@ pub stays_within : (program : Program) (pages calls n : ℕ) (old new : State) �
 stays_within program pages calls zero old new within run = ap (is_within pages calls) run ∙ within
 stays_within program pages calls (suc n) old new within (mid, (choice, allowed, is), rest) =
     let next : is_within pages calls mid ≡ true =
-    ap (is_within pages calls) is ∙ limited_either (λ (s : State). is_within pages calls s ≡ true) pages calls old (step program choice old) (λ (w : is_within pages calls (step program choice old) ≡ true). w) (over_within pages calls Full (output_of old) (input_of old)) in
+    ap (is_within pages calls) is ∙ limited_either (λ (s : State). is_within pages calls s ≡ true) pages (limit_at program old calls) old (step program choice old) (λ (w : is_within pages (limit_at program old calls) (step program choice old) ≡ true). within_more pages (limit_at program old calls) calls (step program choice old) (limit_at_most program old calls) w) (over_within pages calls Full (output_of old) (input_of old)) in
     stays_within program pages calls n mid new next rest
 
 pub starts_within : (program : Program) (pages calls base : ℕ) (store : StoreState) (input : List ℕ) → IsNew pages store → 1 ≤ pages → 1 ≤ calls → is_within pages calls (start program base store input) ≡ true

@@ -16,26 +16,30 @@ use Rattle.cyc_plain.specs.declared.instruction.Request.{Request}
 use Rattle.cyc_plain.specs.inside.Requests.{destination_of}
 use Rattle.cyc_plain.specs.inside.Program.{Routine, Program, CodePlace, no_routine, routine_at, places_from, places_of}
 use Rattle.cyc_plain.specs.inside.State.{Configuration, State, Running, Ended, place_of}
-use Rattle.cyc_plain.specs.inside.Step.{Choice, IsAllowed, IsServed, MayServe, call_in, call_of, served_to, asks, performed, executed, instruction_at, step, is_within, Step}
+use Rattle.cyc_plain.specs.inside.Step.{Choice, IsAllowed, IsServed, MayServe, call_in, call_of, served_to, asks, performed, executed, instruction_at, step, is_within, limit_of, limit_at, limited, limited_step, Step}
 use Rattle.cyc_plain.proofs.RunLaws.{limited-within, over_within}
 use Rattle.cyc_plain.proofs.Placed.{below_of_get}
 
 -- Where the instruction is known, and what it does is within the limits, a step does that.
 pub step_performs : (program : Program) (pages calls : ℕ) (c : Configuration) (i : Instruction) (new : State)
     → instruction_at program (place_of (Running c)) ≡ Some i
-    → ((choice : Choice) → is_within pages calls (performed program choice c i) ≡ true)
+    → ((choice : Choice) → is_within pages (limit_of (Some i) calls) (performed program choice c i) ≡ true)
     → Step program pages calls (Running c) new
     → (choice : Choice) × IsAllowed program (Running c) choice × (new ≡ performed program choice c i)
 step_performs program pages calls c i new at within (choice, allowed, is) =
     let does : step program choice (Running c) ≡ performed program choice c i = ap (executed program choice c) at in
-    let keeps : is_within pages calls (step program choice (Running c)) ≡ true = ap (is_within pages calls) does ∙ within choice in
-    (choice, allowed, is ∙ limited-within pages calls (Running c) (step program choice (Running c)) keeps ∙ does)
+    let keeps : is_within pages (limit_of (Some i) calls) (step program choice (Running c)) ≡ true = ap (is_within pages (limit_of (Some i) calls)) does ∙ within choice in
+    let limit : limit_at program (Running c) calls ≡ limit_of (Some i) calls = ap (λ (o : Option Instruction). limit_of o calls) at in
+    (choice, allowed, is ∙ ap (λ (n : ℕ). limited pages n (Running c) (step program choice (Running c))) limit ∙ limited-within pages (limit_of (Some i) calls) (Running c) (step program choice (Running c)) keeps ∙ does)
 
 -- The same where the store is called: it serves the call by a choice that it allows, or there is no room.
 module _ (program : Program) (pages calls : ℕ) (c : Configuration) (request : Request) (new : State)
     (at : instruction_at program (place_of (Running c)) ≡ Some (instructions.Ask request)) (stepped : Step program pages calls (Running c) new) where
   abbrev call : Call
   call = call_in c.active.slots request
+
+  same_limit : (choice : Choice) → limited_step program pages calls choice (Running c) ≡ limited pages calls (Running c) (step program choice (Running c))
+  same_limit choice = ap (λ (o : Option Instruction). limited pages (limit_of o calls) (Running c) (step program choice (Running c))) at
 
   pub step_serves : refusal c.store (call_in c.active.slots request) ≡ None
       → ((choice : services.Choice) → IsServed c.store (call_in c.active.slots request) choice → is_within pages calls (Running (served_to choice c (destination_of request) (call_in c.active.slots request))) ≡ true)
@@ -47,7 +51,7 @@ module _ (program : Program) (pages calls : ℕ) (c : Configuration) (request : 
       let does : step program choice (Running c) ≡ Running (served_to choice.serving c (destination_of request) call) =
       ap (executed program choice c) at ∙ ap (asks choice.serving c (destination_of request) call) free in
       let keeps : is_within pages calls (step program choice (Running c)) ≡ true = ap (is_within pages calls) does ∙ within choice.serving serves in
-      (choice.serving, serves, stepped.2 ∙ limited-within pages calls (Running c) (step program choice (Running c)) keeps ∙ does)
+      (choice.serving, serves, stepped.2 ∙ same_limit choice ∙ limited-within pages calls (Running c) (step program choice (Running c)) keeps ∙ does)
 
   pub step_full : refusal c.store (call_in c.active.slots request) ≡ Some services.Full → new ≡ Ended Full c.output c.input
   step_full full =
@@ -55,7 +59,7 @@ module _ (program : Program) (pages calls : ℕ) (c : Configuration) (request : 
       let does : step program choice (Running c) ≡ Ended Full c.output c.input =
       ap (executed program choice c) at ∙ ap (asks choice.serving c (destination_of request) call) full in
       let keeps : is_within pages calls (step program choice (Running c)) ≡ true = ap (is_within pages calls) does ∙ over_within pages calls Full c.output c.input in
-      stepped.2 ∙ limited-within pages calls (Running c) (step program choice (Running c)) keeps ∙ does
+      stepped.2 ∙ same_limit choice ∙ limited-within pages calls (Running c) (step program choice (Running c)) keeps ∙ does
 
 -- an instruction stands in a function that there is
 pub function_known : (program : Program) (place : CodePlace) (i : Instruction) → instruction_at program place ≡ Some i → place.function < length program.functions

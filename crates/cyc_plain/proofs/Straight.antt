@@ -11,7 +11,7 @@ use Rattle.cyc_plain.specs.declared.instruction.BinaryOperator.TheVariants as bi
 use Rattle.cyc_plain.specs.declared.instruction.Operand.{Operand}
 use Rattle.cyc_plain.specs.inside.Program.{Program, CodePlace, routine_at}
 use Rattle.cyc_plain.specs.inside.State.{Frame, Configuration, State, Running}
-use Rattle.cyc_plain.specs.inside.Step.{Choice, performed, is_within, Step, machine}
+use Rattle.cyc_plain.specs.inside.Step.{Choice, performed, is_within, limit_of, Step, machine}
 use Rattle.cyc_plain.specs.inside.Straight.{At, HasAt, is_total, is_straight, AreStraight, configuration_or, executed_in, places_behind}
 use Rattle.cyc_plain.proofs.Steps.{step_performs}
 
@@ -116,12 +116,17 @@ module _ (program : Program) (pages calls : ℕ) (choice : Choice) where
   places_same c d count k =
       ap (λ f. places_behind f d.active.next count) k.function ∙ ap (λ n. places_behind c.active.function n count) k.next
 
+  -- it asks room for no call
+  no_more : (i : Instruction) → is_straight i ≡ true → limit_of (Some i) calls ≡ calls
+  no_more (instructions.Enter function) straight = absurd (let e : false ≡ true = straight in cc)
+  no_more i straight = refl
+
   -- a step leads to the configuration that the instruction says
   goes : (c : Configuration) (i : Instruction) (new : State) → is_straight i ≡ true → At (routine_at program c.active.function).code c.active.next i → IsWithin c
       → Step program pages calls (Running c) new → new ≡ Running (after c i)
   goes c i new straight at within step =
       let one = is_one program choice c i straight in
-      let (other, allowed, is) = step_performs program pages calls c i new at (λ x. ap (is_within pages calls) (one.gives x) ∙ same_limits c (after c i) one.keeps ∙ within) step in
+      let (other, allowed, is) = step_performs program pages calls c i new at (λ x. ap (λ (n : ℕ). is_within pages n (performed program x c i)) (no_more i straight) ∙ ap (is_within pages calls) (one.gives x) ∙ same_limits c (after c i) one.keeps ∙ within) step in
       is ∙ one.gives other
 
   -- Each run through straight code comes to the configuration that it says.

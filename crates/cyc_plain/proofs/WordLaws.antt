@@ -28,7 +28,7 @@ use Rattle.cyc_plain.specs.inside.Program.{Program, CodePlace, no_routine, routi
 use Rattle.cyc_plain.specs.declared.limits.TheConstants.{RECORD_WORDS}
 use Rattle.cyc_plain.specs.inside.State.{Words, AreWords, put, copied, Handler, Open, Caught, Activation, Frame, Configuration, State, Running, Ended, Stuck, place_of, HoldsWords}
 use Rattle.cyc_plain.specs.inside.Memory.{Range, OfGlobals, OfStore, OfSlots, range_of, global_at, slot_at, word_or, word_waiting, put_or, with_waiting, word_in, memory_at, with_global, with_slot, with_word}
-use Rattle.cyc_plain.specs.inside.Step.{Choice, IsAllowed, IsServed, MayServe, HasAnswerWords, gives, operand_word, returns, loads, saves, loads_byte, saves_byte, advanced, told, asks, is_intact, tries, closes, lands, throws, finishes, call_in, call_of, performed, executed, instruction_at, step, start, machine}
+use Rattle.cyc_plain.specs.inside.Step.{Choice, IsAllowed, IsServed, MayServe, HasAnswerWords, gives, operand_word, returns, loads, saves, loads_byte, saves_byte, advanced, told, asks, is_intact, tries, closes, lands, throws, finishes, call_in, call_of, performed, executed, instruction_at, step, limit_at, start, machine}
 use Rattle.cyc_plain.specs.inside.WellFormed.{IsOfWord, HasWord, HasWords}
 use Rattle.cyc_plain.proofs.RunLaws.{limited_either, if_either}
 use Rattle.cyc_plain.proofs.Placed.{holds_at}
@@ -268,6 +268,7 @@ module _ (program : Program) (choice : Choice) (allowed : AreWords choice.conten
       thrown (operand_word c.active.slots tag) (operand_word c.active.slots value) c.active c.frames (known tag first) (known value second) slots frames
   performs (instructions.Finish value) w serves = finished value (routine_at program c.active.function).results c.active.handlers
   performs (instructions.Uncaught tag value) w serves = tt
+  performs (instructions.Enter function) w serves = (slots, frames, globals, store, input)
 
   executes : (o : Option Instruction) → ((i : Instruction) → o ≡ Some i → HasWord i) → MayServe choice.serving (call_of c.active.slots o) (Running c) → HoldsWords (executed program choice c o)
   executes (Some i) w serves = performs i (w i refl) serves
@@ -284,7 +285,7 @@ pub words_stay : (program : Program) (pages calls n : ℕ) (old new : State) →
 words_stay program pages calls zero old new words holds run = subst HoldsWords (sym run) holds
 words_stay program pages calls (suc n) old new words holds (mid, (choice, allowed, is), rest) =
     let next : HoldsWords mid =
-    subst HoldsWords (sym is) (limited_either HoldsWords pages calls old (step program choice old) (λ within. words_step program choice old words allowed holds) tt) in
+    subst HoldsWords (sym is) (limited_either HoldsWords pages (limit_at program old calls) old (step program choice old) (λ within. words_step program choice old words allowed holds) tt) in
     words_stay program pages calls n mid new words next rest
 
 pub bytes_are_words : (input : List ℕ) → AllByRecursion (λ b. b < 256) input → AllByRecursion IsWord input

@@ -9,3 +9,4 @@ pub mod State
 pub mod Memory
 pub mod Step
 pub mod Straight
+pub mod Uniform

@@ -18,13 +18,14 @@ ghost use Rattle.cyc_words.specs.Simulation.{Run};
 ghost use Rattle.cyc_words.specs.Distinct.{IsDistinct};
 ghost use Rattle.cyc_words.specs.inside.Following.{Path};
 ghost use Rattle.cyc_words.specs.Simulation as simulation;
-ghost use Rattle.cyc_plain.specs.inside.State.{Words, Frame, Configuration, State, HoldsWords, put, copied, output_of, input_of, place_of, status_of};
+ghost use Rattle.cyc_plain.specs.inside.State.{Words, Frame, Configuration, State, HoldsWords, put, copied, depth, output_of, input_of, place_of, status_of};
 ghost use Rattle.cyc_plain.specs.inside.State as state;
 ghost use Rattle.cyc_plain.specs.inside.Memory.{slots_base, slots_end, IsBelow, LieBelow, is_pinned, memory_at};
 ghost use Rattle.cyc_plain.specs.declared.limits.TheConstants.{GLOBALS_BASE};
 ghost use Rattle.cyc_store.specs.declared.range.TheConstants.{STORE_BASE};
-ghost use Rattle.cyc_plain.specs.inside.Step.{Choice, IsServed, Step, asked, call_in, called, instruction_at, is_within, limited_step, machine, served_to, start, step};
+ghost use Rattle.cyc_plain.specs.inside.Step.{Choice, IsServed, Step, advanced, asked, call_in, called, instruction_at, is_within, limit_at, limit_of, limited_step, machine, performed, served_to, start, step};
 ghost use Rattle.cyc_plain.specs.inside.Straight.{HasAt, AreStraight, executed_in, places_behind};
+ghost use Rattle.cyc_plain.specs.inside.Uniform.{AsksNoRoom, UniformStep};
 ghost use Rattle.cyc_plain.specs.inside.WellFormed.{IsWellFormed, HasWords, DividesByZero, AsksForNoWord, AsksInVain, AsksForHandlers};
 
 /// A run that is over stays as it is.
@@ -55,16 +56,40 @@ pub fn steps_go_on()
 {}
 
 /// A run keeps its limits: a step that keeps them is the program's own, and one that does not ends the run with `Full`, with
-/// output and input as before it.
+/// output and input as before it. Where room is asked for a call the limit of that step is one call less.
 pub fn limits_are_kept()
     ensures starts { (program : Program) (pages calls base : ℕ) (store : StoreState) (input : List ℕ) → IsNew pages store → 1 ≤ pages → 1 ≤ calls
         → is_within pages calls (start program base store input) ≡ true }
     ensures stays { (program : Program) (pages calls count : ℕ) (old new : State) → is_within pages calls old ≡ true
         → Run (machine program pages calls) count old new → is_within pages calls new ≡ true }
-    ensures within { (program : Program) (pages calls : ℕ) (choice : Choice) (old : State) → is_within pages calls (step program choice old) ≡ true
+    ensures within { (program : Program) (pages calls : ℕ) (choice : Choice) (old : State) → is_within pages (limit_at program old calls) (step program choice old) ≡ true
         → limited_step program pages calls choice old ≡ step program choice old }
-    ensures full { (program : Program) (pages calls : ℕ) (choice : Choice) (old : State) → is_within pages calls (step program choice old) ≡ false
+    ensures full { (program : Program) (pages calls : ℕ) (choice : Choice) (old : State) → is_within pages (limit_at program old calls) (step program choice old) ≡ false
         → limited_step program pages calls choice old ≡ state.Ended Full (output_of old) (input_of old) }
+{}
+
+/// `Enter` goes on, and nothing else is done, where one call more may be under way, and ends the run where that may not be: just where
+/// a call of the function would.
+pub fn room_is_asked()
+    ensures room { (program : Program) (pages calls : ℕ) (c : Configuration) (function : ℕ) (new : State)
+        → instruction_at program (place_of (state.Running c)) ≡ Some (instructions.Enter function)
+        → is_within pages calls (state.Running c) ≡ true → depth (state.Running c) < calls
+        → Step program pages calls (state.Running c) new → new ≡ state.Running (advanced c) }
+    ensures full { (program : Program) (pages calls : ℕ) (c : Configuration) (function : ℕ) (new : State)
+        → instruction_at program (place_of (state.Running c)) ≡ Some (instructions.Enter function)
+        → calls ≤ depth (state.Running c) → Step program pages calls (state.Running c) new
+        → new ≡ state.Ended Full c.output c.input }
+    ensures called { (program : Program) (pages calls : ℕ) (choice other : Choice) (c : Configuration) (function arguments count result : ℕ)
+        → is_within pages (limit_of (Some (instructions.Enter function)) calls) (performed program choice c (instructions.Enter function))
+        ≡ is_within pages calls (performed program other c (instructions.Call function arguments count result)) }
+{}
+
+/// A program without `Enter` has just the steps that it has where the limits are the same at each instruction.
+pub fn room_is_not_asked()
+    ensures uniform { (program : Program) (pages calls : ℕ) (old new : State) → AsksNoRoom program
+        → Step program pages calls old new → UniformStep program pages calls old new }
+    ensures own { (program : Program) (pages calls : ℕ) (old new : State) → AsksNoRoom program
+        → UniformStep program pages calls old new → Step program pages calls old new }
 {}
 
 /// Where the store is called and does not refuse, it serves the call by a choice that it allows, and the run goes on

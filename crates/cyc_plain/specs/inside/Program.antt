@@ -68,7 +68,7 @@ instruction_size (instructions.Binary operator destination left right) = operato
 instruction_size (instructions.Jump target) = 2
 instruction_size (instructions.Branch comparison left right target) = 11
 instruction_size (instructions.Call function arguments count result) = 22 + 4 * count
-instruction_size (instructions.Return value) = 15
+instruction_size (instructions.Return value) = 36
 instruction_size (instructions.ReadByte destination) = 5
 instruction_size (instructions.WriteByte source) = 5
 instruction_size (instructions.AddressOf destination slot count) = 4
@@ -83,8 +83,9 @@ instruction_size (instructions.CountLexical destination) = 3
 instruction_size (instructions.Try first handler) = 20
 instruction_size (instructions.Leave first) = 5
 instruction_size (instructions.Throw tag value) = 24
-instruction_size (instructions.Finish value) = 15
+instruction_size (instructions.Finish value) = 36
 instruction_size (instructions.Uncaught tag value) = 7
+instruction_size (instructions.Enter function) = 6
 
 abbrev pub size : Routine → ℕ
 size r = sum_by instruction_size r.code

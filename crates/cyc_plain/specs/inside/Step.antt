@@ -242,6 +242,7 @@ performed program choice c (instructions.Finish value) =
     finishes c value (routine_at program c.active.function).results c.active.handlers
 performed program choice c (instructions.Uncaught tag value) =
     Ended (Uncaught tag (signed (operand_word c.active.slots value))) c.output c.input
+performed program choice c (instructions.Enter function) = Running (advanced c)
 
 -- the instruction to be executed
 abbrev pub instruction_at : Program → CodePlace → Option Instruction
@@ -275,19 +276,20 @@ abbrev pub MayServe : services.Choice → Option Call → State → Type 0
 MayServe serving (Some call) (Running c) = refusal c.store call ≡ None → IsServed c.store call serving
 MayServe serving call s = Unit {0}
 
--- the function that an instruction calls, if it calls one
+-- the function that an instruction calls, or asks room for a call of, if there is one
 abbrev pub callee_of : Option Instruction → Option ℕ
 callee_of (Some (instructions.Call function arguments count result)) = Some function
+callee_of (Some (instructions.Enter function)) = Some function
 callee_of (Some instruction) = None
 callee_of None = None
 
--- the function that the next step calls
+-- the function that the next step calls, or asks room for
 abbrev pub called : Program → State → Option ℕ
 called program (Running c) = callee_of (instruction_at program (place_of (Running c)))
 called program (Ended ending output input) = None
 called program (Stuck output input) = None
 
--- the slots of a new call lie below those of the call that makes it
+-- the slots of a new call lie below those of the call that makes it; where room is asked for a call, its slots could lie there
 abbrev pub MayLie : Program → (base : ℕ) → Option ℕ → State → Type 0
 MayLie program base (Some function) (Running c) = IsBelow program function base c.active.base
 MayLie program base callee s = Unit {0}
@@ -316,8 +318,21 @@ is_within pages calls s = nat_le (demand s) pages && nat_le (depth s) calls
 abbrev pub limited : (pages calls : ℕ) → (old new : State) → State
 limited pages calls old new = if is_within pages calls new then new else Ended Full (output_of old) (input_of old)
 
+-- How many calls may be under way behind an instruction: one less behind `Enter`, so that there is room for the call that
+-- it asks for and does not make.
+abbrev pub limit_of : Option Instruction → (calls : ℕ) → ℕ
+limit_of (Some (instructions.Enter function)) calls = calls - 1
+limit_of (Some instruction) calls = calls
+limit_of None calls = calls
+
+-- how many may be under way behind the next step
+abbrev pub limit_at : Program → State → (calls : ℕ) → ℕ
+limit_at program (Running c) calls = limit_of (instruction_at program (place_of (Running c))) calls
+limit_at program (Ended ending output input) calls = calls
+limit_at program (Stuck output input) calls = calls
+
 abbrev pub limited_step : Program → (pages calls : ℕ) → Choice → State → State
-limited_step program pages calls choice s = limited pages calls s (step program choice s)
+limited_step program pages calls choice s = limited pages (limit_at program s calls) s (step program choice s)
 
 -- from old, a program with these limits may step to new
 abbrev pub Step : Program → (pages calls : ℕ) → State → State → Type 0

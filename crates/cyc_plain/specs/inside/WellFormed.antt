@@ -95,6 +95,7 @@ IsInRange program r (instructions.Leave first) = HasSlots r first RECORD_WORDS
 IsInRange program r (instructions.Throw tag value) = IsOperand r tag × IsOperand r value
 IsInRange program r (instructions.Finish value) = HasSlots r value r.results
 IsInRange program r (instructions.Uncaught tag value) = IsOperand r value
+IsInRange program r (instructions.Enter function) = function < length program.functions
 
 -- after these the instruction behind them is never executed next
 abbrev pub leaves : Instruction → Bool

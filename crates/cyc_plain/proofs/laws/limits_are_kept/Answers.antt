@@ -1,5 +1,5 @@
 -- Limits.
-use Rattle.cyc_plain.specs.inside.Step.{step}
+use Rattle.cyc_plain.specs.inside.Step.{step, limit_at}
 use Rattle.cyc_plain.proofs.RunLaws.{starts_within, stays_within, limited-within, limited-full}
 use Rattle.cyc_plain.proofs.laws.limits_are_kept.Goals as goal
 
@@ -10,7 +10,7 @@ pub returns-clause-stays : goal.returns-clause-stays
 returns-clause-stays c = stays_within
 
 pub returns-clause-within : goal.returns-clause-within
-returns-clause-within c = λ program pages calls choice old within. limited-within pages calls old (step program choice old) within
+returns-clause-within c = λ program pages calls choice old within. limited-within pages (limit_at program old calls) old (step program choice old) within
 
 pub returns-clause-full : goal.returns-clause-full
-returns-clause-full c = λ program pages calls choice old within. limited-full pages calls old (step program choice old) within
+returns-clause-full c = λ program pages calls choice old within. limited-full pages (limit_at program old calls) old (step program choice old) within
