@@ -1,8 +1,8 @@
 -- Frames are frames, and what is refused is the first that is too large.
 use Rattle.std.proofs.Common.{◌≡◌, ℕ, zero, suc, ◌+◌, ◌<◌, ◌≤◌, Bool, false, List, [], ◌∷◌, ◌++◌, length, map, Some, None, Result, Ok, Err, refl, sym, ap, subst, ◌∙◌, arith, inl, inr}
-use Rattle.std.specs.Prelude.{if◌then◌else◌, slice_index_or, ◌⊎◌, Option}
-use Rattle.std.proofs.lemmas.Bool.{cases_lt, lt-ltb}
-use Rattle.std.proofs.lemmas.List.{length-append}
+use Rattle.std.specs.Prelude.{if◌then◌else◌, slice_index_or, slice_set, true, ◌⊎◌, Option}
+use Rattle.std.proofs.lemmas.Bool.{cases_eq, cases_lt, lt-ltb}
+use Rattle.std.proofs.lemmas.List.{length-append, length-set, get_or-set_same, get_or-set_other}
 use Rattle.cyc_frame.specs.inside.Frame.{Frame}
 use Rattle.cyc_words.specs.declared.fault.Fault.{Fault}
 use Rattle.cyc_words.specs.declared.fault.Code.TheVariants as faults
@@ -15,21 +15,27 @@ use Rattle.cyc_words.specs.Decision.{Decides}
 use Rattle.cyc_words.specs.Fault.{memory_fault}
 use Rattle.cyc_words.proofs.Decisions.{IsDecided, decides}
 use Rattle.cyc_registers.specs.declared.home.Home.{Home}
+use Rattle.cyc_registers.specs.declared.home.TheConstants.{MOST_SAVED}
 use Rattle.cyc_registers.specs.inside.Interference.{AreHomes}
 use Rattle.cyc_registers.specs.inside.Idle.{AreIdle}
 use Rattle.cyc_registers.specs.inside.Fills.{AreFillable}
-use Rattle.cyc_frame.specs.inside.Layout.{AreFirstFrames, AreFrames, HasSmallFrames, IsAccepted, IsFrame, IsTooLarge, first_too_large, frame_at, is_too_large, loses_any}
+use Rattle.cyc_frame.specs.inside.Layout.{AllReturn, AreFirstFrames, AreFrames, AreRaised, HasSmallFrames, IsAccepted, IsFrame, IsTooLarge, first_too_large, frame_at, is_too_large, loses_any, opens_any, returns_any}
 
-pub is_frame : (r : Routine) (saves : Bool) (homes : List Home) (idle fills : List Bool) → saves ≡ loses_any r.code → r.slots + LAYOUT_WORDS ≤ r.frame_count → r.frame_count ≤ MOST_FRAME_WORDS
-    → IsFrame r (record { return_address = 0; saves = saves; first_slot = LAYOUT_WORDS; homes = homes; idle = idle; fills = fills })
-is_frame r saves homes idle fills saved fits small = record {
+pub is_frame : (r : Routine) (saves : Bool) (saved : ℕ) (homes : List Home) (idle fills : List Bool) → saves ≡ loses_any r.code → saved ≤ MOST_SAVED → (0 < saved → returns_any r.code ≡ true) → r.slots + LAYOUT_WORDS ≤ r.frame_count → r.frame_count ≤ MOST_FRAME_WORDS
+    → IsFrame r (record { return_address = 0; saves = saves; first_saved = 1; saved = saved; first_slot = LAYOUT_WORDS; homes = homes; idle = idle; fills = fills })
+is_frame r saves saved homes idle fills loses few returns fits small = record {
   apart = λ a b a_below b_below same. omega (arith, same);
   inside = λ slot below. omega (arith, below, fits);
   first_inside = omega (arith, fits);
   beside = λ slot below same. absurd (omega (arith, same));
   return_inside = omega (arith, fits);
   small = small;
-  saved = saved;
+  saved = loses;
+  saved_inside = λ j below. omega (arith, below, fits);
+  saved_beside = λ slot j slot_below below same. absurd (omega (arith, same, below));
+  saved_apart = λ j below same. absurd (omega (arith, same));
+  most_saved = few;
+  returning = returns;
 }
 
 -- ---- the first that is too large
@@ -132,22 +138,30 @@ frame_last : (frames : List Frame) (frame : Frame) → frame_at (frames ++ frame
 frame_last [] frame = refl
 frame_last (f ∷ frames) frame = frame_last frames frame
 
-pub no_frames : (program : Program) → AreFirstFrames program 0 []
-no_frames program = record {
+-- a frame that is there, whatever stands for one that is not
+pub frame_there : (frames : List Frame) (k : ℕ) (other : Frame) → k < length frames → slice_index_or frames k other ≡ frame_at frames k
+frame_there [] k other below = absurd (omega arith)
+frame_there (f ∷ frames) zero other below = refl
+frame_there (f ∷ frames) (suc k) other below = frame_there frames k other (omega arith)
+
+pub no_frames : (program : Program) (most : ℕ) → AreFirstFrames program 0 most []
+no_frames program most = record {
   as_many = refl;
   each = λ k below. absurd (omega arith);
   homes = λ k below. absurd (omega arith);
+  within = λ k below. absurd (omega arith);
   idle = λ k below. absurd (omega arith);
   fills = λ k below. absurd (omega arith);
 }
 
 -- a frame more
-pub more_frames : (program : Program) (count : ℕ) (frames : List Frame) (frame : Frame) (r : Routine) → AreFirstFrames program count frames
-    → r ≡ routine_at program count → IsFrame r frame → AreHomes program r frame.homes → AreIdle program r frame.homes frame.idle → AreFillable program r frame.homes frame.fills → AreFirstFrames program (count + 1) (frames ++ frame ∷ [])
-more_frames program count frames frame r are is framed homes idle fills = record {
+pub more_frames : (program : Program) (count before most : ℕ) (frames : List Frame) (frame : Frame) (r : Routine) → AreFirstFrames program count before frames → before ≤ most → frame.saved ≤ most
+    → r ≡ routine_at program count → IsFrame r frame → AreHomes program r frame.saved frame.homes → AreIdle program r frame.homes frame.idle → AreFillable program r frame.homes frame.fills → AreFirstFrames program (count + 1) most (frames ++ frame ∷ [])
+more_frames program count before most frames frame r are rises saved is framed homes idle fills = record {
   as_many = omega (arith, length-append frames (frame ∷ []), are.as_many);
   each = λ k below. of (λ (k : ℕ) (f : Frame). IsFrame (routine_at program k) f) are.each (subst (λ (r : Routine). IsFrame r frame) is framed) k below;
-  homes = λ k below. of (λ (k : ℕ) (f : Frame). AreHomes program (routine_at program k) f.homes) are.homes (subst (λ (r : Routine). AreHomes program r frame.homes) is homes) k below;
+  homes = λ k below. of (λ (k : ℕ) (f : Frame). AreHomes program (routine_at program k) f.saved f.homes) are.homes (subst (λ (r : Routine). AreHomes program r frame.saved frame.homes) is homes) k below;
+  within = λ k below. of (λ (k : ℕ) (f : Frame). f.saved ≤ most) (λ j first. (let few = are.within j first in omega (arith, few, rises))) saved k below;
   idle = λ k below. of (λ (k : ℕ) (f : Frame). AreIdle program (routine_at program k) f.homes f.idle) are.idle (subst (λ (r : Routine). AreIdle program r frame.homes frame.idle) is idle) k below;
   fills = λ k below. of (λ (k : ℕ) (f : Frame). AreFillable program (routine_at program k) f.homes f.fills) are.fills (subst (λ (r : Routine). AreFillable program r frame.homes frame.fills) is fills) k below;
 }
@@ -161,6 +175,102 @@ more_frames program count frames frame r are is framed homes idle fills = record
           subst (λ (j : ℕ). P j (frame_at (frames ++ frame ∷ []) j)) (sym same)
           (subst (P (length frames)) (sym (frame_last frames frame)) (subst (λ (j : ℕ). P j frame) (sym are.as_many) last))
     ]
+
+-- ---- frames that are raised
+
+-- where there is none
+abbrev no_frame : Frame
+no_frame = record { return_address = 0; saves = false; first_saved = 0; saved = 0; first_slot = 0; homes = []; idle = []; fills = [] }
+
+-- a frame that saves more registers, as many as these
+module _ (program : Program) (most : ℕ) (few : most ≤ MOST_SAVED) where
+  more_homes : (r : Routine) (saved : ℕ) (homes : List Home) → saved ≤ most → AreHomes program r saved homes → AreHomes program r most homes
+  more_homes r saved homes fewer are = record {
+    as_many = are.as_many;
+    low = are.low;
+    high = are.high;
+    saved_registers = λ slot k has from. (let below = are.saved_registers slot k has from in omega (arith, below, fewer));
+    low_parameters = are.low_parameters;
+    few = are.few;
+    apart = are.apart;
+    made = are.made;
+    moved = are.moved;
+    alone = are.alone;
+    entry = are.entry;
+    parameters = are.parameters;
+    behind = are.behind;
+    clause = are.clause;
+    barred = are.barred;
+  }
+
+  more_saved : (r : Routine) (frame : Frame) → (0 < most → returns_any r.code ≡ true) → IsFrame r frame → IsFrame r (record frame { saved = most })
+  more_saved r frame returns is = record {
+    apart = is.apart;
+    inside = is.inside;
+    first_inside = is.first_inside;
+    beside = is.beside;
+    return_inside = is.return_inside;
+    small = is.small;
+    saved = is.saved;
+    saved_inside = is.saved_inside;
+    saved_beside = is.saved_beside;
+    saved_apart = is.saved_apart;
+    most_saved = few;
+    returning = returns;
+  }
+
+  -- the frame of this function is raised
+  module _ (all : 0 < most → AllReturn program) (frames : List Frame) (are : AreFirstFrames program (length program.functions) most frames) where
+    abbrev raising : (n : ℕ) → List Frame
+    raising n = slice_set frames n (record (frame_at frames n) { saved = most })
+
+    at_raised : (n k : ℕ) → n < length frames → k ≡ n → frame_at (raising n) k ≡ record (frame_at frames n) { saved = most }
+    at_raised n k below same = ap (frame_at (raising n)) same ∙ get_or-set_same frames n (record (frame_at frames n) { saved = most }) no_frame below
+
+    -- what holds of each frame, and of that one when it is raised
+    still : (P : ℕ → Frame → Type 0) (n : ℕ) → n < length program.functions → ((k : ℕ) → k < length program.functions → P k (frame_at frames k)) → P n (record (frame_at frames n) { saved = most })
+        → (k : ℕ) → k < length program.functions → P k (frame_at (raising n) k)
+    still P n known each one k below = elim (cases_eq k n) [
+      | inl same ↦
+          subst (P k) (sym (at_raised n k (omega (arith, known, are.as_many)) same))
+          (subst (λ (j : ℕ). P j (record (frame_at frames n) { saved = most })) (sym same) one)
+      | inr other ↦ subst (P k) (sym (get_or-set_other frames n k (record (frame_at frames n) { saved = most }) no_frame other)) (each k below)
+    ]
+
+    pub raised_first : (n : ℕ) → n < length program.functions → AreFirstFrames program (length program.functions) most (raising n)
+    raised_first n known = record {
+      as_many = length-set frames n (record (frame_at frames n) { saved = most }) ∙ are.as_many;
+      each = still (λ (k : ℕ) (f : Frame). IsFrame (routine_at program k) f) n known are.each (more_saved (routine_at program n) (frame_at frames n) (λ some. all some n known) (are.each n known));
+      homes = still (λ (k : ℕ) (f : Frame). AreHomes program (routine_at program k) f.saved f.homes) n known are.homes (more_homes (routine_at program n) (frame_at frames n).saved (frame_at frames n).homes (are.within n known) (are.homes n known));
+      within = still (λ (k : ℕ) (f : Frame). f.saved ≤ most) n known are.within (omega arith);
+      idle = still (λ (k : ℕ) (f : Frame). AreIdle program (routine_at program k) f.homes f.idle) n known are.idle (are.idle n known);
+      fills = still (λ (k : ℕ) (f : Frame). AreFillable program (routine_at program k) f.homes f.fills) n known are.fills (are.fills n known);
+    }
+
+    pub raised_more : (n : ℕ) → n < length program.functions → AreRaised program n most frames → AreRaised program (n + 1) most (raising n)
+    raised_more n known so_far k below opens = elim (cases_eq k n) [
+      | inl same ↦ omega (arith, ap (λ (f : Frame). f.saved) (at_raised n k (omega (arith, known, are.as_many)) same))
+      | inr other ↦
+          let before : most ≤ (frame_at frames k).saved = so_far k (omega (arith, below, other)) opens in
+          omega (arith, before, ap (λ (f : Frame). f.saved) (get_or-set_other frames n k (record (frame_at frames n) { saved = most }) no_frame other))
+    ]
+
+    -- one that opens no handlers is as it was
+    pub raised_past : (n : ℕ) → opens_any (routine_at program n).code ≡ false → AreRaised program n most frames → AreRaised program (n + 1) most frames
+    raised_past n none so_far k below opens = elim (cases_eq k n) [
+      | inl same ↦ absurd (let e : false ≡ true = sym none ∙ (sym (ap (λ (j : ℕ). opens_any (routine_at program j).code) same) ∙ opens) in cc)
+      | inr other ↦ so_far k (omega (arith, below, other)) opens
+    ]
+
+    pub all_raised : AreRaised program (length program.functions) most frames → AreFrames program frames
+    all_raised so_far = record {
+      as_many = are.as_many;
+      each = are.each;
+      homes = are.homes;
+      opening = λ k g known its_known opens. (let most_of = so_far k known opens in let within = are.within g its_known in omega (arith, most_of, within));
+      idle = are.idle;
+      fills = are.fills;
+    }
 
 -- ---- answers
 
@@ -189,8 +299,8 @@ module _ (program : Program) (functions : List Function) (are : map routine_of f
   pub small_frames : first_too_large (map routine_of functions) ≡ None → HasSmallFrames program
   small_frames none = none_large program (ap first_too_large (sym are) ∙ none)
 
-  pub framed : (frames : List Frame) → AreFirstFrames program (length program.functions) frames
+  pub framed : (frames : List Frame) → AreFrames program frames
       → first_too_large (map routine_of functions) ≡ None → Answers program (Ok frames)
   framed frames made none =
       decides (IsAccepted program) AreFrames (IsTooLarge program) (IsTooLarge program) (layout_is_decided program) (Ok frames)
-      (program, (refl, small_frames none), record { as_many = made.as_many; each = made.each; homes = made.homes; idle = made.idle; fills = made.fills }) tt
+      (program, (refl, small_frames none), made) tt

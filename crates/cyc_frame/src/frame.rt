@@ -15,6 +15,10 @@ pub struct Frame {
     pub return_address: usize,
     /// Whether the function keeps its way back there from its beginning on. Elsewhere it never loses the register.
     pub saves: bool,
+    /// The word of the first of the registers that calls preserve, where the function saves it. The others follow it in order.
+    pub first_saved: usize,
+    /// How many of them it saves.
+    pub saved: usize,
     /// The word of the function's slot 0. The other slots follow it in order.
     pub first_slot: usize,
     /// The home of each slot, by its number.
@@ -33,6 +37,8 @@ impl Model for Frame {
     ghost view = { λ a. record {
       return_address = a.return_address;
       saves = a.saves;
+      first_saved = a.first_saved;
+      saved = a.saved;
       first_slot = a.first_slot;
       homes = a.homes.items;
       idle = a.idle.items;

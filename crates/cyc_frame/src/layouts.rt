@@ -1,17 +1,17 @@
 //! The layout of a program's frames.
 
-ghost use Rattle.std.specs.Prelude.{◌≡◌, ◌+◌, ◌≤◌, length, map, IfOk};
+ghost use Rattle.std.specs.Prelude.{◌≡◌, ◌+◌, ◌<◌, ◌≤◌, ◌⊎◌, true, length, map, IfOk};
 ghost use Rattle.cyc_words.specs.Decision.{Decides};
 ghost use Rattle.cyc_plain.specs.inside.Program.{routine_of};
 ghost use Rattle.cyc_registers.specs.inside.Interference.{AreHomes};
 ghost use Rattle.cyc_registers.specs.inside.Fills.{AreFillable};
 ghost use Rattle.cyc_registers.specs.inside.Idle.{AreIdle};
-ghost use Rattle.cyc_frame.specs.inside.Layout.{AreFirstFrames, AreFrames, HasSmallFrames, IsAccepted, IsFrame, IsTooLarge, first_too_large, loses, loses_any};
+ghost use Rattle.cyc_frame.specs.inside.Layout.{AllReturn, AreFirstFrames, AreFrames, HasSmallFrames, IsAccepted, IsFrame, IsTooLarge, first_too_large, loses, loses_any, opens, opens_any, returns, returns_any};
 
 use crate::frame::Frame;
 use crate::frames::Frames;
 use cyc_plain::{Function, Instruction, LAYOUT_WORDS, MOST_FRAME_WORDS, Plain};
-use cyc_registers::allocate;
+use cyc_registers::{MOST_SAVED, allocate};
 use cyc_words::{Code, Fault, Span};
 use std::alloc::{AllocError, Global};
 
@@ -49,21 +49,85 @@ fn loses_any(code: &[Instruction]) -> bool
     false
 }
 
-/// The frame of a function: the words that are kept for the layout, of which the first is for the return address, and
-/// then the slots in order.
+/// Whether an instruction is a return, whose code has room for the lines that save and restore registers.
+fn returns(instruction: Instruction) -> bool
+    ensures { result ≡ returns instruction }
+{
+    matches!(
+        instruction,
+        Instruction::Return { .. } | Instruction::Finish { .. }
+    )
+}
+
+/// Whether code has such an instruction.
+fn returns_any(code: &[Instruction]) -> bool
+    ensures { result ≡ returns_any code.now }
+{
+    for instruction in code {
+        if returns(*instruction) {
+            return true;
+        }
+    }
+    false
+}
+
+/// Whether each function returns.
+fn all_return(plain: &Plain) -> bool
+    ensures { result ≡ true → AllReturn plain.now }
+{
+    let functions = plain.functions();
+    for number in 0..functions.len() {
+        if !returns_any(&plain.function(number).code) {
+            return false;
+        }
+    }
+    true
+}
+
+/// Whether an instruction opens a handler.
+fn opens(instruction: Instruction) -> bool
+    ensures { result ≡ opens instruction }
+{
+    matches!(instruction, Instruction::Try { .. })
+}
+
+/// Whether code has such an instruction.
+fn opens_any(code: &[Instruction]) -> bool
+    ensures { result ≡ opens_any code.now }
+{
+    for instruction in code {
+        if opens(*instruction) {
+            return true;
+        }
+    }
+    false
+}
+
+/// The frame of a function, which may save so many registers: the words that are kept for the layout, of which the first is for the
+/// return address and the others for those registers, and then the slots in order.
 #[tactic(auto, using(crate::proofs::Sound::is_frame))]
-fn frame_of(alloc: Global, plain: &Plain, function: &Function) -> Result<Frame, AllocError>
+fn frame_of(
+    alloc: Global,
+    plain: &Plain,
+    function: &Function,
+    most: usize,
+) -> Result<Frame, AllocError>
     requires fits { function.now.slots + LAYOUT_WORDS ≤ function.now.frame_count }
     requires small { function.now.frame_count ≤ MOST_FRAME_WORDS }
+    requires most { most ≤ MOST_SAVED }
+    requires returns { 0 < most → returns_any function.now.code.items ≡ true }
     ensures frame { IfOk result (λ frame. IsFrame (routine_of function.now) frame) }
-    ensures homes { IfOk result (λ frame. AreHomes plain.now (routine_of function.now) frame.homes) }
+    ensures homes { IfOk result (λ frame. AreHomes plain.now (routine_of function.now) frame.saved frame.homes) }
+    ensures saved { IfOk result (λ frame. frame.saved ≤ most) }
     ensures idle { IfOk result (λ frame. AreIdle plain.now (routine_of function.now) frame.homes frame.idle) }
     ensures fills { IfOk result (λ frame. AreFillable plain.now (routine_of function.now) frame.homes frame.fills) }
 {
-    let given = allocate(alloc, plain, function)?;
+    let given = allocate(alloc, plain, function, most)?;
     Ok(Frame {
         return_address: 0,
         saves: loses_any(&function.code),
+        first_saved: 1,
+        saved: given.saved,
         first_slot: LAYOUT_WORDS,
         homes: given.homes,
         idle: given.idle,
@@ -71,16 +135,47 @@ fn frame_of(alloc: Global, plain: &Plain, function: &Function) -> Result<Frame, 
     })
 }
 
+/// This number, or that of the registers that a frame saves, where it is greater.
+fn greatest(most: usize, frame: &Frame) -> usize
+    ensures rises { most ≤ result }
+    ensures covers { frame.now.saved ≤ result }
+    ensures either { (result ≡ most) ⊎ (result ≡ frame.now.saved) }
+{
+    if most < frame.saved {
+        frame.saved
+    } else {
+        most
+    }
+}
+
+/// An exception leaves calls that restore nothing: a function that opens handlers saves as many registers as any function does.
+fn raise(plain: &Plain, most: usize, frames: &mut Vec<Frame>)
+    requires first { AreFirstFrames plain.now (length plain.now.functions) most frames.old.items }
+    requires most { most ≤ MOST_SAVED }
+    requires returns { 0 < most → AllReturn plain.now }
+    ensures { AreFrames plain.now frames.new.items }
+{
+    for number in 0..frames.len() {
+        if opens_any(&plain.function(number).code) {
+            frames[number].saved = most;
+        }
+    }
+}
+
 fn frames_of(alloc: Global, plain: &Plain) -> Result<Vec<Frame>, AllocError>
     requires { HasSmallFrames plain.now }
-    ensures { IfOk result (λ frames. AreFirstFrames plain.now (length plain.now.functions) frames.items) }
+    ensures { IfOk result (λ frames. AreFrames plain.now frames.items) }
 {
     let functions = plain.functions();
+    let may_save = if all_return(plain) { MOST_SAVED } else { 0 };
     let mut frames = Vec::new(alloc);
+    let mut most = 0;
     for number in 0..functions.len() {
-        let frame = frame_of(alloc, plain, plain.function(number))?;
+        let frame = frame_of(alloc, plain, plain.function(number), may_save)?;
+        most = greatest(most, &frame);
         frames.push(frame)?;
     }
+    raise(plain, most, &mut frames);
     Ok(frames)
 }
 

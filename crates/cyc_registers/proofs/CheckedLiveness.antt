@@ -15,7 +15,7 @@ use Rattle.cyc_plain.specs.inside.Program.{Routine, Program, routine_at}
 use Rattle.cyc_plain.specs.inside.Uses.{At, is_slot, is_among, request_reads, request_writes, reads, writes, leads}
 use Rattle.cyc_registers.specs.declared.liveness.TheConstants.{MOST_CHOSEN}
 use Rattle.cyc_registers.specs.inside.Masks.{mask_at, HasBit, AreMasks, operand_mask, range_mask, request_read_mask, read_mask, request_write_mask, write_mask, bar_mask}
-use Rattle.cyc_registers.specs.inside.LivenessTable.{behind_mask, unwritten_mask, needed_mask, kept_mask, is_within, is_sound_at, IsSound}
+use Rattle.cyc_registers.specs.inside.LivenessTable.{behind_mask, unwritten_mask, needed_mask, call_mask, clause_mask, is_within, is_sound_at, IsSound}
 use Rattle.cyc_registers.proofs.Bits.{bit_left, bit_right, bit_both, bit_within, unwritten, among_bit, other_bit, not_among_bit}
 use Rattle.cyc_registers.specs.inside.Bars.{is_crossing, bars}
 use Rattle.cyc_registers.specs.inside.Liveness.{IsLiveWithin, IsLiveAt}
@@ -140,20 +140,24 @@ module _ (masks : List ℕ) (slot j : ℕ) (has : HasBit masks slot j) where
 
 -- ---- a table that was checked
 
-module _ (program : Program) (r : Routine) (masks live : List ℕ) (kept barred : ℕ) (sound : IsSound program r masks live kept barred) where
+module _ (program : Program) (r : Routine) (masks live : List ℕ) (calls clauses barred : ℕ) (sound : IsSound program r masks live calls clauses barred) where
   -- what the check says of one instruction
   checked : (index : ℕ) (i : Instruction) → At r index i
       → (bit_or (needed_mask program r.results masks i index live) (mask_at live index) ≡ mask_at live index)
-      × (bit_or (kept_mask program masks i index live) kept ≡ kept) × (bit_or (bar_mask masks i) barred ≡ barred)
+      × (bit_or (call_mask program masks i index live) calls ≡ calls) × (bit_or (clause_mask i live) clauses ≡ clauses) × (bit_or (bar_mask masks i) barred ≡ barred)
   unfolding is_sound_at
   checked index i at =
       let needed = needed_mask program r.results masks i index live in
-      let saved = kept_mask program masks i index live in
-      let first = and_parts (is_within needed (mask_at live index)) (is_within saved kept && is_within (bar_mask masks i) barred) (sound index i at) in
-      let second = and_parts (is_within saved kept) (is_within (bar_mask masks i) barred) first.1 in (
+      let behind = call_mask program masks i index live in
+      let in_clause = clause_mask i live in
+      let last : Bool = is_within in_clause clauses && is_within (bar_mask masks i) barred in
+      let first = and_parts (is_within needed (mask_at live index)) (is_within behind calls && last) (sound index i at) in
+      let second = and_parts (is_within behind calls) last first.1 in
+      let third = and_parts (is_within in_clause clauses) (is_within (bar_mask masks i) barred) second.1 in (
         eqb-true (bit_or needed (mask_at live index)) (mask_at live index) first.0,
-        eqb-true (bit_or saved kept) kept second.0,
-        eqb-true (bit_or (bar_mask masks i) barred) barred second.1,
+        eqb-true (bit_or behind calls) calls second.0,
+        eqb-true (bit_or in_clause clauses) clauses third.0,
+        eqb-true (bit_or (bar_mask masks i) barred) barred third.1,
       )
 
   module _ (slot j : ℕ) (are : AreMasks masks MOST_CHOSEN) (has : HasBit masks slot j) where
@@ -177,20 +181,18 @@ module _ (program : Program) (r : Routine) (masks live : List ℕ) (kept barred 
     pub live_bit : (index : ℕ) → IsLiveAt program r slot index → bit_at (mask_at live index) j ≡ 1
     live_bit index (steps, wanted) = live_within steps index wanted
 
-    kept_bit : (index : ℕ) (i : Instruction) → At r index i → bit_at (kept_mask program masks i index live) j ≡ 1 → bit_at kept j ≡ 1
-    kept_bit index i at is = bit_within (kept_mask program masks i index live) kept j (checked index i at).1 is
-
     pub behind_bit : (index function arguments count result : ℕ) → At r index (instructions.Call function arguments count result)
-        → writes program (instructions.Call function arguments count result) slot ≡ false → IsLiveAt program r slot (suc index) → bit_at kept j ≡ 1
+        → writes program (instructions.Call function arguments count result) slot ≡ false → IsLiveAt program r slot (suc index) → bit_at calls j ≡ 1
     behind_bit index function arguments count result at other wanted =
         let i : Instruction = instructions.Call function arguments count result in
-        kept_bit index i at
+        bit_within (call_mask program masks i index live) calls j (checked index i at).1
         (bit_both (mask_at live (index + 1)) (unwritten_mask program masks i) j
         (subst (λ (n : ℕ). bit_at (mask_at live n) j ≡ 1) (let e : suc index ≡ index + 1 = omega arith in e) (live_bit (suc index) wanted))
         (others_bit i other))
 
-    pub clause_bit : (index first handler : ℕ) → At r index (instructions.Try first handler) → IsLiveAt program r slot handler → bit_at kept j ≡ 1
-    clause_bit index first handler at wanted = kept_bit index (instructions.Try first handler) at (live_bit handler wanted)
+    pub clause_bit : (index first handler : ℕ) → At r index (instructions.Try first handler) → IsLiveAt program r slot handler → bit_at clauses j ≡ 1
+    clause_bit index first handler at wanted =
+        bit_within (clause_mask (instructions.Try first handler) live) clauses j (checked index (instructions.Try first handler) at).2 (live_bit handler wanted)
 
     pub barred_bit : (index : ℕ) (i : Instruction) → At r index i → bars i slot ≡ true → bit_at barred j ≡ 1
-    barred_bit index i at is = bit_within (bar_mask masks i) barred j (checked index i at).2 (bar_bit masks slot j has i is)
+    barred_bit index i at is = bit_within (bar_mask masks i) barred j (checked index i at).3 (bar_bit masks slot j has i is)

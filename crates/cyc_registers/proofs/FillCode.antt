@@ -97,7 +97,7 @@ is_false : (b : Bool) → not b ≡ true → b ≡ false
 is_false true is = absurd (false≢true is)
 is_false false is = refl
 
-module _ (program : Program) (r : Routine) (masks live : List ℕ) (kept barred : ℕ) (sound : IsSound program r masks live kept barred)
+module _ (program : Program) (r : Routine) (masks live : List ℕ) (calls clauses barred : ℕ) (sound : IsSound program r masks live calls clauses barred)
     (are : AreMasks masks MOST_CHOSEN) (hs : List Home) (own : HaveOwnRegisters hs) where
   -- a slot of a register that is not live, or has none
   free : (index slot a k : ℕ) → is_free masks live hs index slot ≡ true → HasRegister hs slot k → HasRegister hs a k → IsLiveAt program r a (suc index) → ⊥
@@ -113,7 +113,7 @@ module _ (program : Program) (r : Routine) (masks live : List ℕ) (kept barred 
             subst (λ (n : ℕ). IsLiveAt program r slot n) (let e : suc index ≡ index + 1 = omega arith in e) (subst (λ (n : ℕ). IsLiveAt program r n (suc index)) same wanted) in
             apart_bits (mask_at live (index + 1)) (mask_at masks slot) j
             (eqb-true (bit_and (mask_at live (index + 1)) (mask_at masks slot)) 0 parts.1) bit
-            (live_bit program r masks live kept barred sound slot j are bit (index + 1) live_slot)
+            (live_bit program r masks live calls clauses barred sound slot j are bit (index + 1) live_slot)
       ]
 
   free_at : (destination index d a k : ℕ) → is_free masks live hs index destination ≡ true → (destination == d) ≡ true → HasRegister hs d k → HasRegister hs a k → IsLiveAt program r a (suc index) → ⊥

@@ -38,7 +38,7 @@ never_holds_right : (comparison : Comparison) (left right : Operand) → never_h
 never_holds_right comparisons.NotEqual (operands.Word left) (operands.Word right) is = not_from_true (left == right) is
 never_holds_right comparison left right is = absurd (false≢true is)
 
-module _ (program : Program) (r : Routine) (masks live : List ℕ) (kept barred : ℕ) (sound : IsSound program r masks live kept barred)
+module _ (program : Program) (r : Routine) (masks live : List ℕ) (calls clauses barred : ℕ) (sound : IsSound program r masks live calls clauses barred)
     (are : AreMasks masks MOST_CHOSEN) (hs : List Home) (index : ℕ) where
   unused : (slot : ℕ) → is_unused masks live hs index slot ≡ true → IsUnused program r hs index slot
   unused slot is =
@@ -51,7 +51,7 @@ module _ (program : Program) (r : Routine) (masks live : List ℕ) (kept barred 
         λ wanted.
             apart_bits (mask_at live (index + 1)) (mask_at masks slot) j
             (eqb-true (bit_and (mask_at live (index + 1)) (mask_at masks slot)) 0 second.0) has
-            (live_bit program r masks live kept barred sound slot j are has (index + 1)
+            (live_bit program r masks live calls clauses barred sound slot j are has (index + 1)
             (subst (IsLiveAt program r slot) (let e : suc index ≡ index + 1 = omega arith in e) wanted)),
       )
 

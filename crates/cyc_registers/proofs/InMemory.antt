@@ -4,7 +4,7 @@ use Rattle.std.specs.Prelude.{sum_by, replicate}
 use Rattle.std.proofs.lemmas.List.{length-replicate}
 use Rattle.cyc_plain.specs.inside.Program.{Routine, Program}
 use Rattle.cyc_registers.specs.declared.home.Home.TheVariants as homes
-use Rattle.cyc_registers.specs.inside.Interference.{AreHomes, HasRegister, register_of, is_kept, home_of, both_count}
+use Rattle.cyc_registers.specs.inside.Interference.{AreHomes, HasRegister, register_of, is_kept, outlives, home_of, both_count}
 
 in_memory : (n slot : ℕ) → home_of (replicate n homes.Memory) slot ≡ homes.Memory
 in_memory zero slot = refl
@@ -18,11 +18,13 @@ none_both (suc n) = none_both n
 no_register : (n slot k : ℕ) → HasRegister (replicate n homes.Memory) slot k → ⊥
 no_register n slot k has = let e : None ≡ Some k = sym (ap register_of (in_memory n slot)) ∙ has in cc
 
-pub memory_homes : (program : Program) (r : Routine) → AreHomes program r (replicate r.slots homes.Memory)
+pub memory_homes : (program : Program) (r : Routine) → AreHomes program r 0 (replicate r.slots homes.Memory)
 memory_homes program r = record {
   as_many = length-replicate r.slots homes.Memory;
   low = λ slot k has. absurd (no_register r.slots slot k has);
   high = λ slot k has. absurd (no_register r.slots slot k has);
+  saved_registers = λ slot k has from. absurd (no_register r.slots slot k has);
+  low_parameters = λ slot k has below. absurd (no_register r.slots slot k has);
   few = omega (arith, none_both r.slots);
   apart = λ index a c k has_a has_c wanted_a wanted_c. absurd (no_register r.slots a k has_a);
   made = λ index next a d k i at written led has_d has_a wanted. absurd (no_register r.slots a k has_a);
@@ -30,7 +32,7 @@ memory_homes program r = record {
   alone = λ a c k both has_c. absurd (no_register r.slots c k has_c);
   entry = λ a k has wanted. absurd (no_register r.slots a k has);
   parameters = λ a c k has_a has_c below wanted. absurd (no_register r.slots a k has_a);
-  behind = λ index function arguments count result a at other wanted. ap is_kept (in_memory r.slots a);
+  behind = λ index function arguments count result a at other wanted. ap outlives (in_memory r.slots a);
   clause = λ index first handler a at wanted. ap is_kept (in_memory r.slots a);
   barred = λ index a i at barred. ap register_of (in_memory r.slots a);
 }

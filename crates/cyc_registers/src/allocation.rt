@@ -1,5 +1,5 @@
 //! Register allocation: spill costs and liveness, and by these the assignment of registers, and what is idle then.
-ghost use Rattle.std.specs.Prelude.{IfOk};
+ghost use Rattle.std.specs.Prelude.{◌≤◌, IfOk};
 ghost use Rattle.cyc_plain.specs.inside.Program.{routine_of};
 ghost use Rattle.cyc_registers.specs.inside.Interference.{AreHomes};
 ghost use Rattle.cyc_registers.specs.inside.Idle.{AreIdle};
@@ -7,7 +7,7 @@ ghost use Rattle.cyc_registers.specs.inside.Fills.{AreFillable};
 
 use crate::assignment::{homes_in, in_memory, masks_of};
 use crate::fills::fills_of;
-use crate::home::Home;
+use crate::home::{Home, MOST_SAVED};
 use crate::idle::idle_places;
 use crate::liveness::{is_sound, liveness_of};
 use crate::spill_costs::spill_costs_of;
@@ -19,6 +19,8 @@ use std::alloc::{AllocError, Global};
 pub struct Allocation {
     /// The home of each slot.
     pub homes: Vec<Home>,
+    /// How many of the registers that calls preserve slots have: the first of them.
+    pub saved: usize,
     /// Whether each place of the code is idle. Those behind the last are not.
     pub idle: Vec<bool>,
     /// Whether what each place makes may be made in front of the branches that lead there, and fill their slots. What those
@@ -27,10 +29,17 @@ pub struct Allocation {
 }
 
 /// A home for each slot of a function, and the places that are idle by them. Those slots that cost most in memory get registers,
-/// in order, while there are some.
+/// in order, while there are some. Of those that calls preserve slots have so many at most.
 #[tactic(auto, using(crate::proofs::IdleCode::none_idle, crate::proofs::FillCode::none_fillable))]
-pub fn allocate(alloc: Global, plain: &Plain, function: &Function) -> Result<Allocation, AllocError>
-    ensures homes { IfOk result (λ given. AreHomes plain.now (routine_of function.now) given.homes.items) }
+pub fn allocate(
+    alloc: Global,
+    plain: &Plain,
+    function: &Function,
+    most: usize,
+) -> Result<Allocation, AllocError>
+    requires { most ≤ MOST_SAVED }
+    ensures homes { IfOk result (λ given. AreHomes plain.now (routine_of function.now) given.saved given.homes.items) }
+    ensures saved { IfOk result (λ given. given.saved ≤ most) }
     ensures fills { IfOk result (λ given. AreFillable plain.now (routine_of function.now) given.homes.items given.fills.items) }
     ensures idle { IfOk result (λ given. AreIdle plain.now (routine_of function.now) given.homes.items given.idle.items) }
 {
@@ -40,13 +49,19 @@ pub fn allocate(alloc: Global, plain: &Plain, function: &Function) -> Result<All
     if !is_sound(plain, function, &masks, &lives) {
         return Ok(Allocation {
             homes: in_memory(alloc, plain, function)?,
+            saved: 0,
             idle: Vec::new(alloc),
             fills: Vec::new(alloc),
         });
     }
-    let taken = costs.taken(&masks, &lives);
-    let homes = homes_in(alloc, plain, function, &masks, &lives, taken)?;
-    let idle = idle_places(alloc, plain, function, &masks, &lives, &homes)?;
-    let fills = fills_of(alloc, plain, function, &masks, &lives, &homes)?;
-    Ok(Allocation { homes, idle, fills })
+    let taken = costs.taken(&masks, &lives, function.parameters, most);
+    let assigned = homes_in(alloc, plain, function, &masks, &lives, taken, most)?;
+    let idle = idle_places(alloc, plain, function, &masks, &lives, &assigned.homes)?;
+    let fills = fills_of(alloc, plain, function, &masks, &lives, &assigned.homes)?;
+    Ok(Allocation {
+        homes: assigned.homes,
+        saved: assigned.saved,
+        idle,
+        fills,
+    })
 }

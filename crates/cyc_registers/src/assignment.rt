@@ -1,14 +1,15 @@
 //! Assignment: which register each of the slots has that are taken for one.
-ghost use Rattle.std.specs.Prelude.{◌≡◌, ◌+◌, ◌≤◌, length, IfOk};
+ghost use Rattle.std.specs.Prelude.{◌≡◌, ◌+◌, ◌<◌, ◌≤◌, true, length, IfOk};
 ghost use Rattle.cyc_plain.specs.inside.Program.{routine_of};
-ghost use Rattle.cyc_registers.specs.inside.Assignment.{AreFirstHomes, HaveOwnRegisters, IsHomeOf, register_count};
+ghost use Rattle.cyc_registers.specs.inside.Assignment.{AreFirstHomes, HaveOwnRegisters, IsHomeOf, lost_count, saved_count};
 ghost use Rattle.cyc_registers.specs.inside.Interference.{AreHomes, both_count};
-ghost use Rattle.cyc_registers.specs.inside.LivenessTable.{IsSound};
+ghost use Rattle.cyc_registers.specs.inside.LivenessTable as checks;
 ghost use Rattle.cyc_registers.specs.inside.Masks.{AreMasks};
 
-use crate::home::{FIRST_REGISTER, Home, MOST_BOTH};
-use crate::liveness::{Lives, MOST_CHOSEN, MOST_REGISTERS, may_have};
+use crate::home::{FIRST_PRESERVED, FIRST_REGISTER, Home, MOST_BOTH, MOST_SAVED};
+use crate::liveness::{Lives, MOST_CHOSEN, MOST_LOST, may_have};
 use crate::masks::mask_at;
+use crate::spill_costs::Taken;
 use cyc_plain::{Function, Plain};
 use std::alloc::{AllocError, Global};
 
@@ -41,44 +42,126 @@ pub(crate) fn masks_of(alloc: Global, chosen: &[bool]) -> Result<Vec<u32>, Alloc
     Ok(masks)
 }
 
-/// The home of a slot, where so many registers are given already, and so many slots have both. A slot that is not taken
-/// stays in memory.
-#[tactic(auto, using(crate::proofs::AssignedHomes::memory_home))]
-fn home_of(
+/// How many registers are given already, of those that calls lose and of those that are saved, and how many slots have both.
+#[derive(Clone, Copy)]
+struct Given {
+    lost: usize,
+    saved: usize,
+    both: usize,
+}
+
+/// The home of a slot that may have a register, where it has the next one of those that calls lose. What is live behind a call or
+/// in a clause is in memory too.
+fn lost_home(
     plain: &Plain,
     function: &Function,
     masks: &[u32],
     lives: &Lives,
     taken: u32,
     slot: usize,
-    given: usize,
-    both: usize,
+    given: Given,
+    most: usize,
 ) -> Home
     requires numbered { AreMasks masks.now MOST_CHOSEN }
-    requires sound { IsSound plain.now (routine_of function.now) masks.now lives.now.live.items lives.now.kept lives.now.barred }
-    requires few { both ≤ MOST_BOTH }
-    ensures home { IsHomeOf plain.now (routine_of function.now) slot given result }
-    ensures few { both + both_count result ≤ MOST_BOTH }
+    requires sound { checks.IsSound plain.now (routine_of function.now) masks.now lives.now.live.items lives.now.calls lives.now.clauses lives.now.barred }
+    requires may { checks.may_have masks.now lives.now.live.items taken lives.now.barred function.now.parameters slot ≡ true }
+    requires few { given.both ≤ MOST_BOTH }
+    ensures home { IsHomeOf plain.now (routine_of function.now) slot given.lost given.saved most result }
+    ensures few { given.both + both_count result ≤ MOST_BOTH }
 {
-    if !may_have(function, masks, lives, taken, slot) || given >= MOST_REGISTERS {
+    if given.lost >= MOST_LOST {
         return Home::Memory;
     }
-    let register = FIRST_REGISTER + given as u8;
-    if lives.kept & mask_at(masks, slot) == 0 {
+    let register = FIRST_REGISTER + given.lost as u8;
+    let mask = mask_at(masks, slot);
+    if lives.calls & mask == 0 && lives.clauses & mask == 0 {
         return Home::Register { register };
     }
-    if both >= MOST_BOTH {
+    if given.both >= MOST_BOTH {
         return Home::Memory;
     }
     Home::Both { register }
 }
 
-fn registers_in(home: Home) -> usize
-    ensures { result ≡ register_count home }
+/// The home of a slot that may have a register, where it has the next one of those that calls preserve. What is live in a clause
+/// has none of them, and no parameter has.
+fn preserved_home(
+    plain: &Plain,
+    function: &Function,
+    masks: &[u32],
+    lives: &Lives,
+    taken: u32,
+    slot: usize,
+    given: Given,
+    most: usize,
+) -> Home
+    requires numbered { AreMasks masks.now MOST_CHOSEN }
+    requires sound { checks.IsSound plain.now (routine_of function.now) masks.now lives.now.live.items lives.now.calls lives.now.clauses lives.now.barred }
+    requires may { checks.may_have masks.now lives.now.live.items taken lives.now.barred function.now.parameters slot ≡ true }
+    requires most { most ≤ MOST_SAVED }
+    ensures home { IsHomeOf plain.now (routine_of function.now) slot given.lost given.saved most result }
+    ensures both { both_count result ≡ 0 }
+{
+    if given.saved >= most || slot < function.parameters {
+        return Home::Memory;
+    }
+    if lives.clauses & mask_at(masks, slot) == 0 {
+        return Home::Register {
+            register: FIRST_PRESERVED + given.saved as u8,
+        };
+    }
+    Home::Memory
+}
+
+/// The home of a slot, where so many registers are given already. A slot that is not taken stays in memory.
+#[tactic(auto, using(crate::proofs::AssignedHomes::memory_home))]
+fn home_of(
+    plain: &Plain,
+    function: &Function,
+    masks: &[u32],
+    lives: &Lives,
+    taken: Taken,
+    slot: usize,
+    given: Given,
+    most: usize,
+) -> Home
+    requires numbered { AreMasks masks.now MOST_CHOSEN }
+    requires sound { checks.IsSound plain.now (routine_of function.now) masks.now lives.now.live.items lives.now.calls lives.now.clauses lives.now.barred }
+    requires most { most ≤ MOST_SAVED }
+    requires few { given.both ≤ MOST_BOTH }
+    ensures home { IsHomeOf plain.now (routine_of function.now) slot given.lost given.saved most result }
+    ensures few { given.both + both_count result ≤ MOST_BOTH }
+{
+    let all = taken.lost | taken.preserved;
+    if !may_have(function, masks, lives, all, slot) {
+        return Home::Memory;
+    }
+    if taken.preserved & mask_at(masks, slot) == 0 {
+        lost_home(plain, function, masks, lives, all, slot, given, most)
+    } else {
+        preserved_home(plain, function, masks, lives, all, slot, given, most)
+    }
+}
+
+fn lost_in(home: Home) -> usize
+    ensures { result ≡ lost_count home }
 {
     match home {
         Home::Memory => 0,
-        Home::Both { .. } | Home::Register { .. } => 1,
+        Home::Both { register } | Home::Register { register } => {
+            if register < FIRST_PRESERVED { 1 } else { 0 }
+        }
+    }
+}
+
+fn saved_in(home: Home) -> usize
+    ensures { result ≡ saved_count home }
+{
+    match home {
+        Home::Memory => 0,
+        Home::Both { register } | Home::Register { register } => {
+            if register < FIRST_PRESERVED { 0 } else { 1 }
+        }
     }
 }
 
@@ -91,7 +174,15 @@ fn both_in(home: Home) -> usize
     }
 }
 
-/// A home for each slot of a function: those that are taken get registers, in order, while there are some.
+/// Homes, and how many registers are to be saved for them.
+#[derive(Drop)]
+pub(crate) struct Assigned {
+    pub(crate) homes: Vec<Home>,
+    pub(crate) saved: usize,
+}
+
+/// A home for each slot of a function: those that are taken get registers, in order, while there are some, of which at most so
+/// many are to be saved.
 #[tactic(auto, using(crate::proofs::AssignedHomes::no_homes, crate::proofs::AssignedHomes::more_homes, crate::proofs::AssignedHomes::are_homes, crate::proofs::AssignedHomes::own_registers))]
 pub(crate) fn homes_in(
     alloc: Global,
@@ -99,23 +190,29 @@ pub(crate) fn homes_in(
     function: &Function,
     masks: &[u32],
     lives: &Lives,
-    taken: u32,
-) -> Result<Vec<Home>, AllocError>
+    taken: Taken,
+    most: usize,
+) -> Result<Assigned, AllocError>
     requires numbered { AreMasks masks.now MOST_CHOSEN }
-    requires sound { IsSound plain.now (routine_of function.now) masks.now lives.now.live.items lives.now.kept lives.now.barred }
-    ensures homes { IfOk result (λ homes. AreHomes plain.now (routine_of function.now) homes.items) }
-    ensures own { IfOk result (λ homes. HaveOwnRegisters homes.items) }
+    requires sound { checks.IsSound plain.now (routine_of function.now) masks.now lives.now.live.items lives.now.calls lives.now.clauses lives.now.barred }
+    requires most { most ≤ MOST_SAVED }
+    ensures homes { IfOk result (λ assigned. AreHomes plain.now (routine_of function.now) assigned.saved assigned.homes.items) }
+    ensures own { IfOk result (λ assigned. HaveOwnRegisters assigned.homes.items) }
+    ensures saved { IfOk result (λ assigned. assigned.saved ≤ most) }
 {
     let mut homes = Vec::with_capacity(alloc, function.slots)?;
-    let mut given = 0;
+    let mut lost = 0;
+    let mut saved = 0;
     let mut both = 0;
     for slot in 0..function.slots {
-        let home = home_of(plain, function, masks, lives, taken, slot, given, both);
-        given += registers_in(home);
+        let given = Given { lost, saved, both };
+        let home = home_of(plain, function, masks, lives, taken, slot, given, most);
+        lost += lost_in(home);
+        saved += saved_in(home);
         both += both_in(home);
         homes.push(home)?;
     }
-    Ok(homes)
+    Ok(Assigned { homes, saved })
 }
 
 /// Every slot in memory.
@@ -125,7 +222,7 @@ pub(crate) fn in_memory(
     plain: &Plain,
     function: &Function,
 ) -> Result<Vec<Home>, AllocError>
-    ensures { IfOk result (λ homes. AreHomes plain.now (routine_of function.now) homes.items) }
+    ensures { IfOk result (λ homes. AreHomes plain.now (routine_of function.now) 0 homes.items) }
 {
     Ok(vec![in alloc; Home::Memory; function.slots]?)
 }

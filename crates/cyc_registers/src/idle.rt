@@ -100,7 +100,7 @@ pub(crate) fn idle_places(
     homes: &[Home],
 ) -> Result<Vec<bool>, AllocError>
     requires numbered { AreMasks masks.now MOST_CHOSEN }
-    requires sound { IsSound plain.now (routine_of function.now) masks.now lives.now.live.items lives.now.kept lives.now.barred }
+    requires sound { IsSound plain.now (routine_of function.now) masks.now lives.now.live.items lives.now.calls lives.now.clauses lives.now.barred }
     requires table { length lives.now.live.items ≡ length function.now.code.items }
     ensures { IfOk result (λ idle. AreIdle plain.now (routine_of function.now) homes.now idle.items) }
 {

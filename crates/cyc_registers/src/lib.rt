@@ -12,5 +12,5 @@ mod moves;
 mod spill_costs;
 
 pub use allocation::{Allocation, allocate};
-pub use home::{FIRST_REGISTER, Home, MOST_BOTH, REGISTERS_END};
+pub use home::{FIRST_PRESERVED, FIRST_REGISTER, Home, MOST_BOTH, MOST_SAVED, REGISTERS_END};
 pub use moves::is_crossing;

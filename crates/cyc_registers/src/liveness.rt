@@ -3,7 +3,7 @@ ghost use Rattle.std.specs.Prelude.{◌≡◌, ◌<◌, ◌≤◌, length, true,
 ghost use Rattle.cyc_plain.specs.inside.Program.{routine_of};
 ghost use Rattle.cyc_registers.specs.inside.LivenessTable as checks;
 
-use crate::home::{FIRST_REGISTER, REGISTERS_END};
+use crate::home::{FIRST_PRESERVED, FIRST_REGISTER};
 use crate::masks::{bar_mask, mask_at, read_mask, write_mask};
 use cyc_plain::{Function, Instruction, Plain};
 use std::alloc::{AllocError, Global};
@@ -11,8 +11,8 @@ use std::alloc::{AllocError, Global};
 /// So many slots of a function are chosen at most, to be looked at: a mask has so many bits.
 pub(crate) const MOST_CHOSEN: u32 = 32;
 
-/// How many registers slots may have.
-pub(crate) const MOST_REGISTERS: usize = (REGISTERS_END - FIRST_REGISTER) as usize;
+/// How many registers slots may have of those that calls lose.
+pub(crate) const MOST_LOST: usize = (FIRST_PRESERVED - FIRST_REGISTER) as usize;
 
 /// The mask of all numbers that a slot may be chosen as.
 const ALL_NUMBERS: u32 = 0xffff_ffff;
@@ -60,8 +60,8 @@ fn needed_mask(
     read_mask(masks, results, instruction) | behind_mask(instruction, index, live) & unwritten
 }
 
-/// What is to be in memory too: what is live behind an instruction that loses what registers hold.
-fn kept_mask(
+/// What is to be there again behind a call: what is live there, and the call does not return it.
+fn call_mask(
     plain: &Plain,
     masks: &[u32],
     instruction: Instruction,
@@ -69,12 +69,21 @@ fn kept_mask(
     live: &[u32],
 ) -> u32
     requires { index < length live.now }
-    ensures { result ≡ checks.kept_mask plain.now masks.now instruction index live.now }
+    ensures { result ≡ checks.call_mask plain.now masks.now instruction index live.now }
 {
     match instruction {
         Instruction::Call { .. } => {
             mask_at(live, index + 1) & unwritten_mask(plain, masks, instruction)
         }
+        _ => 0,
+    }
+}
+
+/// What is to be in memory too: what is live in the clause of a handler.
+fn clause_mask(instruction: Instruction, live: &[u32]) -> u32
+    ensures { result ≡ checks.clause_mask instruction live.now }
+{
+    match instruction {
         Instruction::Try { handler, .. } => mask_at(live, handler),
         _ => 0,
     }
@@ -91,8 +100,10 @@ fn is_within(part: u32, whole: u32) -> bool
 pub(crate) struct Lives {
     /// For each place in the code, which of them may be live there.
     pub(crate) live: Vec<u32>,
-    /// Which are to be in memory too.
-    pub(crate) kept: u32,
+    /// Which are live behind a call that does not return them.
+    pub(crate) calls: u32,
+    /// Which are live in a clause.
+    pub(crate) clauses: u32,
     /// Which are barred from registers.
     pub(crate) barred: u32,
 }
@@ -107,22 +118,24 @@ fn is_sound_at(
     lives: &Lives,
 ) -> bool
     requires { index < length lives.now.live.items }
-    ensures { result ≡ checks.is_sound_at plain.now results masks.now instruction index lives.now.live.items lives.now.kept lives.now.barred }
+    ensures { result ≡ checks.is_sound_at plain.now results masks.now instruction index lives.now.live.items lives.now.calls lives.now.clauses lives.now.barred }
 {
     let live = &lives.live;
     is_within(
         needed_mask(plain, results, masks, instruction, index, live),
         mask_at(live, index),
-    ) && is_within(
-        kept_mask(plain, masks, instruction, index, live),
-        lives.kept,
-    ) && is_within(bar_mask(masks, instruction), lives.barred)
+    ) && (is_within(
+        call_mask(plain, masks, instruction, index, live),
+        lives.calls,
+    ) && (is_within(clause_mask(instruction, live), lives.clauses)
+        && is_within(bar_mask(masks, instruction), lives.barred)))
 }
 
-/// Whether the table misses no place where a chosen slot is live, and none that is to be in memory too or is barred.
+/// Whether the table misses no place where a chosen slot is live, and none that is live behind a call or in
+/// a clause, or is barred.
 pub(crate) fn is_sound(plain: &Plain, function: &Function, masks: &[u32], lives: &Lives) -> bool
     requires { length lives.now.live.items ≡ length function.now.code.items }
-    ensures { result ≡ true → checks.IsSound plain.now (routine_of function.now) masks.now lives.now.live.items lives.now.kept lives.now.barred }
+    ensures { result ≡ true → checks.IsSound plain.now (routine_of function.now) masks.now lives.now.live.items lives.now.calls lives.now.clauses lives.now.barred }
 {
     for index in 0..function.code.len() {
         let instruction = function.code[index];
@@ -143,9 +156,11 @@ fn sweep(plain: &Plain, function: &Function, masks: &[u32], end: usize, lives: &
         let instruction = function.code[index];
         let live = &lives.live;
         let needed = needed_mask(plain, function.results, masks, instruction, index, live);
-        let kept = kept_mask(plain, masks, instruction, index, live);
+        let calls = call_mask(plain, masks, instruction, index, live);
+        let clauses = clause_mask(instruction, live);
         lives.live[index] = needed;
-        lives.kept = lives.kept | kept;
+        lives.calls = lives.calls | calls;
+        lives.clauses = lives.clauses | clauses;
         lives.barred = lives.barred | bar_mask(masks, instruction);
     }
 }
@@ -193,7 +208,8 @@ pub(crate) fn liveness_of(
 {
     let mut lives = Lives {
         live: vec![in alloc; 0; function.code.len()]?,
-        kept: 0,
+        calls: 0,
+        clauses: 0,
         barred: 0,
     };
     sweep(plain, function, masks, function.code.len(), &mut lives);

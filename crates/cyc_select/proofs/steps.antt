@@ -6,6 +6,8 @@ pub mod Moves
 pub mod Accesses
 pub mod Requests
 pub mod Calls
+pub mod Enters
+pub mod Preserving
 pub mod Entries
 pub mod Passing
 pub mod Copies

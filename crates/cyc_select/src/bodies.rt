@@ -134,6 +134,7 @@ impl Emitter {
                 offset,
                 source,
             } => self.store_at(frame, MemoryOp::StoreByte, address, offset, source),
+            Instruction::Enter { .. } => self.test_room(here),
         }
     }
 

@@ -1,25 +1,49 @@
 //! The lines of calls and returns, and of moves of several words.
 ghost use Rattle.std.specs.Prelude.{◌≡◌, ◌+◌, ◌*◌, ◌<◌, ◌≤◌, [], ◌∷◌, ◌++◌, true, length, OnOk};
-ghost use Rattle.cyc_select.specs.inside.Selection.{pass, spill, spills, copies, ordinary, load_all, load_words, store_all, moves, all_moved, move_words, calling_code, returned_code, saving_code, restoring_code, ending_code, returning_code};
-ghost use Rattle.cyc_select.specs.inside.Emission.{AddsLines, IsReached, AreReached, most_lines, enter_code};
+ghost use Rattle.cyc_select.specs.inside.Selection.{load, store, pass, spill, spills, copies, ordinary, load_all, load_words, store_all, moves, all_moved, move_words, calling_code, room_code, returned_code, saves, restores, way_code, saving_code, restoring_code, ending_code, returning_code};
+ghost use Rattle.cyc_select.specs.inside.Emission.{AddsLines, IsReached, AreReached, most_lines};
 
 use crate::code::Line;
 use crate::constants::{FIRST_RESULT, FRAME, LOWEST, SECOND_RESULT, THIRD_RESULT, ZERO};
-use crate::counting::saving_count;
+use crate::counting::way_count;
 use crate::emitter::Emitter;
 use crate::instructions::{
     load, load_slot, load_word, offset_of, pop_frame, push_frame, small, store, store_slot, syscall,
 };
 use crate::operands::{is_kept, made_in, passed_from};
 use cyc_frame::Frame;
-use cyc_isa::BranchOp;
+use cyc_isa::{BranchOp, Instr};
 use cyc_machine::constants::{ARGUMENT, END_FULL, END_RETURNED, RETURN_ADDRESS, SERVICE};
 use cyc_plain::{GREATEST_VALUE, MOST_FRAME_WORDS, Operand};
-use cyc_registers::is_crossing;
+use cyc_registers::{FIRST_PRESERVED, MOST_SAVED, is_crossing};
 use std::alloc::AllocError;
 
 /// The registers of what a function returns, and of what a service answers.
 pub(crate) const RESULTS: [u8; 3] = [FIRST_RESULT, SECOND_RESULT, THIRD_RESULT];
+
+/// The instruction that saves the register of this number among those that calls preserve.
+fn save(frame: &Frame, number: usize) -> Instr
+    requires few { number < MOST_SAVED }
+    requires inside { frame.now.first_saved ≤ MOST_FRAME_WORDS }
+    ensures { result ≡ store (FIRST_PRESERVED + number) (4 * (frame.now.first_saved + number)) }
+{
+    store(
+        FIRST_PRESERVED + number as u8,
+        offset_of(frame.first_saved + number),
+    )
+}
+
+/// The instruction that restores it.
+fn restore(frame: &Frame, number: usize) -> Instr
+    requires few { number < MOST_SAVED }
+    requires inside { frame.now.first_saved ≤ MOST_FRAME_WORDS }
+    ensures { result ≡ load (FIRST_PRESERVED + number) (4 * (frame.now.first_saved + number)) }
+{
+    load(
+        FIRST_PRESERVED + number as u8,
+        offset_of(frame.first_saved + number),
+    )
+}
 
 impl Emitter {
     /// One argument, from the caller's slot to the callee's, whose frame is the current one already. One that is passed
@@ -100,11 +124,13 @@ impl Emitter {
         Ok(())
     }
 
-    /// The end of a run where too many calls are under way, and the change to the callee's frame.
-    fn enter(&mut self) -> Result<(), AllocError>
-        ensures { AddsLines result self.old self.new enter_code }
+    /// The end of a run where no call more may be under way.
+    pub(crate) fn test_room(&mut self, here: usize) -> Result<(), AllocError>
+        requires { here ≤ most_lines + MOST_FRAME_WORDS }
+        ensures { AddsLines result self.old self.new (room_code here) }
     {
-        self.ordinary(&[small(SERVICE, END_FULL as u16), syscall(), push_frame()])
+        self.branch(BranchOp::NotEqual, FRAME, LOWEST, here + 3)?;
+        self.ordinary(&[small(SERVICE, END_FULL as u16), syscall()])
     }
 
     /// A call of the function whose first line is the label.
@@ -122,8 +148,8 @@ impl Emitter {
         requires target { AreReached callee.now 0 count }
         ensures { AddsLines result self.old self.new (calling_code caller.now callee.now here label arguments count) }
     {
-        self.branch(BranchOp::NotEqual, FRAME, LOWEST, here + 3)?;
-        self.enter()?;
+        self.test_room(here)?;
+        self.ordinary(&[push_frame()])?;
         self.arguments(caller, callee, arguments, count)?;
         self.line(Line::Call { label })
     }
@@ -242,9 +268,9 @@ impl Emitter {
     }
 
     /// The way back comes into the frame, where a function that loses it begins.
-    pub(crate) fn saving(&mut self, frame: &Frame) -> Result<(), AllocError>
+    fn keep_way(&mut self, frame: &Frame) -> Result<(), AllocError>
         requires { frame.now.return_address ≤ MOST_FRAME_WORDS }
-        ensures { AddsLines result self.old self.new (ordinary (saving_code frame.now)) }
+        ensures { AddsLines result self.old self.new (ordinary (way_code frame.now)) }
     {
         if !frame.saves {
             return Ok(());
@@ -252,7 +278,42 @@ impl Emitter {
         self.ordinary(&[store(RETURN_ADDRESS, offset_of(frame.return_address))])
     }
 
-    /// And from there again, where it returns.
+    /// The registers that calls preserve come into the frame, as many as the function has.
+    fn saves(&mut self, frame: &Frame) -> Result<(), AllocError>
+        requires few { frame.now.saved ≤ MOST_SAVED }
+        requires inside { frame.now.first_saved ≤ MOST_FRAME_WORDS }
+        ensures { AddsLines result self.old self.new (ordinary (saves frame.now)) }
+    {
+        for number in 0..frame.saved {
+            self.ordinary(&[save(frame, number)])?;
+        }
+        Ok(())
+    }
+
+    /// And from there again.
+    fn restores(&mut self, frame: &Frame) -> Result<(), AllocError>
+        requires few { frame.now.saved ≤ MOST_SAVED }
+        requires inside { frame.now.first_saved ≤ MOST_FRAME_WORDS }
+        ensures { AddsLines result self.old self.new (ordinary (restores frame.now)) }
+    {
+        for number in 0..frame.saved {
+            self.ordinary(&[restore(frame, number)])?;
+        }
+        Ok(())
+    }
+
+    /// All that a function saves where it begins.
+    pub(crate) fn saving(&mut self, frame: &Frame) -> Result<(), AllocError>
+        requires return_address { frame.now.return_address ≤ MOST_FRAME_WORDS }
+        requires few { frame.now.saved ≤ MOST_SAVED }
+        requires inside { frame.now.first_saved ≤ MOST_FRAME_WORDS }
+        ensures { AddsLines result self.old self.new (ordinary (saving_code frame.now)) }
+    {
+        self.keep_way(frame)?;
+        self.saves(frame)
+    }
+
+    /// The way back comes from the frame again, where the function returns.
     fn restoring(&mut self, frame: &Frame) -> Result<(), AllocError>
         requires { frame.now.return_address ≤ MOST_FRAME_WORDS }
         ensures { AddsLines result self.old self.new (ordinary (restoring_code frame.now)) }
@@ -298,13 +359,16 @@ impl Emitter {
         requires fits { here ≤ most_lines }
         requires return_address { frame.now.return_address ≤ MOST_FRAME_WORDS }
         requires few { results ≤ GREATEST_VALUE }
+        requires saved { frame.now.saved ≤ MOST_SAVED }
+        requires inside { frame.now.first_saved ≤ MOST_FRAME_WORDS }
         requires main { is_main ≡ true → IsReached frame.now value }
         requires source { AreReached frame.now value results }
         ensures { AddsLines result self.old self.new (returning_code is_main frame.now here value results) }
     {
         self.restoring(frame)?;
-        self.ending(is_main, frame, here + saving_count(frame), value)?;
+        self.ending(is_main, frame, here + way_count(frame), value)?;
         self.load_all(frame, value, &RESULTS[..results])?;
+        self.restores(frame)?;
         self.ordinary(&[pop_frame()])?;
         self.line(Line::Return)
     }

@@ -3,8 +3,8 @@ ghost use Rattle.std.specs.Prelude.{◌≡◌, ◌+◌, ◌*◌, ◌<◌, ◌≤
 ghost use Rattle.cyc_plain.specs.inside.Program.{routine_of, routine_at, instruction_size, size};
 ghost use Rattle.cyc_plain.specs.inside.WellFormed.{IsPlain, IsInRange};
 ghost use Rattle.cyc_frame.specs.inside.Layout.{AreFrames, frame_at};
-ghost use Rattle.cyc_registers.specs.declared.home.TheConstants.{MOST_BOTH};
-ghost use Rattle.cyc_select.specs.inside.Selection.{saving_count, reload_count, spill_count, spills_count, pass_count, copies_count, moves_count, move_words_count, operator_count, ending_count, body_count, behind_count, is_idle, count_of, code_count, function_count};
+ghost use Rattle.cyc_registers.specs.declared.home.TheConstants.{MOST_BOTH, MOST_SAVED};
+ghost use Rattle.cyc_select.specs.inside.Selection.{way_count, saving_count, reload_count, spill_count, spills_count, pass_count, copies_count, moves_count, move_words_count, operator_count, ending_count, body_count, behind_count, is_idle, count_of, code_count, function_count};
 ghost use Rattle.cyc_select.specs.inside.Emission.{AreFew, most_lines, instruction_lines, function_starts};
 
 use crate::asking::ask_count;
@@ -54,6 +54,8 @@ pub(crate) fn frame_in<'a>(plain: &Plain, frames: &'a [Frame], function: usize) 
     requires function { function < length plain.now.functions }
     ensures value { result.now ≡ frame_at frames.now function }
     ensures few { reload_count result.now ≤ MOST_BOTH }
+    ensures saved { result.now.saved ≤ MOST_SAVED }
+    ensures first_saved { result.now.first_saved ≤ MOST_FRAME_WORDS }
 {
     known_frame(frames, function)
 }
@@ -164,11 +166,20 @@ fn call_count(caller: &Frame, callee: &Frame, arguments: usize, count: usize) ->
 }
 
 /// The line that keeps the way back where a function begins, and the one that it comes from where the function returns.
-pub(crate) fn saving_count(frame: &Frame) -> usize
-    ensures value { result ≡ saving_count frame.now }
+pub(crate) fn way_count(frame: &Frame) -> usize
+    ensures value { result ≡ way_count frame.now }
     ensures few { result ≤ 1 }
 {
     if frame.saves { 1 } else { 0 }
+}
+
+/// The lines that save what a function saves where it begins.
+pub(crate) fn saving_count(frame: &Frame) -> usize
+    requires { frame.now.saved ≤ MOST_SAVED }
+    ensures value { result ≡ saving_count frame.now }
+    ensures few { result ≤ MOST_SAVED + 1 }
+{
+    way_count(frame) + frame.saved
 }
 
 /// The lines of a return.
@@ -176,10 +187,11 @@ fn return_count(plain: &Plain, frames: &[Frame], function: usize) -> usize
     requires fit { AreFrames plain.now frames.now }
     requires function { function < length plain.now.functions }
     requires few { AreFew plain.now }
-    ensures { result ≡ saving_count (frame_at frames.now function) + ending_count plain.now function + (routine_at plain.now function).results + 2 }
+    ensures { result ≡ way_count (frame_at frames.now function) + ending_count plain.now function + ((routine_at plain.now function).results + (frame_at frames.now function).saved + 2) }
 {
+    let frame = frame_in(plain, frames, function);
     let ending = if function == plain.main() { 4 } else { 0 };
-    saving_count(frame_in(plain, frames, function)) + ending + results_of(plain, function) + 2
+    way_count(frame) + ending + (results_of(plain, function) + frame.saved + 2)
 }
 
 /// The lines of an instruction up to what it does.
@@ -278,6 +290,7 @@ fn body_count(plain: &Plain, frames: &[Frame], function: usize, instruction: Ins
         Instruction::Throw { tag, value } => load_count(tag) + load_count(value) + 7,
         Instruction::Finish { .. } => return_count(plain, frames, function),
         Instruction::Uncaught { tag, value } => word_count(tag) + load_count(value) + 2,
+        Instruction::Enter { .. } => 3,
     }
 }
 
@@ -381,7 +394,7 @@ pub(crate) fn instruction_lines(
     requires few { AreFew plain.now }
     requires in_range { All (IsInRange plain.now (routine_at plain.now function)) code.now }
     requires small { sum_by instruction_size code.now ≤ MOST_SIZE }
-    requires fits { first + sum_by instruction_size code.now ≤ most_lines + 1 }
+    requires fits { first + sum_by instruction_size code.now ≤ most_lines + MOST_SAVED + 1 }
     ensures { IfOk result (λ lines. lines.items ≡ instruction_lines plain.now frames.now function 0 first code.now) }
 {
     let mut lines = Vec::new(alloc);

@@ -2,7 +2,7 @@
 ghost use Rattle.std.specs.Prelude.{◌≡◌, ◌+◌, ◌<◌, ◌≤◌, ◌==◌, length};
 ghost use Rattle.cyc_plain.specs.inside.Program.{routine_at};
 ghost use Rattle.cyc_frame.specs.inside.Layout.{frame_at};
-ghost use Rattle.cyc_registers.specs.declared.home.TheConstants.{MOST_BOTH};
+ghost use Rattle.cyc_registers.specs.declared.home.TheConstants.{MOST_BOTH, MOST_SAVED};
 ghost use Rattle.cyc_select.specs.inside.Selection.{reload_count, function_line, instruction_line};
 ghost use Rattle.cyc_select.specs.inside.Emission.{AreReached, IsKnown};
 
@@ -39,6 +39,8 @@ impl<'a> Tables<'a> {
         ensures return_address { result.now.return_address < MOST_FRAME_WORDS }
         ensures homes { AreReached result.now 0 (length result.now.homes) }
         ensures few { reload_count result.now ≤ MOST_BOTH }
+        ensures saved { result.now.saved ≤ MOST_SAVED }
+        ensures first_saved { result.now.first_saved ≤ MOST_FRAME_WORDS }
         ensures slots { AreReached result.now 0 (routine_at self.now.plain.now function).slots }
     {
         frame_in(self.plain, self.frames, function)

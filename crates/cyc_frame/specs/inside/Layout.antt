@@ -9,6 +9,7 @@ use Rattle.cyc_plain.specs.declared.instruction.Instruction.TheVariants as instr
 use Rattle.cyc_plain.specs.inside.Program.{Routine, Program, routine_at}
 use Rattle.cyc_plain.specs.declared.limits.TheConstants.{MOST_FRAME_WORDS}
 use Rattle.cyc_frame.specs.inside.Frame.{Frame}
+use Rattle.cyc_registers.specs.declared.home.TheConstants.{MOST_SAVED}
 use Rattle.cyc_registers.specs.inside.Interference.{AreHomes}
 use Rattle.cyc_registers.specs.inside.Idle.{AreIdle}
 use Rattle.cyc_registers.specs.inside.Fills.{AreFillable}
@@ -27,8 +28,27 @@ abbrev pub loses_any : List Instruction → Bool
 loses_any [] = false
 loses_any (i ∷ code) = loses i || loses_any code
 
--- A function's frame: its slots have words of their own, beside the one for the return address, and all are among the first
--- words of the frame, no more of them than the function says and may be.
+-- a return, whose code has room for the lines that save and restore registers
+abbrev pub returns : Instruction → Bool
+returns (instructions.Return value) = true
+returns (instructions.Finish value) = true
+returns instruction = false
+
+abbrev pub returns_any : List Instruction → Bool
+returns_any [] = false
+returns_any (i ∷ code) = returns i || returns_any code
+
+-- an instruction that opens a handler
+abbrev pub opens : Instruction → Bool
+opens (instructions.Try first handler) = true
+opens instruction = false
+
+abbrev pub opens_any : List Instruction → Bool
+opens_any [] = false
+opens_any (i ∷ code) = opens i || opens_any code
+
+-- A function's frame: its slots have words of their own, beside the one for the return address and those for the registers that it
+-- may save, and all are among the first words of the frame, no more of them than the function says and may be.
 pub record IsFrame (r : Routine) (frame : Frame) : Type 0 where
   pub apart : (a b : ℕ) → a < r.slots → b < r.slots → slot_word frame a ≡ slot_word frame b → a ≡ b
   pub inside : (slot : ℕ) → slot < r.slots → slot_word frame slot < r.frame_count
@@ -38,27 +58,47 @@ pub record IsFrame (r : Routine) (frame : Frame) : Type 0 where
   pub return_inside : frame.return_address < r.frame_count
   pub small : r.frame_count ≤ MOST_FRAME_WORDS
   pub saved : frame.saves ≡ loses_any r.code
+  pub saved_inside : (j : ℕ) → j < MOST_SAVED → frame.first_saved + j < r.frame_count
+  pub saved_beside : (slot j : ℕ) → slot < r.slots → j < MOST_SAVED → slot_word frame slot ≢ frame.first_saved + j
+  pub saved_apart : (j : ℕ) → j < MOST_SAVED → frame.first_saved + j ≢ frame.return_address
+  pub most_saved : frame.saved ≤ MOST_SAVED
+  pub returning : 0 < frame.saved → returns_any r.code ≡ true
 
 -- the frame of the function of this index; where there is none, an empty one
 abbrev pub frame_at : List Frame → ℕ → Frame
 frame_at frames function =
     slice_index_or frames function
-    (record { return_address = 0; saves = false; first_slot = 0; homes = []; idle = []; fills = [] })
+    (record { return_address = 0; saves = false; first_saved = 0; saved = 0; first_slot = 0; homes = []; idle = []; fills = [] })
 
--- frames of the first functions, so many of them, with homes of their slots, idle places, and places that fill slots
-pub record AreFirstFrames (program : Program) (count : ℕ) (frames : List Frame) : Type 0 where
+-- each function of the program returns
+abbrev pub AllReturn : Program → Type 0
+AllReturn program = (k : ℕ) → k < length program.functions → returns_any (routine_at program k).code ≡ true
+
+-- frames of the first functions, so many of them, with homes of their slots, idle places, and places that fill slots; none of them
+-- saves more registers than these
+pub record AreFirstFrames (program : Program) (count most : ℕ) (frames : List Frame) : Type 0 where
   pub as_many : length frames ≡ count
   pub each : (k : ℕ) → k < count → IsFrame (routine_at program k) (frame_at frames k)
-  pub homes : (k : ℕ) → k < count → AreHomes program (routine_at program k) (frame_at frames k).homes
+  pub homes : (k : ℕ) → k < count → AreHomes program (routine_at program k) (frame_at frames k).saved (frame_at frames k).homes
+  pub within : (k : ℕ) → k < count → (frame_at frames k).saved ≤ most
   pub idle : (k : ℕ) → k < count → AreIdle program (routine_at program k) (frame_at frames k).homes (frame_at frames k).idle
   pub fills : (k : ℕ) → k < count
       → AreFillable program (routine_at program k) (frame_at frames k).homes (frame_at frames k).fills
+
+-- of the first functions, so many of them, those that open handlers save as many registers as these at least
+abbrev pub AreRaised : Program → (count most : ℕ) → List Frame → Type 0
+AreRaised program count most frames =
+    (k : ℕ) → k < count → opens_any (routine_at program k).code ≡ true → most ≤ (frame_at frames k).saved
 
 -- there is a frame for each function
 pub record AreFrames (program : Program) (frames : List Frame) : Type 0 where
   pub as_many : length frames ≡ length program.functions
   pub each : (k : ℕ) → k < length program.functions → IsFrame (routine_at program k) (frame_at frames k)
-  pub homes : (k : ℕ) → k < length program.functions → AreHomes program (routine_at program k) (frame_at frames k).homes
+  pub homes : (k : ℕ) → k < length program.functions
+      → AreHomes program (routine_at program k) (frame_at frames k).saved (frame_at frames k).homes
+  -- an exception leaves calls that restore nothing: a function with a handler saves what any function may have changed
+  pub opening : (k g : ℕ) → k < length program.functions → g < length program.functions
+      → opens_any (routine_at program k).code ≡ true → (frame_at frames g).saved ≤ (frame_at frames k).saved
   pub idle : (k : ℕ) → k < length program.functions
       → AreIdle program (routine_at program k) (frame_at frames k).homes (frame_at frames k).idle
   pub fills : (k : ℕ) → k < length program.functions

@@ -1,13 +1,13 @@
 -- Interference: when the homes of a function's slots are right. Slots that are live at once share no register, and what is live where
--- registers are lost is in memory too.
-use Rattle.std.specs.Prelude.{◌≡◌, ℕ, suc, ◌<◌, ◌≤◌, Bool, true, false, List, length, sum_by, Option, Some, None, slice_index_or}
+-- registers are lost is in memory too, or in one that calls preserve.
+use Rattle.std.specs.Prelude.{◌≡◌, ℕ, suc, ◌+◌, ◌<◌, ◌≤◌, Bool, true, false, List, length, nat_le, sum_by, Option, Some, None, slice_index_or}
 use Rattle.cyc_plain.specs.declared.instruction.Instruction.{Instruction}
 use Rattle.cyc_plain.specs.declared.instruction.Instruction.TheVariants as instructions
 use Rattle.cyc_plain.specs.inside.Program.{Routine, Program}
 use Rattle.cyc_plain.specs.inside.Uses.{At, is_among, writes, leads}
 use Rattle.cyc_registers.specs.declared.home.Home.{Home}
 use Rattle.cyc_registers.specs.declared.home.Home.TheVariants as homes
-use Rattle.cyc_registers.specs.declared.home.TheConstants.{FIRST_REGISTER, REGISTERS_END, MOST_BOTH}
+use Rattle.cyc_registers.specs.declared.home.TheConstants.{FIRST_REGISTER, REGISTERS_END, FIRST_PRESERVED, MOST_BOTH}
 use Rattle.cyc_registers.specs.inside.Bars.{bars}
 use Rattle.cyc_registers.specs.inside.Liveness.{IsLiveAt, IsLiveLater}
 
@@ -23,6 +23,16 @@ is_kept homes.Memory = true
 is_kept (homes.Both register) = true
 is_kept (homes.Register register) = false
 
+-- a register that calls preserve
+abbrev pub is_preserved : (register : ℕ) → Bool
+is_preserved register = nat_le FIRST_PRESERVED register
+
+-- what the home holds is there again behind a call
+abbrev pub outlives : Home → Bool
+outlives homes.Memory = true
+outlives (homes.Both register) = true
+outlives (homes.Register register) = is_preserved register
+
 abbrev pub both_count : Home → ℕ
 both_count homes.Memory = 0
 both_count (homes.Both register) = 1
@@ -36,11 +46,16 @@ home_of hs slot = slice_index_or hs slot homes.Memory
 abbrev pub HasRegister : List Home → (slot register : ℕ) → Type 0
 HasRegister hs slot register = register_of (home_of hs slot) ≡ Some register
 
--- The homes of a function's slots. Which slots have registers is free; slots may share one.
-pub record AreHomes (program : Program) (r : Routine) (hs : List Home) : Type 0 where
+-- The homes of a function's slots, where the function saves so many registers. Which slots have registers is free; slots may
+-- share one.
+pub record AreHomes (program : Program) (r : Routine) (saved : ℕ) (hs : List Home) : Type 0 where
   pub as_many : length hs ≡ r.slots
   pub low : (slot k : ℕ) → HasRegister hs slot k → FIRST_REGISTER ≤ k
   pub high : (slot k : ℕ) → HasRegister hs slot k → k < REGISTERS_END
+  -- of the registers that calls preserve slots have those that the function saves; no parameter comes in one, which has a word of
+  -- the caller's until it is saved
+  pub saved_registers : (slot k : ℕ) → HasRegister hs slot k → FIRST_PRESERVED ≤ k → k < FIRST_PRESERVED + saved
+  pub low_parameters : (slot k : ℕ) → HasRegister hs slot k → slot < r.parameters → k < FIRST_PRESERVED
   pub few : sum_by both_count hs ≤ MOST_BOTH
   -- two slots that are both live later never share a register
   pub apart : (index a c k : ℕ) → HasRegister hs a k → HasRegister hs c k
@@ -56,9 +71,10 @@ pub record AreHomes (program : Program) (r : Routine) (hs : List Home) : Type 0 
   -- where the function begins only parameters are live, and no two of them come to the register of one that is
   pub entry : (a k : ℕ) → HasRegister hs a k → IsLiveAt program r a 0 → a < r.parameters
   pub parameters : (a c k : ℕ) → HasRegister hs a k → HasRegister hs c k → c < r.parameters → IsLiveAt program r a 0 → a ≡ c
-  -- what is live behind a call, unless the call returned it, or in a clause is in memory too
+  -- what is live behind a call, unless the call returned it, is in memory too or in a register that calls preserve; what is live
+  -- in a clause is in memory too, since an exception comes there from calls that have restored nothing
   pub behind : (index function arguments count result a : ℕ) → At r index (instructions.Call function arguments count result)
-      → writes program (instructions.Call function arguments count result) a ≡ false → IsLiveAt program r a (suc index) → is_kept (home_of hs a) ≡ true
+      → writes program (instructions.Call function arguments count result) a ≡ false → IsLiveAt program r a (suc index) → outlives (home_of hs a) ≡ true
   pub clause : (index first handler a : ℕ) → At r index (instructions.Try first handler)
       → IsLiveAt program r a handler → is_kept (home_of hs a) ≡ true
   pub barred : (index a : ℕ) (i : Instruction) → At r index i → bars i a ≡ true → register_of (home_of hs a) ≡ None

@@ -1,6 +1,6 @@
 -- A table of which chosen slots are live at each place, as it is checked, instruction by instruction: whatever made the table,
--- where the check holds everywhere it misses nothing. `kept` has those that are to be in memory too, and `barred` those that no
--- register may have.
+-- where the check holds everywhere it misses nothing. `calls` has those that are live behind a call,
+-- `clauses` those that are live in a clause, and `barred` those that no register may have.
 use Rattle.std.specs.Prelude.{◌≡◌, ℕ, ◌+◌, Bool, true, ◌==◌, ◌&&◌, ◌||◌, nat_lt, List, bit_and, bit_or, bit_xor}
 use Rattle.cyc_plain.specs.declared.instruction.Instruction.{Instruction}
 use Rattle.cyc_plain.specs.declared.instruction.Instruction.TheVariants as instructions
@@ -30,25 +30,30 @@ abbrev pub needed_mask : Program → (results : ℕ) → (masks : List ℕ) → 
 needed_mask program results masks i index live =
     bit_or (read_mask masks results i) (bit_and (behind_mask i index live) (unwritten_mask program masks i))
 
--- what is to be in memory too: registers are lost here, and this is live behind it
-abbrev pub kept_mask : Program → (masks : List ℕ) → Instruction → (index : ℕ) → List ℕ → ℕ
-kept_mask program masks (instructions.Call function arguments count result) index live =
+-- what is to be there again behind a call: what is live there, and the call does not return it
+abbrev pub call_mask : Program → (masks : List ℕ) → Instruction → (index : ℕ) → List ℕ → ℕ
+call_mask program masks (instructions.Call function arguments count result) index live =
     bit_and (mask_at live (index + 1)) (unwritten_mask program masks (instructions.Call function arguments count result))
-kept_mask program masks (instructions.Try first handler) index live = mask_at live handler
-kept_mask program masks instruction index live = 0
+call_mask program masks instruction index live = 0
+
+-- what is to be in memory too: it is live in the clause of this handler
+abbrev pub clause_mask : Instruction → List ℕ → ℕ
+clause_mask (instructions.Try first handler) live = mask_at live handler
+clause_mask instruction live = 0
 
 -- all bits of the first are bits of the second
 abbrev pub is_within : (part whole : ℕ) → Bool
 is_within part whole = bit_or part whole == whole
 
-unfoldable pub is_sound_at : Program → (results : ℕ) → (masks : List ℕ) → Instruction → (index : ℕ) → List ℕ → (kept barred : ℕ) → Bool
-is_sound_at program results masks i index live kept barred =
+unfoldable pub is_sound_at : Program → (results : ℕ) → (masks : List ℕ) → Instruction → (index : ℕ) → List ℕ → (calls clauses barred : ℕ) → Bool
+is_sound_at program results masks i index live calls clauses barred =
     is_within (needed_mask program results masks i index live) (mask_at live index)
-    && (is_within (kept_mask program masks i index live) kept && is_within (bar_mask masks i) barred)
+    && (is_within (call_mask program masks i index live) calls
+    && (is_within (clause_mask i live) clauses && is_within (bar_mask masks i) barred))
 
-abbrev pub IsSound : Program → Routine → (masks live : List ℕ) → (kept barred : ℕ) → Type 0
-IsSound program r masks live kept barred =
-    (index : ℕ) (i : Instruction) → At r index i → is_sound_at program r.results masks i index live kept barred ≡ true
+abbrev pub IsSound : Program → Routine → (masks live : List ℕ) → (calls clauses barred : ℕ) → Type 0
+IsSound program r masks live calls clauses barred =
+    (index : ℕ) (i : Instruction) → At r index i → is_sound_at program r.results masks i index live calls clauses barred ≡ true
 
 -- A slot that is taken may have a register: nothing bars it, and where the function begins it is not live, or is a parameter.
 abbrev pub may_have : (masks live : List ℕ) → (taken barred parameters slot : ℕ) → Bool

@@ -1,5 +1,5 @@
 -- Lines that are made piece by piece.
-use Rattle.std.proofs.Common.{◌≡◌, ℕ, suc, ◌+◌, ◌-◌, ◌<◌, List, [], ◌∷◌, ◌++◌, length, drop, refl, sym, ap, ◌∙◌, append_assoc, arith}
+use Rattle.std.proofs.Common.{◌≡◌, ℕ, suc, ◌+◌, ◌-◌, ◌*◌, ◌<◌, List, [], ◌∷◌, ◌++◌, length, drop, refl, sym, ap, ◌∙◌, append_assoc, arith}
 use Rattle.std.specs.Prelude.{sum_by}
 use Rattle.std.proofs.lemmas.List.{drop_more}
 use Rattle.std.proofs.lemmas.List.Sums.{sum_by-drop_more}
@@ -7,11 +7,12 @@ use Rattle.cyc_isa.specs.declared.instr.Instr.{Instr}
 use Rattle.cyc_plain.specs.declared.instruction.Operand.TheVariants as operands
 use Rattle.cyc_frame.specs.inside.Frame.{Frame}
 use Rattle.cyc_registers.specs.inside.Interference.{home_of, both_count}
+use Rattle.cyc_registers.specs.declared.home.TheConstants.{FIRST_PRESERVED}
 use Rattle.cyc_registers.specs.declared.home.Home.{Home}
 use Rattle.cyc_registers.specs.declared.home.Home.TheVariants as homes
 use Rattle.cyc_select.specs.declared.code.Line.TheVariants as lines
 use Rattle.cyc_select.specs.declared.code.Line.{Line}
-use Rattle.cyc_select.specs.inside.Selection.{value_register, pass, copies, spill, spills, move_to, moves, reload, reloads_from, ordinary}
+use Rattle.cyc_select.specs.inside.Selection.{load, store, saves_from, restores_from, value_register, pass, copies, spill, spills, move_to, moves, reload, reloads_from, ordinary}
 
 -- what comes next is made, and the rest of the whole is left
 pub goes_on : {A : Type 0} (all old new next rest whole : List A) → new ≡ old ++ next → whole ≡ next ++ rest → old ++ whole ≡ all → new ++ rest ≡ all
@@ -74,6 +75,36 @@ spilled_next caller callee source count slot all old new below is before =
     ∙ ordinary_append one (spills caller callee (suc (source + slot)) (suc slot) (count - (slot + 1)))
     ∙ ap (λ (n : ℕ). ordinary one ++ ordinary (spills caller callee n (suc slot) (count - (slot + 1)))) from
     ∙ ap (λ (n : ℕ). ordinary one ++ ordinary (spills caller callee (source + (slot + 1)) n (count - (slot + 1)))) to)
+    before
+
+-- one register more is saved
+pub saves_next : (frame : Frame) (number : ℕ) (all old new : List Line) → number < frame.saved
+    → new ≡ old ++ ordinary (store (FIRST_PRESERVED + number) (4 * (frame.first_saved + number)) ∷ [])
+    → old ++ ordinary (saves_from frame.first_saved number (frame.saved - number)) ≡ all
+    → new ++ ordinary (saves_from frame.first_saved (number + 1) (frame.saved - (number + 1))) ≡ all
+saves_next frame number all old new below is before =
+    let one : List Instr = store (FIRST_PRESERVED + number) (4 * (frame.first_saved + number)) ∷ [] in
+    let left : frame.saved - number ≡ suc (frame.saved - (number + 1)) = omega (arith, below) in
+    let to : suc number ≡ number + 1 = omega arith in
+    goes_on all old new (ordinary one) (ordinary (saves_from frame.first_saved (number + 1) (frame.saved - (number + 1))))
+    (ordinary (saves_from frame.first_saved number (frame.saved - number))) is
+    (ap (λ (n : ℕ). ordinary (saves_from frame.first_saved number n)) left
+    ∙ ap (λ (n : ℕ). ordinary one ++ ordinary (saves_from frame.first_saved n (frame.saved - (number + 1)))) to)
+    before
+
+-- one register more is restored
+pub restores_next : (frame : Frame) (number : ℕ) (all old new : List Line) → number < frame.saved
+    → new ≡ old ++ ordinary (load (FIRST_PRESERVED + number) (4 * (frame.first_saved + number)) ∷ [])
+    → old ++ ordinary (restores_from frame.first_saved number (frame.saved - number)) ≡ all
+    → new ++ ordinary (restores_from frame.first_saved (number + 1) (frame.saved - (number + 1))) ≡ all
+restores_next frame number all old new below is before =
+    let one : List Instr = load (FIRST_PRESERVED + number) (4 * (frame.first_saved + number)) ∷ [] in
+    let left : frame.saved - number ≡ suc (frame.saved - (number + 1)) = omega (arith, below) in
+    let to : suc number ≡ number + 1 = omega arith in
+    goes_on all old new (ordinary one) (ordinary (restores_from frame.first_saved (number + 1) (frame.saved - (number + 1))))
+    (ordinary (restores_from frame.first_saved number (frame.saved - number))) is
+    (ap (λ (n : ℕ). ordinary (restores_from frame.first_saved number n)) left
+    ∙ ap (λ (n : ℕ). ordinary one ++ ordinary (restores_from frame.first_saved n (frame.saved - (number + 1)))) to)
     before
 
 -- one register more is read again

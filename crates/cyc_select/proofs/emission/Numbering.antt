@@ -15,10 +15,10 @@ use Rattle.cyc_plain.specs.inside.WellFormed.{IsCallInRange, IsMoveInRange, IsRe
 use Rattle.cyc_plain.specs.declared.instruction.Request.{Request}
 use Rattle.cyc_plain.specs.declared.limits.TheConstants.{GREATEST_VALUE, MOST_SIZE, MOST_FRAME_WORDS}
 use Rattle.cyc_registers.specs.inside.Interference.{AreHomes}
-use Rattle.cyc_frame.specs.inside.Layout.{IsFrame, AreFrames, frame_at, loses, loses_any}
+use Rattle.cyc_frame.specs.inside.Layout.{IsFrame, AreFrames, frame_at, loses, loses_any, returns, returns_any}
 use Rattle.cyc_frame.specs.inside.Frame.{Frame}
 use Rattle.cyc_select.specs.declared.constants.TheConstants.{START_LINES}
-use Rattle.cyc_select.specs.inside.Selection.{reload_count, ending_count, body_count, behind_count, is_idle, count_of, code_count, function_count, functions_count, function_line, instruction_line, behind, place_lines, code_lines, function_lines, saving_count, routine_lines, hoisted}
+use Rattle.cyc_select.specs.inside.Selection.{reload_count, ending_count, body_count, behind_count, is_idle, count_of, code_count, function_count, functions_count, function_line, instruction_line, behind, place_lines, code_lines, function_lines, way_count, saving_count, routine_lines, hoisted}
 use Rattle.cyc_select.specs.inside.Plans.{test_of}
 use Rattle.cyc_select.specs.inside.Emission.{AreReached, AreFew, most_lines, instruction_lines, function_starts, AreReady, AreTables}
 use Rattle.cyc_words.proofs.Lists.{slice_get_below}
@@ -26,7 +26,7 @@ use Rattle.cyc_select.proofs.layout.Lines.{line_next}
 use Rattle.cyc_select.proofs.emission.Counts.{move_small, move_words_small, spills_few, copies_few, give_small, keep_few, argument_small, regions_small, gives_small, word_small, load_small, operand_small, address_small, unary_small, test_small, operator_small, reach_few, hoisted_few}
 
 abbrev no_frame : Frame
-no_frame = record { return_address = 0; saves = false; first_slot = 0; homes = []; idle = []; fills = [] }
+no_frame = record { return_address = 0; saves = false; first_saved = 0; saved = 0; first_slot = 0; homes = []; idle = []; fills = [] }
 
 -- ---- an instruction has few lines for each unit of its size
 
@@ -37,8 +37,8 @@ if_at_most_four false = omega arith
 ending_small : (program : Program) (function : ℕ) → ending_count program function ≤ 4
 ending_small program function = if_at_most_four _
 
-saving_small : (frame : Frame) → saving_count frame ≤ 1
-saving_small frame = go frame.saves
+way_small : (frame : Frame) → way_count frame ≤ 1
+way_small frame = go frame.saves
   where
     go : (b : Bool) → (if b then 1 else 0) ≤ 1
     go true = omega arith
@@ -55,24 +55,48 @@ losing_next i code = go (loses i)
     go true = omega arith
     go false = omega arith
 
--- the frames of these functions, from this index on, say which of them lose it
-abbrev pub AreSaved : List Frame → (first : ℕ) → List Routine → Type 0
-AreSaved frames first routines = (k : ℕ) → k < length routines → (frame_at frames (first + k)).saves ≡ loses_any (slice_index_or routines k no_routine).code
+-- and how many it has room for that save registers
+abbrev pub returning : List Instruction → ℕ
+returning code = if returns_any code then 7 else 0
 
-pub saved_first : (frames : List Frame) (first : ℕ) (r : Routine) (routines : List Routine) → AreSaved frames first (r ∷ routines) → (frame_at frames first).saves ≡ loses_any r.code
+pub returning_next : (i : Instruction) (code : List Instruction) → returning (i ∷ code) ≤ (if returns i then 7 else 0) + returning code
+returning_next i code = go (returns i)
+  where
+    go : (b : Bool) → (if b || returns_any code then 7 else 0) ≤ (if b then 7 else 0) + (if returns_any code then 7 else 0)
+    go true = omega arith
+    go false = omega arith
+
+-- a function with this code saves where it begins what the code has room for
+abbrev pub IsSaving : Frame → List Instruction → Type 0
+IsSaving frame code = (frame.saves ≡ loses_any code) × (frame.saved ≤ returning code)
+
+pub is_saving : (r : Routine) (frame : Frame) → IsFrame r frame → IsSaving frame r.code
+is_saving r frame is = (is.saved, go frame.saved refl)
+  where
+    go : (saved : ℕ) → saved ≡ frame.saved → frame.saved ≤ returning r.code
+    go zero none = omega (arith, none)
+    go (suc n) some =
+        let room : returning r.code ≡ 7 = ap (λ (b : Bool). if b then 7 else 0) (is.returning (omega (arith, some))) in
+        omega (arith, room, is.most_saved)
+
+-- these functions, from this index on, do so by their frames
+abbrev pub AreSaved : List Frame → (first : ℕ) → List Routine → Type 0
+AreSaved frames first routines = (k : ℕ) → k < length routines → IsSaving (frame_at frames (first + k)) (slice_index_or routines k no_routine).code
+
+pub saved_first : (frames : List Frame) (first : ℕ) (r : Routine) (routines : List Routine) → AreSaved frames first (r ∷ routines) → IsSaving (frame_at frames first) r.code
 saved_first frames first r routines saved =
-    let same : first ≡ first + 0 = omega arith in
-    ap (λ (k : ℕ). (frame_at frames k).saves) same ∙ saved 0 (omega arith)
+    let same : first + 0 ≡ first = omega arith in
+    subst (λ (k : ℕ). IsSaving (frame_at frames k) r.code) same (saved 0 (omega arith))
 
 pub saved_next : (frames : List Frame) (first : ℕ) (r : Routine) (routines : List Routine) → AreSaved frames first (r ∷ routines) → AreSaved frames (suc first) routines
 saved_next frames first r routines saved k below =
-    let same : suc first + k ≡ first + suc k = omega arith in
-    ap (λ (n : ℕ). (frame_at frames n).saves) same ∙ saved (suc k) (omega (arith, below))
+    let same : first + suc k ≡ suc first + k = omega arith in
+    subst (λ (n : ℕ). IsSaving (frame_at frames n) (slice_index_or routines k no_routine).code) same (saved (suc k) (omega (arith, below)))
 
 pub are_saved : (program : Program) (frames : List Frame) → AreFrames program frames → AreSaved frames 0 program.functions
 are_saved program frames fit k below =
-    let same : 0 + k ≡ k = omega arith in
-    ap (λ (n : ℕ). (frame_at frames n).saves) same ∙ (fit.each k below).saved
+    let same : k ≡ 0 + k = omega arith in
+    subst (λ (n : ℕ). IsSaving (frame_at frames n) (routine_at program k).code) same (is_saving (routine_at program k) (frame_at frames k) (fit.each k below))
 
 -- an operator has words for its lines
 operator_fits : (operator : BinaryOperator) → 11 ≤ operator_size operator
@@ -80,18 +104,18 @@ operator_fits binary.Divide = omega arith
 operator_fits binary.Remainder = omega arith
 operator_fits operator = omega arith
 
--- few registers of a function are read again behind a call
+-- few registers of a function are read again behind a call, and few are saved
 abbrev pub ReadsFew : List Frame → (function : ℕ) → Type 0
-ReadsFew frames function = reload_count (frame_at frames function) ≤ 6
+ReadsFew frames function = (reload_count (frame_at frames function) ≤ 6) × ((frame_at frames function).saved ≤ 7)
 
-body_small : (program : Program) (frames : List Frame) (function : ℕ) → ReadsFew frames function → AreFew program → (i : Instruction) → body_count program frames function i + behind_count program frames function i + (if loses i then 1 else 0) ≤ instruction_size i
+body_small : (program : Program) (frames : List Frame) (function : ℕ) → ReadsFew frames function → AreFew program → (i : Instruction) → body_count program frames function i + behind_count program frames function i + (if loses i then 1 else 0) + (if returns i then 7 else 0) ≤ instruction_size i
 body_small program frames function fit few (plain.Move destination source) = omega (arith, move_small (frame_at frames function) destination source)
 body_small program frames function fit few (plain.Unary operator destination operand) = omega (arith, unary_small (frame_at frames function) operator operand destination)
 body_small program frames function fit few (plain.Binary operator destination left right) = omega (arith, operator_small (frame_at frames function) operator destination left right, operator_fits operator)
 body_small program frames function fit few (plain.Jump target) = omega arith
 body_small program frames function fit few (plain.Branch comparison left right target) = omega (arith, test_small (frame_at frames function) (test_of comparison left right), hoisted_few (hoisted (frame_at frames function) (routine_at program function).code (test_of comparison left right) target))
-body_small program frames function fit few (plain.Call f a n r) = omega (arith, few f, fit, spills_few (frame_at frames function) (frame_at frames f) a 0 n, copies_few (frame_at frames function) (frame_at frames f) a 0 n)
-body_small program frames function fit few (plain.Return v) = omega (arith, few function, ending_small program function, saving_small (frame_at frames function))
+body_small program frames function fit few (plain.Call f a n r) = omega (arith, few f, fit.0, spills_few (frame_at frames function) (frame_at frames f) a 0 n, copies_few (frame_at frames function) (frame_at frames f) a 0 n)
+body_small program frames function fit few (plain.Return v) = omega (arith, few function, ending_small program function, way_small (frame_at frames function), fit.1)
 body_small program frames function fit few (plain.ReadByte destination) = omega (arith, give_small (frame_at frames function) destination)
 body_small program frames function fit few (plain.WriteByte source) = omega (arith, load_small source)
 body_small program frames function fit few (plain.AddressOf destination slot count) = omega (arith, keep_few (frame_at frames function) destination)
@@ -104,13 +128,14 @@ body_small program frames function fit few (plain.Store address offset source) =
 body_small program frames function fit few (plain.StoreByte address offset source) = omega (arith, address_small (frame_at frames function) address offset, operand_small (frame_at frames function) source)
 body_small program frames function fit few (plain.Ask request) = omega (arith, regions_small request, argument_small (second_operand request), gives_small (frame_at frames function) (destination_of request) (answer_count request))
 body_small program frames function fit few (plain.CountLexical destination) = omega (arith, give_small (frame_at frames function) destination)
-body_small program frames function fit few (plain.Try first handler) = omega (arith, fit)
+body_small program frames function fit few (plain.Try first handler) = omega (arith, fit.0)
 body_small program frames function fit few (plain.Leave first) = omega arith
 body_small program frames function fit few (plain.Throw tag value) = omega (arith, load_small tag, load_small value)
-body_small program frames function fit few (plain.Finish v) = omega (arith, few function, ending_small program function, saving_small (frame_at frames function))
+body_small program frames function fit few (plain.Finish v) = omega (arith, few function, ending_small program function, way_small (frame_at frames function), fit.1)
 body_small program frames function fit few (plain.Uncaught tag value) = omega (arith, word_small tag, load_small value)
+body_small program frames function fit few (plain.Enter callee) = omega arith
 
-function_count_small : (program : Program) (frames : List Frame) (function : ℕ) → ReadsFew frames function → AreFew program → (index : ℕ) (i : Instruction) → count_of program frames function index i + (if loses i then 1 else 0) ≤ instruction_size i
+function_count_small : (program : Program) (frames : List Frame) (function : ℕ) → ReadsFew frames function → AreFew program → (index : ℕ) (i : Instruction) → count_of program frames function index i + (if loses i then 1 else 0) + (if returns i then 7 else 0) ≤ instruction_size i
 function_count_small program frames function fit few index i = omega (arith, body_small program frames function fit few i, go (is_idle (frame_at frames function) index i))
   where
     go : (b : Bool) → (if b then 0 else body_count program frames function i) ≤ body_count program frames function i
@@ -120,25 +145,25 @@ function_count_small program frames function fit few index i = omega (arith, bod
 -- where there is no function no register is read again
 pub reads_few : (program : Program) (frames : List Frame) → AreFrames program frames → (k : ℕ) → ReadsFew frames k
 reads_few program frames fit k = elim (cases_lt k (length program.functions)) [
-  | inl below ↦ (fit.homes k below).few
+  | inl below ↦ ((fit.homes k below).few, (fit.each k below).most_saved)
   | inr past ↦
-      subst (λ (frame : Frame). reload_count frame ≤ 6) (sym (get_or_past frames k no_frame (omega (arith, past, fit.as_many)))) (let e : 0 ≤ 6 = omega arith in e)
+      subst (λ (frame : Frame). (reload_count frame ≤ 6) × (frame.saved ≤ 7)) (sym (get_or_past frames k no_frame (omega (arith, past, fit.as_many)))) ((omega arith), (omega arith))
 ]
 
 pub body_fits : (program : Program) (frames : List Frame) (function : ℕ) → AreFrames program frames → AreFew program → (i : Instruction) → body_count program frames function i + behind_count program frames function i ≤ instruction_size i
 body_fits program frames function fit few i = omega (arith, body_small program frames function (reads_few program frames fit function) few i)
 
-code_small : (program : Program) (frames : List Frame) (function : ℕ) → ReadsFew frames function → AreFew program → (index : ℕ) (code : List Instruction) → code_count program frames function index code + losing code ≤ sum_by instruction_size code
+code_small : (program : Program) (frames : List Frame) (function : ℕ) → ReadsFew frames function → AreFew program → (index : ℕ) (code : List Instruction) → code_count program frames function index code + losing code + returning code ≤ sum_by instruction_size code
 code_small program frames function fit few index [] = omega arith
 code_small program frames function fit few index (i ∷ code) =
-    omega (arith, sum_by-cons instruction_size i code, function_count_small program frames function fit few index i, code_small program frames function fit few (suc index) code, losing_next i code)
+    omega (arith, sum_by-cons instruction_size i code, function_count_small program frames function fit few index i, code_small program frames function fit few (suc index) code, losing_next i code, returning_next i code)
 
--- with the line that keeps the way back
-pub routine_small : (program : Program) (frames : List Frame) (function : ℕ) → ReadsFew frames function → AreFew program → (code : List Instruction) → (frame_at frames function).saves ≡ loses_any code
+-- with the lines that save
+pub routine_small : (program : Program) (frames : List Frame) (function : ℕ) → ReadsFew frames function → AreFew program → (code : List Instruction) → IsSaving (frame_at frames function) code
     → saving_count (frame_at frames function) + code_count program frames function 0 code ≤ sum_by instruction_size code
 routine_small program frames function fit few code saved =
-    let same : saving_count (frame_at frames function) ≡ losing code = ap (λ (b : Bool). if b then 1 else 0) saved in
-    omega (arith, same, code_small program frames function fit few 0 code)
+    let same : way_count (frame_at frames function) ≡ losing code = ap (λ (b : Bool). if b then 1 else 0) saved.0 in
+    omega (arith, same, saved.1, code_small program frames function fit few 0 code)
 
 -- the first instructions have no more lines than all
 count_take : (program : Program) (frames : List Frame) (function first : ℕ) (code : List Instruction) (k : ℕ) → code_count program frames function first (take k code) ≤ code_count program frames function first code
@@ -170,7 +195,7 @@ start_fits program frames are fit few k below =
 pub line_fits : (program : Program) (frames : List Frame) → AreFrames program frames → ((k : ℕ) → ReadsFew frames k) → AreFew program → (k : ℕ) → k < length program.functions → (index : ℕ)
     → instruction_line program frames k index ≤ START_LINES + sum_by size program.functions
 line_fits program frames are fit few k below index =
-    omega (arith, start_fits program frames are fit few k below, routine_small program frames k (fit k) few (routine_at program k).code (are.each k below).saved, count_take program frames k 0 (routine_at program k).code index)
+    omega (arith, start_fits program frames are fit few k below, routine_small program frames k (fit k) few (routine_at program k).code (is_saving (routine_at program k) (frame_at frames k) (are.each k below)), count_take program frames k 0 (routine_at program k).code index)
 
 -- ---- what a well-formed program says of all its functions
 
@@ -197,7 +222,7 @@ slots_below r frame fit (suc n) is = inr (omega (arith, fit.inside n (omega arit
 pub slots_reached : (r : Routine) (frame : Frame) → IsFrame r frame → AreReached frame 0 r.slots
 slots_reached r frame fit = slots_below r frame fit r.slots refl
 
-pub homes_reached : (program : Program) (r : Routine) (frame : Frame) → IsFrame r frame → AreHomes program r frame.homes → AreReached frame 0 (length frame.homes)
+pub homes_reached : (program : Program) (r : Routine) (frame : Frame) → IsFrame r frame → AreHomes program r frame.saved frame.homes → AreReached frame 0 (length frame.homes)
 homes_reached program r frame fit right = slots_below r frame fit (length frame.homes) right.as_many
 
 -- the slots of a function are so few

@@ -16,7 +16,7 @@ use Rattle.cyc_isa.specs.declared.instr.MemoryOp.TheVariants.{LoadWord, StoreWor
 use Rattle.cyc_isa.specs.declared.instr.MoveFromOp.{MoveFromOp}
 use Rattle.cyc_machine.specs.declared.constants.TheConstants.{ARGUMENT, END_UNCAUGHT, PUT_BYTE, SECOND_ARGUMENT, SERVICE, RETURN_ADDRESS}
 use Rattle.cyc_plain.specs.inside.Program.{Routine, Program, routine_at, operator_size, instruction_size, size}
-use Rattle.cyc_frame.specs.inside.Layout.{frame_at, loses, loses_any}
+use Rattle.cyc_frame.specs.inside.Layout.{frame_at, loses, loses_any, returns}
 use Rattle.cyc_frame.specs.inside.Frame.{Frame}
 use Rattle.cyc_select.specs.declared.code.Line.{Line}
 use Rattle.cyc_select.specs.declared.code.Condition.TheVariants as conditions
@@ -27,12 +27,13 @@ use Rattle.cyc_select.specs.declared.plan.Test.{Test}
 use Rattle.cyc_select.specs.inside.Plans.{unary_plan, binary_plan, test_of}
 use Rattle.cyc_select.specs.inside.Labelled.{Labelled, words_of, all_words}
 use Rattle.cyc_select.specs.inside.Selected.{words_at}
-use Rattle.cyc_select.specs.inside.Selection.{product_code, quotient_code, operand_count, operand_register, slot_offset, recorded_code, caught_code, reload_count, value_register, move_to, keep_code, give_code, moved_code, reloads, opened_code, made_in, ordinary, argument_code, service_number, answer_code, unwound_code, address_code, at_address, copies, bring_all, word_code, load_code, load_count, operand_code, plan_code, test_code, condition_of, hoisted, with_hoisted, behind_hoisted, branch_code, divided_code, divide_code, is_tested, part_of, result_registers, ending_code, operator_code, body, behind, place_lines, is_idle, count_of, function_count, function_line, instruction_line, code_lines, function_lines, small, syscall, store, add_immediate, push_frame, load, regions_code, load_at, store_at, spills, spills_count, calling_code, global_code, saving_code, restoring_code, saving_count, returning_code, routine_lines}
+use Rattle.cyc_select.specs.inside.Selection.{product_code, quotient_code, operand_count, operand_register, slot_offset, recorded_code, caught_code, reload_count, value_register, move_to, keep_code, give_code, moved_code, reloads, opened_code, made_in, ordinary, argument_code, service_number, answer_code, unwound_code, address_code, at_address, copies, bring_all, word_code, load_code, load_count, operand_code, plan_code, test_code, condition_of, hoisted, with_hoisted, behind_hoisted, branch_code, divided_code, divide_code, is_tested, part_of, result_registers, ending_code, operator_code, body, behind, place_lines, is_idle, count_of, function_count, function_line, instruction_line, code_lines, function_lines, small, syscall, store, add_immediate, push_frame, load, regions_code, load_at, store_at, spills, spills_count, calling_code, global_code, saves_from, way_code, saving_code, restoring_code, way_count, saving_count, returning_code, routine_lines}
 use Rattle.cyc_isa.specs.Decoding.{register_of}
 use Rattle.cyc_isa.specs.declared.instr.BranchOp.TheVariants as branch
 use Rattle.cyc_select.proofs.emission.Counts.{length_keep, length_give, length_move, length_moved, length_spills, spills_few, length_copies, copies_few, move_words_small, keep_few, give_small, move_small, argument_small, regions_small, gives_small, length_argument, length_answer, length_regions, length_results, length_registers, word_small, load_small, operand_small, address_small, plan_small, unary_small, test_small, length_word, length_load, length_operand, length_address, length_plan, length_test, length_divided, reach_few, length_global, length_hoisted, hoisted_few}
+use Rattle.cyc_select.proofs.steps.Preserving.{length_saves}
 use Rattle.cyc_select.proofs.steps.Returns.{loaded, length_loaded}
-use Rattle.cyc_select.proofs.emission.Numbering.{ReadsFew, losing, losing_next, AreSaved, saved_first, saved_next}
+use Rattle.cyc_select.proofs.emission.Numbering.{ReadsFew, losing, losing_next, returning, returning_next, IsSaving, AreSaved, saved_first, saved_next}
 use Rattle.cyc_select.proofs.relation.Values.{length_reloads}
 use Rattle.cyc_select.proofs.effects.Walks.{Stands}
 
@@ -103,18 +104,18 @@ module _ (program : Program) (frames : List Frame) (reads_few : (function : ℕ)
       go true = omega arith
       go false = omega arith
 
-  returning_words : (function here value : ℕ) → all_words (returning_code (function == program.main) (frame_at frames function) here value (routine_at program function).results) + 0 + 0 ≤ 15
+  returning_words : (function here value : ℕ) → all_words (returning_code (function == program.main) (frame_at frames function) here value (routine_at program function).results) + 0 + 0 + 7 ≤ 36
   returning_words function here value =
       let frame : Frame = frame_at frames function in
-      let there : ℕ = here + saving_count frame in
+      let there : ℕ = here + way_count frame in
       let ends : List Line = ending_code (function == program.main) frame there value in
       let loads : List Line = ordinary (loaded frame value (routine_at program function).results) in
       let whole = sum_by-append words_of (ordinary (restoring_code frame)) (ends ++ loads ++ lines.Return ∷ []) in
       let all = sum_by-append words_of (ends ++ loads) (lines.Return ∷ []) in
       let front = sum_by-append words_of ends loads in
-      omega (arith, whole, all, front, restoring_words function, words_ordinary (loaded frame value (routine_at program function).results), length_loaded frame value (routine_at program function).results (few_results function), ending_words (function == program.main) frame there value, few_results function)
+      omega (arith, whole, all, front, restoring_words function, words_ordinary (loaded frame value (routine_at program function).results), length_loaded frame value (routine_at program function).results (few_results function), ending_words (function == program.main) frame there value, few_results function, (reads_few function).1)
 
-  body_words : (function here : ℕ) (i : Instruction) → all_words (body program frames function here i) + all_words (behind program frames function i) + (if loses i then 1 else 0) ≤ instruction_size i
+  body_words : (function here : ℕ) (i : Instruction) → all_words (body program frames function here i) + all_words (behind program frames function i) + (if loses i then 1 else 0) + (if returns i then 7 else 0) ≤ instruction_size i
   body_words function here (plain.Move destination source) =
       omega (arith, words_ordinary (move_to (value_register (frame_at frames function) destination) (frame_at frames function) destination source), length_move (frame_at frames function) destination source, move_small (frame_at frames function) destination source)
   body_words function here (plain.Unary operator destination operand) =
@@ -177,7 +178,7 @@ module _ (program : Program) (frames : List Frame) (reads_few : (function : ℕ)
         sum_by-append words_of (ordinary (caught_code (frame_at frames function) first)) last,
         words_ordinary (caught_code (frame_at frames function) first),
         length_caught,
-        reads_few function,
+        (reads_few function).0,
       )
   body_words function here (plain.Leave first) = omega arith
   body_words function here (plain.Throw tag value) =
@@ -188,16 +189,17 @@ module _ (program : Program) (frames : List Frame) (reads_few : (function : ℕ)
       let last : List Instr = small SERVICE END_UNCAUGHT ∷ syscall ∷ [] in
       let loads : List Instr = load_code (frame_at frames function) SECOND_ARGUMENT value ++ last in
       omega (arith, words_ordinary (word_code ARGUMENT tag ++ loads), length-append (word_code ARGUMENT tag) loads, length_word ARGUMENT tag, length-append (load_code (frame_at frames function) SECOND_ARGUMENT value) last, length_load (frame_at frames function) SECOND_ARGUMENT value, load_small value, word_small tag)
+  body_words function here (plain.Enter callee) = omega arith
 
-  place_words : (function index here : ℕ) (i : Instruction) → all_words (place_lines program frames function index here i) + all_words (behind program frames function i) + (if loses i then 1 else 0) ≤ instruction_size i
+  place_words : (function index here : ℕ) (i : Instruction) → all_words (place_lines program frames function index here i) + all_words (behind program frames function i) + (if loses i then 1 else 0) + (if returns i then 7 else 0) ≤ instruction_size i
   place_words function index here i = omega (arith, body_words function here i, go (is_idle (frame_at frames function) index i))
     where
       go : (b : Bool) → all_words (if b then [] else body program frames function here i) ≤ all_words (body program frames function here i)
       go true = omega arith
       go false = omega arith
 
-  -- with the word that keeps the way back, where the code loses it
-  pub code_words : (function index here : ℕ) (code : List Instruction) → all_words (code_lines program frames function index here code) + losing code ≤ sum_by instruction_size code
+  -- with the words that save
+  pub code_words : (function index here : ℕ) (code : List Instruction) → all_words (code_lines program frames function index here code) + losing code + returning code ≤ sum_by instruction_size code
   code_words function index here [] = omega arith
   code_words function index here (i ∷ code) =
       omega (
@@ -208,16 +210,32 @@ module _ (program : Program) (frames : List Frame) (reads_few : (function : ℕ)
         sum_by-append words_of (place_lines program frames function index here i) (behind program frames function i),
         sum_by-cons instruction_size i code,
         losing_next i code,
+        returning_next i code,
       )
 
-  pub routine_words : (function here : ℕ) (r : Routine) → (frame_at frames function).saves ≡ loses_any r.code → all_words (routine_lines program frames function here r) ≤ size r
-  routine_words function here r saved =
-      let saving : all_words (ordinary (saving_code (frame_at frames function))) ≡ losing r.code = go (frame_at frames function).saves saved in
-      omega (arith, saving, code_words function 0 (here + saving_count (frame_at frames function)) r.code, sum_by-append words_of (ordinary (saving_code (frame_at frames function))) (code_lines program frames function 0 (here + saving_count (frame_at frames function)) r.code))
+  way_words : (function : ℕ) (code : List Instruction) → (frame_at frames function).saves ≡ loses_any code → all_words (ordinary (way_code (frame_at frames function))) ≡ losing code
+  way_words function code saved = go (frame_at frames function).saves saved
     where
-      go : (b : Bool) → b ≡ loses_any r.code → all_words (ordinary (if b then store RETURN_ADDRESS (4 * (frame_at frames function).return_address) ∷ [] else [])) ≡ (if loses_any r.code then 1 else 0)
+      go : (b : Bool) → b ≡ loses_any code → all_words (ordinary (if b then store RETURN_ADDRESS (4 * (frame_at frames function).return_address) ∷ [] else [])) ≡ (if loses_any code then 1 else 0)
       go true is = ap (λ (x : Bool). if x then 1 else 0) is
       go false is = ap (λ (x : Bool). if x then 1 else 0) is
+
+  pub routine_words : (function here : ℕ) (r : Routine) → IsSaving (frame_at frames function) r.code → all_words (routine_lines program frames function here r) ≤ size r
+  routine_words function here r saved =
+      let frame : Frame = frame_at frames function in
+      let saves : List Instr = saves_from frame.first_saved 0 frame.saved in
+      omega (
+        arith,
+        way_words function r.code saved.0,
+        length_saves frame.first_saved 0 frame.saved,
+        saved.1,
+        words_ordinary (saving_code frame),
+        words_ordinary (way_code frame),
+        words_ordinary saves,
+        length-append (way_code frame) saves,
+        code_words function 0 (here + saving_count frame) r.code,
+        sum_by-append words_of (ordinary (saving_code frame)) (code_lines program frames function 0 (here + saving_count frame) r.code),
+      )
 
   pub functions_words : (function here : ℕ) (routines : List Routine) → AreSaved frames function routines → all_words (function_lines program frames function here routines) ≤ sum_by size routines
   functions_words function here [] saved = omega arith

@@ -51,7 +51,7 @@ use Rattle.cyc_select.specs.declared.plan.Test.TheVariants as tests
 use Rattle.cyc_select.specs.inside.Plans.{unary_plan, binary_plan, test_of}
 use Rattle.cyc_select.specs.inside.Labelled.{Labelled, IsFormed, IsFormedLine}
 use Rattle.cyc_select.specs.inside.Numbers.{fits_signed, is_zero_word}
-use Rattle.cyc_select.specs.inside.Selection.{value_register, product_code, quotient_code, passed_from, spill_from, pass_from, pass, is_kept, load_from, fetch_from, move_to, keep_code, give_to, give_code, bring_code, bring_all, load_words, reloads_from, reloads, opened_code, made_in, slot_offset, ordinary, result_registers, argument_code, service_number, answer_code, unwound_code, far_plan, address_code, near_half, at_address, copies, load_all, store_all, moves, all_moved, store_slot, pop_frame, load_upper, constant, or_immediate, is_tested, part_of, plan_count, small, syscall, add_immediate, minus, upper_of_global, word_code, load_code, load_count, operand_code, operand_register, operands_code, operation_code, outcome_code, operation_of, computed_code, plan_code, test_code, condition_of, hoisted, branch_code, behind_count, divided_code, divide_code, divide_count, ending_code, ending_count, operator_code, operator_count, body, behind, place_lines, is_idle, body_count, count_of, code_count, function_count, functions_count, function_line, instruction_line, code_lines, function_lines, start_lines, select_of, regions_code, load_at, store_at, spill, spills, spills_count, calling_code, operand_count, global_code, is_near, global_address, load, store, saving_code, restoring_code, saving_count, returning_code, routine_lines}
+use Rattle.cyc_select.specs.inside.Selection.{saves_from, restores_from, saves, restores, way_code, way_count, value_register, product_code, quotient_code, passed_from, spill_from, pass_from, pass, is_kept, load_from, fetch_from, move_to, keep_code, give_to, give_code, bring_code, bring_all, load_words, reloads_from, reloads, opened_code, made_in, slot_offset, ordinary, result_registers, argument_code, service_number, answer_code, unwound_code, far_plan, address_code, near_half, at_address, copies, load_all, store_all, moves, all_moved, store_slot, pop_frame, load_upper, constant, or_immediate, is_tested, part_of, plan_count, small, syscall, add_immediate, minus, upper_of_global, word_code, load_code, load_count, operand_code, operand_register, operands_code, operation_code, outcome_code, operation_of, computed_code, plan_code, test_code, condition_of, hoisted, branch_code, behind_count, divided_code, divide_code, divide_count, ending_code, ending_count, operator_code, operator_count, body, behind, place_lines, is_idle, body_count, count_of, code_count, function_count, functions_count, function_line, instruction_line, code_lines, function_lines, start_lines, select_of, regions_code, load_at, store_at, spill, spills, spills_count, calling_code, operand_count, global_code, is_near, global_address, load, store, saving_code, restoring_code, saving_count, returning_code, routine_lines}
 use Rattle.cyc_select.proofs.layout.Lines.{line_first, line_next}
 use Rattle.cyc_select.proofs.values.Plans.{AllOfTest, all_unary, all_binary, all_test}
 use Rattle.cyc_select.proofs.emission.Counts.{operation_some, move_some, move_words_some, give_some, length_registers, answer_few, service_small}
@@ -141,6 +141,7 @@ count_some program frames function (plain.Leave first) in_range = omega arith
 count_some program frames function (plain.Throw tag value) in_range = omega arith
 count_some program frames function (plain.Finish value) in_range = omega arith
 count_some program frames function (plain.Uncaught tag value) in_range = omega arith
+count_some program frames function (plain.Enter callee) in_range = omega arith
 
 -- ---- each place lies within the code
 
@@ -476,13 +477,28 @@ module _ (program : Program) (well : IsWellFormed program) (words : HasWords pro
         let four : ending_count program function ≡ 4 = ap (λ (b : Bool). if b then 4 else 0) is in
         ((omega (arith, long, four)), ((loaded_formed (value_register frame value) ARGUMENT value (omega (arith, fits, one))).0, ((refl, (omega arith)), ((refl, tt), tt))))
 
-    -- the way back, into the frame and from there
-    saving_formed : Formed (ordinary (saving_code frame))
-    saving_formed = go frame.saves
+    -- the registers that calls preserve, into the frame and from there
+    saved_fits : (j : ℕ) → j < 7 → 4 * (frame.first_saved + j) < 2 ^ 16
+    saved_fits j below = (let f = fit.each function known in let inside = f.saved_inside j below in omega (arith, inside, f.small))
+
+    saves_formed : (j count : ℕ) → j + count ≤ 7 → Formed (ordinary (saves_from frame.first_saved j count))
+    saves_formed j zero few = tt
+    saves_formed j (suc count) few = ((refl, saved_fits j (omega (arith, few))), saves_formed (suc j) count (omega (arith, few)))
+
+    restores_formed : (j count : ℕ) → j + count ≤ 7 → Formed (ordinary (restores_from frame.first_saved j count))
+    restores_formed j zero few = tt
+    restores_formed j (suc count) few = ((refl, saved_fits j (omega (arith, few))), restores_formed (suc j) count (omega (arith, few)))
+
+    -- and the way back
+    way_formed : Formed (ordinary (way_code frame))
+    way_formed = go frame.saves
       where
         go : (b : Bool) → Formed (ordinary (if b then store RETURN_ADDRESS (4 * frame.return_address) ∷ [] else []))
         go true = ((refl, return_fits), tt)
         go false = tt
+
+    saving_formed : Formed (ordinary (saving_code frame))
+    saving_formed = formed_append (way_code frame) (saves frame) way_formed (saves_formed 0 frame.saved (omega (arith, (fit.each function known).most_saved)))
 
     restoring_formed : Formed (ordinary (restoring_code frame))
     restoring_formed = go frame.saves
@@ -491,19 +507,20 @@ module _ (program : Program) (well : IsWellFormed program) (words : HasWords pro
         go true = ((refl, return_fits), tt)
         go false = tt
 
-    returning_formed : (n value : ℕ) → value + (routine_at program function).results ≤ slots → n + (saving_count frame + ending_count program function + (routine_at program function).results + 2) ≤ length (select_of program frames).lines
+    returning_formed : (n value : ℕ) → value + (routine_at program function).results ≤ slots → n + (way_count frame + ending_count program function + ((routine_at program function).results + frame.saved + 2)) ≤ length (select_of program frames).lines
         → Formed (returning_code (function == program.main) frame n value (routine_at program function).results)
     returning_formed n value in_range long =
         let few = few_results program well function in
         let registers = length_registers (routine_at program function).results few in
-        let there : ℕ = n + saving_count frame in
+        let there : ℕ = n + way_count frame in
         let ends : List Line = ending_code (function == program.main) frame there value in
         let loads : List Line = ordinary (loaded frame value (routine_at program function).results) in
         all_append (IsFormedLine (length (select_of program frames).lines)) (ordinary (restoring_code frame)) (ends ++ loads ++ lines.Return ∷ []) restoring_formed
         (all_append (IsFormedLine (length (select_of program frames).lines)) (ends ++ loads) (lines.Return ∷ [])
         (all_append (IsFormedLine (length (select_of program frames).lines)) ends loads
         (ending_formed (function == program.main) there value refl in_range (omega (arith, long)))
-        (formed_append (load_all frame value (result_registers (routine_at program function).results)) (pop_frame ∷ []) (loads_formed value (result_registers (routine_at program function).results) (omega (arith, registers, in_range))) ((refl, (omega arith)), tt)))
+        (formed_append (load_all frame value (result_registers (routine_at program function).results)) (restores frame ++ pop_frame ∷ []) (loads_formed value (result_registers (routine_at program function).results) (omega (arith, registers, in_range)))
+        (formed_append (restores frame) (pop_frame ∷ []) (restores_formed 0 frame.saved (omega (arith, (fit.each function known).most_saved))) ((refl, (omega arith)), tt))))
         (tt, tt))
 
     upper_fits : (global : ℕ) → global < length program.globals → (data_base + 4 * global + 2 ^ 15) / 2 ^ 16 < 2 ^ 16
@@ -576,7 +593,13 @@ module _ (program : Program) (well : IsWellFormed program) (words : HasWords pro
           let counted = ap (λ (b : Bool). (if b then 0 else body_count program frames function its.i) + behind_count program frames function its.i) its.busy in
           omega (arith, target_known function (target + 1) further, line_next program frames function target its.i its.at, counted, some)
 
-    body_formed : (i : Instruction) (n : ℕ) → IsInRange program (routine_at program function) i → HasWord i → n + body_count program frames function i ≤ length (select_of program frames).lines → Formed (body program frames function n i)
+    -- (The branch of `Enter` leads to the first line of the next place. That there is one goes by what stands behind it, so
+    -- `place_formed` shows that.)
+    abbrev IsFormedBy : Instruction → List Line → Type 0
+    IsFormedBy (plain.Enter callee) ls = Unit {0}
+    IsFormedBy i ls = Formed ls
+
+    body_formed : (i : Instruction) (n : ℕ) → IsInRange program (routine_at program function) i → HasWord i → n + body_count program frames function i ≤ length (select_of program frames).lines → IsFormedBy i (body program frames function n i)
     body_formed (plain.Move destination source) n (a, b) fits long = move_formed destination source a (b, fits)
     body_formed (plain.Unary operator destination operand) n (a, b) fits long =
         plan_formed (unary_plan operator operand) destination (unary_there operator operand (b, fits)) a
@@ -690,6 +713,7 @@ module _ (program : Program) (well : IsWellFormed program) (words : HasWords pro
     body_formed (plain.Uncaught tag value) n below (tag_fits, value_fits) long =
         formed_append (word_code ARGUMENT tag) (load_code frame SECOND_ARGUMENT value ++ small SERVICE END_UNCAUGHT ∷ syscall ∷ []) (word_formed ARGUMENT tag tag_fits)
         (formed_append (load_code frame SECOND_ARGUMENT value) (small SERVICE END_UNCAUGHT ∷ syscall ∷ []) (load_formed SECOND_ARGUMENT value (below, value_fits)) ((refl, (omega arith)), ((refl, tt), tt)))
+    body_formed (plain.Enter callee) n in_range fits long = tt
 
     behind_formed : (i : Instruction) → IsInRange program (routine_at program function) i → Formed (behind program frames function i)
     behind_formed (plain.Call callee arguments count result) in_range =
@@ -719,9 +743,15 @@ module _ (program : Program) (well : IsWellFormed program) (words : HasWords pro
     behind_formed (plain.Throw tag value) in_range = tt
     behind_formed (plain.Finish value) in_range = tt
     behind_formed (plain.Uncaught tag value) in_range = tt
+    behind_formed (plain.Enter callee) in_range = tt
 
   place_formed : (function index n : ℕ) (i : Instruction) → function < length program.functions → instruction_at program (record { function = function; index = index }) ≡ Some i → n ≡ instruction_line program frames function index
       → Formed (place_lines program frames function index n i)
+  place_formed function index n (plain.Enter callee) known at here =
+      let further : index + 1 < length (routine_at program function).code = goes_behind program (routine_at program function) index (plain.Enter callee) (routine_in program function well known) at refl in
+      let next = target_known function (index + 1) further in
+      let line = line_next program frames function index (plain.Enter callee) at in
+      (omega (arith, here, next, line), ((refl, (omega arith)), ((refl, tt), tt)))
   place_formed function index n i known at here = go (is_idle (frame_at frames function) index i) refl
     where
       go : (b : Bool) → is_idle (frame_at frames function) index i ≡ b → Formed (if b then [] else body program frames function n i)

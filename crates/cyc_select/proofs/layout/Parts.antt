@@ -52,6 +52,7 @@ leaving_counts_none program frames function (plain.Leave first) last = refl
 leaving_counts_none program frames function (plain.Throw tag value) last = refl
 leaving_counts_none program frames function (plain.Finish value) last = refl
 leaving_counts_none program frames function (plain.Uncaught tag value) last = refl
+leaving_counts_none program frames function (plain.Enter callee) last = refl
 
 some_last_leaves : (r : Routine) (i : Instruction) → IsSomeAnd (slice_get r.code (length r.code - 1)) (λ j. leaves j ≡ true) → slice_get r.code (length r.code - 1) ≡ Some i → leaves i ≡ true
 some_last_leaves r i last at = subst (λ (o : Option Instruction). IsSomeAnd o (λ j. leaves j ≡ true)) at last

@@ -26,9 +26,10 @@ use Rattle.cyc_select.specs.declared.plan.Plan.{Plan}
 use Rattle.cyc_select.specs.declared.plan.Test.{Test}
 use Rattle.cyc_select.specs.inside.Labelled.{Labelled}
 use Rattle.cyc_select.specs.inside.Plans.{unary_plan, binary_plan, test_of}
-use Rattle.cyc_select.specs.inside.Selection.{value_register, product_code, quotient_code, copies_count, move_to, keep_code, keep_count, give_code, give_count, moved_code, reloads, reload_count, opened_code, made_in, ordinary, argument_code, service_number, answer_code, unwound_code, address_code, at_address, copies, bring_all, small, syscall, word_code, load_code, load_count, operand_code, operand_register, plan_code, plan_count, test_code, condition_of, hoisted, with_hoisted, behind_hoisted, divided_code, divide_code, divide_count, is_tested, part_of, result_registers, ending_code, ending_count, operator_code, operator_count, body, behind, place_lines, is_idle, body_count, behind_count, place_count, count_of, code_count, function_count, functions_count, function_line, instruction_line, code_lines, function_lines, start_lines, select_of, regions_code, load_at, store_at, address_count, operand_count, spills, spills_count, calling_code, global_code, load, store, saving_code, restoring_code, saving_count, returning_code, routine_lines}
+use Rattle.cyc_select.specs.inside.Selection.{value_register, product_code, quotient_code, copies_count, move_to, keep_code, keep_count, give_code, give_count, moved_code, reloads, reload_count, opened_code, made_in, ordinary, argument_code, service_number, answer_code, unwound_code, address_code, at_address, copies, bring_all, small, syscall, word_code, load_code, load_count, operand_code, operand_register, plan_code, plan_count, test_code, condition_of, hoisted, with_hoisted, behind_hoisted, divided_code, divide_code, divide_count, is_tested, part_of, result_registers, ending_code, ending_count, operator_code, operator_count, body, behind, place_lines, is_idle, body_count, behind_count, place_count, count_of, code_count, function_count, functions_count, function_line, instruction_line, code_lines, function_lines, start_lines, select_of, regions_code, load_at, store_at, address_count, operand_count, spills, spills_count, calling_code, global_code, load, store, saves, way_code, saving_code, restoring_code, way_count, saving_count, returning_code, routine_lines}
 use Rattle.cyc_select.proofs.steps.Calls.{length_ordinary}
 use Rattle.cyc_select.proofs.emission.Counts.{length_keep, length_give, length_move, length_moved, length_spills, length_copies, length_argument, length_answer, length_regions, length_results, length_registers, length_word, length_load, length_operand, length_address, length_plan, length_test, length_hoisted, length_divided, length_global}
+use Rattle.cyc_select.proofs.steps.Preserving.{length_saves}
 use Rattle.cyc_select.proofs.steps.Returns.{loaded, length_loaded}
 use Rattle.cyc_select.proofs.relation.Values.{length_reloads}
 use Rattle.cyc_select.proofs.effects.Walks.{Stands, stands_front, stands_back}
@@ -72,7 +73,7 @@ module _ (program : Program) (frames : List Frame) (few_results : (function : �
       let last : List Instr = at_address (frame_at frames function) op (operand_register (frame_at frames function) SECOND source) address offset ∷ [] in
       omega (arith, length_ordinary (is ++ (js ++ last)), length-append is (js ++ last), length-append js last, length_address (frame_at frames function) address offset, length_operand (frame_at frames function) SECOND source)
 
-  length_restoring : (function : ℕ) → length (ordinary (restoring_code (frame_at frames function))) ≡ saving_count (frame_at frames function)
+  length_restoring : (function : ℕ) → length (ordinary (restoring_code (frame_at frames function))) ≡ way_count (frame_at frames function)
   length_restoring function = go (frame_at frames function).saves
     where
       go : (b : Bool) → length (ordinary (if b then load RETURN_ADDRESS (4 * (frame_at frames function).return_address) ∷ [] else [])) ≡ (if b then 1 else 0)
@@ -80,10 +81,10 @@ module _ (program : Program) (frames : List Frame) (few_results : (function : �
       go false = refl
 
   length_returning : (function here value : ℕ) → length (returning_code (function == program.main) (frame_at frames function) here value (routine_at program function).results)
-      ≡ saving_count (frame_at frames function) + ending_count program function + (routine_at program function).results + 2
+      ≡ way_count (frame_at frames function) + ending_count program function + ((routine_at program function).results + (frame_at frames function).saved + 2)
   length_returning function here value =
       let frame : Frame = frame_at frames function in
-      let there : ℕ = here + saving_count frame in
+      let there : ℕ = here + way_count frame in
       let ends : List Line = ending_code (function == program.main) frame there value in
       let loads : List Line = ordinary (loaded frame value (routine_at program function).results) in
       let front = length-append ends loads in
@@ -157,6 +158,7 @@ module _ (program : Program) (frames : List Frame) (few_results : (function : �
       let last : List Instr = small SERVICE END_UNCAUGHT ∷ syscall ∷ [] in
       let loads : List Instr = load_code (frame_at frames function) SECOND_ARGUMENT value ++ last in
       omega (arith, length_ordinary (word_code ARGUMENT tag ++ loads), length-append (word_code ARGUMENT tag) loads, length_word ARGUMENT tag, length-append (load_code (frame_at frames function) SECOND_ARGUMENT value) last, length_load (frame_at frames function) SECOND_ARGUMENT value)
+  length_body function here (plain.Enter callee) = refl
 
   pub length_behind : (function : ℕ) (i : Instruction) → length (behind program frames function i) ≡ behind_count program frames function i
   length_behind function (plain.Call callee arguments count result) =
@@ -188,6 +190,7 @@ module _ (program : Program) (frames : List Frame) (few_results : (function : �
   length_behind function (plain.Throw tag value) = refl
   length_behind function (plain.Finish value) = refl
   length_behind function (plain.Uncaught tag value) = refl
+  length_behind function (plain.Enter callee) = refl
 
   pub length_place : (function index here : ℕ) (i : Instruction) → length (place_lines program frames function index here i) ≡ place_count program frames function index i
   length_place function index here i = go (is_idle (frame_at frames function) index i)
@@ -210,12 +213,17 @@ module _ (program : Program) (frames : List Frame) (few_results : (function : �
         length_code function (suc index) (here + count_of program frames function index i) code,
       )
 
-  pub length_saving : (function : ℕ) → length (ordinary (saving_code (frame_at frames function))) ≡ saving_count (frame_at frames function)
-  length_saving function = go (frame_at frames function).saves
+  length_way : (function : ℕ) → length (way_code (frame_at frames function)) ≡ way_count (frame_at frames function)
+  length_way function = go (frame_at frames function).saves
     where
-      go : (b : Bool) → length (ordinary (if b then store RETURN_ADDRESS (4 * (frame_at frames function).return_address) ∷ [] else [])) ≡ (if b then 1 else 0)
+      go : (b : Bool) → length (if b then store RETURN_ADDRESS (4 * (frame_at frames function).return_address) ∷ [] else []) ≡ (if b then 1 else 0)
       go true = refl
       go false = refl
+
+  pub length_saving : (function : ℕ) → length (ordinary (saving_code (frame_at frames function))) ≡ saving_count (frame_at frames function)
+  length_saving function =
+      let frame : Frame = frame_at frames function in
+      omega (arith, length_ordinary (saving_code frame), length-append (way_code frame) (saves frame), length_way function, length_saves frame.first_saved 0 frame.saved)
 
   pub length_routine : (function here : ℕ) (r : Routine) → length (routine_lines program frames function here r) ≡ function_count program frames function r
   length_routine function here r =

@@ -7,13 +7,13 @@ use Rattle.cyc_plain.specs.inside.Program.{Program, CodePlace, routine_at, size}
 use Rattle.cyc_plain.specs.inside.WellFormed.{IsWellFormed, HasWords, IsPlain}
 use Rattle.cyc_words.proofs.Prices.{sum_by-flat_map}
 use Rattle.cyc_frame.specs.inside.Frame.{Frame}
-use Rattle.cyc_frame.specs.inside.Layout.{AreFrames}
+use Rattle.cyc_frame.specs.inside.Layout.{frame_at, AreFrames}
 use Rattle.cyc_select.specs.declared.constants.TheConstants.{MAX_START_WORDS, START_LINES}
 use Rattle.cyc_select.specs.inside.Labelled.{words_of, all_words, IsCode}
 use Rattle.cyc_select.specs.inside.Selected.{IsCodeOf, words_at}
 use Rattle.cyc_select.specs.inside.Selection.{function_count, function_line, routine_lines, function_lines, start_lines, select_of}
 use Rattle.cyc_select.proofs.layout.Formed.{few_results, formed}
-use Rattle.cyc_select.proofs.emission.Numbering.{reads_few, are_saved}
+use Rattle.cyc_select.proofs.emission.Numbering.{reads_few, is_saving, are_saved}
 use Rattle.cyc_select.proofs.layout.Parts.{place_in, own_function, parts}
 use Rattle.cyc_select.proofs.runs.Runs.{own_of}
 use Rattle.cyc_select.proofs.emission.Sizes.{words_range, routine_words, functions_words}
@@ -38,7 +38,7 @@ module _ (program : Program) (well : IsWellFormed program) (words : HasWords pro
       let long = length_routine program frames (few_results program well) function (function_line program frames function) (routine_at program function) in
       let four : sum_by (words_at (select_of program frames)) (range_with_len (function_line program frames function) (function_count program frames function (routine_at program function))) ≡ sum_by (words_at (select_of program frames)) (range_with_len (function_line program frames function) (length (routine_lines program frames function (function_line program frames function) (routine_at program function)))) = ap (λ (n : ℕ). sum_by (words_at (select_of program frames)) (range_with_len (function_line program frames function) n)) (sym long) in
       let five = words_range (select_of program frames) (function_line program frames function) (routine_lines program frames function (function_line program frames function) (routine_at program function)) (stand_function program frames (few_results program well) function known) in
-      omega (arith, one, two, three, four, five, routine_words program frames (reads_few program frames fit) (few_results program well) function (function_line program frames function) (routine_at program function) (fit.each function known).saved)
+      omega (arith, one, two, three, four, five, routine_words program frames (reads_few program frames fit) (few_results program well) function (function_line program frames function) (routine_at program function) (is_saving (routine_at program function) (frame_at frames function) (fit.each function known)))
 
   few_before : sum_by (words_at (select_of program frames)) (range_with_len 0 START_LINES) ≤ MAX_START_WORDS
   few_before = omega (arith, words_range (select_of program frames) 0 (start_lines program frames) (starts program frames (few_results program well)))

@@ -21,7 +21,7 @@ use Rattle.cyc_select.specs.inside.Machine as labelled
 use Rattle.cyc_select.specs.inside.Selection.{slot_offset, value_register, instruction_line}
 use Rattle.cyc_select.proofs.values.Computing.{HeldIn, IsHeld}
 use Rattle.cyc_select.proofs.relation.Matches.{At}
-use Rattle.cyc_select.proofs.relation.Standing.{Standing, slot_cell, slot_word_is, keeps_back}
+use Rattle.cyc_select.proofs.relation.Standing.{Standing, slot_cell, slot_word_is, stage_of}
 use Rattle.cyc_select.proofs.relation.Values.{Caches, memory_kept, itself}
 use Rattle.cyc_select.proofs.effects.Views.{Contents}
 use Rattle.cyc_registers.specs.inside.Liveness.{IsLiveAt}
@@ -30,7 +30,7 @@ module _ (program : Program) (well : IsWellFormed program) (frames : List Frame)
     (c : Configuration)
     (run : labelled.Configuration) (r : Words) (w : Contents) (base back : ℕ)
     (now : At program well frames fit code formed addresses pages calls few (instruction_line program frames c.active.function c.active.next) c.output c.input r w run)
-    (s : Standing program frames addresses pages calls c r w base back (keeps_back frames c) c.active.slots)
+    (s : Standing program frames addresses pages calls c r w base back (stage_of frames c) c.active.slots)
     (caches : Caches program frames c.active.function c.active.next r c.active.slots) where
   abbrev frame : Frame
   frame = frame_at frames c.active.function
@@ -38,7 +38,7 @@ module _ (program : Program) (well : IsWellFormed program) (frames : List Frame)
   abbrev slots : ℕ
   slots = (routine_at program c.active.function).slots
 
-  right : AreHomes program (routine_at program c.active.function) (frame_at frames c.active.function).homes
+  right : AreHomes program (routine_at program c.active.function) (frame_at frames c.active.function).saved (frame_at frames c.active.function).homes
   right = fit.homes c.active.function s.known
 
   abbrev pub Held : Operand → Type 0
@@ -52,8 +52,8 @@ module _ (program : Program) (well : IsWellFormed program) (frames : List Frame)
       → IsLiveAt program (routine_at program c.active.function) slot c.active.next
       → HeldIn globals_length (words_per_call * calls) o (frame_at frames c.active.function) (r FRAME) w r c.active.slots slot
   slot_held None slot none below wanted = (
-    slot_cell program well frames fit addresses pages calls few c r w base back (keeps_back frames c) c.active.slots s slot below,
-    slot_word_is program well frames fit addresses pages calls few c r w base back (keeps_back frames c) c.active.slots s slot below (memory_kept frame slot none),
+    slot_cell program well frames fit addresses pages calls few c r w base back (stage_of frames c) c.active.slots s slot below,
+    slot_word_is program well frames fit addresses pages calls few c r w base back (stage_of frames c) c.active.slots s slot below (memory_kept frame slot none),
   )
   slot_held (Some k) slot has below wanted =
       (right.low slot k has, right.high slot k has, caches slot k has wanted, subst IsWord (caches slot k has wanted) (now.r_words k))

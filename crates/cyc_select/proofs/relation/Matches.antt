@@ -1,6 +1,6 @@
 -- When a state of the labelled machine matches one of the plain machine.
-use Rattle.std.proofs.Common.{◌≡◌, ◌≢◌, ℕ, suc, ◌+◌, ◌-◌, ◌*◌, ◌<◌, ◌≤◌, Bool, true, false, List, [], ◌∷◌, length, Some, refl, sym, ap, subst, ◌∙◌, inl}
-use Rattle.std.specs.Prelude.{◌⊎◌, slice_index, if◌then◌else◌}
+use Rattle.std.proofs.Common.{◌≡◌, ◌≢◌, ℕ, suc, ◌+◌, ◌-◌, ◌*◌, ◌<◌, ◌≤◌, Bool, true, false, List, [], ◌∷◌, length, Option, Some, refl, sym, ap, subst, ◌∙◌, arith, inl}
+use Rattle.std.specs.Prelude.{◌⊎◌, ◌==◌, slice_index, if◌then◌else◌}
 use Rattle.std.specs.List.{AllByRecursion}
 use Rattle.std.proofs.lemmas.Bool.{and_from, le-leb}
 use Rattle.cyc_plain.specs.inside.Uses.{writes, leads}
@@ -16,9 +16,9 @@ use Rattle.cyc_plain.specs.declared.instruction.Instruction.TheVariants as plain
 use Rattle.cyc_plain.specs.inside.Program.{Program, routine_at}
 use Rattle.cyc_plain.specs.inside.State as states
 use Rattle.cyc_plain.specs.inside.State.{Words, AreWords, put, copied, Configuration}
-use Rattle.cyc_plain.specs.inside.Step.{Choice, IsAllowed, instruction_at, performed, executed, gives, step, is_within, Step}
+use Rattle.cyc_plain.specs.inside.Step.{Choice, IsAllowed, instruction_at, performed, executed, gives, step, is_within, limit_of, limit_at, limited, Step}
 use Rattle.cyc_plain.specs.inside.WellFormed.{IsWellFormed}
-use Rattle.cyc_plain.proofs.RunLaws.{limited-within, zeros, calls_nothing, zeros_at}
+use Rattle.cyc_plain.proofs.RunLaws.{limited-within, limit_free, zeros, calls_nothing, zeros_at}
 use Rattle.cyc_frame.specs.inside.Layout.{AreFrames, frame_at}
 use Rattle.cyc_frame.specs.inside.Frame.{Frame}
 use Rattle.cyc_select.specs.inside.Labelled.{Labelled, IsFormed}
@@ -29,7 +29,7 @@ use Rattle.cyc_select.proofs.values.Blocks.{ValuesSame, lasting}
 use Rattle.cyc_select.proofs.layout.Lines.{line_next}
 use Rattle.cyc_select.proofs.effects.Views.{Contents, written}
 use Rattle.cyc_select.proofs.effects.Walks.{Now, now_at}
-use Rattle.cyc_select.proofs.relation.Standing.{behind_line, keeps_back, Standing, slot_address, standing_registers, standing_at, standing_slot, standing_unkept}
+use Rattle.cyc_select.proofs.relation.Standing.{preserved_of, Finds, under_way, entering, behind_line, stage_of, Standing, slot_address, standing_registers, standing_at, standing_slot, standing_unkept}
 use Rattle.cyc_select.proofs.relation.Values.{Caches, caches_past, made_caches}
 
 -- the registers of what a function returns
@@ -61,7 +61,7 @@ module _ (program : Program) (well : IsWellFormed program) (frames : List Frame)
     pub back : ℕ
     pub is : t ≡ Running run
     pub now : At (instruction_line program frames c.active.function c.active.next) c.output c.input r w run
-    pub standing : Standing program frames addresses pages calls c r w base back (keeps_back frames c) c.active.slots
+    pub standing : Standing program frames addresses pages calls c r w base back (stage_of frames c) c.active.slots
     pub caches : Caches program frames c.active.function c.active.next r c.active.slots
 
   -- The function begins: the line that keeps its way back is next, if it has one, before the instruction's own.
@@ -73,10 +73,11 @@ module _ (program : Program) (well : IsWellFormed program) (frames : List Frame)
     pub is : t ≡ Running run
     pub first : c.active.next ≡ 0
     pub now : At (function_line program frames c.active.function) c.output c.input r w run
-    pub standing : Standing program frames addresses pages calls c r w base (r RETURN_ADDRESS) false c.active.slots
+    pub standing : Standing program frames addresses pages calls c r w base (r RETURN_ADDRESS) entering c.active.slots
     pub caches : Caches program frames c.active.function c.active.next r c.active.slots
 
-  -- The lines behind a call are next, before the instruction's own, and what the call returned is in registers.
+  -- The lines behind a call are next, before the instruction's own, and what the call returned is in registers, and so is
+  -- what it preserved.
   pub record Back (c : Configuration) (t : State) : Type 0 where
     pub run : labelled.Configuration
     pub r : Words
@@ -94,8 +95,9 @@ module _ (program : Program) (well : IsWellFormed program) (frames : List Frame)
     pub next : c.active.next ≡ index + 1
     pub call : instruction_at program (record { function = c.active.function; index = index }) ≡ Some (plain.Call callee arguments count result)
     pub now : At (behind_line program frames c.active.function index callee arguments count result) c.output c.input r w run
-    pub standing : Standing program frames addresses pages calls c r w base (w.words (base + 4 * (frame_at frames c.active.function).return_address)) true waiting
+    pub standing : Standing program frames addresses pages calls c r w base (w.words (base + 4 * (frame_at frames c.active.function).return_address)) (under_way true) waiting
     pub returned : (k : ℕ) → k < (routine_at program callee).results → r (result_register k) ≡ values (first + k)
+    pub finds : Finds program frames c.active.function index callee arguments count result (preserved_of r) waiting
     pub slots : c.active.slots ≡ copied values first (routine_at program callee).results waiting result
 
   -- An exception has come to a handler of this call: it is on the lines that the handler's instruction has for it, and its
@@ -113,7 +115,7 @@ module _ (program : Program) (well : IsWellFormed program) (frames : List Frame)
     pub opened : instruction_at program (states.place_of (states.Running c)) ≡ Some (plain.Try first handler)
     pub caught : c.active.handlers ≡ states.Caught ∷ handlers
     pub now : At (instruction_line program frames c.active.function c.active.next + 3) c.output c.input r w run
-    pub standing : Standing program frames addresses pages calls (record c { active = record c.active { handlers = handlers } }) r w base (w.words (base + 4 * (frame_at frames c.active.function).return_address)) true waiting
+    pub standing : Standing program frames addresses pages calls (record c { active = record c.active { handlers = handlers } }) r w base (w.words (base + 4 * (frame_at frames c.active.function).return_address)) (under_way true) waiting
     pub slots : c.active.slots ≡ put (put waiting first (r 4)) (suc first) (r 5)
 
   -- The first of the instruction's own lines was executed already, in front of the branch that led to it. Where the run came from it
@@ -156,23 +158,24 @@ module _ (program : Program) (well : IsWellFormed program) (frames : List Frame)
 
   -- by an instruction that stays within the limits
   pub steps_to : (c : Configuration) (choice : Choice) (i : Instruction) (next : states.State) → IsAllowed program (states.Running c) choice
-      → instruction_at program (states.place_of (states.Running c)) ≡ Some i → performed program choice c i ≡ next → is_within pages calls next ≡ true → Step program pages calls (states.Running c) next
+      → instruction_at program (states.place_of (states.Running c)) ≡ Some i → performed program choice c i ≡ next → is_within pages (limit_of (Some i) calls) next ≡ true → Step program pages calls (states.Running c) next
   steps_to c choice i next allowed at does keeps =
       let is : step program choice (states.Running c) ≡ next = ap (executed program choice c) at ∙ does in
-      let keeps_step : is_within pages calls (step program choice (states.Running c)) ≡ true = ap (is_within pages calls) is ∙ keeps in
-      (choice, allowed, sym (limited-within pages calls (states.Running c) (step program choice (states.Running c)) keeps_step ∙ is))
+      let keeps_step : is_within pages (limit_of (Some i) calls) (step program choice (states.Running c)) ≡ true = ap (is_within pages (limit_of (Some i) calls)) is ∙ keeps in
+      let limit : limit_at program (states.Running c) calls ≡ limit_of (Some i) calls = ap (λ (o : Option Instruction). limit_of o calls) at in
+      (choice, allowed, sym (ap (λ (n : ℕ). limited pages n (states.Running c) (step program choice (states.Running c))) limit ∙ limited-within pages (limit_of (Some i) calls) (states.Running c) (step program choice (states.Running c)) keeps_step ∙ is))
 
   pub reached : (c : Configuration) (choice : Choice) (i : Instruction) (next : states.State) (t : State) → IsAllowed program (states.Running c) choice
-      → instruction_at program (states.place_of (states.Running c)) ≡ Some i → performed program choice c i ≡ next → is_within pages calls next ≡ true → Matches next t → Reached c t
+      → instruction_at program (states.place_of (states.Running c)) ≡ Some i → performed program choice c i ≡ next → is_within pages (limit_of (Some i) calls) next ≡ true → Matches next t → Reached c t
   reached c choice i next t allowed at does keeps matches = (next, steps_to c choice i next allowed at does keeps, matches)
 
   module _ (c : Configuration) (i : Instruction) (at : instruction_at program (states.place_of (states.Running c)) ≡ Some i) (free : calls_nothing i ≡ true) (r : Words) (w : Contents) (base back : ℕ)
-      (s : Standing program frames addresses pages calls c r w base back (keeps_back frames c) c.active.slots) (caches : Caches program frames c.active.function c.active.next r c.active.slots) where
+      (s : Standing program frames addresses pages calls c r w base back (stage_of frames c) c.active.slots) (caches : Caches program frames c.active.function c.active.next r c.active.slots) where
     -- memory, where the slot lives there
     put_slot : (b : Bool) (slot word : ℕ) → slot < (routine_at program c.active.function).slots → is_kept (frame_at frames c.active.function) slot ≡ b
-        → Standing program frames addresses pages calls c r (if b then written w (base + slot_offset (frame_at frames c.active.function) slot) word else w) base back (keeps_back frames c) (put c.active.slots slot word)
-    put_slot true slot word below kept = standing_slot program well frames fit addresses pages calls few c r w base back (keeps_back frames c) c.active.slots s slot word below
-    put_slot false slot word below unkept = standing_unkept program well frames fit addresses pages calls few c r w base back (keeps_back frames c) c.active.slots s slot word unkept
+        → Standing program frames addresses pages calls c r (if b then written w (base + slot_offset (frame_at frames c.active.function) slot) word else w) base back (stage_of frames c) (put c.active.slots slot word)
+    put_slot true slot word below kept = standing_slot program well frames fit addresses pages calls few c r w base back (stage_of frames c) c.active.slots s slot word below
+    put_slot false slot word below unkept = standing_unkept program well frames fit addresses pages calls few c r w base back (stage_of frames c) c.active.slots s slot word unkept
 
     -- An instruction that gives a word to a slot, and perhaps reads.
     pub reached_gives : (destination word : ℕ) (input : List ℕ) (line : ℕ) (run : labelled.Configuration) (r' : Words) (w' : Contents)
@@ -188,15 +191,16 @@ module _ (program : Program) (well : IsWellFormed program) (frames : List Frame)
         → At line c.output input r' w' run → Reached c (Running run)
     reached_gives destination word input line run r' w' below unwritten gets led does fine line_is zero_same base_same lowest_same back_same lasts_same result others puts now =
         let d : Configuration = record c { active = record c.active { next = c.active.next + 1; slots = put c.active.slots destination word }; input = input } in
-        let address = slot_address program well frames fit addresses pages calls few c r w base back (keeps_back frames c) c.active.slots s destination below in
+        let address = slot_address program well frames fit addresses pages calls few c r w base back (stage_of frames c) c.active.slots s destination below in
         let in_place = put_slot (is_kept (frame_at frames c.active.function) destination) destination word below refl in
-        let in_w' : Standing program frames addresses pages calls c r w' base back (keeps_back frames c) (put c.active.slots destination word) =
-        subst (λ (x : Contents). Standing program frames addresses pages calls c r x base back (keeps_back frames c) (put c.active.slots destination word))
+        let in_w' : Standing program frames addresses pages calls c r w' base back (stage_of frames c) (put c.active.slots destination word) =
+        subst (λ (x : Contents). Standing program frames addresses pages calls c r x base back (stage_of frames c) (put c.active.slots destination word))
         (sym (puts ∙ ap (λ (a : ℕ). if is_kept (frame_at frames c.active.function) destination then written w a word else w) address)) in_place in
-        let in_r' = standing_registers program well frames fit addresses pages calls few c r w' base back (keeps_back frames c) (put c.active.slots destination word) in_w' r' zero_same base_same lowest_same (λ outside. back_same) lasts_same in
-        let there = standing_at program well frames fit addresses pages calls few c r' w' base back (keeps_back frames c) (put c.active.slots destination word) in_r' d refl refl refl refl refl refl fine in
+        let in_r' = standing_registers program well frames fit addresses pages calls few c r w' base back (stage_of frames c) (put c.active.slots destination word) in_w' r' zero_same base_same lowest_same (λ outside. back_same) lasts_same
+        (λ j past high. others (17 + j) (omega arith) (omega (arith, high)) (λ has. absurd (let saved = (fit.homes c.active.function s.known).saved_registers destination (17 + j) has (omega arith) in omega (arith, saved, past)))) in
+        let there = standing_at program well frames fit addresses pages calls few c r' w' base back (stage_of frames c) (put c.active.slots destination word) in_r' d refl refl refl refl refl refl fine in
         let line_same : line ≡ instruction_line program frames c.active.function (c.active.next + 1) = line_is ∙ sym (line_next program frames c.active.function c.active.next i at) in
-        reached c zeros i (states.Running d) (Running run) (zeros_at program c i at free) at does (within d s.laid.paged s.deep)
+        reached c zeros i (states.Running d) (Running run) (zeros_at program c i at free) at does (ap (λ (n : ℕ). is_within pages n (states.Running d)) (limit_free i calls free) ∙ within d s.laid.paged s.deep)
         (inl (record {
           run = run;
           r = r';
@@ -213,15 +217,16 @@ module _ (program : Program) (well : IsWellFormed program) (frames : List Frame)
     pub ready_by : (d : Configuration) (line : ℕ) (run : labelled.Configuration) (r' : Words) (w' : Contents)
         → d.active.function ≡ c.active.function → d.active.base ≡ c.active.base → d.active.handlers ≡ c.active.handlers → d.active.slots ≡ c.active.slots → d.frames ≡ c.frames → d.globals ≡ c.globals → d.store ≡ c.store → d.input ≡ c.input
         → line ≡ instruction_line program frames d.active.function d.active.next
-        → r' 0 ≡ r 0 → r' FRAME ≡ r FRAME → r' LOWEST ≡ r LOWEST → r' RETURN_ADDRESS ≡ r RETURN_ADDRESS → lasting r' ≡ lasting r → w' ≡ w
+        → r' 0 ≡ r 0 → r' FRAME ≡ r FRAME → r' LOWEST ≡ r LOWEST → r' RETURN_ADDRESS ≡ r RETURN_ADDRESS → lasting r' ≡ lasting r
+        → ((j : ℕ) → (frame_at frames c.active.function).saved ≤ j → j < 7 → r' (17 + j) ≡ r (17 + j)) → w' ≡ w
         → Caches program frames c.active.function d.active.next r' d.active.slots
         → At line d.output d.input r' w' run → Ready d (Running run)
-    ready_by d line run r' w' function_same place_same handlers_same slots_same frames_same globals_same store_same input_same line_is zero_same base_same lowest_same back_same lasts_same unchanged cached now =
-        let in_r' = standing_registers program well frames fit addresses pages calls few c r w base back (keeps_back frames c) c.active.slots s r' zero_same base_same lowest_same (λ outside. back_same) lasts_same in
+    ready_by d line run r' w' function_same place_same handlers_same slots_same frames_same globals_same store_same input_same line_is zero_same base_same lowest_same back_same lasts_same preserved_same unchanged cached now =
+        let in_r' = standing_registers program well frames fit addresses pages calls few c r w base back (stage_of frames c) c.active.slots s r' zero_same base_same lowest_same (λ outside. back_same) lasts_same preserved_same in
         let fine : AllByRecursion IsWord d.input = subst (λ (l : List ℕ). AllByRecursion IsWord l) (sym input_same) s.input in
-        let there = standing_at program well frames fit addresses pages calls few c r' w base back (keeps_back frames c) c.active.slots in_r' d function_same place_same handlers_same frames_same globals_same store_same fine in
-        let with_slots = subst (λ (x : Words). Standing program frames addresses pages calls d r' w base back (keeps_back frames c) x) (sym slots_same) there in
-        let with_function = subst (λ (f : ℕ). Standing program frames addresses pages calls d r' w base back (frame_at frames f).saves d.active.slots) (sym function_same) with_slots in
+        let there = standing_at program well frames fit addresses pages calls few c r' w base back (stage_of frames c) c.active.slots in_r' d function_same place_same handlers_same frames_same globals_same store_same fine in
+        let with_slots = subst (λ (x : Words). Standing program frames addresses pages calls d r' w base back (stage_of frames c) x) (sym slots_same) there in
+        let with_function = subst (λ (f : ℕ). Standing program frames addresses pages calls d r' w base back (under_way (frame_at frames f).saves) d.active.slots) (sym function_same) with_slots in
         record {
           run = run;
           r = r';
@@ -230,14 +235,15 @@ module _ (program : Program) (well : IsWellFormed program) (frames : List Frame)
           back = back;
           is = refl;
           now = now_at code formed addresses globals_length (words_per_call * calls) line (instruction_line program frames d.active.function d.active.next) d.output d.input r' w' run line_is now;
-          standing = subst (λ (x : Contents). Standing program frames addresses pages calls d r' x base back (keeps_back frames d) d.active.slots) (sym unchanged) with_function;
+          standing = subst (λ (x : Contents). Standing program frames addresses pages calls d r' x base back (stage_of frames d) d.active.slots) (sym unchanged) with_function;
           caches = subst (λ (n : ℕ). Caches program frames n d.active.next r' d.active.slots) (sym function_same) cached;
         }
 
     -- the step of such an instruction
     pub steps_by : (d : Configuration) (u : State) → Ready d u → performed program zeros c i ≡ states.Running d → Step program pages calls (states.Running c) (states.Running d)
     steps_by d u ready does =
-        steps_to c zeros i (states.Running d) (zeros_at program c i at free) at does (within d ready.standing.laid.paged ready.standing.deep)
+        steps_to c zeros i (states.Running d) (zeros_at program c i at free) at does
+        (ap (λ (n : ℕ). is_within pages n (states.Running d)) (limit_free i calls free) ∙ within d ready.standing.laid.paged ready.standing.deep)
 
     pub reached_at : (d : Configuration) (line : ℕ) (run : labelled.Configuration) (r' : Words) (w' : Contents)
         → d.active.function ≡ c.active.function → d.active.base ≡ c.active.base → d.active.handlers ≡ c.active.handlers → d.active.slots ≡ c.active.slots → d.frames ≡ c.frames → d.globals ≡ c.globals → d.store ≡ c.store → d.input ≡ c.input
@@ -247,7 +253,34 @@ module _ (program : Program) (well : IsWellFormed program) (frames : List Frame)
         → ((slot : ℕ) → writes program i slot ≡ false) → leads i c.active.next d.active.next ≡ true
         → At line d.output d.input r' w' run → Reached c (Running run)
     reached_at d line run r' w' function_same place_same handlers_same slots_same frames_same globals_same store_same input_same does line_is zero_same base_same lowest_same back_same lasts_same values unchanged unwritten led now =
-        let ready = ready_by d line run r' w' function_same place_same handlers_same slots_same frames_same globals_same store_same input_same line_is zero_same base_same lowest_same back_same lasts_same unchanged
+        let ready = ready_by d line run r' w' function_same place_same handlers_same slots_same frames_same globals_same store_same input_same line_is zero_same base_same lowest_same back_same lasts_same
+        (λ j past high. values (17 + j) (omega arith) (omega (arith, high))) unchanged
         (caches_past program frames c.active.function (fit.homes c.active.function s.known) c.active.next d.active.next r r' c.active.slots d.active.slots i at led
         (λ slot k has. unwritten slot) (λ slot k has. ap (λ (x : Words). x slot) slots_same) values caches) now in
         (states.Running d, steps_by d (Running run) ready does, inl ready)
+
+  -- where there is room for a call more, and none is made
+  pub reached_entering : (c : Configuration) (callee : ℕ) (choice : Choice) (run : labelled.Configuration) (r : Words) (w : Contents) (base back line : ℕ)
+      → instruction_at program (states.place_of (states.Running c)) ≡ Some (plain.Enter callee) → IsAllowed program (states.Running c) choice
+      → Standing program frames addresses pages calls c r w base back (stage_of frames c) c.active.slots → Caches program frames c.active.function c.active.next r c.active.slots
+      → suc (suc (length c.frames)) ≤ calls → (suc c.active.next == c.active.next + 1) ≡ true → line ≡ instruction_line program frames c.active.function (c.active.next + 1)
+      → At line c.output c.input r w run → Reached c (Running run)
+  reached_entering c callee choice run r w base back line at allowed s caches room led line_is now =
+      let i : Instruction = plain.Enter callee in
+      let d : Configuration = record c { active = record c.active { next = c.active.next + 1 } } in
+      let there = standing_at program well frames fit addresses pages calls few c r w base back (stage_of frames c) c.active.slots s d refl refl refl refl refl refl s.input in
+      reached c choice i (states.Running d) (Running run) allowed at refl
+      (and_from _ _ (le-leb (demand c.store) pages s.laid.paged) (le-leb (suc (length c.frames)) (calls - 1) (omega (arith, room))))
+      (inl (record {
+        run = run;
+        r = r;
+        w = w;
+        base = base;
+        back = back;
+        is = refl;
+        now = now_at code formed addresses globals_length (words_per_call * calls) line (instruction_line program frames c.active.function (c.active.next + 1)) c.output c.input r w run line_is now;
+        standing = there;
+        caches =
+            caches_past program frames c.active.function (fit.homes c.active.function s.known) c.active.next (c.active.next + 1) r r c.active.slots c.active.slots i at led
+            (λ slot k has. refl) (λ slot k has. refl) (λ n low high. refl) caches;
+      }))

@@ -1,6 +1,6 @@
 -- The words that loads and stores find by an address, as they stand in the machine's memory: those of live blocks in its store,
 -- those of globals in its data range, and those of slots in the frames of the calls under way.
-use Rattle.std.proofs.Common.{◌≡◌, ◌≢◌, ℕ, suc, ◌+◌, ◌*◌, ◌%◌, ◌<◌, ◌≤◌, Bool, true, false, List, [], ◌∷◌, length, Option, Some, None, slice_get, refl, sym, ap, subst, ◌∙◌, arith, inl, inr}
+use Rattle.std.proofs.Common.{◌≡◌, ◌≢◌, ℕ, suc, ◌+◌, ◌*◌, ◌%◌, ◌<◌, ◌≤◌, true, false, List, [], ◌∷◌, length, Option, Some, None, slice_get, refl, sym, ap, subst, ◌∙◌, arith, inl, inr}
 use Rattle.std.specs.Prelude.{nat_lt}
 use Rattle.std.proofs.lemmas.Bool.{cases_eq, ltb-true, or_cases}
 use Rattle.cyc_words.specs.Word.{IsWord}
@@ -31,7 +31,7 @@ use Rattle.cyc_select.specs.inside.Machine as labelled
 use Rattle.cyc_select.specs.inside.Machine.{State, Running}
 use Rattle.cyc_select.specs.inside.Selection.{slot_offset, value_register, is_kept}
 use Rattle.cyc_select.proofs.relation.Cells.{IsCell, IsLive}
-use Rattle.cyc_select.proofs.relation.Standing.{frame_size, Chain, Lies, chain_kept, chain_lies, AreRecords, IsBeyond, IsNewest, AreBased, based_here, back_in, Standing, lies, word_cell, global_cell, standing_at, standing_slot, standing_global, standing_saved}
+use Rattle.cyc_select.proofs.relation.Standing.{preserved_of, in_frame_at, saved_at, left_same, LeftBy, Stage, frame_size, Chain, Lies, chain_kept, chain_lies, AreRecords, IsBeyond, IsNewest, AreBased, based_here, back_in, Standing, lies, word_cell, global_cell, standing_at, standing_slot, standing_global, standing_saved}
 use Rattle.cyc_select.proofs.relation.Stores.{laid_live}
 use Rattle.cyc_select.proofs.relation.Values.{barred_kept, unbarred}
 use Rattle.cyc_select.proofs.effects.Views.{Contents, written, saved_in, IsWritable, Width, OneWord, OneByte, load_op, store_op, word_place, loaded_part, stored_word}
@@ -118,7 +118,7 @@ pins_bar : (i : Instruction) (slot : ℕ) → pins i slot ≡ true → bars i sl
 pins_bar (instructions.AddressOf destination first count) slot is = is
 pins_bar i slot is = absurd (let e : false ≡ true = is in cc)
 
-module _ (program : Program) (frames : List Frame) (function : ℕ) (right : AreHomes program (routine_at program function) (frame_at frames function).homes) where
+module _ (program : Program) (frames : List Frame) (function : ℕ) (right : AreHomes program (routine_at program function) (frame_at frames function).saved (frame_at frames function).homes) where
   pub pinned_kept : (slot : ℕ) → is_pinned (routine_at program function).code slot ≡ true → is_kept (frame_at frames function) slot ≡ true
   pinned_kept slot pinned =
       let (index, i, at, is) = pinned_by_instruction (routine_at program function).code slot pinned in
@@ -177,18 +177,18 @@ module _ (program : Program) (a word : ℕ) where
 
 module _ (program : Program) (well : IsWellFormed program) (frames : List Frame) (fit : AreFrames program frames) (addresses : ℕ → ℕ) where
   -- the word at an address, where it is that of a slot of a call that waits, and those calls with another one there
-  record IsAbove (w : Contents) (base back function : ℕ) (waiting : List states.Frame) (a word : ℕ) : Type 0 where
+  record IsAbove (w : Contents) (base back : ℕ) (left : Words) (function : ℕ) (waiting : List states.Frame) (a word : ℕ) : Type 0 where
     low : base + frame_size ≤ a
     high : a < stack_end
     aligned : a % 4 ≡ 0
     is : w.words a ≡ word
-    chain : (new : ℕ) → Chain program frames addresses (written w a new) base back function (with_waiting program waiting a new)
+    chain : (new : ℕ) → Chain program frames addresses (written w a new) base back left function (with_waiting program waiting a new)
 
-  is_above : (w : Contents) (base back function : ℕ) (waiting : List states.Frame) (place a word : ℕ) → Chain program frames addresses w base back function waiting → AreBased frames base function place waiting
-      → word_waiting program waiting a ≡ Some word → IsAbove w base back function waiting a word
-  is_above w base back function [] place a word chain based found = absurd (let e : None ≡ Some word = found in cc)
-  is_above w base back function (f ∷ waiting) place a word (arguments, count, index, known, at, next, is_back, holds, chain) (here, based) found =
-      go (slot_at program f.caller a) refl (λ there. is_above w above its_back f.caller.function waiting f.caller.base a word chain based there) found
+  is_above : (w : Contents) (base back : ℕ) (left : Words) (function : ℕ) (waiting : List states.Frame) (place a word : ℕ) → Chain program frames addresses w base back left function waiting → AreBased frames base function place waiting
+      → word_waiting program waiting a ≡ Some word → IsAbove w base back left function waiting a word
+  is_above w base back left function [] place a word chain based found = absurd (let e : None ≡ Some word = found in cc)
+  is_above w base back left function (f ∷ waiting) place a word (arguments, count, index, known, at, next, is_back, holds, finds, chain) (here, based) found =
+      go (slot_at program f.caller a) refl (λ there. is_above w above its_back (LeftBy its above left w) f.caller.function waiting f.caller.base a word chain based there) found
     where
       above : ℕ
       above = base + frame_size
@@ -200,13 +200,19 @@ module _ (program : Program) (well : IsWellFormed program) (frames : List Frame)
       its_back = w.words (base + frame_size + 4 * (frame_at frames f.caller.function).return_address)
 
       lies_there : Lies program frames fit addresses above (suc (length waiting))
-      lies_there = chain_lies program frames fit addresses w above its_back f.caller.function waiting chain
+      lies_there = chain_lies program frames fit addresses w above its_back (LeftBy its above left w) f.caller.function waiting chain
 
       frame : IsFrame (routine_at program f.caller.function) its
       frame = fit.each f.caller.function known
 
+      -- what it leaves is as before
+      left_there : (new : ℕ) → ((j : ℕ) → j < 7 → a ≢ above + 4 * (its.first_saved + j)) → (j : ℕ) → j < 7 → LeftBy its above left (written w a new) j ≡ LeftBy its above left w j
+      left_there new apart =
+          left_same its.first_saved its.saved above left left w (written w a new) (λ j past high. refl)
+          (λ j below high. put-other w.words a (above + 4 * (its.first_saved + j)) new (λ e. apart j high (sym e)))
+
       -- its own slot
-      here_found : (slot : ℕ) → slot_at program f.caller a ≡ Some slot → f.caller.slots slot ≡ word → IsAbove w base back function (f ∷ waiting) a word
+      here_found : (slot : ℕ) → slot_at program f.caller a ≡ Some slot → f.caller.slots slot ≡ word → IsAbove w base back left function (f ∷ waiting) a word
       here_found slot is value =
           let (address, pinned) = numbered-from (is_pinned (routine_at program f.caller.function).code) f.caller.base a slot is in
           let below : slot < (routine_at program f.caller.function).slots = pinned-inside program well f.caller.function slot pinned in
@@ -220,7 +226,7 @@ module _ (program : Program) (well : IsWellFormed program) (frames : List Frame)
             aligned = omega (arith, a_is, lies_there.aligned);
             is = ap w.words a_is ∙ (holds slot below (pinned_kept program frames f.caller.function (fit.homes f.caller.function known) slot pinned) ∙ value);
             chain = λ new.
-                subst (λ (o : Option ℕ). Chain program frames addresses (written w a new) base back function (put_or o new f waiting (with_waiting program waiting a new))) (sym is) (
+                subst (λ (o : Option ℕ). Chain program frames addresses (written w a new) base back left function (put_or o new f waiting (with_waiting program waiting a new))) (sym is) (
                   arguments,
                   count,
                   index,
@@ -236,15 +242,20 @@ module _ (program : Program) (well : IsWellFormed program) (frames : List Frame)
                         put-other w.words a (above + slot_offset its other) new (λ e. apart (frame.apart other slot other_below below (omega (arith, e, a_is))))
                         ∙ (holds other other_below other_kept ∙ sym (put-other f.caller.slots slot other new apart))
                   ]),
-                  subst (λ (b : ℕ). Chain program frames addresses (written w a new) above b f.caller.function waiting)
+                  (λ other j high has unwritten live.
+                      finds other j high has unwritten live
+                      ∙ sym (put-other f.caller.slots slot other new
+                      (λ same. unpinned program frames f.caller.function (fit.homes f.caller.function known) slot (17 + j) pinned (ap (value_register its) (sym same) ∙ has)))),
+                  subst (λ (b : ℕ). Chain program frames addresses (written w a new) above b (LeftBy its above left (written w a new)) f.caller.function waiting)
                       (sym (put-other w.words a (above + 4 * its.return_address) new (λ e. frame.beside slot below (omega (arith, e, a_is)))))
-                      (chain_kept program frames fit addresses w (written w a new) above its_back f.caller.function waiting
-                      (λ b from. put-other w.words a b new (λ e. absurd (omega (arith, e, from, a_is, inside)))) chain),
+                      (chain_kept program frames fit addresses w (written w a new) above its_back (LeftBy its above left w) (LeftBy its above left (written w a new)) f.caller.function waiting
+                      (λ b from. put-other w.words a b new (λ e. absurd (omega (arith, e, from, a_is, inside))))
+                      (left_there new (λ j high e. frame.saved_beside slot j below high (omega (arith, e, a_is)))) chain),
                 );
           }
 
-      go : (slot : Option ℕ) → slot_at program f.caller a ≡ slot → (word_waiting program waiting a ≡ Some word → IsAbove w above its_back f.caller.function waiting a word)
-          → word_or slot f.caller.slots (word_waiting program waiting a) ≡ Some word → IsAbove w base back function (f ∷ waiting) a word
+      go : (slot : Option ℕ) → slot_at program f.caller a ≡ slot → (word_waiting program waiting a ≡ Some word → IsAbove w above its_back (LeftBy its above left w) f.caller.function waiting a word)
+          → word_or slot f.caller.slots (word_waiting program waiting a) ≡ Some word → IsAbove w base back left function (f ∷ waiting) a word
       go (Some slot) is later there = here_found slot is (let e : Some (f.caller.slots slot) ≡ Some word = there in let same : f.caller.slots slot ≡ word = cc in same)
       go None is later there =
           let rest = later there in
@@ -254,7 +265,7 @@ module _ (program : Program) (well : IsWellFormed program) (frames : List Frame)
             aligned = rest.aligned;
             is = rest.is;
             chain = λ new.
-                subst (λ (o : Option ℕ). Chain program frames addresses (written w a new) base back function (put_or o new f waiting (with_waiting program waiting a new))) (sym is) (
+                subst (λ (o : Option ℕ). Chain program frames addresses (written w a new) base back left function (put_or o new f waiting (with_waiting program waiting a new))) (sym is) (
                   arguments,
                   count,
                   index,
@@ -263,33 +274,35 @@ module _ (program : Program) (well : IsWellFormed program) (frames : List Frame)
                   next,
                   is_back,
                   (λ slot below slot_kept. put-other w.words a (above + slot_offset its slot) new (λ e. absurd (omega (arith, e, rest.low, frame.inside slot below, frame.small))) ∙ holds slot below slot_kept),
-                  subst (λ (b : ℕ). Chain program frames addresses (written w a new) above b f.caller.function (with_waiting program waiting a new))
+                  finds,
+                  subst (λ (b : ℕ). Chain program frames addresses (written w a new) above b (LeftBy its above left (written w a new)) f.caller.function (with_waiting program waiting a new))
                       (sym (put-other w.words a (above + 4 * its.return_address) new (λ e. absurd (omega (arith, e, rest.low, frame.return_inside, frame.small)))))
-                      (rest.chain new),
+                      (chain_kept program frames fit addresses (written w a new) (written w a new) above its_back (LeftBy its above left w) (LeftBy its above left (written w a new)) f.caller.function (with_waiting program waiting a new) (λ b from. refl)
+                      (left_there new (λ j high e. absurd (let inside = frame.saved_inside j high in omega (arith, e, rest.low, inside, frame.small)))) (rest.chain new)),
                 );
           }
 
 -- ---- loads and stores
 
 module _ (program : Program) (well : IsWellFormed program) (frames : List Frame) (fit : AreFrames program frames) (addresses : ℕ → ℕ) (pages calls : ℕ) (few : calls ≤ 4096)
-    (c : Configuration) (r : Words) (w : Contents) (base back : ℕ) (in_frame : Bool) (s : Standing program frames addresses pages calls c r w base back in_frame c.active.slots) (a word : ℕ) where
+    (c : Configuration) (r : Words) (w : Contents) (base back : ℕ) (stage : Stage) (s : Standing program frames addresses pages calls c r w base back stage c.active.slots) (a word : ℕ) where
   -- the word at an address is found in the machine's memory, and can be written there
   pub record IsFound : Type 0 where
     pub sort : Sort
     pub at : IsWordAt sort globals_length (words_per_call * calls) w a word
     pub standing : (new : ℕ) → IsWord new
-        → Standing program frames addresses pages calls (with_memory program c a new) r (placed sort w a new) base back in_frame (with_memory program c a new).active.slots
+        → Standing program frames addresses pages calls (with_memory program c a new) r (placed sort w a new) base back stage (with_memory program c a new).active.slots
     -- it is that of no slot which has a register
     pub values : (new slot k : ℕ) → value_register (frame_at frames c.active.function) slot ≡ Some k → (with_memory program c a new).active.slots slot ≡ c.active.slots slot
 
   abbrev Stands : Configuration → Contents → Type 0
-  Stands d v = Standing program frames addresses pages calls d r v base back in_frame d.active.slots
+  Stands d v = Standing program frames addresses pages calls d r v base back stage d.active.slots
 
   own : IsFrame (routine_at program c.active.function) (frame_at frames c.active.function)
   own = fit.each c.active.function s.known
 
   lie : Lies program frames fit addresses base (suc (length c.frames))
-  lie = lies program well frames fit addresses pages calls few c r w base back in_frame c.active.slots s
+  lie = lies program well frames fit addresses pages calls few c r w base back stage c.active.slots s
 
   place_is : c.active.base ≡ base + 4 * (frame_at frames c.active.function).first_slot
   place_is = based_here frames base c.active.function c.active.base c.frames s.based
@@ -304,13 +317,13 @@ module _ (program : Program) (well : IsWellFormed program) (frames : List Frame)
       record {
         sort = OfCell;
         at = (
-          subst (IsCell globals_length (words_per_call * calls)) (sym address) (global_cell program well frames fit addresses pages calls few c r w base back in_frame c.active.slots s number below),
+          subst (IsCell globals_length (words_per_call * calls)) (sym address) (global_cell program well frames fit addresses pages calls few c r w base back stage c.active.slots s number below),
           ap w.words address ∙ (s.globals number below ∙ value),
         );
         standing = λ new is_word.
             subst (λ (d : Configuration). Stands d (written w a new)) (sym (writes new))
             (subst (λ (x : ℕ). Stands (record c { globals = put c.globals number new }) (written w x new)) (sym address)
-            (standing_global program well frames fit addresses pages calls few c r w base back in_frame c.active.slots s number new below));
+            (standing_global program well frames fit addresses pages calls few c r w base back stage c.active.slots s number new below));
         values = λ new slot k has. ap (λ (d : Configuration). d.active.slots slot) (writes new);
       }
 
@@ -328,14 +341,14 @@ module _ (program : Program) (well : IsWellFormed program) (frames : List Frame)
         sort = OfCell;
         at = (
           subst (IsCell globals_length (words_per_call * calls)) (sym a_is)
-              (word_cell program well frames fit addresses pages calls few c r w base back in_frame c.active.slots s (slot_word its slot) (omega (arith, own.inside slot below, own.small))),
+              (word_cell program well frames fit addresses pages calls few c r w base back stage c.active.slots s (slot_word its slot) (omega (arith, own.inside slot below, own.small))),
           ap w.words a_is ∙ (s.holds slot below (pinned_kept program frames c.active.function (fit.homes c.active.function s.known) slot pinned) ∙ value),
         );
         standing = λ new is_word.
             subst (λ (e : Configuration). Stands e (written w a new)) (sym (writes new))
             (subst (λ (x : ℕ). Stands (d new) (written w x new)) (sym a_is)
-            (standing_at program well frames fit addresses pages calls few c r (written w (base + slot_offset its slot) new) base back in_frame (put c.active.slots slot new)
-            (standing_slot program well frames fit addresses pages calls few c r w base back in_frame c.active.slots s slot new below) (d new) refl refl refl refl refl refl s.input));
+            (standing_at program well frames fit addresses pages calls few c r (written w (base + slot_offset its slot) new) base back stage (put c.active.slots slot new)
+            (standing_slot program well frames fit addresses pages calls few c r w base back stage c.active.slots s slot new below) (d new) refl refl refl refl refl refl s.input));
         values = λ new other k has.
             ap (λ (e : Configuration). e.active.slots other) (writes new)
             ∙ put-other c.active.slots slot other new
@@ -346,7 +359,7 @@ module _ (program : Program) (well : IsWellFormed program) (frames : List Frame)
   waiting_found : range_of a ≡ OfSlots → slot_at program c.active a ≡ None → word_waiting program c.frames a ≡ Some word → IsFound
   waiting_found is none there =
       let its : Frame = frame_at frames c.active.function in
-      let above = is_above program well frames fit addresses w base back c.active.function c.frames c.active.base a word s.chain s.based there in
+      let above = is_above program well frames fit addresses w base back s.left c.active.function c.frames c.active.base a word s.chain s.based there in
       let d : ℕ → Configuration = λ (new : ℕ). record c { frames = with_waiting program c.frames a new } in
       let writes : (new : ℕ) → with_memory program c a new ≡ d new =
       λ new. ap (with_word program c a new) is ∙ ap (λ (o : Option ℕ). with_slot program c o a new) none in
@@ -363,13 +376,18 @@ module _ (program : Program) (well : IsWellFormed program) (frames : List Frame)
               holds = λ slot below slot_kept.
                   put-other w.words a (base + slot_offset its slot) new (λ e. absurd (omega (arith, e, above.low, own.inside slot below, own.small)))
                   ∙ s.holds slot below slot_kept;
+              left = s.left;
               chain = above.chain new;
+              leaves = λ j high.
+                  left_same its.first_saved (saved_at stage its) base (preserved_of r) (preserved_of r) w (written w a new) (λ i past small. refl)
+                  (λ i below small. put-other w.words a (base + 4 * (its.first_saved + i)) new (λ e. absurd (let inside = own.saved_inside i small in omega (arith, e, above.low, inside, own.small)))) j high
+                  ∙ s.leaves j high;
               globals = λ global below.
                   put-other w.words a (data_base + 4 * global) new (λ e. absurd (omega (arith, e, above.low, below, well.globals, lie.above_low, s.deep)))
                   ∙ s.globals global below;
               input = s.input;
               newest = newest_waiting program a new frames addresses (r HANDLERS) base c.active.function c.active.handlers c.frames s.newest;
-              way = back_in in_frame its r w (written w a new) base back
+              way = back_in (in_frame_at stage) its r w (written w a new) base back
                   (put-other w.words a (base + 4 * its.return_address) new (λ e. absurd (omega (arith, e, above.low, own.return_inside, own.small)))) s.way;
               based = based_waiting program a new frames base c.active.function c.active.base c.frames s.based;
               store = s.store;
@@ -403,7 +421,7 @@ module _ (program : Program) (well : IsWellFormed program) (frames : List Frame)
             at = (subst (λ (x : StoreState). IsLive x a word) (sym s.store) lives.0, lives.1);
             standing = λ new is_word.
                 subst (λ (d : Configuration). Stands d (saved_in w a new)) (sym (ap (with_word program c a new) is))
-                (standing_saved program well frames fit addresses pages calls few c r w base back in_frame c.active.slots s a new is_word);
+                (standing_saved program well frames fit addresses pages calls few c r w base back stage c.active.slots s a new is_word);
             values = λ new slot k has. ap (λ (d : Configuration). d.active.slots slot) (ap (with_word program c a new) is);
           }
       by_range OfSlots is there = of_slot (slot_at program c.active a) refl is there

@@ -1,6 +1,7 @@
 -- How a plain program's calls stand in the memory of the labelled machine: their frames lie one below another from the
 -- end of the stack on, each with its slots and, where it waits, its return address.
 use Rattle.std.proofs.Common.{◌≡◌, ◌≢◌, ℕ, zero, suc, ◌+◌, ◌*◌, ◌%◌, ◌^◌, ◌<◌, ◌≤◌, Bool, true, false, List, [], ◌∷◌, length, Some, None, slice_get, refl, sym, ap, subst, ◌∙◌, arith, inl, inr}
+use Rattle.std.specs.Prelude.{nat_lt, if◌then◌else◌}
 use Rattle.std.specs.List.{AllByRecursion}
 use Rattle.cyc_plain.specs.declared.limits.TheConstants.{MOST_FRAME_WORDS}
 use Rattle.cyc_select.specs.declared.constants.TheConstants.{LOWEST, FRAME, HANDLERS, REGIONS, GLOBALS, GLOBALS_MIDDLE}
@@ -15,12 +16,14 @@ use Rattle.cyc_plain.specs.inside.Program.{Routine, Program, routine_at}
 use Rattle.cyc_plain.specs.inside.State as states
 use Rattle.cyc_plain.specs.inside.State.{Words, put, Configuration}
 use Rattle.cyc_plain.specs.inside.Step.{instruction_at}
+use Rattle.cyc_plain.specs.inside.Uses.{writes}
 use Rattle.cyc_plain.specs.inside.WellFormed.{IsWellFormed}
 use Rattle.cyc_plain.proofs.SlotLaws.{put-same, put-other}
-use Rattle.std.proofs.lemmas.Bool.{cases_eq, or_left, or_right}
-use Rattle.cyc_frame.specs.inside.Layout.{IsFrame, AreFrames, slot_word, frame_at, loses, loses_any}
+use Rattle.std.proofs.lemmas.Bool.{cases_eq, cases_lt, or_left, or_right, lt-ltb, le-ltb, cond-true, cond-false}
+use Rattle.cyc_frame.specs.inside.Layout.{IsFrame, AreFrames, slot_word, frame_at, loses, loses_any, opens, opens_any}
 use Rattle.cyc_frame.specs.inside.Frame.{Frame}
-use Rattle.cyc_select.specs.inside.Selection.{slot_offset, is_kept, instruction_line, body_count}
+use Rattle.cyc_registers.specs.inside.Liveness.{IsLiveAt}
+use Rattle.cyc_select.specs.inside.Selection.{slot_offset, value_register, is_kept, instruction_line, body_count}
 use Rattle.cyc_select.proofs.values.Blocks.{lasting, newest_lasts, count_lasts, middle_lasts}
 use Rattle.cyc_select.proofs.relation.Cells.{IsCell}
 use Rattle.cyc_select.proofs.values.Operations.{address_at}
@@ -42,18 +45,58 @@ abbrev pub behind_line : Program → List Frame → (function index callee argum
 behind_line program frames function index callee arguments count result =
     instruction_line program frames function index + body_count program frames function (plain.Call callee arguments count result)
 
--- the calls that wait, above the call of a function whose frame lies at this address, and which returns to this address
-abbrev pub Chain : Program → List Frame → (addresses : ℕ → ℕ) → (w : Contents) → (base back function : ℕ) → List states.Frame → Type 0
-Chain program frames addresses w base back function [] =
+-- ---- registers that calls preserve
+
+abbrev pub preserved_of : Words → Words
+preserved_of r j = r (17 + j)
+
+-- What is in these registers when a call returns whose frame lies at this address and has so many of them saved, from this word on,
+-- where its own calls would leave these words in them.
+abbrev pub Left : (first saved base : ℕ) (inner : Words) (w : Contents) → Words
+Left first saved base inner w j = if nat_lt j saved then w.words (base + 4 * (first + j)) else inner j
+
+-- what a function leaves that has saved all that it saves
+abbrev pub LeftBy : Frame → (base : ℕ) (inner : Words) (w : Contents) → Words
+LeftBy frame base inner w = Left frame.first_saved frame.saved base inner w
+
+-- A caller finds the words of its slots in them, where those are live behind the call and the call does not return them.
+abbrev pub Finds : Program → List Frame → (function index callee arguments count result : ℕ) → (left slots : Words) → Type 0
+Finds program frames function index callee arguments count result left slots =
+    (slot j : ℕ) → j < 7 → value_register (frame_at frames function) slot ≡ Some (17 + j)
+    → writes program (plain.Call callee arguments count result) slot ≡ false
+    → IsLiveAt program (routine_at program function) slot (suc index) → left j ≡ slots slot
+
+pub left_past : (first saved base : ℕ) (inner : Words) (w : Contents) (j : ℕ) → saved ≤ j → Left first saved base inner w j ≡ inner j
+left_past first saved base inner w j past = cond-false (nat_lt j saved) (w.words (base + 4 * (first + j))) (inner j) (le-ltb j saved past)
+
+pub left_inside : (first saved base : ℕ) (inner : Words) (w : Contents) (j : ℕ) → j < saved → Left first saved base inner w j ≡ w.words (base + 4 * (first + j))
+left_inside first saved base inner w j below = cond-true (nat_lt j saved) (w.words (base + 4 * (first + j))) (inner j) (lt-ltb j saved below)
+
+-- by the same words, and the same registers where none is saved
+pub left_same : (first saved base : ℕ) (inner inner' : Words) (w w' : Contents) → ((j : ℕ) → saved ≤ j → j < 7 → inner' j ≡ inner j)
+    → ((j : ℕ) → j < saved → j < 7 → w'.words (base + 4 * (first + j)) ≡ w.words (base + 4 * (first + j))) → (j : ℕ) → j < 7 → Left first saved base inner' w' j ≡ Left first saved base inner w j
+left_same first saved base inner inner' w w' same words j high = elim (cases_lt j saved) [
+  | inl below ↦ left_inside first saved base inner' w' j below ∙ (words j below high ∙ sym (left_inside first saved base inner w j below))
+  | inr past ↦ left_past first saved base inner' w' j past ∙ (same j past high ∙ sym (left_past first saved base inner w j past))
+]
+
+-- ---- the calls that wait
+
+-- Above the call of a function whose frame lies at this address, which returns to this address and leaves these words in the
+-- registers that calls preserve.
+abbrev pub Chain : Program → List Frame → (addresses : ℕ → ℕ) → (w : Contents) → (base back : ℕ) → (left : Words) → (function : ℕ) → List states.Frame → Type 0
+Chain program frames addresses w base back left function [] =
     (base + frame_size ≡ stack_end) × (back ≡ 0) × (function ≡ program.main)
-Chain program frames addresses w base back function (f ∷ waiting) =
+Chain program frames addresses w base back left function (f ∷ waiting) =
     (arguments count index : ℕ) × (f.caller.function < length program.functions)
     × (instruction_at program (record { function = f.caller.function; index = index }) ≡ Some (plain.Call function arguments count f.result))
     × (f.caller.next ≡ index + 1)
     × (back ≡ addresses (behind_line program frames f.caller.function index function arguments count f.result))
     × Holds program frames f.caller.function (base + frame_size) w f.caller.slots
+    × Finds program frames f.caller.function index function arguments count f.result left f.caller.slots
     × Chain program frames addresses w (base + frame_size)
-    (w.words (base + frame_size + 4 * (frame_at frames f.caller.function).return_address)) f.caller.function waiting
+    (w.words (base + frame_size + 4 * (frame_at frames f.caller.function).return_address))
+    (LeftBy (frame_at frames f.caller.function) (base + frame_size) left w) f.caller.function waiting
 
 -- the slots of a function end where its frame does, or before
 pub slots_fit : (r : Routine) (frame : Frame) → IsFrame r frame → frame.first_slot + r.slots ≤ MOST_FRAME_WORDS
@@ -64,12 +107,14 @@ slots_fit r frame is = go r.slots is.inside
     go (suc n) inside = omega (arith, inside n (omega arith), is.small)
 
 module _ (program : Program) (frames : List Frame) (fit : AreFrames program frames) (addresses : ℕ → ℕ) where
-  -- memory below does not matter
-  pub chain_kept : (w w' : Contents) (base back function : ℕ) (waiting : List states.Frame) → ((a : ℕ) → base + frame_size ≤ a → w'.words a ≡ w.words a)
-      → Chain program frames addresses w base back function waiting → Chain program frames addresses w' base back function waiting
-  chain_kept w w' base back function [] same chain = chain
-  chain_kept w w' base back function (f ∷ waiting) same (arguments, count, index, known, at, next, is_back, holds, chain) =
-      let above : ℕ = base + frame_size in (
+  -- memory below does not matter, and what is left is seen register by register
+  pub chain_kept : (w w' : Contents) (base back : ℕ) (left left' : Words) (function : ℕ) (waiting : List states.Frame) → ((a : ℕ) → base + frame_size ≤ a → w'.words a ≡ w.words a)
+      → ((j : ℕ) → j < 7 → left' j ≡ left j) → Chain program frames addresses w base back left function waiting → Chain program frames addresses w' base back left' function waiting
+  chain_kept w w' base back left left' function [] same alike chain = chain
+  chain_kept w w' base back left left' function (f ∷ waiting) same alike (arguments, count, index, known, at, next, is_back, holds, finds, chain) =
+      let above : ℕ = base + frame_size in
+      let its : Frame = frame_at frames f.caller.function in
+      let back_there : ℕ = w.words (above + 4 * its.return_address) in (
         arguments,
         count,
         index,
@@ -78,8 +123,10 @@ module _ (program : Program) (frames : List Frame) (fit : AreFrames program fram
         next,
         is_back,
         λ slot below slot_kept. same (above + slot_offset (frame_at frames f.caller.function) slot) (omega arith) ∙ holds slot below slot_kept,
-        subst (λ (b : ℕ). Chain program frames addresses w' above b f.caller.function waiting) (sym (same (above + 4 * (frame_at frames f.caller.function).return_address) (omega arith)))
-            (chain_kept w w' above (w.words (above + 4 * (frame_at frames f.caller.function).return_address)) f.caller.function waiting (λ a from. same a (omega arith)) chain),
+        λ slot j high has unwritten live. alike j high ∙ finds slot j high has unwritten live,
+        subst (λ (b : ℕ). Chain program frames addresses w' above b (LeftBy its above left' w') f.caller.function waiting) (sym (same (above + 4 * its.return_address) (omega arith)))
+            (chain_kept w w' above back_there (LeftBy its above left w) (LeftBy its above left' w') f.caller.function waiting (λ a from. same a (omega arith))
+            (left_same its.first_saved its.saved above left left' w w' (λ j past high. alike j high) (λ j below high. same (above + 4 * (its.first_saved + j)) (omega arith))) chain),
       )
 
   -- where frames lie
@@ -88,12 +135,12 @@ module _ (program : Program) (frames : List Frame) (fit : AreFrames program fram
     pub above_low : base + frame_size * depth ≡ stack_end
     pub aligned : base % 4 ≡ 0
 
-  pub chain_lies : (w : Contents) (base back function : ℕ) (waiting : List states.Frame) → Chain program frames addresses w base back function waiting
+  pub chain_lies : (w : Contents) (base back : ℕ) (left : Words) (function : ℕ) (waiting : List states.Frame) → Chain program frames addresses w base back left function waiting
       → Lies base (suc (length waiting))
-  chain_lies w base back function [] (last, is_back, is_main) = record { below_end = omega arith; above_low = omega (arith, last); aligned = omega (arith, last) }
-  chain_lies w base back function (f ∷ waiting) (arguments, count, index, caller_known, at, next, is_back, holds, chain) =
+  chain_lies w base back left function [] (last, is_back, is_main) = record { below_end = omega arith; above_low = omega (arith, last); aligned = omega (arith, last) }
+  chain_lies w base back left function (f ∷ waiting) (arguments, count, index, caller_known, at, next, is_back, holds, finds, chain) =
       let above : ℕ = base + frame_size in
-      let lies = chain_lies w above (w.words (above + 4 * (frame_at frames f.caller.function).return_address)) f.caller.function waiting chain in
+      let lies = chain_lies w above (w.words (above + 4 * (frame_at frames f.caller.function).return_address)) (LeftBy (frame_at frames f.caller.function) above left w) f.caller.function waiting chain in
       record { below_end = omega (arith, lies.below_end); above_low = omega (arith, lies.above_low); aligned = omega (arith, lies.aligned) }
 
 -- ---- handlers
@@ -160,28 +207,55 @@ loses_at [] index i at is = absurd (let e : None ≡ Some i = at in cc)
 loses_at (x ∷ code) zero i at is = let same : x ≡ i = (let e : Some x ≡ Some i = at in cc) in or_left (loses x) (loses_any code) (ap loses same ∙ is)
 loses_at (x ∷ code) (suc index) i at is = or_right (loses x) (loses_any code) (loses_at code index i at is)
 
+-- code with such an instruction opens handlers
+pub opens_at : (code : List Instruction) (index first handler : ℕ) → slice_get code index ≡ Some (plain.Try first handler) → opens_any code ≡ true
+opens_at [] index first handler at = absurd (let e : None ≡ Some (plain.Try first handler) = at in cc)
+opens_at (x ∷ code) zero first handler at =
+    let same : x ≡ plain.Try first handler = (let e : Some x ≡ Some (plain.Try first handler) = at in cc) in
+    or_left (opens x) (opens_any code) (ap opens same)
+opens_at (x ∷ code) (suc index) first handler at = or_right (opens x) (opens_any code) (opens_at code index first handler at)
+
 -- and so its function keeps the way back in its frame
 pub saves_at : (program : Program) (frames : List Frame) → AreFrames program frames → (function index : ℕ) (i : Instruction) → function < length program.functions
     → instruction_at program (record { function = function; index = index }) ≡ Some i → loses i ≡ true → (frame_at frames function).saves ≡ true
 saves_at program frames fit function index i known at is = (fit.each function known).saved ∙ loses_at (routine_at program function).code index i at is
 
--- whether a function keeps its way back in its frame
-abbrev pub keeps_back : List Frame → Configuration → Bool
-keeps_back frames c = (frame_at frames c.active.function).saves
+-- How far a call is: its function begins and has saved nothing yet, or it has saved what it saves, and the way back is in its frame
+-- or not.
+pub data Stage : Type 0 where
+  entering : Stage
+  under_way : (in_frame : Bool) → Stage
+
+abbrev pub in_frame_at : Stage → Bool
+in_frame_at entering = false
+in_frame_at (under_way in_frame) = in_frame
+
+-- how many registers are saved
+abbrev pub saved_at : Stage → Frame → ℕ
+saved_at entering frame = 0
+saved_at (under_way in_frame) frame = frame.saved
+
+-- that of a function that has begun: it keeps its way back in its frame, or not
+abbrev pub stage_of : List Frame → Configuration → Stage
+stage_of frames c = under_way (frame_at frames c.active.function).saves
 
 -- a call under way, with these slots
-pub record Standing (program : Program) (frames : List Frame) (addresses : ℕ → ℕ) (pages calls : ℕ) (c : Configuration) (r : Words) (w : Contents) (base back : ℕ) (in_frame : Bool) (slots : Words) : Type 0 where
+pub record Standing (program : Program) (frames : List Frame) (addresses : ℕ → ℕ) (pages calls : ℕ) (c : Configuration) (r : Words) (w : Contents) (base back : ℕ) (stage : Stage) (slots : Words) : Type 0 where
   pub known : c.active.function < length program.functions
   pub base_is : r FRAME ≡ base
   pub zero_is : r 0 ≡ 0
   pub lowest : r LOWEST + frame_size * calls ≡ stack_end
   pub deep : suc (length c.frames) ≤ calls
   pub holds : Holds program frames c.active.function base w slots
-  pub chain : Chain program frames addresses w base back c.active.function c.frames
+  -- what it leaves in the registers that calls preserve when it returns
+  pub left : Words
+  pub chain : Chain program frames addresses w base back left c.active.function c.frames
+  pub leaves : (j : ℕ) → j < 7
+      → Left (frame_at frames c.active.function).first_saved (saved_at stage (frame_at frames c.active.function)) base (preserved_of r) w j ≡ left j
   pub globals : (global : ℕ) → global < length program.globals → w.words (data_base + 4 * global) ≡ c.globals global
   pub input : AllByRecursion IsWord c.input
   pub newest : IsNewest program frames addresses (r HANDLERS) base c.active.function c.active.handlers c.frames
-  pub way : IsBack in_frame (frame_at frames c.active.function) r w base back
+  pub way : IsBack (in_frame_at stage) (frame_at frames c.active.function) r w base back
   pub based : AreBased frames base c.active.function c.active.base c.frames
   pub store : w.store ≡ c.store
   pub laid : IsLaid pages c.store
@@ -195,16 +269,34 @@ module _ (program : Program) (well : IsWellFormed program) (frames : List Frame)
   abbrev stack_words : ℕ
   stack_words = words_per_call * calls
 
-  module _ (c : Configuration) (r : Words) (w : Contents) (base back : ℕ) (in_frame : Bool) (slots : Words) (s : Standing program frames addresses pages calls c r w base back in_frame slots) where
+  module _ (c : Configuration) (r : Words) (w : Contents) (base back : ℕ) (stage : Stage) (slots : Words) (s : Standing program frames addresses pages calls c r w base back stage slots) where
     pub lies : Lies program frames fit addresses base (suc (length c.frames))
-    lies = chain_lies program frames fit addresses w base back c.active.function c.frames s.chain
+    lies = chain_lies program frames fit addresses w base back s.left c.active.function c.frames s.chain
 
     abbrev own_frame : IsFrame (routine_at program c.active.function) (frame_at frames c.active.function)
     own_frame = fit.each c.active.function s.known
 
+    saved_few : saved_at stage (frame_at frames c.active.function) ≤ 7
+    saved_few = go stage
+      where
+        go : (x : Stage) → saved_at x (frame_at frames c.active.function) ≤ 7
+        go entering = omega arith
+        go (under_way in_frame) = own_frame.most_saved
+
+    -- by other registers and in other memory, as far as they matter
+    leaves_kept : (r' : Words) (w' : Contents) → ((j : ℕ) → saved_at stage (frame_at frames c.active.function) ≤ j → j < 7 → preserved_of r' j ≡ preserved_of r j)
+        → ((j : ℕ) → j < 7 → w'.words (base + 4 * ((frame_at frames c.active.function).first_saved + j)) ≡ w.words (base + 4 * ((frame_at frames c.active.function).first_saved + j)))
+        → (j : ℕ) → j < 7 → Left (frame_at frames c.active.function).first_saved (saved_at stage (frame_at frames c.active.function)) base (preserved_of r') w' j ≡ s.left j
+    leaves_kept r' w' same words j high =
+        left_same (frame_at frames c.active.function).first_saved (saved_at stage (frame_at frames c.active.function)) base (preserved_of r) (preserved_of r') w w' same (λ i below small. words i small) j high
+        ∙ s.leaves j high
+
     -- the words that the function uses are among those of its frame
     pub slot_inside : (slot : ℕ) → slot < (routine_at program c.active.function).slots → slot_word (frame_at frames c.active.function) slot < MOST_FRAME_WORDS
     slot_inside slot below = omega (arith, own_frame.inside slot below, own_frame.small)
+
+    pub saved_inside : (j : ℕ) → j < 7 → (frame_at frames c.active.function).first_saved + j < MOST_FRAME_WORDS
+    saved_inside j below = (let inside = own_frame.saved_inside j below in omega (arith, inside, own_frame.small))
 
     pub return_inside : (frame_at frames c.active.function).return_address < MOST_FRAME_WORDS
     return_inside = omega (arith, own_frame.return_inside, own_frame.small)
@@ -242,19 +334,22 @@ module _ (program : Program) (well : IsWellFormed program) (frames : List Frame)
     -- ---- changes
 
     -- other registers
-    pub standing_registers : (r' : Words) → r' 0 ≡ r 0 → r' FRAME ≡ r FRAME → r' LOWEST ≡ r LOWEST → (in_frame ≡ false → r' RETURN_ADDRESS ≡ r RETURN_ADDRESS) → lasting r' ≡ lasting r → Standing program frames addresses pages calls c r' w base back in_frame slots
-    standing_registers r' zero_same base_same lowest_same back_same lasts_same = record {
+    pub standing_registers : (r' : Words) → r' 0 ≡ r 0 → r' FRAME ≡ r FRAME → r' LOWEST ≡ r LOWEST → (in_frame_at stage ≡ false → r' RETURN_ADDRESS ≡ r RETURN_ADDRESS) → lasting r' ≡ lasting r
+        → ((j : ℕ) → saved_at stage (frame_at frames c.active.function) ≤ j → j < 7 → preserved_of r' j ≡ preserved_of r j) → Standing program frames addresses pages calls c r' w base back stage slots
+    standing_registers r' zero_same base_same lowest_same back_same lasts_same preserved_same = record {
       known = s.known;
       base_is = base_same ∙ s.base_is;
       zero_is = zero_same ∙ s.zero_is;
       lowest = ap (λ (n : ℕ). n + frame_size * calls) lowest_same ∙ s.lowest;
       deep = s.deep;
       holds = s.holds;
+      left = s.left;
       chain = s.chain;
+      leaves = leaves_kept r' w preserved_same (λ j high. refl);
       globals = s.globals;
       input = s.input;
       newest = subst (λ (n : ℕ). IsNewest program frames addresses n base c.active.function c.active.handlers c.frames) (sym (newest_lasts r' r lasts_same)) s.newest;
-      way = back_by in_frame (frame_at frames c.active.function) r r' w base back back_same s.way;
+      way = back_by (in_frame_at stage) (frame_at frames c.active.function) r r' w base back back_same s.way;
       based = s.based;
       store = s.store;
       laid = s.laid;
@@ -264,7 +359,7 @@ module _ (program : Program) (well : IsWellFormed program) (frames : List Frame)
 
     -- the same call, at another place
     pub standing_at : (d : Configuration) → d.active.function ≡ c.active.function → d.active.base ≡ c.active.base → d.active.handlers ≡ c.active.handlers → d.frames ≡ c.frames → d.globals ≡ c.globals → d.store ≡ c.store → AllByRecursion IsWord d.input
-        → Standing program frames addresses pages calls d r w base back in_frame slots
+        → Standing program frames addresses pages calls d r w base back stage slots
     standing_at d function_same place_same handlers_same frames_same globals_same store_same input = record {
       known = subst (λ (f : ℕ). f < length program.functions) (sym function_same) s.known;
       base_is = s.base_is;
@@ -272,15 +367,18 @@ module _ (program : Program) (well : IsWellFormed program) (frames : List Frame)
       lowest = s.lowest;
       deep = subst (λ (fs : List states.Frame). suc (length fs) ≤ calls) (sym frames_same) s.deep;
       holds = subst (λ (f : ℕ). Holds program frames f base w slots) (sym function_same) s.holds;
-      chain = subst (λ (f : ℕ). Chain program frames addresses w base back f d.frames) (sym function_same)
-          (subst (λ (fs : List states.Frame). Chain program frames addresses w base back c.active.function fs) (sym frames_same) s.chain);
+      left = s.left;
+      chain = subst (λ (f : ℕ). Chain program frames addresses w base back s.left f d.frames) (sym function_same)
+          (subst (λ (fs : List states.Frame). Chain program frames addresses w base back s.left c.active.function fs) (sym frames_same) s.chain);
+      leaves =
+          subst (λ (f : ℕ). (j : ℕ) → j < 7 → Left (frame_at frames f).first_saved (saved_at stage (frame_at frames f)) base (preserved_of r) w j ≡ s.left j) (sym function_same) s.leaves;
       globals = λ global below. s.globals global below ∙ ap (λ (g : Words). g global) (sym globals_same);
       input = input;
       newest =
           subst (λ (f : ℕ). IsNewest program frames addresses (r HANDLERS) base f d.active.handlers d.frames) (sym function_same)
           (subst (λ (hs : List states.Handler). IsNewest program frames addresses (r HANDLERS) base c.active.function hs d.frames) (sym handlers_same)
           (subst (λ (fs : List states.Frame). IsNewest program frames addresses (r HANDLERS) base c.active.function c.active.handlers fs) (sym frames_same) s.newest));
-      way = subst (λ (f : ℕ). IsBack in_frame (frame_at frames f) r w base back) (sym function_same) s.way;
+      way = subst (λ (f : ℕ). IsBack (in_frame_at stage) (frame_at frames f) r w base back) (sym function_same) s.way;
       based =
           subst (λ (f : ℕ). AreBased frames base f d.active.base d.frames) (sym function_same)
           (subst (λ (b : ℕ). AreBased frames base c.active.function b d.frames) (sym place_same)
@@ -293,20 +391,23 @@ module _ (program : Program) (well : IsWellFormed program) (frames : List Frame)
 
     -- other handlers, and other registers
     pub standing_handlers : (handlers : List states.Handler) (r' : Words) → r' 0 ≡ r 0 → r' FRAME ≡ r FRAME → r' LOWEST ≡ r LOWEST → r' RETURN_ADDRESS ≡ r RETURN_ADDRESS → r' REGIONS ≡ r REGIONS → r' GLOBALS ≡ r GLOBALS
+        → ((j : ℕ) → saved_at stage (frame_at frames c.active.function) ≤ j → j < 7 → preserved_of r' j ≡ preserved_of r j)
         → IsNewest program frames addresses (r' HANDLERS) base c.active.function handlers c.frames
-        → Standing program frames addresses pages calls (record c { active = record c.active { handlers = handlers } }) r' w base back in_frame slots
-    standing_handlers handlers r' zero_same base_same lowest_same back_same count_same middle_same newest = record {
+        → Standing program frames addresses pages calls (record c { active = record c.active { handlers = handlers } }) r' w base back stage slots
+    standing_handlers handlers r' zero_same base_same lowest_same back_same count_same middle_same preserved_same newest = record {
       known = s.known;
       base_is = base_same ∙ s.base_is;
       zero_is = zero_same ∙ s.zero_is;
       lowest = ap (λ (n : ℕ). n + frame_size * calls) lowest_same ∙ s.lowest;
       deep = s.deep;
       holds = s.holds;
+      left = s.left;
       chain = s.chain;
+      leaves = leaves_kept r' w preserved_same (λ j high. refl);
       globals = s.globals;
       input = s.input;
       newest = newest;
-      way = back_by in_frame (frame_at frames c.active.function) r r' w base back (λ outside. back_same) s.way;
+      way = back_by (in_frame_at stage) (frame_at frames c.active.function) r r' w base back (λ outside. back_same) s.way;
       based = s.based;
       store = s.store;
       laid = s.laid;
@@ -335,7 +436,7 @@ module _ (program : Program) (well : IsWellFormed program) (frames : List Frame)
 
     -- a slot written
     pub standing_slot : (slot word : ℕ) → slot < (routine_at program c.active.function).slots
-        → Standing program frames addresses pages calls c r (written w (base + slot_offset (frame_at frames c.active.function) slot) word) base back in_frame (put slots slot word)
+        → Standing program frames addresses pages calls c r (written w (base + slot_offset (frame_at frames c.active.function) slot) word) base back stage (put slots slot word)
     standing_slot slot word below = record {
       known = s.known;
       base_is = s.base_is;
@@ -350,14 +451,17 @@ module _ (program : Program) (well : IsWellFormed program) (frames : List Frame)
             put-other w.words (slot_at slot) (base + slot_offset (frame_at frames c.active.function) other) word (other_slot slot other below other_below apart)
             ∙ (s.holds other other_below other_kept ∙ sym (put-other slots slot other word apart))
       ];
-      chain = chain_kept program frames fit addresses w (written w (slot_at slot) word) base back c.active.function c.frames
-          (λ a from. put-other w.words (slot_at slot) a word (λ e. absurd (omega (arith, e, from, slot_inside slot below)))) s.chain;
+      left = s.left;
+      chain = chain_kept program frames fit addresses w (written w (slot_at slot) word) base back s.left s.left c.active.function c.frames
+          (λ a from. put-other w.words (slot_at slot) a word (λ e. absurd (omega (arith, e, from, slot_inside slot below)))) (λ j high. refl) s.chain;
+      leaves = leaves_kept r (written w (slot_at slot) word) (λ j past high. refl)
+          (λ j high. put-other w.words (slot_at slot) (base + 4 * ((frame_at frames c.active.function).first_saved + j)) word (λ e. absurd (own_frame.saved_beside slot j below high (omega (arith, e)))));
       globals = λ global global_below.
           put-other w.words (slot_at slot) (data_base + 4 * global) word (above_data (slot_word (frame_at frames c.active.function) slot) global (slot_inside slot below) global_below)
           ∙ s.globals global global_below;
       input = s.input;
       newest = s.newest;
-      way = back_in in_frame (frame_at frames c.active.function) r w (written w (slot_at slot) word) base back
+      way = back_in (in_frame_at stage) (frame_at frames c.active.function) r w (written w (slot_at slot) word) base back
           (put-other w.words (slot_at slot) return_at word (λ e. (fit.each c.active.function s.known).beside slot below (omega (arith, e)))) s.way;
       based = s.based;
       store = s.store;
@@ -368,7 +472,7 @@ module _ (program : Program) (well : IsWellFormed program) (frames : List Frame)
 
     -- a slot that lives in a register alone gets another word
     pub standing_unkept : (slot word : ℕ) → is_kept (frame_at frames c.active.function) slot ≡ false
-        → Standing program frames addresses pages calls c r w base back in_frame (put slots slot word)
+        → Standing program frames addresses pages calls c r w base back stage (put slots slot word)
     standing_unkept slot word unkept = record {
       known = s.known;
       base_is = s.base_is;
@@ -379,7 +483,9 @@ module _ (program : Program) (well : IsWellFormed program) (frames : List Frame)
         | inl same ↦ absurd (let e : true ≡ false = sym other_kept ∙ (ap (is_kept (frame_at frames c.active.function)) same ∙ unkept) in cc)
         | inr apart ↦ s.holds other other_below other_kept ∙ sym (put-other slots slot other word apart)
       ];
+      left = s.left;
       chain = s.chain;
+      leaves = s.leaves;
       globals = s.globals;
       input = s.input;
       newest = s.newest;
@@ -391,28 +497,38 @@ module _ (program : Program) (well : IsWellFormed program) (frames : List Frame)
       middle = s.middle;
     }
 
-    -- the word for the return address written
-    pub standing_return : (word : ℕ) → word ≡ back → Standing program frames addresses pages calls c r (written w (base + 4 * (frame_at frames c.active.function).return_address) word) base back true slots
-    standing_return word same = record {
+    -- the words for what the function saves written, where it begins
+    pub standing_begun : (w' : Contents) (in_frame : Bool)
+        → ((a : ℕ) → a ≢ return_at → ((j : ℕ) → j < 7 → a ≢ base + 4 * ((frame_at frames c.active.function).first_saved + j)) → w'.words a ≡ w.words a) → w'.store ≡ w.store
+        → IsBack in_frame (frame_at frames c.active.function) r w' base back
+        → ((j : ℕ) → j < 7 → LeftBy (frame_at frames c.active.function) base (preserved_of r) w' j ≡ s.left j)
+        → Standing program frames addresses pages calls c r w' base back (under_way in_frame) slots
+    standing_begun w' in_frame same store_same way leaves = record {
       known = s.known;
       base_is = s.base_is;
       zero_is = s.zero_is;
       lowest = s.lowest;
       deep = s.deep;
       holds = λ slot below slot_kept.
-          put-other w.words return_at (base + slot_offset (frame_at frames c.active.function) slot) word
-          (λ e. (fit.each c.active.function s.known).beside slot below (omega (arith, e)))
+          same (base + slot_offset (frame_at frames c.active.function) slot)
+          (λ e. own_frame.beside slot below (omega (arith, e)))
+          (λ j high e. own_frame.saved_beside slot j below high (omega (arith, e)))
           ∙ s.holds slot below slot_kept;
-      chain = chain_kept program frames fit addresses w (written w return_at word) base back c.active.function c.frames
-          (λ a from. put-other w.words return_at a word (λ e. absurd (omega (arith, e, from, return_inside)))) s.chain;
+      left = s.left;
+      chain = chain_kept program frames fit addresses w w' base back s.left s.left c.active.function c.frames
+          (λ a from.
+          same a (λ e. absurd (omega (arith, e, from, return_inside))) (λ j high e. absurd (let inside = saved_inside j high in omega (arith, e, from, inside)))) (λ j high. refl) s.chain;
+      leaves = leaves;
       globals = λ global below.
-          put-other w.words return_at (data_base + 4 * global) word (above_data (frame_at frames c.active.function).return_address global return_inside below)
+          same (data_base + 4 * global)
+          (λ e. above_data (frame_at frames c.active.function).return_address global return_inside below e)
+          (λ j high e. above_data ((frame_at frames c.active.function).first_saved + j) global (saved_inside j high) below e)
           ∙ s.globals global below;
       input = s.input;
       newest = s.newest;
-      way = put-same w.words return_at word ∙ same;
+      way = way;
       based = s.based;
-      store = s.store;
+      store = store_same ∙ s.store;
       laid = s.laid;
       counted = s.counted;
       middle = s.middle;
@@ -421,19 +537,22 @@ module _ (program : Program) (well : IsWellFormed program) (frames : List Frame)
     -- another store, and other registers, of which one tells how many lexical regions that has
     pub standing_store : (store : StoreState) (r' : Words) → r' 0 ≡ r 0 → r' FRAME ≡ r FRAME → r' LOWEST ≡ r LOWEST → r' RETURN_ADDRESS ≡ r RETURN_ADDRESS → r' HANDLERS ≡ r HANDLERS
         → r' REGIONS ≡ lexical_count store.regions % 2 ^ 32 → r' GLOBALS ≡ r GLOBALS → IsLaid pages store
-        → Standing program frames addresses pages calls (record c { store = store }) r' (record w { store = store }) base back in_frame slots
-    standing_store store r' zero_same base_same lowest_same back_same newest_same counted middle_same laid = record {
+        → ((j : ℕ) → saved_at stage (frame_at frames c.active.function) ≤ j → j < 7 → preserved_of r' j ≡ preserved_of r j)
+        → Standing program frames addresses pages calls (record c { store = store }) r' (record w { store = store }) base back stage slots
+    standing_store store r' zero_same base_same lowest_same back_same newest_same counted middle_same laid preserved_same = record {
       known = s.known;
       base_is = base_same ∙ s.base_is;
       zero_is = zero_same ∙ s.zero_is;
       lowest = ap (λ (n : ℕ). n + frame_size * calls) lowest_same ∙ s.lowest;
       deep = s.deep;
       holds = s.holds;
-      chain = chain_kept program frames fit addresses w (record w { store = store }) base back c.active.function c.frames (λ a from. refl) s.chain;
+      left = s.left;
+      chain = chain_kept program frames fit addresses w (record w { store = store }) base back s.left s.left c.active.function c.frames (λ a from. refl) (λ j high. refl) s.chain;
+      leaves = leaves_kept r' (record w { store = store }) preserved_same (λ j high. refl);
       globals = s.globals;
       input = s.input;
       newest = subst (λ (n : ℕ). IsNewest program frames addresses n base c.active.function c.active.handlers c.frames) (sym newest_same) s.newest;
-      way = back_in in_frame (frame_at frames c.active.function) r' w (record w { store = store }) base back refl (back_by in_frame (frame_at frames c.active.function) r r' w base back (λ outside. back_same) s.way);
+      way = back_in (in_frame_at stage) (frame_at frames c.active.function) r' w (record w { store = store }) base back refl (back_by (in_frame_at stage) (frame_at frames c.active.function) r r' w base back (λ outside. back_same) s.way);
       based = s.based;
       store = refl;
       laid = laid;
@@ -443,7 +562,7 @@ module _ (program : Program) (well : IsWellFormed program) (frames : List Frame)
 
     -- a word of a live block written
     pub standing_saved : (address word : ℕ) → IsWord word
-        → Standing program frames addresses pages calls (record c { store = saved c.store address word }) r (saved_in w address word) base back in_frame slots
+        → Standing program frames addresses pages calls (record c { store = saved c.store address word }) r (saved_in w address word) base back stage slots
     standing_saved address word is_word = record {
       known = s.known;
       base_is = s.base_is;
@@ -451,11 +570,13 @@ module _ (program : Program) (well : IsWellFormed program) (frames : List Frame)
       lowest = s.lowest;
       deep = s.deep;
       holds = s.holds;
-      chain = chain_kept program frames fit addresses w (saved_in w address word) base back c.active.function c.frames (λ a from. refl) s.chain;
+      left = s.left;
+      chain = chain_kept program frames fit addresses w (saved_in w address word) base back s.left s.left c.active.function c.frames (λ a from. refl) (λ j high. refl) s.chain;
+      leaves = leaves_kept r (saved_in w address word) (λ j past high. refl) (λ j high. refl);
       globals = s.globals;
       input = s.input;
       newest = s.newest;
-      way = back_in in_frame (frame_at frames c.active.function) r w (saved_in w address word) base back refl s.way;
+      way = back_in (in_frame_at stage) (frame_at frames c.active.function) r w (saved_in w address word) base back refl s.way;
       based = s.based;
       store = ap (λ (x : StoreState). saved x address word) s.store;
       laid = saved_laid pages c.store address word is_word s.laid;
@@ -465,7 +586,7 @@ module _ (program : Program) (well : IsWellFormed program) (frames : List Frame)
 
     -- a global written
     pub standing_global : (global word : ℕ) → global < length program.globals
-        → Standing program frames addresses pages calls (record c { globals = put c.globals global word }) r (written w (data_base + 4 * global) word) base back in_frame slots
+        → Standing program frames addresses pages calls (record c { globals = put c.globals global word }) r (written w (data_base + 4 * global) word) base back stage slots
     standing_global global word below = record {
       known = s.known;
       base_is = s.base_is;
@@ -476,8 +597,11 @@ module _ (program : Program) (well : IsWellFormed program) (frames : List Frame)
           put-other w.words (global_at global) (base + slot_offset (frame_at frames c.active.function) slot) word
           (λ e. above_data (slot_word (frame_at frames c.active.function) slot) global (slot_inside slot slot_below) below (sym e))
           ∙ s.holds slot slot_below slot_kept;
-      chain = chain_kept program frames fit addresses w (written w (global_at global) word) base back c.active.function c.frames
-          (λ a from. put-other w.words (global_at global) a word (λ e. absurd (omega (arith, e, from, below, well.globals, lies.above_low, s.deep)))) s.chain;
+      left = s.left;
+      chain = chain_kept program frames fit addresses w (written w (global_at global) word) base back s.left s.left c.active.function c.frames
+          (λ a from. put-other w.words (global_at global) a word (λ e. absurd (omega (arith, e, from, below, well.globals, lies.above_low, s.deep)))) (λ j high. refl) s.chain;
+      leaves = leaves_kept r (written w (global_at global) word) (λ j past high. refl)
+          (λ j high. put-other w.words (global_at global) (base + 4 * ((frame_at frames c.active.function).first_saved + j)) word (λ e. above_data ((frame_at frames c.active.function).first_saved + j) global (saved_inside j high) below (sym e)));
       globals = λ other other_below. elim (cases_eq other global) [
         | inl same ↦
             ap (λ (x : ℕ). put w.words (global_at global) word (data_base + 4 * x)) same
@@ -488,7 +612,7 @@ module _ (program : Program) (well : IsWellFormed program) (frames : List Frame)
       ];
       input = s.input;
       newest = s.newest;
-      way = back_in in_frame (frame_at frames c.active.function) r w (written w (global_at global) word) base back
+      way = back_in (in_frame_at stage) (frame_at frames c.active.function) r w (written w (global_at global) word) base back
           (put-other w.words (global_at global) return_at word (λ e. above_data (frame_at frames c.active.function).return_address global return_inside below (sym e))) s.way;
       based = s.based;
       store = s.store;

@@ -84,7 +84,7 @@ abbrev pub Caches : Program → List Frame → (function index : ℕ) → (r slo
 Caches program frames function index r slots =
     (slot k : ℕ) → value_register (frame_at frames function) slot ≡ Some k → IsLiveAt program (routine_at program function) slot index → r k ≡ slots slot
 
-module _ (program : Program) (frames : List Frame) (function : ℕ) (right : AreHomes program (routine_at program function) (frame_at frames function).homes) where
+module _ (program : Program) (frames : List Frame) (function : ℕ) (right : AreHomes program (routine_at program function) (frame_at frames function).saved (frame_at frames function).homes) where
   abbrev frame : Frame
   frame = frame_at frames function
 
@@ -274,9 +274,11 @@ pub record Reloaded (globals stack : ℕ) (program : Program) (frames : List Fra
   pub safe : AreSafe globals stack (reloads (frame_at frames function)) q w
   pub memory : after_w (reloads (frame_at frames function)) q w ≡ w
   pub others : (n : ℕ) → n < 6 ⊎ 24 ≤ n → after_r (reloads (frame_at frames function)) q w n ≡ q n
+  -- nor one that no slot has
+  pub aside : (n : ℕ) → ((slot : ℕ) → value_register (frame_at frames function) slot ≡ Some n → ⊥) → after_r (reloads (frame_at frames function)) q w n ≡ q n
   pub caches : Caches program frames function index (after_r (reloads (frame_at frames function)) q w) slots
 
-pub reloaded : (globals stack : ℕ) (program : Program) (frames : List Frame) (function : ℕ) (right : AreHomes program (routine_at program function) (frame_at frames function).homes) (index : ℕ) (q : Words) (w : Contents) (slots : Words)
+pub reloaded : (globals stack : ℕ) (program : Program) (frames : List Frame) (function : ℕ) (right : AreHomes program (routine_at program function) (frame_at frames function).saved (frame_at frames function).homes) (index : ℕ) (q : Words) (w : Contents) (slots : Words)
     → ((slot : ℕ) → slot < (routine_at program function).slots → IsCell globals stack (memory_address (q FRAME) (slot_offset (frame_at frames function) slot)))
     → ((slot : ℕ) → slot < (routine_at program function).slots → is_kept (frame_at frames function) slot ≡ true → w.words (memory_address (q FRAME) (slot_offset (frame_at frames function) slot)) ≡ slots slot)
     → ((slot k : ℕ) → value_register (frame_at frames function) slot ≡ Some k → IsLiveAt program (routine_at program function) slot index → is_kept (frame_at frames function) slot ≡ false → q k ≡ slots slot)
@@ -290,6 +292,7 @@ reloaded globals stack program frames function right index q w slots cells holds
       safe = all.safe;
       memory = all.memory;
       others = λ n aside. all.others n (λ j both. out_of n aside (values j n both));
+      aside = λ n none. all.others n (λ j both. none j (ap homing.register_of both));
       caches = λ slot k has wanted. elim (cases_Bool (is_kept (frame_at frames function) slot)) [
         | inl kept ↦
             all.result slot k (both_of (homing.home_of frame.homes slot) k has kept)

@@ -23,7 +23,7 @@ use Rattle.cyc_words.specs.inside.Following.{IsOnTheWay, Matching, IsMatchedStep
 use Rattle.cyc_plain.specs.inside.State as states
 use Rattle.cyc_plain.specs.inside.State.{Words, Configuration}
 use Rattle.cyc_plain.specs.inside.Step as steps
-use Rattle.cyc_plain.specs.inside.Step.{IsAllowed, call_of, instruction_at, operand_word, performed, executed, gives, finishes, step, is_within, Step, callee_of}
+use Rattle.cyc_plain.specs.inside.Step.{IsAllowed, call_of, instruction_at, operand_word, performed, executed, gives, finishes, step, is_within, limit_at, Step, callee_of}
 use Rattle.cyc_plain.specs.inside.WellFormed.{IsOperand, IsWellFormed, IsInRange, IsTryInRange, is_return, HasWords, IsOfWord, HasWord}
 use Rattle.cyc_words.proofs.SeenLemmas.{seen_same}
 use Rattle.cyc_words.proofs.Matching.{way_before, way_after}
@@ -49,7 +49,7 @@ use Rattle.cyc_select.proofs.values.Plans.{multiply_divide_result, if_low}
 use Rattle.cyc_select.proofs.relation.Values.{Caches}
 use Rattle.cyc_select.proofs.effects.Views.{Contents}
 use Rattle.cyc_select.proofs.effects.Walks.{Stands, stands_front, stands_back, stands_until, Rises, rising_distinct, rising_inside, comes_map, Quiet, Walk, walk_end, walk_to, walk_rest}
-use Rattle.cyc_select.proofs.relation.Standing.{IsNewest, keeps_back, Standing, behind_line}
+use Rattle.cyc_select.proofs.relation.Standing.{IsNewest, stage_of, Standing, behind_line}
 use Rattle.cyc_select.proofs.relation.Matches.{After, At, Ready, Begun, Matches, Reached, Passed, weight, is_straight}
 use Rattle.cyc_select.proofs.steps.Simple.{address_goes, move_goes, unary_goes, binary_goes, divide_goes, jump_goes, branch_goes, read_goes, write_goes, load_global_goes, count_lexical_goes, store_global_goes, uncaught_goes}
 use Rattle.cyc_select.proofs.steps.Accesses.{move_words_goes, load_goes, store_goes, load_byte_goes, store_byte_goes}
@@ -59,6 +59,7 @@ use Rattle.cyc_select.proofs.steps.Throws.{throw_goes}
 use Rattle.cyc_select.proofs.steps.Idle.{passes}
 use Rattle.cyc_select.proofs.steps.Entries.{entered_goes}
 use Rattle.cyc_select.proofs.steps.Calls.{length_ordinary, call_last}
+use Rattle.cyc_select.proofs.steps.Enters.{enter_goes}
 use Rattle.cyc_select.proofs.steps.Passing.{call_goes}
 use Rattle.cyc_select.proofs.steps.Returns.{behind_goes}
 use Rattle.cyc_select.proofs.steps.Leaving.{return_goes}
@@ -198,7 +199,7 @@ module _ (program : Program) (well : IsWellFormed program) (words : HasWords pro
   stuck_not : (c : Configuration) → Never c → IsAllowed program (states.Running c) zeros → step program zeros (states.Running c) ≡ states.Stuck c.output c.input → ⊥
   stuck_not c never allowed is =
       never (states.Stuck c.output c.input)
-      (zeros, allowed, sym (limited-within pages calls (states.Running c) (step program zeros (states.Running c)) (ap (is_within pages calls) is ∙ stuck_within pages calls c.output c.input) ∙ is))
+      (zeros, allowed, sym (limited-within pages (limit_at program (states.Running c) calls) (states.Running c) (step program zeros (states.Running c)) (ap (is_within pages (limit_at program (states.Running c) calls)) is ∙ stuck_within pages (limit_at program (states.Running c) calls) c.output c.input) ∙ is))
       refl
 
   divides : (c : Configuration) → Never c → (operator : BinaryOperator) (destination : ℕ) (left right : Operand) → instruction_at program (states.place_of (states.Running c)) ≡ Some (plain.Binary operator destination left right)
@@ -210,7 +211,7 @@ module _ (program : Program) (well : IsWellFormed program) (words : HasWords pro
 
   module _ (c : Configuration) (never : Never c) (run : labelled.Configuration) (r : Words) (w : Contents) (base back : ℕ)
       (now : At program well frames fit code formed addresses pages calls few (instruction_line program frames c.active.function c.active.next) c.output c.input r w run)
-      (s : Standing program frames addresses pages calls c r w base back (keeps_back frames c) c.active.slots)
+      (s : Standing program frames addresses pages calls c r w base back (stage_of frames c) c.active.slots)
       (caches : Caches program frames c.active.function c.active.next r c.active.slots) where
     abbrev here : ℕ
     here = instruction_line program frames c.active.function c.active.next
@@ -340,6 +341,8 @@ module _ (program : Program) (well : IsWellFormed program) (words : HasWords pro
         throw_goes program well frames fit code formed addresses pages calls few lie c range_of lands_at run r w base back now s caches tag value at (a, fits) (b, also) (stops_not (plain.Throw tag value) at (zeros_at program c (plain.Throw tag value) at refl)) stands
     instruction_goes (plain.Finish value) at busy in_range fits stands = finish_goes value at in_range stands c.active.handlers refl
     instruction_goes (plain.Uncaught tag value) at busy below (tag_fits, value_fits) stands = uncaught_goes program well frames fit code formed addresses pages calls few c run r w base back now s caches tag value at (below, value_fits) tag_fits stands
+    instruction_goes (plain.Enter callee) at busy in_range fits stands =
+        enter_goes program well frames fit code formed addresses pages calls few c run r w base back now s caches callee at in_range stands (sym (line_next program frames c.active.function c.active.next (plain.Enter callee) at))
 
   -- ---- a step from a state that matches
 
@@ -469,7 +472,7 @@ module _ (program : Program) (well : IsWellFormed program) (words : HasWords pro
       → weight program well frames fit code formed addresses pages calls few next < weight program well frames fit code formed addresses pages calls few (states.Running c)
   straight_lighter c i at straight next (choice, allowed, is) =
       subst (IsLighter c) (sym is)
-      (limited_either (IsLighter c) pages calls (states.Running c) (step program choice (states.Running c)) (λ within. subst (IsLighter c) (sym (ap (executed program choice c) at)) (performed_lighter i straight)) some)
+      (limited_either (IsLighter c) pages (limit_at program (states.Running c) calls) (states.Running c) (step program choice (states.Running c)) (λ within. subst (IsLighter c) (sym (ap (executed program choice c) at)) (performed_lighter i straight)) some)
     where
       some : 0 < length (routine_at program c.active.function).code - c.active.next
       some = omega (arith, below_of_get (routine_at program c.active.function).code c.active.next i at)

@@ -40,7 +40,7 @@ use Rattle.cyc_select.proofs.Laws.{lawful}
 use Rattle.cyc_select.proofs.values.Operations.{take_small}
 use Rattle.cyc_select.proofs.effects.Views.{Contents, View}
 use Rattle.cyc_select.proofs.effects.Walks.{Stands, stands_front, stands_back, Rises, comes_map, Quiet, Walk, Now, walk_end, walk_few, walk_block, walk_jump, after_r}
-use Rattle.cyc_select.proofs.relation.Standing.{frame_size, Standing, slots_fit}
+use Rattle.cyc_select.proofs.relation.Standing.{left_past, preserved_of, entering, frame_size, Standing, slots_fit}
 use Rattle.cyc_select.proofs.relation.Stores.{new_laid, new_counted}
 use Rattle.cyc_select.proofs.relation.Matches.{Matches}
 use Rattle.cyc_select.proofs.runs.Runs.{own_of, matching, all_steps}
@@ -261,7 +261,7 @@ module _ (program : Program) (well : IsWellFormed program) (words : HasWords pro
     input = input;
   }
 
-  standing : Standing program frames addresses pages calls c q w base (q RETURN_ADDRESS) false c.active.slots
+  standing : Standing program frames addresses pages calls c q w base (q RETURN_ADDRESS) entering c.active.slots
   standing = record {
     known = well.main;
     base_is = base_is;
@@ -271,7 +271,9 @@ module _ (program : Program) (well : IsWellFormed program) (words : HasWords pro
     holds = λ slot below slot_kept.
         let own = fit.each program.main well.main in
         stack_zero (base + slot_offset frame slot) (omega arith) (omega (arith, allowed.enough_calls)) (omega (arith, own.inside slot below, own.small));
+    left = preserved_of q;
     chain = ((omega arith), refl, refl);
+    leaves = λ j high. left_past frame.first_saved 0 base (preserved_of q) w j (omega arith);
     newest = refl;
     way = refl;
     based = refl;

@@ -19,11 +19,11 @@ use Rattle.cyc_plain.specs.inside.Program.{Program, routine_at}
 use Rattle.cyc_plain.specs.inside.State as states
 use Rattle.cyc_plain.specs.inside.Memory.{memory_at, with_memory}
 use Rattle.cyc_plain.specs.inside.State.{Words, put, copied, Configuration}
-use Rattle.cyc_plain.specs.inside.Step.{advanced, gives, instruction_at, operand_word, performed, loads, saves, loads_byte, saves_byte}
+use Rattle.cyc_plain.specs.inside.Step.{advanced, gives, instruction_at, operand_word, performed, loads, saves, loads_byte, saves_byte, is_within}
 use Rattle.cyc_plain.specs.inside.WellFormed.{IsOperand, IsOfWord, IsWellFormed, IsMoveInRange}
 use Rattle.cyc_plain.proofs.MemoryLaws.{memory-left}
 use Rattle.cyc_plain.proofs.SlotLaws.{put-same, put-other, copied-below, copied-above}
-use Rattle.cyc_plain.proofs.RunLaws.{zeros, zeros_at, calls_nothing}
+use Rattle.cyc_plain.proofs.RunLaws.{zeros, zeros_at, calls_nothing, limit_free}
 use Rattle.cyc_registers.specs.inside.Interference.{AreHomes}
 use Rattle.cyc_frame.specs.inside.Layout.{AreFrames, frame_at}
 use Rattle.cyc_frame.specs.inside.Frame.{Frame}
@@ -44,7 +44,7 @@ use Rattle.cyc_select.proofs.relation.Matches.{After, At, Reached, reached, resu
 use Rattle.cyc_select.proofs.steps.Moves.{is_ahead, moved, moved_copied, are_moved}
 use Rattle.cyc_select.proofs.steps.Returns.{same_slots, stored}
 use Rattle.cyc_select.proofs.steps.Simple.{Agrees, gets, gives_made}
-use Rattle.cyc_select.proofs.relation.Standing.{Standing, slot_cell, slot_word_is, standing_registers, standing_at, keeps_back}
+use Rattle.cyc_select.proofs.relation.Standing.{under_way, Standing, slot_cell, slot_word_is, standing_registers, standing_at, stage_of}
 use Rattle.cyc_select.proofs.relation.Places.{Sort, OfBlock, OfCell, IsWordAt, placed, walk_read, walk_write, is_found}
 use Rattle.cyc_select.proofs.relation.Values.{Caches, caches_past, moved_caches, unbarred, barred_kept, among, not_among, next_led}
 use Rattle.cyc_select.proofs.effects.Views.{Contents, Width, OneWord, OneByte, load_op, store_op, word_place, loaded_part, stored_word}
@@ -170,7 +170,7 @@ module _ (program : Program) (well : IsWellFormed program) (frames : List Frame)
     (c : Configuration)
     (run : labelled.Configuration) (r : Words) (w : Contents) (base back : ℕ)
     (now : At program well frames fit code formed addresses pages calls few (instruction_line program frames c.active.function c.active.next) c.output c.input r w run)
-    (s : Standing program frames addresses pages calls c r w base back (keeps_back frames c) c.active.slots)
+    (s : Standing program frames addresses pages calls c r w base back (stage_of frames c) c.active.slots)
     (caches : Caches program frames c.active.function c.active.next r c.active.slots) where
   abbrev here : ℕ
   here = instruction_line program frames c.active.function c.active.next
@@ -197,12 +197,12 @@ module _ (program : Program) (well : IsWellFormed program) (frames : List Frame)
   word_in o = operand_word c.active.slots o
 
   cell_at : (slot : ℕ) → slot < slots → IsCell globals_length (words_per_call * calls) (memory_address (r FRAME) (slot_offset frame slot))
-  cell_at slot below = slot_cell program well frames fit addresses pages calls few c r w base back (keeps_back frames c) c.active.slots s slot below
+  cell_at slot below = slot_cell program well frames fit addresses pages calls few c r w base back (stage_of frames c) c.active.slots s slot below
 
   slot_is : (slot : ℕ) → slot < slots → is_kept frame slot ≡ true → w.words (memory_address (r FRAME) (slot_offset frame slot)) ≡ c.active.slots slot
-  slot_is slot below kept = slot_word_is program well frames fit addresses pages calls few c r w base back (keeps_back frames c) c.active.slots s slot below kept
+  slot_is slot below kept = slot_word_is program well frames fit addresses pages calls few c r w base back (stage_of frames c) c.active.slots s slot below kept
 
-  homes_right : AreHomes program (routine_at program c.active.function) (frame_at frames c.active.function).homes
+  homes_right : AreHomes program (routine_at program c.active.function) (frame_at frames c.active.function).saved (frame_at frames c.active.function).homes
   homes_right = fit.homes c.active.function s.known
 
   abbrev Held : Operand → Type 0
@@ -248,13 +248,14 @@ module _ (program : Program) (well : IsWellFormed program) (frames : List Frame)
       let take = are_taken globals_length (words_per_call * calls) frame r w c.active.slots source slots cell_at (λ slot. is_kept frame slot ≡ true) slot_is count in_range.few in_range.source_in_range
       (λ slot from below. barred_kept program frames c.active.function homes_right c.active.next slot (plain.MoveWords destination source count) at_i
       (and_from (is_crossing destination source count) (is_among destination count slot || is_among source count slot) crossing (or_right (is_among destination count slot) (is_among source count slot) (among source count slot from below)))) in
-      let in_q = standing_registers program well frames fit addresses pages calls few c r w base back (keeps_back frames c) c.active.slots s q take.keeps.zero take.keeps.base take.keeps.lowest (λ outside. take.keeps.back) take.keeps.lasts in
-      let in_v = subst (λ (x : Contents). Standing program frames addresses pages calls c q x base back (keeps_back frames c) c.active.slots) (sym take.keeps.memory) in_q in
-      let puts = stored program well frames fit addresses pages calls few c q base back (keeps_back frames c) destination source c.active.slots c.active.slots count v in_range.few in_range.destination_in_range take.taken in_v in
+      let in_q = standing_registers program well frames fit addresses pages calls few c r w base back (stage_of frames c) c.active.slots s q take.keeps.zero take.keeps.base take.keeps.lowest (λ outside. take.keeps.back) take.keeps.lasts
+      (λ j past high. all_same q r take.keeps.values (17 + j) (omega arith) (omega (arith, high))) in
+      let in_v = subst (λ (x : Contents). Standing program frames addresses pages calls c q x base back (stage_of frames c) c.active.slots) (sym take.keeps.memory) in_q in
+      let puts = stored program well frames fit addresses pages calls few c q base back (stage_of frames c) destination source c.active.slots c.active.slots count v in_range.few in_range.destination_in_range take.taken in_v in
       let m : Contents = after_w js q v in
       let there : Words = copied c.active.slots source count c.active.slots destination in
       let d : Configuration = record c { active = record c.active { next = c.active.next + 1; slots = copied c.active.slots source count c.active.slots destination } } in
-      let at_d = standing_at program well frames fit addresses pages calls few c q m base back (keeps_back frames c) there puts.2 d refl refl refl refl refl refl s.input in
+      let at_d = standing_at program well frames fit addresses pages calls few c q m base back (stage_of frames c) there puts.2 d refl refl refl refl refl refl s.input in
       let line : here + length is + length js ≡ instruction_line program frames c.active.function (c.active.next + 1) = omega (arith, line_next program frames c.active.function c.active.next (plain.MoveWords destination source count) at_i, counted_by destination source count true crossing, long, also) in
       walk_few code formed addresses globals_length (words_per_call * calls) 1 (length is + (length js + 0)) here hi c.output _ (Running run) (omega (arith, long, also, some, in_range.some))
       (walk_block code formed addresses globals_length (words_per_call * calls) is (length js + 0) here here hi c.output c.input _ r w run now (stands_first code here is js stands) take.keeps.safe (omega arith)
@@ -290,7 +291,7 @@ module _ (program : Program) (well : IsWellFormed program) (frames : List Frame)
       let long : length is ≡ moves_count frame destination source count = length_moves frame destination source count in
       let hi : ℕ = here + moves_count frame destination source count in
       let ahead = is_ahead destination source count apart in
-      let moves_them = are_moved program well frames fit addresses pages calls few c base back (keeps_back frames c) homes_right destination source count r w c.active.slots s
+      let moves_them = are_moved program well frames fit addresses pages calls few c base back (frame_at frames c.active.function).saves homes_right destination source count r w c.active.slots s
       in_range.destination_in_range in_range.source_in_range ahead
       (λ i j k before below has there.
       ahead i j before below
@@ -304,9 +305,9 @@ module _ (program : Program) (well : IsWellFormed program) (frames : List Frame)
       ((omega (arith, below, in_range.source_in_range)), tt))) in
       let there : Words = copied c.active.slots source count c.active.slots destination in
       let d : Configuration = record c { active = record c.active { next = c.active.next + 1; slots = copied c.active.slots source count c.active.slots destination } } in
-      let in_place = same_slots program well frames fit addresses pages calls few c q base back (keeps_back frames c) destination source c.active.slots c.active.slots m
+      let in_place = same_slots program well frames fit addresses pages calls few c q base back (stage_of frames c) destination source c.active.slots c.active.slots m
       (moved c.active.slots destination source count) there (moved_copied c.active.slots destination source count ahead) moves_them.standing in
-      let at_d = standing_at program well frames fit addresses pages calls few c q m base back (keeps_back frames c) there in_place d refl refl refl refl refl refl s.input in
+      let at_d = standing_at program well frames fit addresses pages calls few c q m base back (stage_of frames c) there in_place d refl refl refl refl refl refl s.input in
       let line : here + length is ≡ instruction_line program frames c.active.function (c.active.next + 1) =
       omega (arith, line_next program frames c.active.function c.active.next (plain.MoveWords destination source count) at_i, counted_by destination source count false apart, long) in
       walk_few code formed addresses globals_length (words_per_call * calls) 1 (length is + 0) here hi c.output _ (Running run) (omega (arith, long, moves_some frame destination source count in_range.some))
@@ -365,7 +366,7 @@ module _ (program : Program) (well : IsWellFormed program) (frames : List Frame)
       let address_held = held i loads_it.at address loads_it.needs there in
       let scratch = made_scratch globals_length (words_per_call * calls) program (routine_at program c.active.function) frame homes_right destination in
       let reaches = is_addressed globals_length (words_per_call * calls) frame (r FRAME) w r c.active.slots r w s.zero_is refl refl (λ n low high. refl) address offset address_held fits in
-      let its = is_found program well frames fit addresses pages calls few c r w base back (keeps_back frames c) s (word_place width a) word found in
+      let its = is_found program well frames fit addresses pages calls few c r w base back (stage_of frames c) s (word_place width a) word found in
       let part : ℕ = loaded_part width a word in
       let there_is : IsWordAt its.sort globals_length (words_per_call * calls) v (word_place width (memory_address (q (register % 32)) (near_half offset))) word =
       subst (λ (x : ℕ). IsWordAt its.sort globals_length (words_per_call * calls) v (word_place width x) word) (sym reaches.comes)
@@ -479,7 +480,7 @@ module _ (program : Program) (well : IsWellFormed program) (frames : List Frame)
       let same : u ≡ w = keeps.memory ∙ reaches.keeps.memory in
       let comes : memory_address (p (register % 32)) (near_half offset) ≡ a =
       ap (λ (x : ℕ). memory_address x (near_half offset)) (second.others (register % 32) (below_32 register) (not_in_second globals_length (words_per_call * calls) frame (r FRAME) w r c.active.slots r w s.zero_is refl refl (λ n low high. refl) address offset address_held)) ∙ reaches.comes in
-      let its = is_found program well frames fit addresses pages calls few c r w base back (keeps_back frames c) s place old found in
+      let its = is_found program well frames fit addresses pages calls few c r w base back (stage_of frames c) s place old found in
       let there_is : IsWordAt its.sort globals_length (words_per_call * calls) u (word_place width (memory_address (p (register % 32)) (near_half offset))) old =
       subst (λ (x : ℕ). IsWordAt its.sort globals_length (words_per_call * calls) u (word_place width x) old) (sym comes)
       (subst (λ (x : Contents). IsWordAt its.sort globals_length (words_per_call * calls) x place old) (sym same) its.at) in
@@ -493,10 +494,11 @@ module _ (program : Program) (well : IsWellFormed program) (frames : List Frame)
       let d : Configuration = advanced c' in
       let left = memory-left program c place word in
       let one = its.standing word is_word in
-      let two = standing_registers program well frames fit addresses pages calls few c' r (placed its.sort w place word) base back (keeps_back frames c) c'.active.slots one p (keeps.zero ∙ reaches.keeps.zero) (keeps.base ∙ reaches.keeps.base) (keeps.lowest ∙ reaches.keeps.lowest) (λ outside. keeps.back ∙ reaches.keeps.back) (keeps.lasts ∙ reaches.keeps.lasts) in
-      let three = standing_at program well frames fit addresses pages calls few c' p (placed its.sort w place word) base back (keeps_back frames c) c'.active.slots two d refl refl refl refl refl refl one.input in
-      let with_function = subst (λ (f : ℕ). Standing program frames addresses pages calls d p (placed its.sort w place word) base back (frame_at frames f).saves d.active.slots) (sym left.function) three in
-      let four = subst (λ (y : Contents). Standing program frames addresses pages calls d p y base back (keeps_back frames d) d.active.slots) (sym puts) with_function in
+      let two = standing_registers program well frames fit addresses pages calls few c' r (placed its.sort w place word) base back (stage_of frames c) c'.active.slots one p (keeps.zero ∙ reaches.keeps.zero) (keeps.base ∙ reaches.keeps.base) (keeps.lowest ∙ reaches.keeps.lowest) (λ outside. keeps.back ∙ reaches.keeps.back) (keeps.lasts ∙ reaches.keeps.lasts)
+      (λ j past high. all_same p q keeps.values (17 + j) (omega arith) (omega (arith, high)) ∙ all_same q r reaches.keeps.values (17 + j) (omega arith) (omega (arith, high))) in
+      let three = standing_at program well frames fit addresses pages calls few c' p (placed its.sort w place word) base back (stage_of frames c) c'.active.slots two d refl refl refl refl refl refl one.input in
+      let with_function = subst (λ (f : ℕ). Standing program frames addresses pages calls d p (placed its.sort w place word) base back (under_way (frame_at frames f).saves) d.active.slots) (sym left.function) three in
+      let four = subst (λ (y : Contents). Standing program frames addresses pages calls d p y base back (stage_of frames d) d.active.slots) (sym puts) with_function in
       let next : here + length is + length js + 1 ≡ instruction_line program frames c.active.function (c.active.next + 1) = omega (arith, line_next program frames c.active.function c.active.next i stores_it.at, stores_it.count, long, more) in
       let line : here + length is + length js + 1 ≡ instruction_line program frames d.active.function d.active.next =
       next
@@ -513,7 +515,7 @@ module _ (program : Program) (well : IsWellFormed program) (frames : List Frame)
       (λ g later.
       walk_end code formed addresses globals_length (words_per_call * calls) (suc (here + length is + length js)) hi c.output _ (Running g) (omega (arith, long, more))
       (reached program well frames fit code formed addresses pages calls few c zeros i (states.Running d) (Running g) (zeros_at program c i stores_it.at stores_it.free) stores_it.at (stores_it.does old found)
-      (within program well frames fit code formed addresses pages calls few d four.laid.paged four.deep)
+      (ap (λ (n : ℕ). is_within pages n (states.Running d)) (limit_free i calls stores_it.free) ∙ within program well frames fit code formed addresses pages calls few d four.laid.paged four.deep)
       (inl (record {
         run = g;
         r = p;

@@ -18,7 +18,7 @@ use Rattle.cyc_select.specs.inside.Selection.{value_register, is_kept, made_in, 
 use Rattle.cyc_select.proofs.values.Blocks.{lasting_same, safe_append}
 use Rattle.cyc_select.proofs.effects.Views.{Contents, written}
 use Rattle.cyc_select.proofs.effects.Walks.{after_r, after_w, after_r-append, after_w-append, AreSafe}
-use Rattle.cyc_select.proofs.relation.Standing.{Standing, slot_address, slot_cell, standing_registers, standing_slot, standing_unkept}
+use Rattle.cyc_select.proofs.relation.Standing.{under_way, Standing, slot_address, slot_cell, standing_registers, standing_slot, standing_unkept}
 use Rattle.cyc_select.proofs.relation.Values.{made_is}
 use Rattle.cyc_machine.specs.declared.constants.TheConstants.{RETURN_ADDRESS}
 use Rattle.cyc_registers.specs.inside.Liveness.{IsLiveAt}
@@ -50,13 +50,13 @@ module _ (program : Program) (well : IsWellFormed program) (frames : List Frame)
   frame = frame_at frames c.active.function
 
   abbrev StandsWith : (q : Words) (m : Contents) (slots : Words) → Type 0
-  StandsWith q m slots = Standing program frames addresses pages calls c q m base back in_frame slots
+  StandsWith q m slots = Standing program frames addresses pages calls c q m base back (under_way in_frame) slots
 
   -- nothing is read again into the register of the slot
   abbrev IsLast : (slot : ℕ) → Type 0
   IsLast slot = (again && is_kept (frame_at frames c.active.function) slot) ≡ false
 
-  right : (q : Words) (m : Contents) (slots : Words) → StandsWith q m slots → AreHomes program (routine_at program c.active.function) (frame_at frames c.active.function).homes
+  right : (q : Words) (m : Contents) (slots : Words) → StandsWith q m slots → AreHomes program (routine_at program c.active.function) (frame_at frames c.active.function).saved (frame_at frames c.active.function).homes
   right q m slots s = fit.homes c.active.function s.known
 
   -- ---- one word
@@ -72,17 +72,17 @@ module _ (program : Program) (well : IsWellFormed program) (frames : List Frame)
   stored_there : (q : Words) (m : Contents) (slots : Words) (register slot word : ℕ) → StandsWith q m slots → slot < (routine_at program c.active.function).slots → q (register % 32) ≡ word
       → StandsWith q (written m (memory_address (q FRAME) (slot_offset (frame_at frames c.active.function) slot)) (q (register % 32))) (put slots slot word)
   stored_there q m slots register slot word s below is =
-      let there = slot_address program well frames fit addresses pages calls few c q m base back in_frame slots s slot below in
+      let there = slot_address program well frames fit addresses pages calls few c q m base back (under_way in_frame) slots s slot below in
       subst (λ (a : ℕ). StandsWith q (written m a (q (register % 32))) (put slots slot word)) (sym there)
       (subst (λ (x : ℕ). StandsWith q (written m (base + slot_offset (frame_at frames c.active.function) slot) x) (put slots slot word)) (sym is)
-      (standing_slot program well frames fit addresses pages calls few c q m base back in_frame slots s slot word below))
+      (standing_slot program well frames fit addresses pages calls few c q m base back (under_way in_frame) slots s slot word below))
 
   -- memory alone gets it
   stored_one : (q : Words) (m : Contents) (slots : Words) (source slot : ℕ) → StandsWith q m slots → slot < (routine_at program c.active.function).slots → q (source % 32) ≡ p (source % 32)
       → ((k : ℕ) → value_register (frame_at frames c.active.function) slot ≡ Some k → IsLast slot → ⊥)
       → IsBrought (store_slot (frame_at frames c.active.function) source slot ∷ []) q m slot slots (p (source % 32))
   stored_one q m slots source slot s below same none = record {
-    safe = (slot_cell program well frames fit addresses pages calls few c q m base back in_frame slots s slot below, tt);
+    safe = (slot_cell program well frames fit addresses pages calls few c q m base back (under_way in_frame) slots s slot below, tt);
     standing = stored_there q m slots source slot (p (source % 32)) s below same;
     aside = λ n aside. refl;
     result = λ k has last. absurd (none k has last);
@@ -137,9 +137,10 @@ module _ (program : Program) (well : IsWellFormed program) (frames : List Frame)
 
       s1 : StandsWith (after_r (copy k source ∷ []) q m) m slots
       s1 =
-          standing_registers program well frames fit addresses pages calls few c q m base back in_frame slots s (after_r (copy k source ∷ []) q m)
+          standing_registers program well frames fit addresses pages calls few c q m base back (under_way in_frame) slots s (after_r (copy k source ∷ []) q m)
           (aside_is 0 (inl (omega arith))) (aside_is FRAME (inr (omega arith))) (aside_is LOWEST (inr (omega arith))) (λ outside. aside_is RETURN_ADDRESS (inr (omega arith)))
           (lasting_same (after_r (copy k source ∷ []) q m) q (aside_is HANDLERS (inr (omega arith))) (aside_is REGIONS (inr (omega arith))) (aside_is GLOBALS (inr (omega arith))))
+          (λ j past j_high. apart_is (17 + j) (λ there. absurd (let saved = (right q m slots s).saved_registers slot (17 + j) there (omega arith) in omega (arith, saved, past))))
 
       made_there : after_r (copy k source ∷ []) q m (made_in (frame_at frames c.active.function) slot % 32) ≡ p (source % 32)
       made_there = ap (λ (n : ℕ). after_r (copy k source ∷ []) q m (n % 32)) (made_is (frame_at frames c.active.function) slot k has) ∙ result_is
@@ -149,7 +150,7 @@ module _ (program : Program) (well : IsWellFormed program) (frames : List Frame)
       go true is_kept_there = record {
         safe = (
           ne_eqb (k % 32) 0 (λ e. absurd (omega (arith, e, low, high))),
-          (slot_cell program well frames fit addresses pages calls few c (after_r (copy k source ∷ []) q m) m base back in_frame slots s1 slot below, tt),
+          (slot_cell program well frames fit addresses pages calls few c (after_r (copy k source ∷ []) q m) m base back (under_way in_frame) slots s1 slot below, tt),
         );
         standing = stored_there (after_r (copy k source ∷ []) q m) m slots (made_in (frame_at frames c.active.function) slot) slot (p (source % 32)) s1 below made_there;
         aside = aside_is;
@@ -158,7 +159,7 @@ module _ (program : Program) (well : IsWellFormed program) (frames : List Frame)
       }
       go false unkept = record {
         safe = (ne_eqb (k % 32) 0 (λ e. absurd (omega (arith, e, low, high))), tt);
-        standing = standing_unkept program well frames fit addresses pages calls few c (after_r (copy k source ∷ []) q m) m base back in_frame slots s1 slot (p (source % 32)) unkept;
+        standing = standing_unkept program well frames fit addresses pages calls few c (after_r (copy k source ∷ []) q m) m base back (under_way in_frame) slots s1 slot (p (source % 32)) unkept;
         aside = aside_is;
         result = λ j there last. there_is j there;
         others = λ n n_low n_high other. apart_is n other;

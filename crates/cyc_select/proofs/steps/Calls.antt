@@ -1,5 +1,5 @@
 -- Calls: a new frame below the caller's, or the end of a run that has no room for one.
-use Rattle.std.proofs.Common.{◌≡◌, ◌≢◌, ℕ, suc, ◌+◌, ◌-◌, ◌*◌, ◌%◌, ◌<◌, ◌≤◌, Bool, false, not, List, [], ◌∷◌, ◌++◌, length, Some, None, slice_get, refl, sym, ap, subst, ◌∙◌, arith, inl, inr}
+use Rattle.std.proofs.Common.{◌≡◌, ◌≢◌, ℕ, suc, ◌+◌, ◌-◌, ◌*◌, ◌%◌, ◌<◌, ◌≤◌, Bool, false, not, List, [], ◌∷◌, ◌++◌, length, Option, Some, None, slice_get, refl, sym, ap, subst, ◌∙◌, arith, inl, inr}
 use Rattle.std.specs.Prelude.{◌==◌, if◌then◌else◌, nat_le}
 use Rattle.std.proofs.lemmas.Bool.{cases_eq, cases_lt, eq-eqb, ne_eqb, and_right, lt-leb}
 use Rattle.cyc_plain.specs.declared.limits.TheConstants.{MOST_FRAME_WORDS}
@@ -12,12 +12,13 @@ use Rattle.cyc_isa.specs.declared.instr.BranchOp.TheVariants as branch
 use Rattle.cyc_isa.specs.Decoding.{register_of}
 use Rattle.cyc_machine.specs.State.{data_base, stack_end, globals_length, words_per_call}
 use Rattle.cyc_store.specs.State.{demand}
+use Rattle.cyc_plain.specs.declared.instruction.Instruction.{Instruction}
 use Rattle.cyc_plain.specs.declared.instruction.Instruction.TheVariants as plain
 use Rattle.cyc_plain.specs.inside.Memory.{IsBelow}
 use Rattle.cyc_plain.specs.inside.Program.{Program, no_routine, routine_at}
 use Rattle.cyc_plain.specs.inside.State as states
 use Rattle.cyc_plain.specs.inside.State.{Words, AreWords, put, copied, Configuration}
-use Rattle.cyc_plain.specs.inside.Step.{Choice, instruction_at, performed, executed, advanced, step, is_within, callee_of}
+use Rattle.cyc_plain.specs.inside.Step.{Choice, instruction_at, performed, executed, advanced, step, is_within, limit_of, limited, callee_of}
 use Rattle.cyc_plain.specs.inside.WellFormed.{IsWellFormed, IsCallInRange}
 use Rattle.cyc_plain.proofs.RunLaws.{zeros, limited-full, called_at}
 use Rattle.cyc_plain.proofs.SlotLaws.{put-other, copied-inside, copied-above}
@@ -38,7 +39,7 @@ use Rattle.cyc_select.proofs.relation.Values.{Caches}
 use Rattle.cyc_select.proofs.effects.Views.{Contents}
 use Rattle.cyc_select.proofs.effects.Walks.{Stands, stands_front, stands_back, after_r, after_w, Walk, walk_end, walk_few, walk_block, walk_branch, walk_call, walk_full}
 use Rattle.cyc_select.proofs.steps.Copies.{Copied, copied_all}
-use Rattle.cyc_select.proofs.relation.Standing.{frame_size, Holds, Chain, IsNewest, Standing, behind_line, IsBack, keeps_back, saves_at, lies, chain_kept, slot_inside, word_cell, AreBased, based_here, slots_fit}
+use Rattle.cyc_select.proofs.relation.Standing.{left_past, left_same, LeftBy, Finds, preserved_of, entering, frame_size, Holds, Chain, IsNewest, Standing, behind_line, IsBack, stage_of, saves_at, lies, chain_kept, slot_inside, word_cell, AreBased, based_here, slots_fit}
 use Rattle.cyc_select.proofs.relation.Matches.{After, At, Reached, reached, within}
 
 pub length_ordinary : (is : List Instr) → length (ordinary is) ≡ length is
@@ -59,7 +60,7 @@ call_last code caller callee here label arguments count stands =
 module _ (program : Program) (well : IsWellFormed program) (frames : List Frame) (fit : AreFrames program frames) (code : Labelled) (formed : IsFormed code) (addresses : ℕ → ℕ) (pages calls : ℕ) (few : calls ≤ 4096)
     (lie : AreAddresses code addresses) (c : Configuration) (run : labelled.Configuration) (r : Words) (w : Contents) (base back : ℕ)
     (here : ℕ) (now : At program well frames fit code formed addresses pages calls few here c.output c.input r w run)
-    (s : Standing program frames addresses pages calls c r w base back (keeps_back frames c) c.active.slots)
+    (s : Standing program frames addresses pages calls c r w base back (stage_of frames c) c.active.slots)
     (callee arguments count result : ℕ) (at_i : instruction_at program (states.place_of (states.Running c)) ≡ Some (plain.Call callee arguments count result))
     (in_range : IsCallInRange program (routine_at program c.active.function) callee arguments count result)
     (inside : behind_line program frames c.active.function c.active.next callee arguments count result < length code.lines)
@@ -68,7 +69,8 @@ module _ (program : Program) (well : IsWellFormed program) (frames : List Frame)
     (there : (slot : ℕ) → slot < count → passed_from (frame_at frames c.active.function) (frame_at frames callee) (arguments + slot) slot ≡ None
     → w.words (base + slot_offset (frame_at frames c.active.function) (arguments + slot)) ≡ c.active.slots (arguments + slot))
     (held : (slot k : ℕ) → slot < count → passed_from (frame_at frames c.active.function) (frame_at frames callee) (arguments + slot) slot ≡ Some k
-    → (6 ≤ k) × (k < 24) × (r k ≡ c.active.slots (arguments + slot)) × IsWord (c.active.slots (arguments + slot))) where
+    → (6 ≤ k) × (k < 24) × (r k ≡ c.active.slots (arguments + slot)) × IsWord (c.active.slots (arguments + slot)))
+    (finds : Finds program frames c.active.function c.active.next callee arguments count result (preserved_of r) c.active.slots) where
   abbrev mine : Frame
   mine = frame_at frames c.active.function
 
@@ -108,7 +110,7 @@ module _ (program : Program) (well : IsWellFormed program) (frames : List Frame)
       (stands_back code (here + 3 + 1) (ordinary passed) call_line at_passed).0
 
   -- the homes of the callee's slots
-  its_right : AreHomes program (routine_at program callee) (frame_at frames callee).homes
+  its_right : AreHomes program (routine_at program callee) (frame_at frames callee).saved (frame_at frames callee).homes
   its_right = fit.homes callee in_range.function_in_range
 
   -- ---- no room
@@ -118,7 +120,7 @@ module _ (program : Program) (well : IsWellFormed program) (frames : List Frame)
 
   here_lies : (base + frame_size ≤ stack_end) × (base + frame_size * suc (length c.frames) ≡ stack_end) × (base % 4 ≡ 0)
   here_lies =
-      let l = lies program well frames fit addresses pages calls few c r w base back (keeps_back frames c) c.active.slots s in
+      let l = lies program well frames fit addresses pages calls few c r w base back (stage_of frames c) c.active.slots s in
       (l.below_end, l.above_low, l.aligned)
 
   -- there is room below for the slots of any function
@@ -138,7 +140,7 @@ module _ (program : Program) (well : IsWellFormed program) (frames : List Frame)
       let over : is_within pages calls (performed program choice c (plain.Call callee arguments count result)) ≡ false = and_right (nat_le (demand c.store) pages) _ deep in
       let is : step program choice (states.Running c) ≡ performed program choice c (plain.Call callee arguments count result) = ap (executed program choice c) at_i in (
         states.Ended Full c.output c.input,
-        (choice, called_at program c callee choice (ap callee_of at_i) (λ slot. omega arith) room_below, sym (limited-full pages calls (states.Running c) (step program choice (states.Running c)) (ap (is_within pages calls) is ∙ over))),
+        (choice, called_at program c callee choice (ap callee_of at_i) (λ slot. omega arith) room_below, sym (ap (λ (o : Option Instruction). limited pages (limit_of o calls) (states.Running c) (step program choice (states.Running c))) at_i ∙ limited-full pages calls (states.Running c) (step program choice (states.Running c)) (ap (is_within pages calls) is ∙ over))),
         refl,
       )
 
@@ -188,7 +190,7 @@ module _ (program : Program) (well : IsWellFormed program) (frames : List Frame)
     callee_cell word below = inr ((omega (arith, low_is, here_lies.2)), (omega (arith, low_is, here_lies.1, deeper)), (omega (arith, low_is, here_lies.0, below)))
 
     caller_cell : (slot : ℕ) → slot < (routine_at program c.active.function).slots → IsCell globals_length (words_per_call * calls) (base + slot_offset mine slot)
-    caller_cell slot below = word_cell program well frames fit addresses pages calls few c r w base back (keeps_back frames c) c.active.slots s (slot_word mine slot) (slot_inside program well frames fit addresses pages calls few c r w base back (keeps_back frames c) c.active.slots s slot below)
+    caller_cell slot below = word_cell program well frames fit addresses pages calls few c r w base back (stage_of frames c) c.active.slots s (slot_word mine slot) (slot_inside program well frames fit addresses pages calls few c r w base back (stage_of frames c) c.active.slots s slot below)
 
     copied_now : Copied globals_length (words_per_call * calls) mine its low base c.active.slots arguments 0 count r1 w
     copied_now =
@@ -226,8 +228,25 @@ module _ (program : Program) (well : IsWellFormed program) (frames : List Frame)
     above_kept : (a : ℕ) → base ≤ a → w2.words a ≡ w.words a
     above_kept a over = copied_now.outside a (inr over)
 
-    own_chain : Chain program frames addresses w2 base back c.active.function c.frames
-    own_chain = chain_kept program frames fit addresses w w2 base back c.active.function c.frames (λ a over. above_kept a (omega (arith, over))) s.chain
+    -- the registers that calls preserve are as in the caller: no parameter comes in one
+    preserved_same : (j : ℕ) → j < 7 → r3 (17 + j) ≡ r (17 + j)
+    preserved_same j high =
+        put-other r2 RETURN_ADDRESS (17 + j) (addresses (here + 3 + 1 + length passed + 1)) (λ e. absurd (omega (arith, e, high)))
+        ∙ (copied_now.spares (17 + j) (omega arith) (omega (arith, high)) (λ i below has. absurd (unpassed i j below has))
+        ∙ put-other r FRAME (17 + j) _ (λ e. absurd (omega (arith, e, high))))
+      where
+        unpassed : (i j : ℕ) → i < count → value_register its (0 + i) ≡ Some (17 + j) → ⊥
+        unpassed i j below has = (let low = its_right.low_parameters (0 + i) (17 + j) has (let takes = in_range.takes in omega (arith, takes, below)) in omega (arith, low))
+
+    -- and by what the callee leaves in them the caller leaves what it left
+    own_left_is : (j : ℕ) → j < 7 → LeftBy mine base (preserved_of r3) w2 j ≡ s.left j
+    own_left_is j high =
+        left_same mine.first_saved mine.saved base (preserved_of r) (preserved_of r3) w w2 (λ i past small. preserved_same i small)
+        (λ i below small. above_kept (base + 4 * (mine.first_saved + i)) (omega arith)) j high
+        ∙ s.leaves j high
+
+    own_chain : Chain program frames addresses w2 base back (LeftBy mine base (preserved_of r3) w2) c.active.function c.frames
+    own_chain = chain_kept program frames fit addresses w w2 base back s.left (LeftBy mine base (preserved_of r3) w2) c.active.function c.frames (λ a over. above_kept a (omega (arith, over))) own_left_is s.chain
 
     -- the caller's way back is in its frame
     saved_is : w2.words (base + 4 * mine.return_address) ≡ back
@@ -245,7 +264,7 @@ module _ (program : Program) (well : IsWellFormed program) (frames : List Frame)
       | inr new ↦ sym (copied-above c.active.slots choice.contents arguments count 0 slot (omega (arith, new)))
     ]
 
-    new_chain : Chain program frames addresses w2 low (r3 RETURN_ADDRESS) callee (record { caller = (advanced c).active; result = result } ∷ c.frames)
+    new_chain : Chain program frames addresses w2 low (r3 RETURN_ADDRESS) (preserved_of r3) callee (record { caller = (advanced c).active; result = result } ∷ c.frames)
     new_chain = (
       arguments,
       count,
@@ -256,8 +275,9 @@ module _ (program : Program) (well : IsWellFormed program) (frames : List Frame)
       ap addresses line_is,
       subst (λ (b : ℕ). Holds program frames c.active.function b w2 c.active.slots) (sym low_is)
           (λ slot below slot_kept. above_kept (base + slot_offset mine slot) (omega arith) ∙ s.holds slot below slot_kept),
-      subst (λ (b : ℕ). Chain program frames addresses w2 b (w2.words (b + 4 * mine.return_address)) c.active.function c.frames) (sym low_is)
-          (subst (λ (x : ℕ). Chain program frames addresses w2 base x c.active.function c.frames) (sym saved_is) own_chain),
+      (λ slot j high has unwritten live. preserved_same j high ∙ finds slot j high has unwritten live),
+      subst (λ (b : ℕ). Chain program frames addresses w2 b (w2.words (b + 4 * mine.return_address)) (LeftBy mine b (preserved_of r3) w2) c.active.function c.frames) (sym low_is)
+          (subst (λ (x : ℕ). Chain program frames addresses w2 base x (LeftBy mine base (preserved_of r3) w2) c.active.function c.frames) (sym saved_is) own_chain),
     )
 
     newest_same : r3 HANDLERS ≡ r HANDLERS
@@ -268,7 +288,7 @@ module _ (program : Program) (well : IsWellFormed program) (frames : List Frame)
         subst (λ (b : ℕ). IsNewest program frames addresses (r3 HANDLERS) b c.active.function c.active.handlers c.frames) (sym low_is)
         (subst (λ (n : ℕ). IsNewest program frames addresses n base c.active.function c.active.handlers c.frames) (sym newest_same) s.newest)
 
-    entered_stands : Standing program frames addresses pages calls entered r3 w2 low (r3 RETURN_ADDRESS) false (copied c.active.slots arguments count choice.contents 0)
+    entered_stands : Standing program frames addresses pages calls entered r3 w2 low (r3 RETURN_ADDRESS) entering (copied c.active.slots arguments count choice.contents 0)
     entered_stands = record {
       known = in_range.function_in_range;
       base_is = copied_now.kept FRAME (inr (omega arith)) ∙ entered_base;
@@ -276,7 +296,9 @@ module _ (program : Program) (well : IsWellFormed program) (frames : List Frame)
       lowest = ap (λ (n : ℕ). n + frame_size * calls) (copied_now.kept LOWEST (inr (omega arith))) ∙ s.lowest;
       deep = deeper;
       holds = new_holds;
+      left = preserved_of r3;
       chain = new_chain;
+      leaves = λ j high. left_past its.first_saved 0 low (preserved_of r3) w2 j (omega arith);
       newest = entered_newest;
       way = refl;
       based = (refl, subst (λ (b : ℕ). AreBased frames b c.active.function c.active.base c.frames) (sym low_is) s.based);

@@ -1,22 +1,38 @@
--- Where a function begins: the line that keeps its way back, if it has one.
-use Rattle.std.proofs.Common.{◌≡◌, ℕ, ◌+◌, ◌*◌, ◌≤◌, Bool, true, false, [], ◌∷◌, sym, ap, refl, subst, ◌∙◌, arith, List}
+-- Where a function begins: the lines that save its way back and registers, if it has some.
+use Rattle.std.proofs.Common.{◌≡◌, ◌≢◌, ℕ, suc, ◌+◌, ◌*◌, ◌<◌, ◌≤◌, Bool, true, false, List, [], ◌∷◌, length, length-append, sym, ap, refl, subst, ◌∙◌, arith}
 use Rattle.std.specs.Prelude.{if◌then◌else◌}
 use Rattle.cyc_isa.specs.Effect.{memory_address}
+use Rattle.cyc_isa.specs.declared.instr.Instr.{Instr}
 use Rattle.cyc_machine.specs.State.{globals_length, words_per_call}
 use Rattle.cyc_machine.specs.declared.constants.TheConstants.{RETURN_ADDRESS}
-use Rattle.cyc_plain.specs.inside.Program.{Program}
-use Rattle.cyc_plain.specs.inside.State.{Configuration}
+use Rattle.cyc_plain.specs.declared.limits.TheConstants.{MOST_FRAME_WORDS}
+use Rattle.cyc_plain.specs.inside.Program.{Program, routine_at}
+use Rattle.cyc_plain.specs.inside.State.{Words, put, Configuration}
 use Rattle.cyc_plain.specs.inside.WellFormed.{IsWellFormed}
-use Rattle.cyc_frame.specs.inside.Layout.{AreFrames, frame_at}
+use Rattle.cyc_plain.proofs.SlotLaws.{put-same, put-other}
+use Rattle.cyc_frame.specs.inside.Layout.{IsFrame, AreFrames, frame_at}
 use Rattle.cyc_frame.specs.inside.Frame.{Frame}
 use Rattle.cyc_select.specs.inside.Labelled.{Labelled, IsFormed}
 use Rattle.cyc_select.specs.inside.Machine.{State, Running}
-use Rattle.cyc_select.specs.inside.Selection.{ordinary, store, saving_code, function_line, instruction_line}
+use Rattle.cyc_select.specs.inside.Selection.{ordinary, store, way_code, way_count, saves, saving_code, saving_count, function_line, instruction_line}
 use Rattle.cyc_select.proofs.layout.Lines.{line_first}
-use Rattle.cyc_select.proofs.effects.Views.{written}
-use Rattle.cyc_select.proofs.effects.Walks.{Stands, Walk, now_at, walk_few, walk_from, walk_block}
-use Rattle.cyc_select.proofs.relation.Standing.{Standing, return_address, return_cell, standing_return}
+use Rattle.cyc_select.proofs.effects.Views.{Contents}
+use Rattle.cyc_select.proofs.effects.Walks.{Stands, after_r, after_w, after_r-append, after_w-append, AreSafe, Walk, now_at, now_is, walk_few, walk_from, walk_block}
+use Rattle.cyc_select.proofs.relation.Cells.{IsCell}
+use Rattle.cyc_select.proofs.relation.Standing.{entering, stage_of, preserved_of, left_past, Lies, IsBack, back_in, Standing, lies, word_cell, return_address, return_cell, standing_begun}
 use Rattle.cyc_select.proofs.relation.Matches.{After, Ready, Entered}
+use Rattle.cyc_select.proofs.steps.Preserving.{AreSaved, are_saved, entered_left, length_saves}
+use Rattle.cyc_select.proofs.values.Blocks.{safe_append}
+
+length_way : (frame : Frame) → length (way_code frame) ≡ way_count frame
+length_way frame = go frame.saves
+  where
+    go : (b : Bool) → length (if b then store RETURN_ADDRESS (4 * frame.return_address) ∷ [] else []) ≡ (if b then 1 else 0)
+    go true = refl
+    go false = refl
+
+length_saving : (frame : Frame) → length (saving_code frame) ≡ saving_count frame
+length_saving frame = omega (arith, length-append (way_code frame) (saves frame), length_way frame, length_saves frame.first_saved 0 frame.saved)
 
 module _ (program : Program) (well : IsWellFormed program) (frames : List Frame) (fit : AreFrames program frames) (code : Labelled) (formed : IsFormed code) (addresses : ℕ → ℕ) (pages calls : ℕ) (few : calls ≤ 4096)
     (c : Configuration) (t : State) (e : Entered program well frames fit code formed addresses pages calls few c t)
@@ -38,45 +54,104 @@ module _ (program : Program) (well : IsWellFormed program) (frames : List Frame)
   abbrev Goes : ℕ → State → Type 0
   Goes line t = Walk code formed addresses globals_length (words_per_call * calls) n line hi c.output (After program pages calls c) Goal t
 
-  pub entered_goes : Goes here (Running e.run)
-  entered_goes = go frame.saves refl stands
-    where
-      line_is : instruction_line program frames c.active.function c.active.next ≡ here + (if frame.saves then 1 else 0)
-      line_is = ap (instruction_line program frames c.active.function) e.first ∙ line_first program frames c.active.function
+  -- the lines that save, and memory behind them
+  abbrev way : List Instr
+  way = way_code frame
 
-      go : (b : Bool) → frame.saves ≡ b → Stands code here (ordinary (if b then store RETURN_ADDRESS (4 * frame.return_address) ∷ [] else [])) → Goes here (Running e.run)
-      go true saved first =
-          let line : here + 1 ≡ instruction_line program frames c.active.function c.active.next = sym (line_is ∙ ap (λ (b : Bool). here + (if b then 1 else 0)) saved) in
-          let kept = standing_return program well frames fit addresses pages calls few c e.r e.w e.base back false c.active.slots e.standing back refl in
-          let in_place = subst (λ (a : ℕ). Standing program frames addresses pages calls c e.r (written e.w a back) e.base back true c.active.slots)
-          (sym (return_address program well frames fit addresses pages calls few c e.r e.w e.base back false c.active.slots e.standing)) kept in
-          walk_few code formed addresses globals_length (words_per_call * calls) n (1 + n) here hi c.output Goal (Running e.run) (omega arith)
-          (walk_block code formed addresses globals_length (words_per_call * calls) (store RETURN_ADDRESS (4 * frame.return_address) ∷ []) n here here hi c.output c.input Goal e.r e.w e.run e.now first
-          (return_cell program well frames fit addresses pages calls few c e.r e.w e.base back false c.active.slots e.standing, tt) (omega arith)
-          (λ d later.
-          walk_from code formed addresses globals_length (words_per_call * calls) n (here + 1) (instruction_line program frames c.active.function c.active.next) hi c.output Goal (Running d) (omega (arith, line))
-          (rest (Running d) (record {
-            run = d;
-            r = e.r;
-            w = written e.w there back;
-            base = e.base;
-            back = back;
-            is = refl;
-            now = now_at code formed addresses globals_length (words_per_call * calls) (here + 1) (instruction_line program frames c.active.function c.active.next) c.output c.input e.r (written e.w there back) d line later;
-            standing = subst (λ (b : Bool). Standing program frames addresses pages calls c e.r (written e.w there back) e.base back b c.active.slots) (sym saved) in_place;
-            caches = e.caches;
-          }))))
-      go false unsaved first =
-          let line : here ≡ instruction_line program frames c.active.function c.active.next = omega (arith, line_is ∙ ap (λ (b : Bool). here + (if b then 1 else 0)) unsaved) in
-          walk_from code formed addresses globals_length (words_per_call * calls) n here (instruction_line program frames c.active.function c.active.next) hi c.output Goal (Running e.run) (omega (arith, line))
-          (rest (Running e.run) (record {
-            run = e.run;
-            r = e.r;
-            w = e.w;
-            base = e.base;
-            back = back;
-            is = refl;
-            now = now_at code formed addresses globals_length (words_per_call * calls) here (instruction_line program frames c.active.function c.active.next) c.output c.input e.r e.w e.run line e.now;
-            standing = subst (λ (b : Bool). Standing program frames addresses pages calls c e.r e.w e.base back b c.active.slots) (sym unsaved) e.standing;
-            caches = e.caches;
-          }))
+  abbrev kept : Contents
+  kept = after_w (way_code frame) e.r e.w
+
+  abbrev final : Contents
+  final = after_w (saves frame) e.r kept
+
+  own : IsFrame (routine_at program c.active.function) (frame_at frames c.active.function)
+  own = fit.each c.active.function e.standing.known
+
+  here_lies : Lies program frames fit addresses e.base (suc (length c.frames))
+  here_lies = lies program well frames fit addresses pages calls few c e.r e.w e.base back entering c.active.slots e.standing
+
+  saved_cell : (j : ℕ) → j < 7 → IsCell globals_length (words_per_call * calls) (e.base + 4 * (frame.first_saved + j))
+  saved_cell j high =
+      word_cell program well frames fit addresses pages calls few c e.r e.w e.base back entering c.active.slots e.standing (frame.first_saved + j) (let inside = own.saved_inside j high in omega (arith, inside, own.small))
+
+  room : frame.first_saved + 7 ≤ MOST_FRAME_WORDS
+  room = (let last = own.saved_inside 6 (omega arith) in omega (arith, last, own.small))
+
+  saved : AreSaved globals_length (words_per_call * calls) e.base frame.first_saved (omega (arith, here_lies.below_end)) room saved_cell 0 frame.saved e.r kept
+  saved = are_saved globals_length (words_per_call * calls) e.base frame.first_saved (omega (arith, here_lies.below_end)) room saved_cell 0 frame.saved e.r kept e.standing.base_is (omega (arith, own.most_saved))
+
+  -- the line of the way back
+  record IsKeptBy (b : Bool) : Type 0 where
+    pub safe : AreSafe globals_length (words_per_call * calls) (if b then store RETURN_ADDRESS (4 * frame.return_address) ∷ [] else []) e.r e.w
+    pub registers : after_r (if b then store RETURN_ADDRESS (4 * frame.return_address) ∷ [] else []) e.r e.w ≡ e.r
+    pub outside : (a : ℕ) → a ≢ e.base + 4 * frame.return_address → (after_w (if b then store RETURN_ADDRESS (4 * frame.return_address) ∷ [] else []) e.r e.w).words a ≡ e.w.words a
+    pub store_same : (after_w (if b then store RETURN_ADDRESS (4 * frame.return_address) ∷ [] else []) e.r e.w).store ≡ e.w.store
+    pub is_back : IsBack b frame e.r (after_w (if b then store RETURN_ADDRESS (4 * frame.return_address) ∷ [] else []) e.r e.w) e.base back
+
+  kept_by : (b : Bool) → IsKeptBy b
+  kept_by true =
+      let at = return_address program well frames fit addresses pages calls few c e.r e.w e.base back entering c.active.slots e.standing in
+      record {
+        safe = (return_cell program well frames fit addresses pages calls few c e.r e.w e.base back entering c.active.slots e.standing, tt);
+        registers = refl;
+        outside = λ a other. put-other e.w.words there a back (λ same. other (same ∙ at));
+        store_same = refl;
+        is_back = ap (put e.w.words there back) (sym at) ∙ put-same e.w.words there back;
+      }
+  kept_by false = record { safe = tt; registers = refl; outside = λ a other. refl; store_same = refl; is_back = refl }
+
+  way_kept : IsKeptBy frame.saves
+  way_kept = kept_by frame.saves
+
+  registers_same : after_r (saving_code frame) e.r e.w ≡ e.r
+  registers_same =
+      after_r-append (way_code frame) (saves frame) e.r e.w
+      ∙ (ap (λ (q : Words). after_r (saves frame) q kept) way_kept.registers ∙ saved.registers)
+
+  memory_is : after_w (saving_code frame) e.r e.w ≡ final
+  memory_is =
+      after_w-append (way_code frame) (saves frame) e.r e.w
+      ∙ ap (λ (q : Words). after_w (saves frame) q kept) way_kept.registers
+
+  -- the words that are saved lie apart
+  beside : (a : ℕ) → ((j : ℕ) → j < 7 → a ≢ e.base + 4 * (frame.first_saved + j)) → final.words a ≡ kept.words a
+  beside a apart = saved.untouched a (λ j below. apart j (omega (arith, below, own.most_saved)))
+
+  begins : Standing program frames addresses pages calls c e.r final e.base back (stage_of frames c) c.active.slots
+  begins =
+      standing_begun program well frames fit addresses pages calls few c e.r e.w e.base back entering c.active.slots e.standing final frame.saves
+      (λ a not_back apart. beside a apart ∙ way_kept.outside a not_back)
+      (saved.store_same ∙ way_kept.store_same)
+      (back_in frame.saves frame e.r kept final e.base back (beside (e.base + 4 * frame.return_address) (λ j high same. own.saved_apart j high (omega (arith, same)))) way_kept.is_back)
+      (λ j high.
+      entered_left globals_length (words_per_call * calls) e.base frame.first_saved (omega (arith, here_lies.below_end)) room saved_cell frame.saved e.r kept e.standing.base_is own.most_saved j
+      ∙ (sym (left_past frame.first_saved 0 e.base (preserved_of e.r) e.w j (omega arith)) ∙ e.standing.leaves j high))
+
+  safe : AreSafe globals_length (words_per_call * calls) (saving_code frame) e.r e.w
+  safe =
+      safe_append globals_length (words_per_call * calls) (way_code frame) (saves frame) e.r e.w way_kept.safe
+      (subst (λ (q : Words). AreSafe globals_length (words_per_call * calls) (saves frame) q kept) (sym way_kept.registers) saved.safe)
+
+  line_is : here + length (saving_code frame) ≡ instruction_line program frames c.active.function c.active.next
+  line_is =
+      let line = ap (instruction_line program frames c.active.function) e.first ∙ line_first program frames c.active.function in
+      omega (arith, line, length_saving frame)
+
+  pub entered_goes : Goes here (Running e.run)
+  entered_goes =
+      walk_few code formed addresses globals_length (words_per_call * calls) n (length (saving_code frame) + n) here hi c.output Goal (Running e.run) (omega arith)
+      (walk_block code formed addresses globals_length (words_per_call * calls) (saving_code frame) n here here hi c.output c.input Goal e.r e.w e.run e.now stands safe (omega arith)
+      (λ d later.
+      walk_from code formed addresses globals_length (words_per_call * calls) n (here + length (saving_code frame)) (instruction_line program frames c.active.function c.active.next) hi c.output Goal (Running d) (omega (arith, line_is))
+      (rest (Running d) (record {
+        run = d;
+        r = e.r;
+        w = final;
+        base = e.base;
+        back = back;
+        is = refl;
+        now = now_at code formed addresses globals_length (words_per_call * calls) (here + length (saving_code frame)) (instruction_line program frames c.active.function c.active.next) c.output c.input e.r final d line_is
+            (now_is code formed addresses globals_length (words_per_call * calls) (here + length (saving_code frame)) c.output c.input (after_r (saving_code frame) e.r e.w) (after_w (saving_code frame) e.r e.w) e.r final d registers_same memory_is later);
+        standing = begins;
+        caches = e.caches;
+      }))))

@@ -35,7 +35,7 @@ use Rattle.cyc_select.proofs.layout.Lines.{line_next}
 use Rattle.cyc_select.proofs.relation.Matches.{After, At, Landed, Reached, reached, within}
 use Rattle.cyc_select.proofs.values.Operations.{add_small}
 use Rattle.cyc_select.proofs.steps.Requests.{are_stored}
-use Rattle.cyc_select.proofs.relation.Standing.{Lies, IsNewest, keeps_back, saves_at, Standing, lies, slot_inside, slot_address, slot_cell, slot_word_is, standing_registers, standing_handlers, standing_at, standing_slot}
+use Rattle.cyc_select.proofs.relation.Standing.{left_same, preserved_of, under_way, Stage, Lies, IsNewest, stage_of, saves_at, Standing, lies, slot_inside, slot_address, slot_cell, slot_word_is, standing_registers, standing_handlers, standing_at, standing_slot}
 use Rattle.cyc_select.proofs.relation.Values.{Caches, caches_past, barred_kept, unbarred, among, not_among, next_led, length_reloads, reloaded}
 use Rattle.cyc_select.proofs.effects.Views.{Contents, written}
 use Rattle.cyc_select.proofs.effects.Walks.{Stands, stands_front, stands_back, after_r, after_w, after_r-append, after_w-append, AreSafe, Walk, now_at, now_is, walk_end, walk_few, walk_block, walk_jump, walk_call}
@@ -69,8 +69,8 @@ module _ (program : Program) (well : IsWellFormed program) (frames : List Frame)
     abbrev back : ℕ
     back = l.w.words (l.base + 4 * frame.return_address)
 
-    saved : keeps_back frames c ≡ true
-    saved = saves_at program frames fit c.active.function c.active.next (plain.Try l.first l.handler) l.standing.known l.opened refl
+    saved : stage_of frames c ≡ under_way true
+    saved = ap under_way (saves_at program frames fit c.active.function c.active.next (plain.Try l.first l.handler) l.standing.known l.opened refl)
 
     inside : l.first + 4 ≤ slots
     inside = (range_of c.active.function c.active.next l.first l.handler l.opened).record_in_range
@@ -86,14 +86,14 @@ module _ (program : Program) (well : IsWellFormed program) (frames : List Frame)
 
     pub catch_goes : Goes 1 (here + 3) (here + (8 + reload_count frame)) (Running l.run)
     catch_goes =
-        let all = are_stored program well frames fit addresses pages calls few c0 l.r l.base back true l.first (ARGUMENT ∷ SECOND_ARGUMENT ∷ []) l.w l.waiting (omega (arith, inside)) l.standing in
+        let all = are_stored program well frames fit addresses pages calls few c0 l.r l.base back (under_way true) l.first (ARGUMENT ∷ SECOND_ARGUMENT ∷ []) l.w l.waiting (omega (arith, inside)) l.standing in
         let next : Configuration = record c { active = record c.active { next = l.handler; handlers = l.handlers } } in
-        let in_slots : Standing program frames addresses pages calls c0 l.r m l.base back true c.active.slots =
-        subst (λ (x : Words). Standing program frames addresses pages calls c0 l.r m l.base back true x) (sym l.slots) all.standing in
+        let in_slots : Standing program frames addresses pages calls c0 l.r m l.base back (under_way true) c.active.slots =
+        subst (λ (x : Words). Standing program frames addresses pages calls c0 l.r m l.base back (under_way true) x) (sym l.slots) all.standing in
         let right = fit.homes c.active.function l.standing.known in
         let again = reloaded globals_length (words_per_call * calls) program frames c.active.function right l.handler l.r m c.active.slots
-        (λ slot below. slot_cell program well frames fit addresses pages calls few c0 l.r m l.base back true c.active.slots in_slots slot below)
-        (λ slot below slot_kept. slot_word_is program well frames fit addresses pages calls few c0 l.r m l.base back true c.active.slots in_slots slot below slot_kept)
+        (λ slot below. slot_cell program well frames fit addresses pages calls few c0 l.r m l.base back (under_way true) c.active.slots in_slots slot below)
+        (λ slot below slot_kept. slot_word_is program well frames fit addresses pages calls few c0 l.r m l.base back (under_way true) c.active.slots in_slots slot below slot_kept)
         (λ slot k has wanted unkept. absurd (false≢true (sym unkept ∙ right.clause c.active.next l.first l.handler slot l.opened wanted))) in
         let final : Words = after_r read_again l.r m in
         let registers : after_r (stores ++ read_again) l.r l.w ≡ after_r read_again l.r m =
@@ -101,11 +101,12 @@ module _ (program : Program) (well : IsWellFormed program) (frames : List Frame)
         let memory : after_w (stores ++ read_again) l.r l.w ≡ m =
         after_w-append stores read_again l.r l.w ∙ (ap (λ (q : Words). after_w read_again q m) all.same ∙ again.memory) in
         let safe_again = subst (λ (q : Words). AreSafe globals_length (words_per_call * calls) read_again q m) (sym all.same) again.safe in
-        let in_final = standing_registers program well frames fit addresses pages calls few c0 l.r m l.base back true c.active.slots in_slots final
+        let in_final = standing_registers program well frames fit addresses pages calls few c0 l.r m l.base back (under_way true) c.active.slots in_slots final
         (again.others 0 (inl (omega arith))) (again.others FRAME (inr (omega arith))) (again.others LOWEST (inr (omega arith))) (λ outside. again.others RETURN_ADDRESS (inr (omega arith)))
-        (lasting_same final l.r (again.others HANDLERS (inr (omega arith))) (again.others REGIONS (inr (omega arith))) (again.others GLOBALS (inr (omega arith)))) in
-        let at_next = standing_at program well frames fit addresses pages calls few c0 final m l.base back true c.active.slots in_final next refl refl refl refl refl refl l.standing.input in
-        let with_way = subst (λ (x : Bool). Standing program frames addresses pages calls next final m l.base back x c.active.slots) (sym saved) at_next in
+        (lasting_same final l.r (again.others HANDLERS (inr (omega arith))) (again.others REGIONS (inr (omega arith))) (again.others GLOBALS (inr (omega arith))))
+        (λ j past high. again.aside (17 + j) (λ slot has. absurd (let own = right.saved_registers slot (17 + j) has (omega arith) in omega (arith, own, past)))) in
+        let at_next = standing_at program well frames fit addresses pages calls few c0 final m l.base back (under_way true) c.active.slots in_final next refl refl refl refl refl refl l.standing.input in
+        let with_way = subst (λ (x : Stage). Standing program frames addresses pages calls next final m l.base back x c.active.slots) (sym saved) at_next in
         let does : performed program zeros c (plain.Try l.first l.handler) ≡ states.Running next = ap (tries zeros c l.first l.handler) l.caught in
         let long : length (caught_code frame l.first) ≡ 2 + reload_count frame = (let e : suc (suc (length (reloads frame))) ≡ 2 + reload_count frame = omega (arith, length_reloads frame) in e) in
         let hi : ℕ = here + (8 + reload_count frame) in
@@ -135,9 +136,9 @@ module _ (program : Program) (well : IsWellFormed program) (frames : List Frame)
 
   module _ (run : labelled.Configuration) (r : Words) (w : Contents) (base back : ℕ)
       (now : At program well frames fit code formed addresses pages calls few here c.output c.input r w run)
-      (s : Standing program frames addresses pages calls c r w base back (keeps_back frames c) c.active.slots)
+      (s : Standing program frames addresses pages calls c r w base back (stage_of frames c) c.active.slots)
       (caches : Caches program frames c.active.function c.active.next r c.active.slots) where
-    homes_right : AreHomes program (routine_at program c.active.function) (frame_at frames c.active.function).homes
+    homes_right : AreHomes program (routine_at program c.active.function) (frame_at frames c.active.function).saved (frame_at frames c.active.function).homes
     homes_right = fit.homes c.active.function s.known
 
     -- ---- a handler is closed
@@ -186,17 +187,18 @@ module _ (program : Program) (well : IsWellFormed program) (frames : List Frame)
         let closing : List Instr = load HANDLERS (slot_offset frame first) ∷ [] in
         let q : Words = after_r (load HANDLERS (slot_offset frame first) ∷ []) r w in
         let is : q HANDLERS ≡ found.contents 0 =
-        slot_word_is program well frames fit addresses pages calls few c r w base back (keeps_back frames c) c.active.slots s first below
+        slot_word_is program well frames fit addresses pages calls few c r w base back (stage_of frames c) c.active.slots s first below
         (barred_kept program frames c.active.function homes_right c.active.next first (plain.Leave first) at_i (among first 4 first (omega arith) (omega arith))) ∙ (holds_four c.active.slots first found.contents found.intact).zeroth in
         let next : Configuration = advanced (record c { active = record c.active { handlers = found.rest } }) in
         let c0 : Configuration = record c { active = record c.active { handlers = found.rest } } in
-        let in_rest = standing_handlers program well frames fit addresses pages calls few c r w base back (keeps_back frames c) c.active.slots s found.rest q refl refl refl refl refl refl
+        let in_rest = standing_handlers program well frames fit addresses pages calls few c r w base back (stage_of frames c) c.active.slots s found.rest q refl refl refl refl refl refl
+        (λ j past high. put-other r HANDLERS (17 + j) _ (λ e. absurd (omega (arith, e, high))))
         (subst (λ (n : ℕ). IsNewest program frames addresses n base c.active.function found.rest c.frames) (sym is) found.newest) in
-        let at_next = standing_at program well frames fit addresses pages calls few c0 q w base back (keeps_back frames c) c.active.slots in_rest next refl refl refl refl refl refl s.input in
+        let at_next = standing_at program well frames fit addresses pages calls few c0 q w base back (stage_of frames c) c.active.slots in_rest next refl refl refl refl refl refl s.input in
         let line : here + 1 ≡ instruction_line program frames c.active.function (c.active.next + 1) = omega (arith, line_next program frames c.active.function c.active.next (plain.Leave first) at_i) in
         walk_few code formed addresses globals_length (words_per_call * calls) 1 (1 + 0) here (here + 1) c.output _ (Running run) (omega arith)
         (walk_block code formed addresses globals_length (words_per_call * calls) closing 0 here here (here + 1) c.output c.input _ r w run now stands
-        ((refl, slot_cell program well frames fit addresses pages calls few c r w base back (keeps_back frames c) c.active.slots s first below), tt) (omega arith)
+        ((refl, slot_cell program well frames fit addresses pages calls few c r w base back (stage_of frames c) c.active.slots s first below), tt) (omega arith)
         (λ d later.
         walk_end code formed addresses globals_length (words_per_call * calls) (here + 1) (here + 1) c.output _ (Running d) (omega arith)
         (reached program well frames fit code formed addresses pages calls few c zeros (plain.Leave first) (states.Running next) (Running d) (zeros_at program c (plain.Leave first) at_i refl) at_i found.does
@@ -219,23 +221,23 @@ module _ (program : Program) (well : IsWellFormed program) (frames : List Frame)
 
     module _ (first handler : ℕ) (at_i : IsAt (plain.Try first handler)) (in_range : IsTryInRange (routine_at program c.active.function) first handler)
         (stands : Stands code here (body program frames c.active.function here (plain.Try first handler))) where
-      stored : keeps_back frames c ≡ true
-      stored = saves_at program frames fit c.active.function c.active.next (plain.Try first handler) s.known at_i refl
+      stored : stage_of frames c ≡ under_way true
+      stored = ap under_way (saves_at program frames fit c.active.function c.active.next (plain.Try first handler) s.known at_i refl)
 
       -- the way back is in the frame
-      s0 : Standing program frames addresses pages calls c r w base back true c.active.slots
-      s0 = subst (λ (x : Bool). Standing program frames addresses pages calls c r w base back x c.active.slots) stored s
+      s0 : Standing program frames addresses pages calls c r w base back (under_way true) c.active.slots
+      s0 = subst (λ (x : Stage). Standing program frames addresses pages calls c r w base back x c.active.slots) stored s
 
       in_record : first + 4 ≤ slots
       in_record = in_range.record_in_range
 
       -- a slot written by a register, and the word for the return address
-      put_slot : (q : Words) (m : Contents) (there : Words) (slot word : ℕ) → slot < slots → Standing program frames addresses pages calls c q m base back true there
-          → Standing program frames addresses pages calls c q (written m (memory_address (q FRAME) (slot_offset frame slot)) word) base back true (put there slot word)
+      put_slot : (q : Words) (m : Contents) (there : Words) (slot word : ℕ) → slot < slots → Standing program frames addresses pages calls c q m base back (under_way true) there
+          → Standing program frames addresses pages calls c q (written m (memory_address (q FRAME) (slot_offset frame slot)) word) base back (under_way true) (put there slot word)
       put_slot q m there slot word below stands =
-          subst (λ (a : ℕ). Standing program frames addresses pages calls c q (written m a word) base back true (put there slot word))
-          (sym (slot_address program well frames fit addresses pages calls few c q m base back true there stands slot below))
-          (standing_slot program well frames fit addresses pages calls few c q m base back true there stands slot word below)
+          subst (λ (a : ℕ). Standing program frames addresses pages calls c q (written m a word) base back (under_way true) (put there slot word))
+          (sym (slot_address program well frames fit addresses pages calls few c q m base back (under_way true) there stands slot below))
+          (standing_slot program well frames fit addresses pages calls few c q m base back (under_way true) there stands slot word below)
 
       abbrev before : List Instr
       before = recorded_code frame first
@@ -252,7 +254,7 @@ module _ (program : Program) (well : IsWellFormed program) (frames : List Frame)
       abbrev slots2 : Words
       slots2 = put (put c.active.slots first (r HANDLERS)) (first + 1) (r FRAME)
 
-      s2 : Standing program frames addresses pages calls c r w2 base back true slots2
+      s2 : Standing program frames addresses pages calls c r w2 base back (under_way true) slots2
       s2 =
           put_slot r w1 (put c.active.slots first (r HANDLERS)) (first + 1) (r FRAME) (omega (arith, in_record))
           (put_slot r w c.active.slots first (r HANDLERS) (omega (arith, in_record)) s0)
@@ -276,20 +278,21 @@ module _ (program : Program) (well : IsWellFormed program) (frames : List Frame)
       abbrev slots3 : Words
       slots3 = recorded c.active.slots first (r HANDLERS) (r FRAME) (addresses (here + 2 + 1))
 
-      s3 : Standing program frames addresses pages calls c r1 w3 base back true slots3
+      s3 : Standing program frames addresses pages calls c r1 w3 base back (under_way true) slots3
       s3 =
           put_slot r1 w2 slots2 (first + 2) (addresses (here + 2 + 1)) (omega (arith, in_record))
-          (standing_registers program well frames fit addresses pages calls few c r w2 base back true slots2 s2 r1 refl refl refl (λ outside. absurd (let e : true ≡ false = outside in cc)) refl)
+          (standing_registers program well frames fit addresses pages calls few c r w2 base back (under_way true) slots2 s2 r1 refl refl refl (λ outside. absurd (let e : true ≡ false = outside in cc)) refl
+          (λ j past high. put-other r RETURN_ADDRESS (17 + j) _ (λ e. absurd (omega (arith, e, high)))))
 
       abbrev r3 : Words
       r3 = after_r after r1 w2
 
       own_lies : Lies program frames fit addresses base (suc (length c.frames))
-      own_lies = lies program well frames fit addresses pages calls few c r w base back true c.active.slots s0
+      own_lies = lies program well frames fit addresses pages calls few c r w base back (under_way true) c.active.slots s0
 
       newest_is : r3 HANDLERS ≡ base + slot_offset frame first
       newest_is =
-          let word = slot_inside program well frames fit addresses pages calls few c r w base back true c.active.slots s0 first (omega (arith, in_record)) in
+          let word = slot_inside program well frames fit addresses pages calls few c r w base back (under_way true) c.active.slots s0 first (omega (arith, in_record)) in
           ap (λ (x : ℕ). add_of x (sign_extended (slot_offset frame first))) s.base_is
           ∙ add_small base (slot_offset frame first) (omega (arith, word)) (omega (arith, word, own_lies.below_end))
 
@@ -300,7 +303,7 @@ module _ (program : Program) (well : IsWellFormed program) (frames : List Frame)
       last_word : IsWord (c.active.slots (first + 3))
       last_word =
           subst IsWord
-          (slot_word_is program well frames fit addresses pages calls few c r w base back true c.active.slots s0 (first + 3) (omega (arith, in_record))
+          (slot_word_is program well frames fit addresses pages calls few c r w base back (under_way true) c.active.slots s0 (first + 3) (omega (arith, in_record))
           (barred_kept program frames c.active.function homes_right c.active.next (first + 3) (plain.Try first handler) at_i (among first 4 (first + 3) (omega arith) (omega arith))))
           (now.w_words (memory_address (r FRAME) (slot_offset frame (first + 3))))
 
@@ -330,7 +333,7 @@ module _ (program : Program) (well : IsWellFormed program) (frames : List Frame)
           go (Open index other held_words ∷ handlers) records = refl
           go (Caught ∷ handlers) records = absurd records
 
-      ends_at : Standing program frames addresses pages calls opened_at r3 w3 base back true (copied contents 0 4 c.active.slots first)
+      ends_at : Standing program frames addresses pages calls opened_at r3 w3 base back (under_way true) (copied contents 0 4 c.active.slots first)
       ends_at = record {
         known = s.known;
         base_is = s.base_is;
@@ -338,7 +341,12 @@ module _ (program : Program) (well : IsWellFormed program) (frames : List Frame)
         lowest = s.lowest;
         deep = s.deep;
         holds = λ slot below slot_kept. s3.holds slot below slot_kept ∙ recorded_is c.active.slots first (r HANDLERS) (r FRAME) (addresses (here + 2 + 1)) slot;
+        left = s3.left;
         chain = s3.chain;
+        leaves = λ j high.
+            left_same frame.first_saved frame.saved base (preserved_of r1) (preserved_of r3) w3 w3
+            (λ i past small. put-other r1 HANDLERS (17 + i) _ (λ e. absurd (omega (arith, e, small)))) (λ i below small. refl) j high
+            ∙ s3.leaves j high;
         globals = s3.globals;
         input = s.input;
         newest = (record { at = newest_is; handler = handler; opened = at_i; frame = s.base_is; line = landing_is }, s.newest);
@@ -374,7 +382,7 @@ module _ (program : Program) (well : IsWellFormed program) (frames : List Frame)
       pub try_goes : Goes 1 here (here + (8 + reload_count frame)) (Running run)
       try_goes =
           let frame_cell : (slot : ℕ) → slot < slots → IsCell globals_length (words_per_call * calls) (memory_address (r FRAME) (slot_offset frame slot)) =
-          λ slot below. slot_cell program well frames fit addresses pages calls few c r w base back true c.active.slots s0 slot below in
+          λ slot below. slot_cell program well frames fit addresses pages calls few c r w base back (under_way true) c.active.slots s0 slot below in
           walk_few code formed addresses globals_length (words_per_call * calls) 1 (2 + 1) here (here + (8 + reload_count frame)) c.output _ (Running run) (omega arith)
           (walk_block code formed addresses globals_length (words_per_call * calls) before 1 here here (here + (8 + reload_count frame)) c.output c.input _ r w run now
           (stands_front code here (ordinary before) behind stands)
@@ -399,7 +407,7 @@ module _ (program : Program) (well : IsWellFormed program) (frames : List Frame)
             is = refl;
             now = now_at code formed addresses globals_length (words_per_call * calls) (here + 6 + reload_count frame + 2) (instruction_line program frames c.active.function (c.active.next + 1)) c.output c.input r3 w3 f
                 (let e : here + 6 + reload_count frame + 2 ≡ instruction_line program frames c.active.function (c.active.next + 1) = omega (arith, line_next program frames c.active.function c.active.next (plain.Try first handler) at_i) in e) opened_now;
-            standing = subst (λ (x : Bool). Standing program frames addresses pages calls opened_at r3 w3 base back x (copied contents 0 4 c.active.slots first)) (sym stored) ends_at;
+            standing = subst (λ (x : Stage). Standing program frames addresses pages calls opened_at r3 w3 base back x (copied contents 0 4 c.active.slots first)) (sym stored) ends_at;
             caches =
                 caches_past program frames c.active.function homes_right c.active.next (c.active.next + 1) r r3 c.active.slots (copied contents 0 4 c.active.slots first) (plain.Try first handler) at_i
                 (or_left (suc c.active.next == c.active.next + 1) (handler == c.active.next + 1) (next_led c.active.next))

@@ -331,7 +331,7 @@ module _ (frame : Frame) (condition : Condition) (destination register : ℕ) (m
       go None none is = absurd (omega (arith, is, same, high))
       go (Some own) has is = ap Some (sym (same ∙ is))
 
-  module _ (program : Program) (function : ℕ) (right : AreHomes program (routine_at program function) frame.homes) where
+  module _ (program : Program) (function : ℕ) (right : AreHomes program (routine_at program function) frame.saved frame.homes) where
     bounds : (0 < register) × (register ≤ 24)
     bounds = elim which [
       | inl first ↦ ((omega (arith, first)), (omega (arith, first)))

@@ -15,10 +15,10 @@ use Rattle.cyc_plain.specs.inside.Operators.{unary_result, binary_result, has_no
 use Rattle.cyc_plain.specs.inside.Program.{Program, routine_at}
 use Rattle.cyc_plain.specs.inside.State as states
 use Rattle.cyc_plain.specs.inside.State.{Words, put, Configuration}
-use Rattle.cyc_plain.specs.inside.Step.{at, with_slots, gives, instruction_at, operand_word, performed}
+use Rattle.cyc_plain.specs.inside.Step.{at, with_slots, gives, instruction_at, operand_word, performed, is_within}
 use Rattle.cyc_plain.specs.inside.WellFormed.{IsWellFormed}
 use Rattle.cyc_plain.proofs.Placed.{below_of_get}
-use Rattle.cyc_plain.proofs.RunLaws.{zeros, calls_nothing, zeros_at}
+use Rattle.cyc_plain.proofs.RunLaws.{zeros, calls_nothing, zeros_at, limit_free}
 use Rattle.cyc_plain.proofs.SlotLaws.{put-same, put-other}
 use Rattle.cyc_frame.specs.inside.Frame.{Frame}
 use Rattle.cyc_registers.specs.declared.home.Home.TheVariants as homes
@@ -32,7 +32,7 @@ use Rattle.cyc_select.specs.inside.Selection.{value_register, instruction_line, 
 use Rattle.cyc_select.proofs.effects.Walks.{now_at}
 use Rattle.cyc_select.proofs.layout.Lines.{line_next}
 use Rattle.cyc_select.proofs.relation.Matches.{Ready, Passed, steps_to, within}
-use Rattle.cyc_select.proofs.relation.Standing.{Standing, keeps_back, standing_at, standing_unkept}
+use Rattle.cyc_select.proofs.relation.Standing.{Standing, stage_of, standing_at, standing_unkept}
 use Rattle.cyc_select.proofs.relation.Values.{Caches, caches_past, live_earlier, apart_from, itself, next_led}
 use Rattle.cyc_registers.specs.inside.Liveness.{IsLiveAt}
 
@@ -44,7 +44,7 @@ module _ (program : Program) (well : IsWellFormed program) (frames : List Frame)
   abbrev Passes : Type 0
   Passes = Passed program well frames fit code formed addresses pages calls few c t
 
-  right : AreHomes program (routine_at program c.active.function) (frame_at frames c.active.function).homes
+  right : AreHomes program (routine_at program c.active.function) (frame_at frames c.active.function).saved (frame_at frames c.active.function).homes
   right = fit.homes c.active.function ready.standing.known
 
   -- the same call at the next instruction, with such slots
@@ -53,7 +53,7 @@ module _ (program : Program) (well : IsWellFormed program) (frames : List Frame)
 
   passes_with : (i : Instruction) → IsAt i → calls_nothing i ≡ true → is_idle (frame_at frames c.active.function) c.active.next i ≡ true → behind_count program frames c.active.function i ≡ 0
       → (slots' : Words) → performed program zeros c i ≡ states.Running (behind_it slots')
-      → Standing program frames addresses pages calls c ready.r ready.w ready.base ready.back (keeps_back frames c) slots'
+      → Standing program frames addresses pages calls c ready.r ready.w ready.base ready.back (stage_of frames c) slots'
       → Caches program frames c.active.function (c.active.next + 1) ready.r slots'
       → Passes
   passes_with i at_i free idle none slots' does standing caches =
@@ -61,10 +61,10 @@ module _ (program : Program) (well : IsWellFormed program) (frames : List Frame)
       let counted = ap (λ (b : Bool). (if b then 0 else body_count program frames c.active.function i) + behind_count program frames c.active.function i) idle in
       let line : instruction_line program frames c.active.function c.active.next ≡ instruction_line program frames c.active.function (c.active.next + 1) =
       omega (arith, line_next program frames c.active.function c.active.next i at_i, counted, none) in
-      let there = standing_at program well frames fit addresses pages calls few c ready.r ready.w ready.base ready.back (keeps_back frames c) slots' standing d refl refl refl refl refl refl ready.standing.input in (
+      let there = standing_at program well frames fit addresses pages calls few c ready.r ready.w ready.base ready.back (stage_of frames c) slots' standing d refl refl refl refl refl refl ready.standing.input in (
         states.Running d,
         steps_to program well frames fit code formed addresses pages calls few c zeros i (states.Running d) (zeros_at program c i at_i free) at_i does
-            (within program well frames fit code formed addresses pages calls few d ready.standing.laid.paged ready.standing.deep),
+            (ap (λ (n : ℕ). is_within pages n (states.Running d)) (limit_free i calls free) ∙ within program well frames fit code formed addresses pages calls few d ready.standing.laid.paged ready.standing.deep),
         inl (record {
           run = ready.run;
           r = ready.r;
@@ -87,7 +87,7 @@ module _ (program : Program) (well : IsWellFormed program) (frames : List Frame)
       → Passes
   passes_unused i at_i free idle none destination word (unkept, unwanted) unwritten led does =
       passes_with i at_i free idle none (put c.active.slots destination word) does
-      (standing_unkept program well frames fit addresses pages calls few c ready.r ready.w ready.base ready.back (keeps_back frames c) c.active.slots ready.standing destination word unkept)
+      (standing_unkept program well frames fit addresses pages calls few c ready.r ready.w ready.base ready.back (stage_of frames c) c.active.slots ready.standing destination word unkept)
       (λ slot k has wanted. elim (cases_eq slot destination) [
         | inl same ↦
             absurd (unwanted (subst (λ (n : ℕ). IsLiveAt program (routine_at program c.active.function) n (suc c.active.next)) same
@@ -133,7 +133,7 @@ module _ (program : Program) (well : IsWellFormed program) (frames : List Frame)
       → homing.home_of (frame_at frames c.active.function).homes destination ≡ homes.Register register → value_register (frame_at frames c.active.function) number ≡ Some register → Passes
   passes_there destination number register at_i idle home has =
       passes_with (plain.Move destination (operands.Slot number)) at_i refl idle refl (put c.active.slots destination (c.active.slots number)) refl
-      (standing_unkept program well frames fit addresses pages calls few c ready.r ready.w ready.base ready.back (keeps_back frames c) c.active.slots ready.standing destination (c.active.slots number) (ap homing.is_kept home))
+      (standing_unkept program well frames fit addresses pages calls few c ready.r ready.w ready.base ready.back (stage_of frames c) c.active.slots ready.standing destination (c.active.slots number) (ap homing.is_kept home))
       (λ slot k slot_has wanted. elim (cases_eq slot destination) [
         | inl same ↦
             let own : Some register ≡ Some k = sym (ap homing.register_of home) ∙ (ap (value_register (frame_at frames c.active.function)) (sym same) ∙ slot_has) in

@@ -23,13 +23,13 @@ use Rattle.cyc_select.specs.declared.code.Line.TheVariants as lines
 use Rattle.cyc_select.specs.inside.Labelled.{Labelled, IsFormed, AreAddresses}
 use Rattle.cyc_select.specs.inside.Machine as labelled
 use Rattle.cyc_select.specs.inside.Machine.{State, Running, Ended, IsReturnPoint}
-use Rattle.cyc_select.specs.inside.Selection.{value_register, load, ordinary, ending_code, ending_count, returning_code, instruction_line, saving_count}
+use Rattle.cyc_select.specs.inside.Selection.{value_register, load, ordinary, ending_code, ending_count, returning_code, instruction_line, way_count}
 use Rattle.cyc_select.proofs.values.Computing.{HeldIn}
 use Rattle.cyc_select.proofs.relation.Held.{slot_held}
 use Rattle.cyc_select.proofs.relation.Values.{Caches, among}
 use Rattle.cyc_select.proofs.effects.Views.{Contents}
 use Rattle.cyc_select.proofs.effects.Walks.{Stands, Walk, walk_few, walk_block}
-use Rattle.cyc_select.proofs.relation.Standing.{IsBack, keeps_back, Standing, behind_line, return_cell, return_address, standing_registers}
+use Rattle.cyc_select.proofs.relation.Standing.{IsBack, stage_of, Standing, behind_line, return_cell, return_address, standing_registers}
 use Rattle.cyc_select.proofs.relation.Matches.{After, At, Reached}
 use Rattle.cyc_select.proofs.steps.Returns.{loaded, returning_goes}
 
@@ -42,7 +42,7 @@ held_aside globals stack frame r w slots slot word (Some k) (low, high, is, fits
 module _ (program : Program) (well : IsWellFormed program) (frames : List Frame) (fit : AreFrames program frames) (code : Labelled) (formed : IsFormed code) (addresses : ℕ → ℕ) (pages calls : ℕ) (few : calls ≤ 4096)
     (lie : AreAddresses code addresses) (c : Configuration) (run : labelled.Configuration) (r : Words) (w : Contents) (base back : ℕ)
     (now : At program well frames fit code formed addresses pages calls few (instruction_line program frames c.active.function c.active.next) c.output c.input r w run)
-    (s : Standing program frames addresses pages calls c r w base back (keeps_back frames c) c.active.slots)
+    (s : Standing program frames addresses pages calls c r w base back (stage_of frames c) c.active.slots)
     (caches : Caches program frames c.active.function c.active.next r c.active.slots)
     (i : Instruction) (value : ℕ) (at_i : instruction_at program (states.place_of (states.Running c)) ≡ Some i) (free : calls_nothing i ≡ true)
     (needs : (slot : ℕ) → is_among value (routine_at program c.active.function).results slot ≡ true → reads (routine_at program c.active.function).results i slot ≡ true)
@@ -79,19 +79,20 @@ module _ (program : Program) (well : IsWellFormed program) (frames : List Frame)
   abbrev again : Words
   again = put r RETURN_ADDRESS (w.words (memory_address (r FRAME) (4 * frame.return_address)))
 
-  pub return_goes : Goes 1 here (here + (saving_count frame + ending + results + 2)) (Running run)
+  pub return_goes : Goes 1 here (here + (way_count frame + ending + (results + frame.saved + 2))) (Running run)
   return_goes = go frame.saves refl stands
     where
       go : (b : Bool) → frame.saves ≡ b → Stands code here (ordinary (if b then load RETURN_ADDRESS (4 * frame.return_address) ∷ [] else []) ++ rest (here + (if b then 1 else 0)))
-          → Goes 1 here (here + ((if b then 1 else 0) + ending + results + 2)) (Running run)
+          → Goes 1 here (here + ((if b then 1 else 0) + ending + (results + frame.saved + 2))) (Running run)
       go true saved there =
-          let top : here + 1 + (ending + results + 2) ≡ here + (1 + ending + results + 2) = omega arith in
-          let restored = standing_registers program well frames fit addresses pages calls few c r w base back (keeps_back frames c) c.active.slots s again refl refl refl (λ outside. absurd (false≢true (sym outside ∙ saved))) refl in
+          let top : here + 1 + (ending + (results + frame.saved + 2)) ≡ here + (1 + ending + (results + frame.saved + 2)) = omega arith in
+          let restored = standing_registers program well frames fit addresses pages calls few c r w base back (stage_of frames c) c.active.slots s again refl refl refl (λ outside. absurd (false≢true (sym outside ∙ saved))) refl
+          (λ j past high. put-other r RETURN_ADDRESS (17 + j) _ (λ e. absurd (omega (arith, e, high)))) in
           let way : again RETURN_ADDRESS ≡ back =
-          ap w.words (return_address program well frames fit addresses pages calls few c r w base back (keeps_back frames c) c.active.slots s) ∙ subst (λ (x : Bool). IsBack x frame r w base back) saved s.way in
-          walk_few code formed addresses globals_length (words_per_call * calls) 1 (1 + 1) here (here + (1 + ending + results + 2)) c.output _ (Running run) (omega arith)
-          (walk_block code formed addresses globals_length (words_per_call * calls) (load RETURN_ADDRESS (4 * frame.return_address) ∷ []) 1 here here (here + (1 + ending + results + 2)) c.output c.input _ r w run now (there.0, tt)
-          ((refl, return_cell program well frames fit addresses pages calls few c r w base back (keeps_back frames c) c.active.slots s), tt) (omega arith)
+          ap w.words (return_address program well frames fit addresses pages calls few c r w base back (stage_of frames c) c.active.slots s) ∙ subst (λ (x : Bool). IsBack x frame r w base back) saved s.way in
+          walk_few code formed addresses globals_length (words_per_call * calls) 1 (1 + 1) here (here + (1 + ending + (results + frame.saved + 2))) c.output _ (Running run) (omega arith)
+          (walk_block code formed addresses globals_length (words_per_call * calls) (load RETURN_ADDRESS (4 * frame.return_address) ∷ []) 1 here here (here + (1 + ending + (results + frame.saved + 2))) c.output c.input _ r w run now (there.0, tt)
+          ((refl, return_cell program well frames fit addresses pages calls few c r w base back (stage_of frames c) c.active.slots s), tt) (omega arith)
           (λ d later.
           subst (λ (n : ℕ). Goes 1 (here + 1) n (Running d)) top
           (returning_goes program well frames fit code formed addresses pages calls few lie c d again w base back (here + 1) later restored way i value at_i free
@@ -99,7 +100,7 @@ module _ (program : Program) (well : IsWellFormed program) (frames : List Frame)
           does none_open returns_to there.1)))
       go false unsaved there =
           let line : here + 0 ≡ here = omega arith in
-          let top : here + (ending + results + 2) ≡ here + (0 + ending + results + 2) = omega arith in
+          let top : here + (ending + (results + frame.saved + 2)) ≡ here + (0 + ending + (results + frame.saved + 2)) = omega arith in
           subst (λ (n : ℕ). Goes 1 here n (Running run)) top
           (returning_goes program well frames fit code formed addresses pages calls few lie c run r w base back here now s (subst (λ (x : Bool). IsBack x frame r w base back) unsaved s.way) i value at_i free
           returned_held does none_open returns_to (subst (λ (n : ℕ). Stands code here (rest n)) line there))

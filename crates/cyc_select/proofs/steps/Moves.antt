@@ -20,7 +20,7 @@ use Rattle.cyc_frame.specs.inside.Layout.{AreFrames, frame_at}
 use Rattle.cyc_select.specs.inside.Selection.{value_register, is_kept, made_in, slot_offset, store_slot, load_code, operand_code, operand_register, move_to, moves}
 use Rattle.cyc_select.proofs.values.Blocks.{lasting, Puts, Keeps, puts_keeps, safe_append}
 use Rattle.cyc_select.proofs.values.Computing.{HeldIn, load_puts, operand_puts, first_scratch, first_aside, made_scratch}
-use Rattle.cyc_select.proofs.relation.Standing.{Standing, slot_address, slot_cell, slot_word_is, standing_registers, standing_slot, standing_unkept}
+use Rattle.cyc_select.proofs.relation.Standing.{under_way, Standing, slot_address, slot_cell, slot_word_is, standing_registers, standing_slot, standing_unkept}
 use Rattle.cyc_select.proofs.relation.Values.{memory_kept, made_is}
 use Rattle.cyc_select.proofs.effects.Views.{Contents, written}
 use Rattle.cyc_select.proofs.effects.Walks.{after_r, after_w, after_r-append, after_w-append, AreSafe}
@@ -99,7 +99,7 @@ moved_copied x destination source count ahead number = elim (cases_lt number des
 -- ---- the lines
 
 module _ (program : Program) (well : IsWellFormed program) (frames : List Frame) (fit : AreFrames program frames) (addresses : ℕ → ℕ) (pages calls : ℕ) (few : calls ≤ 4096)
-    (c : Configuration) (base back : ℕ) (in_frame : Bool) (right : AreHomes program (routine_at program c.active.function) (frame_at frames c.active.function).homes) where
+    (c : Configuration) (base back : ℕ) (in_frame : Bool) (right : AreHomes program (routine_at program c.active.function) (frame_at frames c.active.function).saved (frame_at frames c.active.function).homes) where
   abbrev frame : Frame
   frame = frame_at frames c.active.function
 
@@ -110,7 +110,7 @@ module _ (program : Program) (well : IsWellFormed program) (frames : List Frame)
   Safe is q m = AreSafe globals_length (words_per_call * calls) is q m
 
   abbrev pub StandsWith : (q : Words) (m : Contents) (x : Words) → Type 0
-  StandsWith q m x = Standing program frames addresses pages calls c q m base back in_frame x
+  StandsWith q m x = Standing program frames addresses pages calls c q m base back (under_way in_frame) x
 
   -- what a block has done that gives a slot a word
   record HasGiven (is : List Instr) (destination word : ℕ) (q : Words) (m : Contents) (x : Words) : Type 0 where
@@ -131,19 +131,19 @@ module _ (program : Program) (well : IsWellFormed program) (frames : List Frame)
 
   module _ (q : Words) (m : Contents) (x : Words) (s : StandsWith q m x) (destination : ℕ) (below : destination < (routine_at program c.active.function).slots) where
     stored_safe : (b : Bool) (register : ℕ) → Safe (stored b register destination) q m
-    stored_safe true register = (slot_cell program well frames fit addresses pages calls few c q m base back in_frame x s destination below, tt)
+    stored_safe true register = (slot_cell program well frames fit addresses pages calls few c q m base back (under_way in_frame) x s destination below, tt)
     stored_safe false register = tt
 
     stored_stands : (b : Bool) (register word : ℕ) → is_kept (frame_at frames c.active.function) destination ≡ b → q (register % 32) ≡ word
         → StandsWith q (after_w (stored b register destination) q m) (put x destination word)
     stored_stands true register word kept result =
-        let there = slot_address program well frames fit addresses pages calls few c q m base back in_frame x s destination below in
+        let there = slot_address program well frames fit addresses pages calls few c q m base back (under_way in_frame) x s destination below in
         let puts : written m (memory_address (q FRAME) (slot_offset (frame_at frames c.active.function) destination)) (q (register % 32))
         ≡ written m (base + slot_offset (frame_at frames c.active.function) destination) word =
         ap (λ (a : ℕ). written m a (q (register % 32))) there ∙ ap (written m (base + slot_offset (frame_at frames c.active.function) destination)) result in
         subst (λ (y : Contents). StandsWith q y (put x destination word)) (sym puts)
-        (standing_slot program well frames fit addresses pages calls few c q m base back in_frame x s destination word below)
-    stored_stands false register word kept result = standing_unkept program well frames fit addresses pages calls few c q m base back in_frame x s destination word kept
+        (standing_slot program well frames fit addresses pages calls few c q m base back (under_way in_frame) x s destination word below)
+    stored_stands false register word kept result = standing_unkept program well frames fit addresses pages calls few c q m base back (under_way in_frame) x s destination word kept
 
   -- a block that leaves a word in a register, and the store of it
   block_gives : (q : Words) (m : Contents) (x : Words) → StandsWith q m x → (destination : ℕ) → destination < (routine_at program c.active.function).slots
@@ -155,7 +155,10 @@ module _ (program : Program) (well : IsWellFormed program) (frames : List Frame)
   block_gives q m x s destination below is register but word keeps result b kept cached aside =
       let q1 : Words = after_r is q m in
       let m1 : Contents = after_w is q m in
-      let in_q = standing_registers program well frames fit addresses pages calls few c q m base back in_frame x s q1 keeps.zero keeps.base keeps.lowest (λ outside. keeps.back) keeps.lasts in
+      let in_q = standing_registers program well frames fit addresses pages calls few c q m base back (under_way in_frame) x s q1 keeps.zero keeps.base keeps.lowest (λ outside. keeps.back) keeps.lasts
+      (λ j past high.
+      keeps.values (17 + j) (omega arith) (omega (arith, high))
+      (aside (17 + j) (omega arith) (omega (arith, high)) (λ has. absurd (let saved = right.saved_registers destination (17 + j) has (omega arith) in omega (arith, saved, past))))) in
       let in_m : StandsWith q1 m1 x = subst (λ (y : Contents). StandsWith (after_r is q m) y x) (sym keeps.memory) in_q in
       let registers : after_r (is ++ stored b register destination) q m ≡ after_r is q m =
       after_r-append is (stored b register destination) q m ∙ stored_registers b register destination (after_r is q m) (after_w is q m) in
@@ -188,8 +191,8 @@ module _ (program : Program) (well : IsWellFormed program) (frames : List Frame)
       held_in : (o : Option ℕ) → value_register (frame_at frames c.active.function) source ≡ o
           → HeldIn globals_length (words_per_call * calls) o (frame_at frames c.active.function) (q FRAME) m q x source
       held_in None none = (
-        slot_cell program well frames fit addresses pages calls few c q m base back in_frame x s source source_below,
-        slot_word_is program well frames fit addresses pages calls few c q m base back in_frame x s source source_below (memory_kept (frame_at frames c.active.function) source none),
+        slot_cell program well frames fit addresses pages calls few c q m base back (under_way in_frame) x s source source_below,
+        slot_word_is program well frames fit addresses pages calls few c q m base back (under_way in_frame) x s source source_below (memory_kept (frame_at frames c.active.function) source none),
       )
       held_in (Some k) has = (right.low source k has, right.high source k has, cached k has, fits)
 

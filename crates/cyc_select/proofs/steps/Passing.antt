@@ -1,7 +1,7 @@
 -- Calls from their first line on: what they pass from memory comes there before.
 use Rattle.std.proofs.Common.{◌≡◌, ℕ, zero, suc, ◌+◌, ◌*◌, ◌%◌, ◌<◌, ◌≤◌, Bool, true, false, List, [], ◌∷◌, ◌++◌, length, Option, Some, None, refl, sym, ap, subst, ◌∙◌, arith, inl, inr}
 use Rattle.std.specs.Prelude.{if◌then◌else◌}
-use Rattle.std.proofs.lemmas.Bool.{cases_eq}
+use Rattle.std.proofs.lemmas.Bool.{eq-eqb, cases_eq}
 use Rattle.cyc_select.specs.declared.constants.TheConstants.{FRAME}
 use Rattle.cyc_words.specs.Word.{IsWord}
 use Rattle.cyc_isa.specs.declared.instr.Instr.{Instr}
@@ -26,14 +26,14 @@ use Rattle.cyc_select.proofs.steps.Calls.{length_ordinary, calling_goes}
 use Rattle.cyc_select.proofs.steps.Copies.{is_free}
 use Rattle.cyc_select.proofs.emission.Counts.{length_spills}
 use Rattle.cyc_select.proofs.steps.Returns.{same_slots}
-use Rattle.cyc_select.proofs.relation.Standing.{Standing, behind_line, slot_address, slot_cell, standing_slot, keeps_back}
+use Rattle.cyc_select.proofs.relation.Standing.{preserved_of, Finds, Stage, Standing, behind_line, slot_address, slot_cell, standing_slot, stage_of}
 use Rattle.cyc_select.proofs.relation.Matches.{After, At, Reached}
 use Rattle.cyc_select.proofs.relation.Values.{Caches, memory_kept, made_is, among}
 use Rattle.cyc_select.proofs.effects.Views.{Contents, written}
 use Rattle.cyc_select.proofs.effects.Walks.{Stands, stands_front, stands_back, after_r, after_w, after_r-append, after_w-append, AreSafe, Walk, now_at, now_is, walk_few, walk_from, walk_block}
 
 module _ (program : Program) (well : IsWellFormed program) (frames : List Frame) (fit : AreFrames program frames) (addresses : ℕ → ℕ) (pages calls : ℕ) (few : calls ≤ 4096)
-    (c : Configuration) (r : Words) (base back : ℕ) (in_frame : Bool) (callee : ℕ) (known : c.active.function < length program.functions) where
+    (c : Configuration) (r : Words) (base back : ℕ) (stage : Stage) (callee : ℕ) (known : c.active.function < length program.functions) where
   abbrev frame : Frame
   frame = frame_at frames c.active.function
 
@@ -41,7 +41,7 @@ module _ (program : Program) (well : IsWellFormed program) (frames : List Frame)
   slots = (routine_at program c.active.function).slots
 
   abbrev StandsIn : (m : Contents) → Type 0
-  StandsIn m = Standing program frames addresses pages calls c r m base back in_frame c.active.slots
+  StandsIn m = Standing program frames addresses pages calls c r m base back stage c.active.slots
 
   -- the slot's word in the frame is its value
   abbrev IsThere : (m : Contents) (slot : ℕ) → Type 0
@@ -62,7 +62,7 @@ module _ (program : Program) (well : IsWellFormed program) (frames : List Frame)
   abbrev HasCached : (slot : ℕ) → Type 0
   HasCached slot = (k : ℕ) → value_register (frame_at frames c.active.function) slot ≡ Some k → r k ≡ c.active.slots slot
 
-  right : AreHomes program (routine_at program c.active.function) (frame_at frames c.active.function).homes
+  right : AreHomes program (routine_at program c.active.function) (frame_at frames c.active.function).saved (frame_at frames c.active.function).homes
   right = fit.homes c.active.function known
 
   made_has : (slot : ℕ) → is_kept (frame_at frames c.active.function) slot ≡ false → HasCached slot → r (made_in (frame_at frames c.active.function) slot % 32) ≡ c.active.slots slot
@@ -96,12 +96,12 @@ module _ (program : Program) (well : IsWellFormed program) (frames : List Frame)
       let at : ℕ = base + slot_offset (frame_at frames c.active.function) slot in
       let word : ℕ = c.active.slots slot in
       let puts : written m (memory_address (r FRAME) (slot_offset (frame_at frames c.active.function) slot)) (r (made_in (frame_at frames c.active.function) slot % 32)) ≡ written m at word =
-      ap (λ (a : ℕ). written m a (r (made_in (frame_at frames c.active.function) slot % 32))) (slot_address program well frames fit addresses pages calls few c r m base back in_frame c.active.slots s slot below)
+      ap (λ (a : ℕ). written m a (r (made_in (frame_at frames c.active.function) slot % 32))) (slot_address program well frames fit addresses pages calls few c r m base back stage c.active.slots s slot below)
       ∙ ap (written m at) (made_has slot unkept cached) in
-      let put_it = standing_slot program well frames fit addresses pages calls few c r m base back in_frame c.active.slots s slot word below in
-      let in_place = same_slots program well frames fit addresses pages calls few c r base back in_frame slot slot c.active.slots c.active.slots (written m at word) (put c.active.slots slot word) c.active.slots same_put put_it in
+      let put_it = standing_slot program well frames fit addresses pages calls few c r m base back stage c.active.slots s slot word below in
+      let in_place = same_slots program well frames fit addresses pages calls few c r base back stage slot slot c.active.slots c.active.slots (written m at word) (put c.active.slots slot word) c.active.slots same_put put_it in
       record {
-        safe = (slot_cell program well frames fit addresses pages calls few c r m base back in_frame c.active.slots s slot below, tt);
+        safe = (slot_cell program well frames fit addresses pages calls few c r m base back stage c.active.slots s slot below, tt);
         same = refl;
         standing = subst (λ (x : Contents). StandsIn x) (sym puts) in_place;
         stay = λ a a_below is. subst (λ (x : Contents). IsThere x a) (sym puts) (stays a a_below is);
@@ -184,7 +184,7 @@ module _ (program : Program) (well : IsWellFormed program) (frames : List Frame)
 module _ (program : Program) (well : IsWellFormed program) (frames : List Frame) (fit : AreFrames program frames) (code : Labelled) (formed : IsFormed code) (addresses : ℕ → ℕ) (pages calls : ℕ) (few : calls ≤ 4096)
     (lie : AreAddresses code addresses) (c : Configuration) (run : labelled.Configuration) (r : Words) (w : Contents) (base back : ℕ)
     (now : At program well frames fit code formed addresses pages calls few (instruction_line program frames c.active.function c.active.next) c.output c.input r w run)
-    (s : Standing program frames addresses pages calls c r w base back (keeps_back frames c) c.active.slots)
+    (s : Standing program frames addresses pages calls c r w base back (stage_of frames c) c.active.slots)
     (caches : Caches program frames c.active.function c.active.next r c.active.slots)
     (callee arguments count result : ℕ) (at_i : instruction_at program (states.place_of (states.Running c)) ≡ Some (plain.Call callee arguments count result))
     (in_range : IsCallInRange program (routine_at program c.active.function) callee arguments count result)
@@ -217,10 +217,15 @@ module _ (program : Program) (well : IsWellFormed program) (frames : List Frame)
       let is = caches (arguments + slot) k has (0, (plain.Call callee arguments count result, at_i, among arguments count (arguments + slot) (omega arith) (omega (arith, below)))) in
       (right.low (arguments + slot) k has, right.high (arguments + slot) k has, is, subst IsWord is (now.r_words k))
 
+  -- what is live behind the call and not returned is live here
+  finds_there : Finds program frames c.active.function c.active.next callee arguments count result (preserved_of r) c.active.slots
+  finds_there slot j high has unwritten (steps, live) =
+      caches slot (17 + j) has (suc steps, (plain.Call callee arguments count result, at_i, unwritten, suc c.active.next, eq-eqb (suc c.active.next) (suc c.active.next) refl, live))
+
   pub call_goes : Walk code formed addresses globals_length (words_per_call * calls) 1 here (here + body_count program frames c.active.function (plain.Call callee arguments count result)) c.output (After program pages calls c) (Reached program well frames fit code formed addresses pages calls few c) (Running run)
   call_goes =
       let hi : ℕ = here + body_count program frames c.active.function (plain.Call callee arguments count result) in
-      let all = are_spilled program well frames fit addresses pages calls few c r base back (keeps_back frames c) callee s.known w arguments 0 count in_range.arguments_in_range s
+      let all = are_spilled program well frames fit addresses pages calls few c r base back (stage_of frames c) callee s.known w arguments 0 count in_range.arguments_in_range s
       (λ k below n has. caches (arguments + k) n has (0, (plain.Call callee arguments count result, at_i, among arguments count (arguments + k) (omega arith) (omega (arith, below))))) in
       let m : Contents = after_w before r w in
       let next = calling_code mine (frame_at frames callee) spilled (function_line program frames callee) arguments count in
@@ -234,4 +239,4 @@ module _ (program : Program) (well : IsWellFormed program) (frames : List Frame)
       walk_from code formed addresses globals_length (words_per_call * calls) 1 (here + length before) spilled hi c.output _ (Running d) (omega (arith, long))
       (subst (λ (n : ℕ). Walk code formed addresses globals_length (words_per_call * calls) 1 spilled n c.output (After program pages calls c) (Reached program well frames fit code formed addresses pages calls few c) (Running d)) (let e : spilled + (5 + copies_count mine (frame_at frames callee) arguments 0 count) ≡ hi = omega arith in e)
       (calling_goes program well frames fit code formed addresses pages calls few lie c d r m base back spilled at_next all.standing callee arguments count result at_i in_range inside stands_next (omega arith)
-      (λ slot below none. all.there slot below (at_slot slot ∙ none)) held_there))))
+      (λ slot below none. all.there slot below (at_slot slot ∙ none)) held_there finds_there))))

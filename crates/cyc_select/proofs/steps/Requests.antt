@@ -1,5 +1,5 @@
 -- The instruction that calls the store.
-use Rattle.std.proofs.Common.{◌≡◌, ◌≢◌, ℕ, suc, ◌+◌, ◌*◌, ◌%◌, ◌^◌, ◌<◌, ◌≤◌, true, false, List, [], ◌∷◌, ◌++◌, length, length-append, Option, None, Some, refl, sym, ap, subst, ◌∙◌, arith, inl, inr, Bool}
+use Rattle.std.proofs.Common.{◌≡◌, ◌≢◌, ℕ, suc, ◌+◌, ◌*◌, ◌%◌, ◌^◌, ◌<◌, ◌≤◌, true, false, List, [], ◌∷◌, ◌++◌, length, length-append, Option, None, Some, refl, sym, ap, subst, ◌∙◌, arith, inl, inr}
 use Rattle.std.specs.Prelude.{◌⊎◌}
 use Rattle.std.proofs.lemmas.Bool.{eq-eqb, ne_eqb, or_left, or_right}
 use Rattle.cyc_words.specs.Ending.{Full}
@@ -44,7 +44,7 @@ use Rattle.cyc_select.proofs.relation.Held.{operand_held}
 use Rattle.cyc_select.proofs.layout.Lines.{line_next}
 use Rattle.cyc_select.proofs.relation.Matches.{After, At, Reached, reached, within}
 use Rattle.cyc_select.proofs.values.Operations.{add_small}
-use Rattle.cyc_select.proofs.relation.Standing.{Standing, slot_address, slot_cell, standing_at, standing_slot, standing_store, keeps_back}
+use Rattle.cyc_select.proofs.relation.Standing.{Stage, Standing, slot_address, slot_cell, standing_at, standing_slot, standing_store, stage_of}
 use Rattle.cyc_select.proofs.relation.Stores.{lexical_opened, lexical_besides, lexical_left, lexical_made, lexical_closed, marks_few, IsLaid, served_laid, served_words}
 use Rattle.cyc_select.proofs.relation.Values.{Caches, live_earlier, among, outside_among, next_led}
 use Rattle.cyc_select.proofs.effects.Views.{Contents, IsWritable, written, answered_r}
@@ -149,26 +149,26 @@ answered-other (services.OpenedLexical handle mark) q n first second = put-other
 answered-other (services.Allocated address) q n first second = put-other q 2 n address first
 
 module _ (program : Program) (well : IsWellFormed program) (frames : List Frame) (fit : AreFrames program frames) (addresses : ℕ → ℕ) (pages calls : ℕ) (few : calls ≤ 4096)
-    (c : Configuration) (q : Words) (base back : ℕ) (in_frame : Bool) where
+    (c : Configuration) (q : Words) (base back : ℕ) (stage : Stage) where
   -- what registers hold comes to slots
   pub record AreStored (slot : ℕ) (sources : List ℕ) (m : Contents) (slots : Words) : Type 0 where
     pub safe : AreSafe globals_length (words_per_call * calls) (store_all (frame_at frames c.active.function) slot sources) q m
     pub same : after_r (store_all (frame_at frames c.active.function) slot sources) q m ≡ q
-    pub standing : Standing program frames addresses pages calls c q (after_w (store_all (frame_at frames c.active.function) slot sources) q m) base back in_frame (put_all slot sources q slots)
+    pub standing : Standing program frames addresses pages calls c q (after_w (store_all (frame_at frames c.active.function) slot sources) q m) base back stage (put_all slot sources q slots)
 
   pub are_stored : (slot : ℕ) (sources : List ℕ) (m : Contents) (slots : Words) → slot + length sources ≤ (routine_at program c.active.function).slots
-      → Standing program frames addresses pages calls c q m base back in_frame slots → AreStored slot sources m slots
+      → Standing program frames addresses pages calls c q m base back stage slots → AreStored slot sources m slots
   are_stored slot [] m slots fits s = record { safe = tt; same = refl; standing = s }
   are_stored slot (source ∷ sources) m slots fits s =
       let below : slot < (routine_at program c.active.function).slots = omega (arith, fits) in
-      let there = slot_address program well frames fit addresses pages calls few c q m base back in_frame slots s slot below in
+      let there = slot_address program well frames fit addresses pages calls few c q m base back stage slots s slot below in
       let m1 : Contents = written m (memory_address (q FRAME) (slot_offset (frame_at frames c.active.function) slot)) (q (source % 32)) in
-      let in_m1 : Standing program frames addresses pages calls c q m1 base back in_frame (put slots slot (q (source % 32))) =
-      subst (λ (a : ℕ). Standing program frames addresses pages calls c q (written m a (q (source % 32))) base back in_frame (put slots slot (q (source % 32)))) (sym there)
-      (standing_slot program well frames fit addresses pages calls few c q m base back in_frame slots s slot (q (source % 32)) below) in
+      let in_m1 : Standing program frames addresses pages calls c q m1 base back stage (put slots slot (q (source % 32))) =
+      subst (λ (a : ℕ). Standing program frames addresses pages calls c q (written m a (q (source % 32))) base back stage (put slots slot (q (source % 32)))) (sym there)
+      (standing_slot program well frames fit addresses pages calls few c q m base back stage slots s slot (q (source % 32)) below) in
       let rest = are_stored (suc slot) sources m1 (put slots slot (q (source % 32))) (omega (arith, fits)) in_m1 in
       record {
-        safe = (slot_cell program well frames fit addresses pages calls few c q m base back in_frame slots s slot below, rest.safe);
+        safe = (slot_cell program well frames fit addresses pages calls few c q m base back stage slots s slot below, rest.safe);
         same = rest.same;
         standing = rest.standing;
       }
@@ -177,7 +177,7 @@ module _ (program : Program) (well : IsWellFormed program) (frames : List Frame)
     (c : Configuration)
     (run : labelled.Configuration) (r : Words) (w : Contents) (base back : ℕ)
     (now : At program well frames fit code formed addresses pages calls few (instruction_line program frames c.active.function c.active.next) c.output c.input r w run)
-    (s : Standing program frames addresses pages calls c r w base back (keeps_back frames c) c.active.slots)
+    (s : Standing program frames addresses pages calls c r w base back (stage_of frames c) c.active.slots)
     (caches : Caches program frames c.active.function c.active.next r c.active.slots) where
   abbrev here : ℕ
   here = instruction_line program frames c.active.function c.active.next
@@ -203,7 +203,7 @@ module _ (program : Program) (well : IsWellFormed program) (frames : List Frame)
   abbrev Held : Operand → Type 0
   Held o = IsHeld globals_length (words_per_call * calls) frame (r FRAME) w r c.active.slots o
 
-  homes_right : AreHomes program (routine_at program c.active.function) (frame_at frames c.active.function).homes
+  homes_right : AreHomes program (routine_at program c.active.function) (frame_at frames c.active.function).saved (frame_at frames c.active.function).homes
   homes_right = fit.homes c.active.function s.known
 
   -- ---- what a request takes
@@ -435,10 +435,11 @@ module _ (program : Program) (well : IsWellFormed program) (frames : List Frame)
           (put-other p SERVICE REGIONS (add_of (p 0) (sign_extended (service_number request))) (λ e. absurd (omega (arith, e)))
           ∙ (kept REGIONS (omega arith) (λ e. absurd (omega (arith, e))) (λ e. absurd (omega (arith, e))) ∙ s.counted))
 
-      in_final : Standing program frames addresses pages calls c1 final w1 base back (keeps_back frames c) c.active.slots
+      in_final : Standing program frames addresses pages calls c1 final w1 base back (stage_of frames c) c.active.slots
       in_final =
-          standing_store program well frames fit addresses pages calls few c r w base back (keeps_back frames c) c.active.slots s (served c.store call chosen)
+          standing_store program well frames fit addresses pages calls few c r w base back (stage_of frames c) c.active.slots s (served c.store call chosen)
           final zero_kept base_kept left_kept back_kept newest_kept count_told middle_kept laid
+          (λ j past high. values_kept (17 + j) (omega arith) (omega (arith, high)))
 
       -- the answer comes to slots
       abbrev m : Contents
@@ -465,9 +466,9 @@ module _ (program : Program) (well : IsWellFormed program) (frames : List Frame)
         fits_here : destination_of request + length (result_registers (answer_count request)) ≤ (routine_at program c.active.function).slots
         fits_here = omega (arith, in_range.answer_in_range, length_registers (answer_count request) few_answers)
 
-        stored : AreBrought program well frames fit addresses pages calls few false c1 base back (keeps_back frames c) (c.active.next + 1) (destination_of request) past final low_words fits_here shares_none (destination_of request) (result_registers (answer_count request)) final w1 c.active.slots
+        stored : AreBrought program well frames fit addresses pages calls few false c1 base back (frame_at frames c.active.function).saves (c.active.next + 1) (destination_of request) past final low_words fits_here shares_none (destination_of request) (result_registers (answer_count request)) final w1 c.active.slots
         stored =
-            are_brought program well frames fit addresses pages calls few false c1 base back (keeps_back frames c) (c.active.next + 1) (destination_of request) past final low_words fits_here shares_none (destination_of request) (result_registers (answer_count request)) final w1 c.active.slots
+            are_brought program well frames fit addresses pages calls few false c1 base back (frame_at frames c.active.function).saves (c.active.next + 1) (destination_of request) past final low_words fits_here shares_none (destination_of request) (result_registers (answer_count request)) final w1 c.active.slots
             (omega arith) (omega arith) (results_low (answer_count request) few_answers) (λ n below. refl) in_final
 
         -- what is not answered is in registers as before
@@ -485,11 +486,11 @@ module _ (program : Program) (well : IsWellFormed program) (frames : List Frame)
         abbrev there : Words
         there = told (answer c.store call chosen) (destination_of request) c.active.slots
 
-        ends_at : Standing program frames addresses pages calls next brought m base back (keeps_back frames c) there
+        ends_at : Standing program frames addresses pages calls next brought m base back (stage_of frames c) there
         ends_at =
-            let in_slots : Standing program frames addresses pages calls c1 brought m base back (keeps_back frames c) there =
-            subst (λ (x : Words). Standing program frames addresses pages calls c1 brought m base back (keeps_back frames c) x) (told_is request c.store c.active.slots ready w1 chosen) stored.standing in
-            standing_at program well frames fit addresses pages calls few c1 brought m base back (keeps_back frames c) there in_slots next refl refl refl refl refl refl s.input
+            let in_slots : Standing program frames addresses pages calls c1 brought m base back (stage_of frames c) there =
+            subst (λ (x : Words). Standing program frames addresses pages calls c1 brought m base back (stage_of frames c) x) (told_is request c.store c.active.slots ready w1 chosen) stored.standing in
+            standing_at program well frames fit addresses pages calls few c1 brought m base back (stage_of frames c) there in_slots next refl refl refl refl refl refl s.input
 
         -- both blocks, one behind the other
         block_safe : AreSafe globals_length (words_per_call * calls) (counts ++ answers) answered w1

@@ -1,7 +1,7 @@
 -- Returns, and what stands behind a call.
-use Rattle.std.proofs.Common.{◌≡◌, ◌≢◌, ℕ, zero, suc, ◌+◌, ◌-◌, ◌*◌, ◌%◌, ◌<◌, ◌≤◌, Bool, true, false, not, List, [], ◌∷◌, ◌++◌, length, length-append, Some, slice_get, refl, sym, ap, subst, ◌∙◌, arith, inl, inr}
+use Rattle.std.proofs.Common.{◌≡◌, ◌≢◌, ℕ, zero, suc, ◌+◌, ◌-◌, ◌*◌, ◌%◌, ◌^◌, ◌<◌, ◌≤◌, Bool, true, false, not, List, [], ◌∷◌, ◌++◌, length, length-append, Some, slice_get, refl, sym, ap, subst, ◌∙◌, arith, inl, inr}
 use Rattle.std.specs.Prelude.{◌==◌, ◌⊎◌, if◌then◌else◌}
-use Rattle.std.proofs.lemmas.Bool.{cases_eq, cases_lt, cases_Bool, eq-eqb, ne_eqb, false≢true}
+use Rattle.std.proofs.lemmas.Bool.{cases_eq, cases_lt, cases_Bool, eq-eqb, ne_eqb, leb-true, false≢true}
 use Rattle.cyc_plain.specs.inside.Uses.{writes}
 use Rattle.cyc_select.specs.declared.constants.TheConstants.{FRAME, LOWEST, HANDLERS, REGIONS, GLOBALS}
 use Rattle.cyc_machine.specs.declared.constants.TheConstants.{RETURN_ADDRESS}
@@ -17,10 +17,13 @@ use Rattle.cyc_plain.specs.declared.instruction.Instruction.TheVariants as plain
 use Rattle.cyc_plain.specs.inside.Program.{Program, no_routine, routine_at}
 use Rattle.cyc_plain.specs.inside.State as states
 use Rattle.cyc_plain.specs.inside.State.{Words, AreWords, put, copied, Configuration}
-use Rattle.cyc_plain.specs.inside.Step.{instruction_at, performed, returns}
+use Rattle.cyc_plain.specs.inside.Step.{instruction_at, performed, returns, is_within, limit_of}
 use Rattle.cyc_plain.specs.inside.WellFormed.{IsWellFormed}
-use Rattle.cyc_plain.proofs.RunLaws.{zeros, zeros_at, over_within, calls_nothing}
+use Rattle.cyc_plain.proofs.RunLaws.{zeros, zeros_at, over_within, calls_nothing, limit_free}
 use Rattle.cyc_plain.proofs.SlotLaws.{put-same, put-other, copied-inside, copied-above, copied-below}
+use Rattle.cyc_registers.specs.declared.home.Home.{Home}
+use Rattle.cyc_registers.specs.declared.home.Home.TheVariants as homes
+use Rattle.cyc_registers.specs.inside.Interference as homing
 use Rattle.cyc_registers.specs.inside.Interference.{AreHomes}
 use Rattle.cyc_frame.specs.inside.Layout.{AreFrames, frame_at}
 use Rattle.cyc_frame.specs.inside.Frame.{Frame}
@@ -30,8 +33,10 @@ use Rattle.cyc_select.specs.declared.code.Line.TheVariants as lines
 use Rattle.cyc_select.specs.inside.Labelled.{Labelled, IsFormed, AreAddresses}
 use Rattle.cyc_select.specs.inside.Machine as labelled
 use Rattle.cyc_select.specs.inside.Machine.{State, Running, Ended, IsReturnPoint}
-use Rattle.cyc_select.specs.inside.Selection.{value_register, reloads, reload_count, slot_offset, small, load_slot, load_all, store_all, bring_all, is_kept, pop_frame, result_registers, ordinary, syscall, ending_code, ending_count, behind, instruction_line}
+use Rattle.cyc_select.specs.inside.Selection.{value_register, reloads, reload_count, slot_offset, small, load_slot, load_all, store_all, bring_all, is_kept, restores, pop_frame, result_registers, ordinary, syscall, ending_code, ending_count, behind, instruction_line}
 use Rattle.cyc_select.proofs.values.Blocks.{ValuesSame, lasting_same, Puts, safe_append}
+use Rattle.cyc_select.proofs.relation.Cells.{IsCell}
+use Rattle.cyc_select.proofs.steps.Preserving.{length_restores, are_restored, returned_left}
 use Rattle.cyc_select.proofs.steps.Calls.{length_ordinary}
 use Rattle.cyc_select.proofs.steps.Answers.{put_all, results_low, CachesBut, AreBrought, are_brought}
 use Rattle.cyc_select.proofs.values.Computing.{HeldIn, slot_puts}
@@ -41,34 +46,48 @@ use Rattle.cyc_select.proofs.relation.Values.{among, outside_among, length_reloa
 use Rattle.cyc_select.proofs.effects.Views.{Contents, IsWritable, written}
 use Rattle.cyc_select.proofs.effects.Walks.{Stands, stands_front, stands_back, after_r, after_w, after_r-append, after_w-append, AreSafe, Walk, now_at, now_is, walk_end, walk_few, walk_from, walk_block, walk_branch, walk_return, walk_returned}
 use Rattle.cyc_select.proofs.emission.Counts.{length_results, length_registers}
-use Rattle.cyc_select.proofs.relation.Standing.{frame_size, Chain, IsNewest, keeps_back, saves_at, Standing, behind_line, lies, slot_address, slot_cell, slot_word_is, standing_registers, standing_slot, AreBased}
+use Rattle.cyc_select.proofs.relation.Standing.{word_cell, preserved_of, left_same, LeftBy, under_way, Stage, frame_size, Chain, IsNewest, stage_of, saves_at, Standing, behind_line, lies, slot_address, slot_cell, slot_word_is, standing_registers, standing_slot, AreBased}
 use Rattle.cyc_select.proofs.relation.Matches.{After, At, Ready, Back, Reached, reached, within, result_register}
 use Rattle.cyc_registers.specs.inside.Liveness.{IsLiveAt}
 
 -- ---- what a function returns, from slots into registers
 
--- the last instructions of a return load what is returned and take the frame away
+-- the last instructions of a return load what is returned, restore registers, and take the frame away
 abbrev pub loaded : Frame → (value count : ℕ) → List Instr
-loaded frame value count = load_all frame value (result_registers count) ++ pop_frame ∷ []
+loaded frame value count = load_all frame value (result_registers count) ++ (restores frame ++ pop_frame ∷ [])
 
-pub length_loaded : (frame : Frame) (value count : ℕ) → count ≤ 3 → length (loaded frame value count) ≡ count + 1
-length_loaded frame value zero few = refl
-length_loaded frame value (suc zero) few = refl
-length_loaded frame value (suc (suc zero)) few = refl
-length_loaded frame value (suc (suc (suc zero))) few = refl
-length_loaded frame value (suc (suc (suc (suc count)))) few = absurd (omega (arith, few))
+pub length_loads : (frame : Frame) (value count : ℕ) → count ≤ 3 → length (load_all frame value (result_registers count)) ≡ count
+length_loads frame value zero few = refl
+length_loads frame value (suc zero) few = refl
+length_loads frame value (suc (suc zero)) few = refl
+length_loads frame value (suc (suc (suc zero))) few = refl
+length_loads frame value (suc (suc (suc (suc count)))) few = absurd (omega (arith, few))
 
-record AreLoaded (globals stack : ℕ) (frame : Frame) (value count : ℕ) (r : Words) (w : Contents) (slots : Words) : Type 0 where
+pub length_loaded : (frame : Frame) (value count : ℕ) → count ≤ 3 → length (loaded frame value count) ≡ count + frame.saved + 1
+length_loaded frame value count few =
+    omega (
+      arith,
+      length-append (load_all frame value (result_registers count)) (restores frame ++ pop_frame ∷ []),
+      length-append (restores frame) (pop_frame ∷ []),
+      length_loads frame value count few,
+      length_restores frame.first_saved 0 frame.saved,
+    )
+
+-- the words that are returned are in registers; no others change
+record AreLoads (globals stack : ℕ) (frame : Frame) (value count : ℕ) (r : Words) (w : Contents) (slots : Words) : Type 0 where
+  pub safe : AreSafe globals stack (load_all frame value (result_registers count)) r w
+  pub memory : after_w (load_all frame value (result_registers count)) r w ≡ w
+  pub kept : (n : ℕ) → n < 32 → n ≢ 2 → n ≢ 3 → n ≢ 5 → after_r (load_all frame value (result_registers count)) r w n ≡ r n
+  pub returned : (k : ℕ) → k < count → after_r (load_all frame value (result_registers count)) r w (result_register k) ≡ slots (value + k)
+
+-- and the caller finds what it is left
+record AreLoaded (globals stack base : ℕ) (frame : Frame) (value count : ℕ) (r : Words) (w : Contents) (slots : Words) : Type 0 where
   pub safe : AreSafe globals stack (loaded frame value count) r w
-  pub zero_same : after_r (loaded frame value count) r w 0 ≡ r 0
   pub base_moved : after_r (loaded frame value count) r w FRAME ≡ add_of (r FRAME) (sign_extended frame_size)
-  pub lowest_same : after_r (loaded frame value count) r w LOWEST ≡ r LOWEST
-  pub back_same : after_r (loaded frame value count) r w RETURN_ADDRESS ≡ r RETURN_ADDRESS
-  pub newest_same : after_r (loaded frame value count) r w HANDLERS ≡ r HANDLERS
-  pub count_same : after_r (loaded frame value count) r w REGIONS ≡ r REGIONS
-  pub middle_same : after_r (loaded frame value count) r w GLOBALS ≡ r GLOBALS
+  pub kept : (n : ℕ) → n < 32 → n < 2 ⊎ 24 ≤ n → n ≢ FRAME → after_r (loaded frame value count) r w n ≡ r n
   pub unchanged : after_w (loaded frame value count) r w ≡ w
   pub returned : (k : ℕ) → k < count → after_r (loaded frame value count) r w (result_register k) ≡ slots (value + k)
+  pub preserved : (j : ℕ) → j < 7 → after_r (loaded frame value count) r w (17 + j) ≡ LeftBy frame base (preserved_of r) w j
 
 module _ (globals stack : ℕ) (frame : Frame) (r : Words) (w : Contents) (slots : Words) (value : ℕ) (zero_is : r 0 ≡ 0) where
   -- a slot's word into one of these registers
@@ -102,36 +121,18 @@ module _ (globals stack : ℕ) (frame : Frame) (r : Words) (w : Contents) (slots
   three_are (suc (suc zero)) q below a b d = d
   three_are (suc (suc (suc k))) q below a b d = absurd (omega arith)
 
-  are_loaded : (count : ℕ) → count ≤ 3 → ((slot : ℕ) → value ≤ slot → slot < value + count → HeldIn globals stack (value_register frame slot) frame (r FRAME) w r slots slot)
-      → AreLoaded globals stack frame value count r w slots
-  are_loaded zero few held = record {
-    safe = (refl, tt);
-    zero_same = refl;
-    base_moved = refl;
-    lowest_same = refl;
-    back_same = refl;
-    newest_same = refl;
-    count_same = refl;
-    middle_same = refl;
-    unchanged = refl;
-    returned = λ k below. absurd (omega (arith, below));
-  }
-  are_loaded (suc zero) few held =
+  are_loads : (count : ℕ) → count ≤ 3 → ((slot : ℕ) → value ≤ slot → slot < value + count → HeldIn globals stack (value_register frame slot) frame (r FRAME) w r slots slot)
+      → AreLoads globals stack frame value count r w slots
+  are_loads zero few held = record { safe = tt; memory = refl; kept = λ n below a b d. refl; returned = λ k below. absurd (omega (arith, below)) }
+  are_loads (suc zero) few held =
       let a = brings 2 value refl (held value (omega arith) (omega arith)) r w refl refl refl (λ n low high. refl) in
-      let kept : (n : ℕ) → n < 32 → n ≢ 2 → after_r (load_slot frame 2 value ∷ []) r w n ≡ r n = one_later 2 value r w (omega arith) a in
       record {
-        safe = (a.safe.0, (refl, tt));
-        zero_same = kept 0 (omega arith) (λ e. absurd (omega (arith, e)));
-        base_moved = ap (λ (x : ℕ). add_of x (sign_extended frame_size)) (kept FRAME (omega arith) (λ e. absurd (omega (arith, e))));
-        lowest_same = kept LOWEST (omega arith) (λ e. absurd (omega (arith, e)));
-        back_same = kept RETURN_ADDRESS (omega arith) (λ e. absurd (omega (arith, e)));
-        newest_same = (kept HANDLERS (omega arith) (λ e. absurd (omega (arith, e))));
-        count_same = (kept REGIONS (omega arith) (λ e. absurd (omega (arith, e))));
-        middle_same = (kept GLOBALS (omega arith) (λ e. absurd (omega (arith, e))));
-        unchanged = a.memory;
-        returned = λ k below. one_is k (after_r (loaded frame value 1) r w) below (a.result ∙ ap slots (let e : value ≡ value + 0 = omega arith in e));
+        safe = a.safe;
+        memory = a.memory;
+        kept = λ n below other b d. one_later 2 value r w (omega arith) a n below other;
+        returned = λ k below. one_is k (after_r (load_all frame value (result_registers 1)) r w) below (a.result ∙ ap slots (let e : value ≡ value + 0 = omega arith in e));
       }
-  are_loaded (suc (suc zero)) few held =
+  are_loads (suc (suc zero)) few held =
       let is : List Instr = load_slot frame 2 value ∷ [] in
       let a = brings 2 value refl (held value (omega arith) (omega arith)) r w refl refl refl (λ n low high. refl) in
       let kept_a : (n : ℕ) → n < 32 → n ≢ 2 → after_r (load_slot frame 2 value ∷ []) r w n ≡ r n = one_later 2 value r w (omega arith) a in
@@ -139,23 +140,16 @@ module _ (globals stack : ℕ) (frame : Frame) (r : Words) (w : Contents) (slots
       let m : Contents = after_w is r w in
       let b = brings 3 (suc value) refl (held (suc value) (omega arith) (omega arith)) q m (kept_a 0 (omega arith) (λ e. absurd (omega (arith, e)))) (kept_a FRAME (omega arith) (λ e. absurd (omega (arith, e)))) a.memory (values_later 2 value r w (omega arith) a (λ n low high. refl)) in
       let kept_b : (n : ℕ) → n < 32 → n ≢ 3 → after_r (load_slot frame 3 (suc value) ∷ []) q m n ≡ q n = one_later 3 (suc value) q m (omega arith) b in
-      let kept : (n : ℕ) → n < 32 → n ≢ 2 → n ≢ 3 → after_r (load_slot frame 3 (suc value) ∷ []) q m n ≡ r n = λ n below not_a not_b. kept_b n below not_b ∙ kept_a n below not_a in
       record {
-        safe = (a.safe.0, (b.safe.0, (refl, tt)));
-        zero_same = kept 0 (omega arith) (λ e. absurd (omega (arith, e))) (λ e. absurd (omega (arith, e)));
-        base_moved = ap (λ (x : ℕ). add_of x (sign_extended frame_size)) (kept FRAME (omega arith) (λ e. absurd (omega (arith, e))) (λ e. absurd (omega (arith, e))));
-        lowest_same = kept LOWEST (omega arith) (λ e. absurd (omega (arith, e))) (λ e. absurd (omega (arith, e)));
-        back_same = kept RETURN_ADDRESS (omega arith) (λ e. absurd (omega (arith, e))) (λ e. absurd (omega (arith, e)));
-        newest_same = (kept HANDLERS (omega arith) (λ e. absurd (omega (arith, e))) (λ e. absurd (omega (arith, e))));
-        count_same = (kept REGIONS (omega arith) (λ e. absurd (omega (arith, e))) (λ e. absurd (omega (arith, e))));
-        middle_same = (kept GLOBALS (omega arith) (λ e. absurd (omega (arith, e))) (λ e. absurd (omega (arith, e))));
-        unchanged = b.memory ∙ a.memory;
+        safe = (a.safe.0, b.safe);
+        memory = b.memory ∙ a.memory;
+        kept = λ n below not_a not_b d. kept_b n below not_b ∙ kept_a n below not_a;
         returned = λ k below.
-            two_are k (after_r (loaded frame value 2) r w) below
+            two_are k (after_r (load_all frame value (result_registers 2)) r w) below
             (kept_b 2 (omega arith) (λ e. absurd (omega (arith, e))) ∙ (a.result ∙ ap slots (let e : value ≡ value + 0 = omega arith in e)))
             (b.result ∙ ap slots (let e : suc value ≡ value + 1 = omega arith in e));
       }
-  are_loaded (suc (suc (suc zero))) few held =
+  are_loads (suc (suc (suc zero))) few held =
       let is : List Instr = load_slot frame 2 value ∷ [] in
       let a = brings 2 value refl (held value (omega arith) (omega arith)) r w refl refl refl (λ n low high. refl) in
       let kept_a : (n : ℕ) → n < 32 → n ≢ 2 → after_r (load_slot frame 2 value ∷ []) r w n ≡ r n = one_later 2 value r w (omega arith) a in
@@ -171,31 +165,78 @@ module _ (globals stack : ℕ) (frame : Frame) (r : Words) (w : Contents) (slots
       let d = brings 5 (suc (suc value)) refl (held (suc (suc value)) (omega arith) (omega arith)) p u (both 0 (omega arith) (λ e. absurd (omega (arith, e))) (λ e. absurd (omega (arith, e)))) (both FRAME (omega arith) (λ e. absurd (omega (arith, e))) (λ e. absurd (omega (arith, e))))
       (b.memory ∙ a.memory) (values_later 3 (suc value) q m (omega arith) b values_a) in
       let kept_d : (n : ℕ) → n < 32 → n ≢ 5 → after_r (load_slot frame 5 (suc (suc value)) ∷ []) p u n ≡ p n = one_later 5 (suc (suc value)) p u (omega arith) d in
-      let kept : (n : ℕ) → 24 < n → n < 32 → after_r (load_slot frame 5 (suc (suc value)) ∷ []) p u n ≡ r n =
-      λ n above below. kept_d n below (λ e. absurd (omega (arith, e, above))) ∙ both n below (λ e. absurd (omega (arith, e, above))) (λ e. absurd (omega (arith, e, above))) in
       record {
-        safe = (a.safe.0, (b.safe.0, (d.safe.0, (refl, tt))));
-        zero_same = kept_d 0 (omega arith) (λ e. absurd (omega (arith, e))) ∙ both 0 (omega arith) (λ e. absurd (omega (arith, e))) (λ e. absurd (omega (arith, e)));
-        base_moved = ap (λ (x : ℕ). add_of x (sign_extended frame_size)) (kept FRAME (omega arith) (omega arith));
-        lowest_same = kept LOWEST (omega arith) (omega arith);
-        back_same = kept RETURN_ADDRESS (omega arith) (omega arith);
-        newest_same = (kept HANDLERS (omega arith) (omega arith));
-        count_same = (kept REGIONS (omega arith) (omega arith));
-        middle_same = (kept GLOBALS (omega arith) (omega arith));
-        unchanged = d.memory ∙ (b.memory ∙ a.memory);
+        safe = (a.safe.0, (b.safe.0, d.safe));
+        memory = d.memory ∙ (b.memory ∙ a.memory);
+        kept = λ n below not_a not_b not_d. kept_d n below not_d ∙ both n below not_a not_b;
         returned = λ k below.
-            three_are k (after_r (loaded frame value 3) r w) below
+            three_are k (after_r (load_all frame value (result_registers 3)) r w) below
             (kept_d 2 (omega arith) (λ e. absurd (omega (arith, e))) ∙ (kept_b 2 (omega arith) (λ e. absurd (omega (arith, e))) ∙ (a.result ∙ ap slots (let e : value ≡ value + 0 = omega arith in e))))
             (kept_d 3 (omega arith) (λ e. absurd (omega (arith, e))) ∙ (b.result ∙ ap slots (let e : suc value ≡ value + 1 = omega arith in e)))
             (d.result ∙ ap slots (let e : suc (suc value) ≡ value + 2 = omega arith in e));
       }
-  are_loaded (suc (suc (suc (suc count)))) few held = absurd (omega (arith, few))
+  are_loads (suc (suc (suc (suc count)))) few held = absurd (omega (arith, few))
+
+  result_low : (k count : ℕ) → k < count → count ≤ 3 → (result_register k < 17) × (result_register k ≢ FRAME)
+  result_low zero count below few = ((omega arith), (λ e. absurd (omega (arith, e))))
+  result_low (suc zero) count below few = ((omega arith), (λ e. absurd (omega (arith, e))))
+  result_low (suc (suc zero)) count below few = ((omega arith), (λ e. absurd (omega (arith, e))))
+  result_low (suc (suc (suc k))) count below few = absurd (omega (arith, below, few))
+
+  -- behind the loads registers are restored, and the frame is taken away
+  module _ (base : ℕ) (base_is : r FRAME ≡ base) (top : base + frame_size < 2 ^ 32) (room : frame.first_saved + 7 ≤ 256) (few_saved : frame.saved ≤ 7)
+      (cells : (j : ℕ) → j < 7 → IsCell globals stack (base + 4 * (frame.first_saved + j))) where
+    are_loaded : (count : ℕ) → count ≤ 3 → ((slot : ℕ) → value ≤ slot → slot < value + count → HeldIn globals stack (value_register frame slot) frame (r FRAME) w r slots slot)
+        → AreLoaded globals stack base frame value count r w slots
+    are_loaded count few held =
+        let loads : List Instr = load_all frame value (result_registers count) in
+        let behind : List Instr = restores frame ++ pop_frame ∷ [] in
+        let load = are_loads count few held in
+        let q : Words = after_r loads r w in
+        let q_base : after_r loads r w FRAME ≡ base = load.kept FRAME (omega arith) (λ e. absurd (omega (arith, e))) (λ e. absurd (omega (arith, e))) (λ e. absurd (omega (arith, e))) ∙ base_is in
+        let restored = are_restored globals stack base frame.first_saved top room cells 0 frame.saved q w q_base (omega (arith, few_saved)) in
+        let p : Words = after_r (restores frame) q w in
+        let final_is : after_r (loaded frame value count) r w ≡ put p FRAME (add_of (p FRAME) (sign_extended frame_size)) =
+        after_r-append loads behind r w
+        ∙ (ap (λ (m : Contents). after_r behind q m) load.memory ∙ after_r-append (restores frame) (pop_frame ∷ []) q w) in
+        let memory_is : after_w (loaded frame value count) r w ≡ w =
+        after_w-append loads behind r w
+        ∙ (ap (λ (m : Contents). after_w behind q m) load.memory ∙ (after_w-append (restores frame) (pop_frame ∷ []) q w ∙ restored.memory)) in
+        let at : (n : ℕ) → n ≢ FRAME → after_r (loaded frame value count) r w n ≡ p n = λ n other. ap (λ (x : Words). x n) final_is ∙ put-other p FRAME n (add_of (p FRAME) (sign_extended frame_size)) other in
+        let safe_behind : AreSafe globals stack behind q w = safe_append globals stack (restores frame) (pop_frame ∷ []) q w restored.safe (refl, tt) in
+        let p_base : p FRAME ≡ r FRAME = restored.others FRAME (inr (omega (arith, few_saved))) ∙ (q_base ∙ sym base_is) in
+        record {
+          safe = safe_append globals stack loads behind r w load.safe (subst (λ (m : Contents). AreSafe globals stack behind q m) (sym load.memory) safe_behind);
+          base_moved = ap (λ (x : Words). x FRAME) final_is ∙ (put-same p FRAME (add_of (p FRAME) (sign_extended frame_size)) ∙ ap (λ (x : ℕ). add_of x (sign_extended frame_size)) p_base);
+          kept = λ n below aside other.
+              at n other
+              ∙ (restored.others n (beside n aside)
+              ∙ load.kept n below (λ e. absurd (apart n 2 aside e (omega arith) (omega arith))) (λ e. absurd (apart n 3 aside e (omega arith) (omega arith))) (λ e. absurd (apart n 5 aside e (omega arith) (omega arith))));
+          unchanged = memory_is;
+          returned = λ k below.
+              let low = result_low k count below few in
+              at (result_register k) low.1 ∙ (restored.others (result_register k) (inl (omega (arith, low.0))) ∙ load.returned k below);
+          preserved = λ j high.
+              at (17 + j) (λ e. absurd (omega (arith, e, high)))
+              ∙ (returned_left globals stack base frame.first_saved top room cells frame.saved q w q_base few_saved j
+              ∙ left_same frame.first_saved frame.saved base (preserved_of r) (preserved_of q) w w
+              (λ i past small. load.kept (17 + i) (omega (arith, small)) (λ e. absurd (omega (arith, e))) (λ e. absurd (omega (arith, e))) (λ e. absurd (omega (arith, e))))
+              (λ i inside small. refl) j high);
+        }
+      where
+        beside : (n : ℕ) → n < 2 ⊎ 24 ≤ n → n < 17 + 0 ⊎ 17 + 0 + frame.saved ≤ n
+        beside n (inl low) = inl (omega (arith, low))
+        beside n (inr high) = inr (omega (arith, high, few_saved))
+
+        apart : (n k : ℕ) → n < 2 ⊎ 24 ≤ n → n ≡ k → 2 ≤ k → k < 24 → ⊥
+        apart n k (inl low) e from below = omega (arith, low, e, from)
+        apart n k (inr high) e from below = omega (arith, high, e, below)
 
 -- from the line on where the way back is in its register
 module _ (program : Program) (well : IsWellFormed program) (frames : List Frame) (fit : AreFrames program frames) (code : Labelled) (formed : IsFormed code) (addresses : ℕ → ℕ) (pages calls : ℕ) (few : calls ≤ 4096)
     (lie : AreAddresses code addresses) (c : Configuration) (run : labelled.Configuration) (r : Words) (w : Contents) (base back : ℕ) (here : ℕ)
     (now : At program well frames fit code formed addresses pages calls few here c.output c.input r w run)
-    (s : Standing program frames addresses pages calls c r w base back (keeps_back frames c) c.active.slots) (way_back : r RETURN_ADDRESS ≡ back)
+    (s : Standing program frames addresses pages calls c r w base back (stage_of frames c) c.active.slots) (way_back : r RETURN_ADDRESS ≡ back)
     (i : Instruction) (value : ℕ) (at_i : instruction_at program (states.place_of (states.Running c)) ≡ Some i) (free : calls_nothing i ≡ true)
     (returned_held : (slot : ℕ) → value ≤ slot → slot < value + (routine_at program c.active.function).results
     → HeldIn globals_length (words_per_call * calls) (value_register (frame_at frames c.active.function) slot) (frame_at frames c.active.function) (r FRAME) w r c.active.slots slot)
@@ -233,20 +274,27 @@ module _ (program : Program) (well : IsWellFormed program) (frames : List Frame)
       (stands_back code (here + 1) (ordinary ends) (ordinary (syscall ∷ [])) stands_here).0 (omega arith) (omega (arith, far))
       (ap (λ (x : ℕ). add_of x (sign_extended 3)) (puts.others 0 (omega arith) (λ e. absurd (omega (arith, e))) ∙ s.zero_is) ∙ add_small 0 3 (omega arith) (omega arith))
       (reached program well frames fit code formed addresses pages calls few c zeros i (states.Ended (Returned (signed (c.active.slots value))) c.output c.input) _ (zeros_at program c i at_i free) at_i is_returned
-      (over_within pages calls (Returned (signed (c.active.slots value))) c.output c.input)
+      (over_within pages (limit_of (Some i) calls) (Returned (signed (c.active.slots value))) c.output c.input)
       (ap (λ (x : ℕ). Ended (Returned (signed x)) c.output c.input) puts.result))))
 
   -- ---- back to a caller
 
   back_goes : (line hi : ℕ) (d : labelled.Configuration) (f : states.Frame) (waiting : List states.Frame) → c.frames ≡ f ∷ waiting
-      → Chain program frames addresses w base back c.active.function (f ∷ waiting)
+      → Chain program frames addresses w base back s.left c.active.function (f ∷ waiting)
       → Stands code line (ordinary (loaded frame value results) ++ lines.Return ∷ []) → line + length (ordinary (loaded frame value results)) + 1 ≤ hi → AtLine line r w d → Goes 1 line hi (Running d)
-  back_goes line hi d f waiting under (arguments, count, index, known, at, next, is_back, holds, chain) stands_here far later =
+  back_goes line hi d f waiting under (arguments, count, index, known, at, next, is_back, holds, finds, chain) stands_here far later =
       let size : ℕ = length (loaded frame value results) in
       let same_size = length_ordinary (loaded frame value results) in
-      let l = lies program well frames fit addresses pages calls few c r w base back (keeps_back frames c) c.active.slots s in
+      let l = lies program well frames fit addresses pages calls few c r w base back (stage_of frames c) c.active.slots s in
       let routine = well.functions c.active.function no_routine s.known in
-      let load = are_loaded globals_length (words_per_call * calls) frame r w c.active.slots value s.zero_is results routine.results returned_held in
+      let own = fit.each c.active.function s.known in
+      let load = are_loaded globals_length (words_per_call * calls) frame r w c.active.slots value s.zero_is base s.base_is (omega (arith, l.below_end))
+      (let last = own.saved_inside 6 (omega arith) in omega (arith, last, own.small)) own.most_saved
+      (λ j high. word_cell program well frames fit addresses pages calls few c r w base back (stage_of frames c) c.active.slots s (frame.first_saved + j) (let inside = own.saved_inside j high in omega (arith, inside, own.small)))
+      results routine.results returned_held in
+      let its : Frame = frame_at frames f.caller.function in
+      let gives : (j : ℕ) → j < 7 → after_r (loaded frame value results) r w (17 + j) ≡ s.left j = λ j high. load.preserved j high ∙ s.leaves j high in
+      let aside : (n : ℕ) → n < 32 → n < 2 ⊎ 24 ≤ n → n ≢ FRAME → after_r (loaded frame value results) r w n ≡ r n = load.kept in
       let q : Words = after_r (loaded frame value results) r w in
       let above : ℕ = base + frame_size in
       let next_state : Configuration = record c {
@@ -262,15 +310,18 @@ module _ (program : Program) (well : IsWellFormed program) (frames : List Frame)
       subst (λ (hs : List states.Handler). IsNewest program frames addresses (r HANDLERS) base c.active.function hs (f ∷ waiting)) none_open
       (subst (λ (fs : List states.Frame). IsNewest program frames addresses (r HANDLERS) base c.active.function c.active.handlers fs) under s.newest) in
       let back_newest : IsNewest program frames addresses (after_r (loaded frame value results) r w HANDLERS) above f.caller.function f.caller.handlers waiting =
-      subst (λ (n : ℕ). IsNewest program frames addresses n above f.caller.function f.caller.handlers waiting) (sym load.newest_same) own_newest in
-      let there : Standing program frames addresses pages calls next_state (after_r (loaded frame value results) r w) w above (w.words (above + 4 * (frame_at frames f.caller.function).return_address)) true f.caller.slots = record {
+      subst (λ (n : ℕ). IsNewest program frames addresses n above f.caller.function f.caller.handlers waiting) (sym (aside HANDLERS (omega arith) (inr (omega arith)) (λ e. absurd (omega (arith, e))))) own_newest in
+      let there : Standing program frames addresses pages calls next_state (after_r (loaded frame value results) r w) w above (w.words (above + 4 * (frame_at frames f.caller.function).return_address)) (under_way true) f.caller.slots = record {
         known = known;
         base_is = base_is;
-        zero_is = load.zero_same ∙ s.zero_is;
-        lowest = ap (λ (n : ℕ). n + frame_size * calls) load.lowest_same ∙ s.lowest;
+        zero_is = aside 0 (omega arith) (inl (omega arith)) (λ e. absurd (omega (arith, e))) ∙ s.zero_is;
+        lowest = ap (λ (n : ℕ). n + frame_size * calls) (aside LOWEST (omega arith) (inr (omega arith)) (λ e. absurd (omega (arith, e)))) ∙ s.lowest;
         deep = omega (arith, deep);
         holds = holds;
+        left = LeftBy its above s.left w;
         chain = chain;
+        leaves = λ j high.
+            left_same its.first_saved its.saved above s.left (preserved_of (after_r (loaded frame value results) r w)) w w (λ i past small. gives i small) (λ i below small. refl) j high;
         newest = back_newest;
         way = refl;
         globals = s.globals;
@@ -278,8 +329,8 @@ module _ (program : Program) (well : IsWellFormed program) (frames : List Frame)
         based = (subst (λ (fs : List states.Frame). AreBased frames base c.active.function c.active.base fs) under s.based).1;
         store = s.store;
         laid = s.laid;
-        counted = load.count_same ∙ s.counted;
-        middle = load.middle_same ∙ s.middle;
+        counted = aside REGIONS (omega arith) (inr (omega arith)) (λ e. absurd (omega (arith, e))) ∙ s.counted;
+        middle = aside GLOBALS (omega arith) (inr (omega arith)) (λ e. absurd (omega (arith, e))) ∙ s.middle;
       } in
       walk_few code formed addresses globals_length (words_per_call * calls) 1 (size + 1) line hi c.output _ (Running d) (omega arith)
       (walk_block code formed addresses globals_length (words_per_call * calls) (loaded frame value results) 1 line line hi c.output c.input _ r w d later
@@ -288,11 +339,11 @@ module _ (program : Program) (well : IsWellFormed program) (frames : List Frame)
       walk_return code formed addresses globals_length (words_per_call * calls) 0 (line + size) (line + size) hi c.output c.input _ (after_r (loaded frame value results) r w) (after_w (loaded frame value results) r w) e
       (behind_line program frames f.caller.function index c.active.function arguments count f.result) lie after
       (subst (λ (n : ℕ). slice_get code.lines (line + n) ≡ Some lines.Return) same_size (stands_back code line (ordinary (loaded frame value results)) (lines.Return ∷ []) stands_here).0)
-      (omega arith) (returns_to f.caller.function index c.active.function arguments count f.result at) (load.back_same ∙ (way_back ∙ is_back))
+      (omega arith) (returns_to f.caller.function index c.active.function arguments count f.result at) (aside RETURN_ADDRESS (omega arith) (inr (omega arith)) (λ e. absurd (omega (arith, e))) ∙ (way_back ∙ is_back))
       (λ g returned.
       walk_end code formed addresses globals_length (words_per_call * calls) (suc (line + size)) hi c.output _ (Running g) (omega (arith, far, same_size))
       (reached program well frames fit code formed addresses pages calls few c zeros i (states.Running next_state) (Running g) (zeros_at program c i at_i free) at_i is_returned
-      (within program well frames fit code formed addresses pages calls few next_state s.laid.paged (omega (arith, deep)))
+      (ap (λ (n : ℕ). is_within pages n (states.Running next_state)) (limit_free i calls free) ∙ within program well frames fit code formed addresses pages calls few next_state s.laid.paged (omega (arith, deep)))
       (inr (inl (record {
         run = g;
         r = after_r (loaded frame value results) r w;
@@ -312,53 +363,54 @@ module _ (program : Program) (well : IsWellFormed program) (frames : List Frame)
         now = subst (λ (m : Contents). AtLine (behind_line program frames f.caller.function index c.active.function arguments count f.result) (after_r (loaded frame value results) r w) m g) load.unchanged returned;
         standing = there;
         returned = load.returned;
+        finds = λ slot j high has unwritten live. gives j high ∙ finds slot j high has unwritten live;
         slots = refl;
       })))))))
 
   few_results : results ≤ 3
   few_results = (well.functions c.active.function no_routine s.known).results
 
-  loaded_length : length (ordinary (loaded frame value results)) ≡ results + 1
+  loaded_length : length (ordinary (loaded frame value results)) ≡ results + frame.saved + 1
   loaded_length = length_ordinary (loaded frame value results) ∙ length_loaded frame value results few_results
 
   -- both cases of a return, from the lines that load
   abbrev tail : List Line
   tail = ordinary (loaded frame value results) ++ lines.Return ∷ []
 
-  plain_goes : (c.active.function == program.main) ≡ false → Stands code here tail → (fs : List states.Frame) → c.frames ≡ fs → Chain program frames addresses w base back c.active.function fs → Goes 1 here (here + (0 + results + 2)) (Running run)
+  plain_goes : (c.active.function == program.main) ≡ false → Stands code here tail → (fs : List states.Frame) → c.frames ≡ fs → Chain program frames addresses w base back s.left c.active.function fs → Goes 1 here (here + (0 + (results + frame.saved + 2))) (Running run)
   plain_goes other stands_here [] under (last, is_back, is_main) = absurd (let e : false ≡ true = sym other ∙ eq-eqb c.active.function program.main is_main in cc)
   plain_goes other stands_here (f ∷ waiting) under chain =
-      back_goes here (here + (0 + results + 2)) run f waiting under chain stands_here (omega (arith, loaded_length)) now
+      back_goes here (here + (0 + (results + frame.saved + 2))) run f waiting under chain stands_here (omega (arith, loaded_length)) now
 
-  main_goes : (c.active.function == program.main) ≡ true → Stands code here (ending_code true frame here value ++ tail) → (fs : List states.Frame) → c.frames ≡ fs → Chain program frames addresses w base back c.active.function fs → Goes 1 here (here + (4 + results + 2)) (Running run)
+  main_goes : (c.active.function == program.main) ≡ true → Stands code here (ending_code true frame here value ++ tail) → (fs : List states.Frame) → c.frames ≡ fs → Chain program frames addresses w base back s.left c.active.function fs → Goes 1 here (here + (4 + (results + frame.saved + 2))) (Running run)
   main_goes main stands_here [] under (last, is_back, is_main) =
       let stays : (if not (r RETURN_ADDRESS == r 0) then here + 4 else here + 1) ≡ here + 1 = ap (λ (b : Bool). if not b then here + 4 else here + 1) (eq-eqb (r RETURN_ADDRESS) (r 0) (way_back ∙ (is_back ∙ sym s.zero_is))) in
       let one : results ≡ 1 = ap (λ (f : ℕ). (routine_at program f).results) is_main ∙ well.main_results in
-      walk_branch code formed addresses globals_length (words_per_call * calls) 0 here here (here + (4 + results + 2)) c.output c.input _ r w run (conditions.Registers branch.NotEqual (register_of RETURN_ADDRESS) (register_of 0)) (here + 4) (here + 1) now stands_here.0 (omega arith) stays
+      walk_branch code formed addresses globals_length (words_per_call * calls) 0 here here (here + (4 + (results + frame.saved + 2))) c.output c.input _ r w run (conditions.Registers branch.NotEqual (register_of RETURN_ADDRESS) (register_of 0)) (here + 4) (here + 1) now stands_here.0 (omega arith) stays
       (λ d later.
-      ends_goes (here + (4 + results + 2)) d (omega arith) under (omega (arith, one))
+      ends_goes (here + (4 + (results + frame.saved + 2))) d (omega arith) under (omega (arith, one))
       (stands_front code (here + 1) (ordinary (load_slot frame 4 value ∷ small 2 3 ∷ syscall ∷ [])) tail
       (stands_back code here (lines.Branch (conditions.Registers branch.NotEqual (register_of RETURN_ADDRESS) (register_of 0)) (here + 4) ∷ []) (ordinary (load_slot frame 4 value ∷ small 2 3 ∷ syscall ∷ []) ++ tail) stands_here))
       later)
-  main_goes main stands_here (f ∷ waiting) under (arguments, count, index, known, at, next, is_back, holds, chain) =
+  main_goes main stands_here (f ∷ waiting) under (arguments, count, index, known, at, next, is_back, holds, finds, chain) =
       let line : ℕ = behind_line program frames f.caller.function index c.active.function arguments count f.result in
       let high = lie.from (behind_line program frames f.caller.function index c.active.function arguments count f.result) (returns_to f.caller.function index c.active.function arguments count f.result at).inside in
       let other : r RETURN_ADDRESS ≢ r 0 = λ e. absurd (omega (arith, e, s.zero_is, way_back, is_back, high)) in
       let leaps : (if not (r RETURN_ADDRESS == r 0) then here + 4 else here + 1) ≡ here + 4 = ap (λ (b : Bool). if not b then here + 4 else here + 1) (ne_eqb (r RETURN_ADDRESS) (r 0) other) in
-      walk_branch code formed addresses globals_length (words_per_call * calls) 0 here here (here + (4 + results + 2)) c.output c.input _ r w run (conditions.Registers branch.NotEqual (register_of RETURN_ADDRESS) (register_of 0)) (here + 4) (here + 4) now stands_here.0 (omega arith) leaps
+      walk_branch code formed addresses globals_length (words_per_call * calls) 0 here here (here + (4 + (results + frame.saved + 2))) c.output c.input _ r w run (conditions.Registers branch.NotEqual (register_of RETURN_ADDRESS) (register_of 0)) (here + 4) (here + 4) now stands_here.0 (omega arith) leaps
       (λ d later.
-      walk_from code formed addresses globals_length (words_per_call * calls) 0 (suc here) (here + 4) (here + (4 + results + 2)) c.output _ (Running d) (omega arith)
-      (walk_few code formed addresses globals_length (words_per_call * calls) 0 1 (here + 4) (here + (4 + results + 2)) c.output _ (Running d) (omega arith)
-      (back_goes (here + 4) (here + (4 + results + 2)) d f waiting under (arguments, count, index, known, at, next, is_back, holds, chain)
+      walk_from code formed addresses globals_length (words_per_call * calls) 0 (suc here) (here + 4) (here + (4 + (results + frame.saved + 2))) c.output _ (Running d) (omega arith)
+      (walk_few code formed addresses globals_length (words_per_call * calls) 0 1 (here + 4) (here + (4 + (results + frame.saved + 2))) c.output _ (Running d) (omega arith)
+      (back_goes (here + 4) (here + (4 + (results + frame.saved + 2))) d f waiting under (arguments, count, index, known, at, next, is_back, holds, finds, chain)
       (stands_back code here (ending_code true frame here value) tail stands_here) (omega (arith, loaded_length)) later)))
 
-  pub returning_goes : Goes 1 here (here + (ending_count program c.active.function + results + 2)) (Running run)
+  pub returning_goes : Goes 1 here (here + (ending_count program c.active.function + (results + frame.saved + 2))) (Running run)
   returning_goes = elim (cases_Bool (c.active.function == program.main)) [
     | inl main ↦
-        subst (λ (n : ℕ). Goes 1 here (here + (n + results + 2)) (Running run)) (sym (ap (λ (b : Bool). if b then 4 else 0) main))
+        subst (λ (n : ℕ). Goes 1 here (here + (n + (results + frame.saved + 2))) (Running run)) (sym (ap (λ (b : Bool). if b then 4 else 0) main))
         (main_goes main (subst (λ (b : Bool). Stands code here (ending_code b frame here value ++ ordinary (loaded frame value results) ++ lines.Return ∷ [])) main stands) c.frames refl s.chain)
     | inr other ↦
-        subst (λ (n : ℕ). Goes 1 here (here + (n + results + 2)) (Running run)) (sym (ap (λ (b : Bool). if b then 4 else 0) other))
+        subst (λ (n : ℕ). Goes 1 here (here + (n + (results + frame.saved + 2))) (Running run)) (sym (ap (λ (b : Bool). if b then 4 else 0) other))
         (plain_goes other (subst (λ (b : Bool). Stands code here (ending_code b frame here value ++ ordinary (loaded frame value results) ++ lines.Return ∷ [])) other stands) c.frames refl s.chain)
   ]
 
@@ -400,9 +452,9 @@ no_slots from to source destination number = elim (cases_lt number destination) 
 ]
 
 module _ (program : Program) (well : IsWellFormed program) (frames : List Frame) (fit : AreFrames program frames) (addresses : ℕ → ℕ) (pages calls : ℕ) (few : calls ≤ 4096)
-    (c : Configuration) (q : Words) (base back : ℕ) (in_frame : Bool) (result first : ℕ) (values waiting : Words) where
+    (c : Configuration) (q : Words) (base back : ℕ) (stage : Stage) (result first : ℕ) (values waiting : Words) where
   abbrev StandsWith : (m : Contents) (slots : Words) → Type 0
-  StandsWith m slots = Standing program frames addresses pages calls c q m base back in_frame slots
+  StandsWith m slots = Standing program frames addresses pages calls c q m base back stage slots
 
   pub same_slots : (m : Contents) (slots slots' : Words) → ((slot : ℕ) → slots slot ≡ slots' slot) → StandsWith m slots → StandsWith m slots'
   same_slots m slots slots' same s = record {
@@ -412,7 +464,9 @@ module _ (program : Program) (well : IsWellFormed program) (frames : List Frame)
     lowest = s.lowest;
     deep = s.deep;
     holds = λ slot below slot_kept. s.holds slot below slot_kept ∙ same slot;
+    left = s.left;
     chain = s.chain;
+    leaves = s.leaves;
     globals = s.globals;
     newest = s.newest;
     way = s.way;
@@ -443,16 +497,16 @@ module _ (program : Program) (well : IsWellFormed program) (frames : List Frame)
   }
   are_stored slot k (source ∷ sources) m is_slot fits (one, others) s =
       let below : slot < (routine_at program c.active.function).slots = omega (arith, is_slot, fits) in
-      let there = slot_address program well frames fit addresses pages calls few c q m base back in_frame (copied values first k waiting result) s slot below in
+      let there = slot_address program well frames fit addresses pages calls few c q m base back stage (copied values first k waiting result) s slot below in
       let m1 : Contents = written m (memory_address (q FRAME) (slot_offset (frame_at frames c.active.function) slot)) (q (source % 32)) in
-      let put_one = standing_slot program well frames fit addresses pages calls few c q m base back in_frame (copied values first k waiting result) s slot (q (source % 32)) below in
+      let put_one = standing_slot program well frames fit addresses pages calls few c q m base back stage (copied values first k waiting result) s slot (q (source % 32)) below in
       let in_m1 : StandsWith m1 (put (copied values first k waiting result) slot (q (source % 32))) =
       subst (λ (a : ℕ). StandsWith (written m a (q (source % 32))) (put (copied values first k waiting result) slot (q (source % 32)))) (sym there) put_one in
       let next = same_slots m1 (put (copied values first k waiting result) slot (q (source % 32))) (copied values first (suc k) waiting result)
       (λ number. copied_slots_next values waiting first k result slot number (q (source % 32)) is_slot one) in_m1 in
       let rest = are_stored (suc slot) (suc k) sources m1 (omega (arith, is_slot)) (omega (arith, fits)) others next in
       record {
-        safe = (slot_cell program well frames fit addresses pages calls few c q m base back in_frame (copied values first k waiting result) s slot below, rest.safe);
+        safe = (slot_cell program well frames fit addresses pages calls few c q m base back stage (copied values first k waiting result) s slot below, rest.safe);
         same = rest.same;
         standing = subst (λ (n : ℕ). StandsWith (after_w (store_all (frame_at frames c.active.function) (suc slot) sources) q m1) (copied values first n waiting result)) (let e : suc k + length sources ≡ k + suc (length sources) = omega arith in e) rest.standing;
       }
@@ -528,12 +582,12 @@ module _ (program : Program) (well : IsWellFormed program) (frames : List Frame)
       ∙ ((let f : behind_line program frames c.active.function b.index b.callee b.arguments b.count b.result + ((routine_at program b.callee).results + reload_count own_frame) ≡ instruction_line program frames c.active.function (b.index + 1) = omega (arith, e) in f)
       ∙ ap (instruction_line program frames c.active.function) (sym b.next))
 
-  saves_is : keeps_back frames c ≡ true
-  saves_is = saves_at program frames fit c.active.function b.index (plain.Call b.callee b.arguments b.count b.result) b.standing.known b.call refl
+  saves_is : stage_of frames c ≡ under_way true
+  saves_is = ap under_way (saves_at program frames fit c.active.function b.index (plain.Call b.callee b.arguments b.count b.result) b.standing.known b.call refl)
 
   -- ---- what was returned comes to slots
 
-  right : AreHomes program (routine_at program c.active.function) (frame_at frames c.active.function).homes
+  right : AreHomes program (routine_at program c.active.function) (frame_at frames c.active.function).saved (frame_at frames c.active.function).homes
   right = fit.homes c.active.function b.standing.known
 
   abbrev registers_of : List ℕ
@@ -584,19 +638,32 @@ module _ (program : Program) (well : IsWellFormed program) (frames : List Frame)
   -- so the slots are those of the next instruction
   slots_are : (number : ℕ) → put_all b.result registers_of b.r b.waiting number ≡ c.active.slots number
   slots_are number =
-      results_copied program well frames fit addresses pages calls few c b.r b.base saved true b.result b.first b.values b.waiting (routine_at program b.callee).results few_results
+      results_copied program well frames fit addresses pages calls few c b.r b.base saved (under_way true) b.result b.first b.values b.waiting (routine_at program b.callee).results few_results
       (λ j below. b.returned j below) number
       ∙ sym (ap (λ (x : Words). x number) b.slots)
 
-  given_stands : Standing program frames addresses pages calls c given_r given_w b.base saved true c.active.slots
+  given_stands : Standing program frames addresses pages calls c given_r given_w b.base saved (under_way true) c.active.slots
   given_stands =
-      same_slots program well frames fit addresses pages calls few c given_r b.base saved true b.result b.first b.values b.waiting given_w
+      same_slots program well frames fit addresses pages calls few c given_r b.base saved (under_way true) b.result b.first b.values b.waiting given_w
       (put_all b.result registers_of b.r b.waiting) c.active.slots slots_are brought.standing
 
-  -- what is live and not in memory was returned
+  own_home : (h : Home) (k : ℕ) → homing.register_of h ≡ Some k → homing.is_kept h ≡ false → homing.outlives h ≡ true → 17 ≤ k
+  own_home homes.Memory k has unkept lives = absurd (false≢true (sym unkept))
+  own_home (homes.Both register) k has unkept lives = absurd (false≢true (sym unkept))
+  own_home (homes.Register register) k has unkept lives =
+      let same : register ≡ k = (let e : Some register ≡ Some k = has in cc) in
+      omega (arith, same, leb-true 17 register lives)
+
+  -- what is live and in no memory was returned, or is in a register that the call preserved
   alone_returned : CachesBut program well frames fit addresses pages calls few true c b.base saved true c.active.next b.result past b.r low_words room_is shares_none b.result (length registers_of) b.r b.waiting
   alone_returned a k has wanted last outside =
-      absurd (false≢true (sym last ∙ right.behind b.index b.callee b.arguments b.count b.result a b.call (apart_from_all a outside) (behind_next a wanted)))
+      let unwritten = apart_from_all a outside in
+      let live = behind_next a wanted in
+      let lives = right.behind b.index b.callee b.arguments b.count b.result a b.call unwritten live in
+      let low = own_home (homing.home_of own_frame.homes a) k has last lives in
+      let high = right.high a k has in
+      let is : k ≡ 17 + (k - 17) = omega (arith, low) in
+      ap b.r is ∙ b.finds a (k - 17) (omega (arith, low, high)) (has ∙ ap Some is) unwritten live
 
   returned_alone : (slot k : ℕ) → value_register (frame_at frames c.active.function) slot ≡ Some k → IsLiveAt program (routine_at program c.active.function) slot c.active.next → is_kept (frame_at frames c.active.function) slot ≡ false
       → given_r k ≡ c.active.slots slot
@@ -608,15 +675,16 @@ module _ (program : Program) (well : IsWellFormed program) (frames : List Frame)
   behind_goes n hi Goal rest =
       let k : ℕ = behind_line program frames c.active.function b.index b.callee b.arguments b.count b.result in
       let again = reloaded globals_length (words_per_call * calls) program frames c.active.function right c.active.next given_r given_w c.active.slots
-      (λ slot below. slot_cell program well frames fit addresses pages calls few c given_r given_w b.base saved true c.active.slots given_stands slot below)
-      (λ slot below slot_kept. slot_word_is program well frames fit addresses pages calls few c given_r given_w b.base saved true c.active.slots given_stands slot below slot_kept)
+      (λ slot below. slot_cell program well frames fit addresses pages calls few c given_r given_w b.base saved (under_way true) c.active.slots given_stands slot below)
+      (λ slot below slot_kept. slot_word_is program well frames fit addresses pages calls few c given_r given_w b.base saved (under_way true) c.active.slots given_stands slot below slot_kept)
       returned_alone in
       let final : Words = after_r read_again given_r given_w in
       let registers : after_r (kept_words ++ read_again) b.r b.w ≡ after_r read_again given_r given_w = after_r-append kept_words read_again b.r b.w in
       let memory : after_w (kept_words ++ read_again) b.r b.w ≡ given_w = after_w-append kept_words read_again b.r b.w ∙ again.memory in
-      let in_final = standing_registers program well frames fit addresses pages calls few c given_r given_w b.base saved true c.active.slots given_stands final
+      let in_final = standing_registers program well frames fit addresses pages calls few c given_r given_w b.base saved (under_way true) c.active.slots given_stands final
       (again.others 0 (inl (omega arith))) (again.others FRAME (inr (omega arith))) (again.others LOWEST (inr (omega arith))) (λ outside. again.others RETURN_ADDRESS (inr (omega arith)))
-      (lasting_same final given_r (again.others HANDLERS (inr (omega arith))) (again.others REGIONS (inr (omega arith))) (again.others GLOBALS (inr (omega arith)))) in
+      (lasting_same final given_r (again.others HANDLERS (inr (omega arith))) (again.others REGIONS (inr (omega arith))) (again.others GLOBALS (inr (omega arith))))
+      (λ j past high. again.aside (17 + j) (λ slot has. absurd (let own = right.saved_registers slot (17 + j) has (omega arith) in omega (arith, own, past)))) in
       walk_few code formed addresses globals_length (words_per_call * calls) n (length (kept_words ++ read_again) + n) k hi c.output Goal (Running b.run) (omega arith)
       (walk_block code formed addresses globals_length (words_per_call * calls) (kept_words ++ read_again) n k k hi c.output c.input Goal b.r b.w b.run b.now stands (safe_append globals_length (words_per_call * calls) kept_words read_again b.r b.w brought.safe again.safe) (omega arith)
       (λ d later.
@@ -630,6 +698,6 @@ module _ (program : Program) (well : IsWellFormed program) (frames : List Frame)
         is = refl;
         now = now_at code formed addresses globals_length (words_per_call * calls) (k + length (kept_words ++ read_again)) (instruction_line program frames c.active.function c.active.next) c.output c.input final given_w d line_is
             (now_is code formed addresses globals_length (words_per_call * calls) (k + length (kept_words ++ read_again)) c.output c.input (after_r (kept_words ++ read_again) b.r b.w) (after_w (kept_words ++ read_again) b.r b.w) final given_w d registers memory later);
-        standing = subst (λ (x : Bool). Standing program frames addresses pages calls c final given_w b.base saved x c.active.slots) (sym saves_is) in_final;
+        standing = subst (λ (x : Stage). Standing program frames addresses pages calls c final given_w b.base saved x c.active.slots) (sym saves_is) in_final;
         caches = again.caches;
       }))))

@@ -66,7 +66,7 @@ use Rattle.cyc_select.proofs.values.Plans.{multiply_divide_result, if_low, AllOf
 use Rattle.cyc_select.proofs.relation.Values.{Caches, memory_kept, made_is, apart_from, itself, next_led, caches_past}
 use Rattle.cyc_select.proofs.effects.Views.{Contents, written, does_r, does_w, IsSafe, moved}
 use Rattle.cyc_select.proofs.effects.Walks.{Stands, stands_front, stands_back, stands_first, stands_behind, after_r, after_w, after_r-append, after_w-append, AreSafe, Walk, now_at, now_is, walk_end, walk_few, walk_from, walk_one, walk_block, walk_branch, walk_branch_to, at_now, walk_jump, walk_get, walk_put, walk_uncaught}
-use Rattle.cyc_select.proofs.relation.Standing.{Standing, based_here, lies, slot_inside, slot_cell, global_cell, standing_global, standing_registers, standing_at, keeps_back}
+use Rattle.cyc_select.proofs.relation.Standing.{Standing, based_here, lies, slot_inside, slot_cell, global_cell, standing_global, standing_registers, standing_at, stage_of}
 use Rattle.cyc_select.proofs.relation.Matches.{After, steps_to, At, Reached, reached, reached_gives, ready_by, steps_by, reached_at, within}
 use Rattle.cyc_select.proofs.steps.Hoisting.{Hoists, hoists, stands_at_head, copy_steps, pure_safe, pure_others, pure_memory, holds_beside, untested, of_value, writable, scratch}
 use Rattle.cyc_select.proofs.values.Reaching.{reaches}
@@ -75,7 +75,7 @@ module _ (program : Program) (well : IsWellFormed program) (frames : List Frame)
     (c : Configuration)
     (run : labelled.Configuration) (r : Words) (w : Contents) (base back : ℕ)
     (now : At program well frames fit code formed addresses pages calls few (instruction_line program frames c.active.function c.active.next) c.output c.input r w run)
-    (s : Standing program frames addresses pages calls c r w base back (keeps_back frames c) c.active.slots)
+    (s : Standing program frames addresses pages calls c r w base back (stage_of frames c) c.active.slots)
     (caches : Caches program frames c.active.function c.active.next r c.active.slots) where
   abbrev here : ℕ
   here = instruction_line program frames c.active.function c.active.next
@@ -93,9 +93,9 @@ module _ (program : Program) (well : IsWellFormed program) (frames : List Frame)
   Goes least lo hi t = Walk code formed addresses globals_length (words_per_call * calls) least lo hi c.output (After program pages calls c) (Reached program well frames fit code formed addresses pages calls few c) t
 
   cell : (slot : ℕ) → slot < slots → IsCell globals_length (words_per_call * calls) (memory_address (r FRAME) (slot_offset frame slot))
-  cell slot below = slot_cell program well frames fit addresses pages calls few c r w base back (keeps_back frames c) c.active.slots s slot below
+  cell slot below = slot_cell program well frames fit addresses pages calls few c r w base back (stage_of frames c) c.active.slots s slot below
 
-  homes_right : AreHomes program (routine_at program c.active.function) (frame_at frames c.active.function).homes
+  homes_right : AreHomes program (routine_at program c.active.function) (frame_at frames c.active.function).saved (frame_at frames c.active.function).homes
   homes_right = fit.homes c.active.function s.known
 
   made_in_scratch : (slot : ℕ) → IsScratch globals_length (words_per_call * calls) (made_in (frame_at frames c.active.function) slot % 32)
@@ -676,13 +676,20 @@ module _ (program : Program) (well : IsWellFormed program) (frames : List Frame)
       | inr other ↦ others n other ∙ cached (c.active.next + 1) led slot n has wanted
     ]
 
+    -- no register changes that calls preserve and the function does not save
+    unsaved : (j : ℕ) → (frame_at frames c.active.function).saved ≤ j → j < 7 → 17 + j ≡ its.register → ⊥
+    unsaved j past high same =
+        let has = of_value frame condition its.destination its.register its.may (17 + j) (omega arith) (omega (arith, high)) same in
+        let saved = homes_right.saved_registers its.destination (17 + j) has (omega arith) in
+        omega (arith, saved, past)
+
     -- the place is begun, by what was executed in front of the branch
     taken_reached : (d : labelled.Configuration) → At program well frames fit code formed addresses pages calls few (here + length is) c.output c.input q (after_w is r w) d
         → At program well frames fit code formed addresses pages calls few (lines_of target + 1) c.output c.input p (does_w x q (after_w is r w)) (labelled.at (moved d x) (lines_of target + 1))
         → performed program zeros c i ≡ states.Running (at c target) → leads i c.active.next target ≡ true → Reached program well frames fit code formed addresses pages calls few c (Running (labelled.at (moved d x) (lines_of target + 1)))
     taken_reached d before behind does led =
         let ready = ready_by program well frames fit code formed addresses pages calls few c i at_i free r w base back s caches (at c target) (lines_of target) (labelled.at d (lines_of target)) q (after_w is r w)
-        refl refl refl refl refl refl refl refl refl keeps.zero keeps.base keeps.lowest keeps.back keeps.lasts keeps.memory (cached target led)
+        refl refl refl refl refl refl refl refl refl keeps.zero keeps.base keeps.lowest keeps.back keeps.lasts (λ j past high. all_same q r keeps.values (17 + j) (omega arith) (omega (arith, high))) keeps.memory (cached target led)
         (at_now code formed addresses globals_length (words_per_call * calls) (here + length is) (lines_of target) c.output c.input q (after_w is r w) d before) in (
           states.Running (at c target),
           steps_by program well frames fit code formed addresses pages calls few c i at_i free r w base back s caches (at c target) (Running (labelled.at d (lines_of target))) ready does,
@@ -708,6 +715,7 @@ module _ (program : Program) (well : IsWellFormed program) (frames : List Frame)
         let ready = ready_by program well frames fit code formed addresses pages calls few c i at_i free r w base back s caches (at c (c.active.next + 1)) line e p (does_w x q (after_w is r w))
         refl refl refl refl refl refl refl refl line_is (others 0 is_scratch.not_zero ∙ keeps.zero) (others FRAME is_scratch.not_base ∙ keeps.base) (others LOWEST is_scratch.not_lowest ∙ keeps.lowest) (others RETURN_ADDRESS is_scratch.not_back ∙ keeps.back)
         (lasting_same p q (others HANDLERS is_scratch.not_newest) (others REGIONS is_scratch.not_counted) (others GLOBALS is_scratch.not_middle) ∙ keeps.lasts)
+        (λ j past high. others (17 + j) (λ same. absurd (unsaved j past high same)) ∙ all_same q r keeps.values (17 + j) (omega arith) (omega (arith, high)))
         (pure_memory x its.register q (after_w is r w) its.computes ∙ keeps.memory) (cached_behind led) behind in
         (states.Running (at c (c.active.next + 1)), steps_by program well frames fit code formed addresses pages calls few c i at_i free r w base back s caches (at c (c.active.next + 1)) (Running e) ready does, inl ready)
 
@@ -896,7 +904,7 @@ module _ (program : Program) (well : IsWellFormed program) (frames : List Frame)
   global_there : (global address : ℕ) → address ≡ data_base + 4 * global → global < length program.globals → IsCell globals_length (words_per_call * calls) address
   global_there global address is below =
       subst (IsCell globals_length (words_per_call * calls)) (sym is)
-      (global_cell program well frames fit addresses pages calls few c r w base back (keeps_back frames c) c.active.slots s global below)
+      (global_cell program well frames fit addresses pages calls few c r w base back (stage_of frames c) c.active.slots s global below)
 
   pub load_global_goes : (destination global : ℕ) → IsAt (plain.LoadGlobal destination global) → destination < slots → global < length program.globals
       → Stands code here (body program frames c.active.function here (plain.LoadGlobal destination global))
@@ -958,12 +966,13 @@ module _ (program : Program) (well : IsWellFormed program) (frames : List Frame)
       let wrote : v ≡ written w (data_base + 4 * global) (word_of source) =
       ap (λ (x : Contents). written x at_word (q (operand_register frame FIRST source % 32))) (reach.keeps.memory ∙ keeps.memory)
       ∙ (ap (λ (a : ℕ). written w a (q (operand_register frame FIRST source % 32))) reach.there ∙ ap (written w (data_base + 4 * global)) stored) in
-      let one = standing_global program well frames fit addresses pages calls few c r w base back (keeps_back frames c) c.active.slots s global (word_of source) global_below in
+      let one = standing_global program well frames fit addresses pages calls few c r w base back (stage_of frames c) c.active.slots s global (word_of source) global_below in
       let c' : Configuration = record c { globals = put c.globals global (word_of source) } in
-      let two = standing_registers program well frames fit addresses pages calls few c' r (written w (data_base + 4 * global) (word_of source)) base back (keeps_back frames c) c.active.slots one q
-      (reach.keeps.zero ∙ keeps.zero) (reach.keeps.base ∙ keeps.base) (reach.keeps.lowest ∙ keeps.lowest) (λ outside. reach.keeps.back ∙ keeps.back) (reach.keeps.lasts ∙ keeps.lasts) in
-      let three = standing_at program well frames fit addresses pages calls few c' q (written w (data_base + 4 * global) (word_of source)) base back (keeps_back frames c) c.active.slots two d refl refl refl refl refl refl s.input in
-      let four = subst (λ (x : Contents). Standing program frames addresses pages calls d q x base back (keeps_back frames c) c.active.slots) (sym wrote) three in
+      let two = standing_registers program well frames fit addresses pages calls few c' r (written w (data_base + 4 * global) (word_of source)) base back (stage_of frames c) c.active.slots one q
+      (reach.keeps.zero ∙ keeps.zero) (reach.keeps.base ∙ keeps.base) (reach.keeps.lowest ∙ keeps.lowest) (λ outside. reach.keeps.back ∙ keeps.back) (reach.keeps.lasts ∙ keeps.lasts)
+      (λ j past high. all_same q p reach.keeps.values (17 + j) (omega arith) (omega (arith, high)) ∙ all_same p r keeps.values (17 + j) (omega arith) (omega (arith, high))) in
+      let three = standing_at program well frames fit addresses pages calls few c' q (written w (data_base + 4 * global) (word_of source)) base back (stage_of frames c) c.active.slots two d refl refl refl refl refl refl s.input in
+      let four = subst (λ (x : Contents). Standing program frames addresses pages calls d q x base back (stage_of frames c) c.active.slots) (sym wrote) three in
       let long : length is + (length js + 1) ≡ operand_count frame source + reach_count global + 1 =
       omega (arith, length_operand frame FIRST source, length_global StoreWord (operand_register frame FIRST source) global, length-append js last) in
       let line : here + length is + length js + 1 ≡ instruction_line program frames c.active.function (c.active.next + 1) = omega (arith, line_next program frames c.active.function c.active.next (plain.StoreGlobal global source) at_i, long) in
@@ -999,8 +1008,8 @@ module _ (program : Program) (well : IsWellFormed program) (frames : List Frame)
   pub address_goes : (destination slot count : ℕ) → IsAt (plain.AddressOf destination slot count) → destination < slots → slot < slots
       → Stands code here (body program frames c.active.function here (plain.AddressOf destination slot count)) → Goes 1 here (here + body_count program frames c.active.function (plain.AddressOf destination slot count)) (Running run)
   address_goes destination slot count at_i below named stands =
-      let inside = slot_inside program well frames fit addresses pages calls few c r w base back (keeps_back frames c) c.active.slots s slot named in
-      let lie = lies program well frames fit addresses pages calls few c r w base back (keeps_back frames c) c.active.slots s in
+      let inside = slot_inside program well frames fit addresses pages calls few c r w base back (stage_of frames c) c.active.slots s slot named in
+      let lie = lies program well frames fit addresses pages calls few c r w base back (stage_of frames c) c.active.slots s in
       let place = based_here frames base c.active.function c.active.base c.frames s.based in
       let sum : add_of (r FRAME) (sign_extended (slot_offset frame slot)) ≡ base + slot_offset frame slot =
       ap (λ (x : ℕ). add_of x (sign_extended (slot_offset frame slot))) s.base_is

@@ -1,7 +1,7 @@
 -- The instruction that throws: the exception comes to the newest handler, or ends the run.
-use Rattle.std.proofs.Common.{◌≡◌, ◌≢◌, ℕ, suc, ◌+◌, ◌*◌, ◌<◌, ◌≤◌, Bool, true, false, not, List, [], ◌∷◌, ◌++◌, length, Some, refl, sym, ap, subst, ◌∙◌, arith, inr, length-append, inl}
-use Rattle.std.specs.Prelude.{◌==◌, if◌then◌else◌}
-use Rattle.std.proofs.lemmas.Bool.{eq-eqb, ne_eqb, or_left, or_right}
+use Rattle.std.proofs.Common.{◌≡◌, ◌≢◌, ℕ, suc, ◌+◌, ◌-◌, ◌*◌, ◌<◌, ◌≤◌, Bool, true, false, not, List, [], ◌∷◌, ◌++◌, length, Some, refl, sym, ap, subst, ◌∙◌, arith, inr, length-append, inl}
+use Rattle.std.specs.Prelude.{◌==◌, ◌&&◌, nat_le, nat_lt, if◌then◌else◌}
+use Rattle.std.proofs.lemmas.Bool.{eq-eqb, ne_eqb, or_left, or_right, and_from, le-leb, lt-ltb, cond-true}
 use Rattle.cyc_words.specs.Ending.{Ending, Uncaught}
 use Rattle.cyc_words.specs.Word.{signed, add_of, sign_extended}
 use Rattle.cyc_plain.specs.inside.Uses.{is_slot}
@@ -20,6 +20,7 @@ use Rattle.cyc_plain.specs.inside.State as states
 use Rattle.cyc_plain.specs.inside.State.{Words, AreWords, put, copied, Handler, Open, Caught, Activation, Configuration}
 use Rattle.cyc_plain.specs.inside.Step.{is_intact, lands, throws, instruction_at, operand_word, performed}
 use Rattle.cyc_plain.specs.inside.WellFormed.{IsOperand, IsOfWord, IsTryInRange, IsWellFormed}
+use Rattle.cyc_plain.proofs.SlotLaws.{put-other}
 use Rattle.cyc_plain.proofs.RunLaws.{zeros, zeros_at, over_within}
 use Rattle.cyc_frame.specs.inside.Layout.{AreFrames, slot_word, frame_at}
 use Rattle.cyc_frame.specs.inside.Frame.{Frame}
@@ -30,7 +31,7 @@ use Rattle.cyc_select.specs.declared.code.Line.TheVariants as lines
 use Rattle.cyc_select.specs.inside.Labelled.{Labelled, IsFormed, AreAddresses}
 use Rattle.cyc_select.specs.inside.Machine as labelled
 use Rattle.cyc_select.specs.inside.Machine.{State, Running, Ended, IsReturnPoint}
-use Rattle.cyc_select.specs.inside.Selection.{is_kept, ordinary, small, syscall, load_code, load_count, slot_offset, unwound_code, body, instruction_line}
+use Rattle.cyc_select.specs.inside.Selection.{is_kept, ordinary, small, syscall, load_code, load_count, slot_offset, load_record, unwound_code, body, instruction_line}
 use Rattle.cyc_select.proofs.values.Blocks.{lasting, newest_lasts, count_lasts, middle_lasts, Puts}
 use Rattle.cyc_select.proofs.steps.Calls.{length_ordinary}
 use Rattle.cyc_select.proofs.relation.Cells.{IsCell}
@@ -39,7 +40,7 @@ use Rattle.cyc_select.proofs.emission.Counts.{length_load}
 use Rattle.cyc_select.proofs.relation.Held.{operand_held}
 use Rattle.cyc_select.proofs.relation.Matches.{After, At, Landed, Reached, reached, within}
 use Rattle.cyc_select.proofs.values.Operations.{add_small, address_at}
-use Rattle.cyc_select.proofs.relation.Standing.{frame_size, Chain, Lies, IsRecord, IsNewest, IsBack, keeps_back, saves_at, Standing, lies, slot_inside, word_cell}
+use Rattle.cyc_select.proofs.relation.Standing.{opens_at, left_past, left_same, LeftBy, preserved_of, under_way, frame_size, Chain, Lies, IsRecord, IsNewest, IsBack, stage_of, saves_at, Standing, lies, slot_inside, word_cell}
 use Rattle.cyc_select.proofs.relation.Values.{Caches, barred_kept, among}
 use Rattle.cyc_select.proofs.effects.Views.{Contents}
 use Rattle.cyc_select.proofs.effects.Walks.{Stands, stands_front, stands_back, stands_first, stands_behind, after_r, after_w, Walk, now_is, walk_end, walk_few, walk_block, walk_branch, walk_return, walk_uncaught}
@@ -66,7 +67,7 @@ module _ (program : Program) (well : IsWellFormed program) (frames : List Frame)
 
   module _ (run : labelled.Configuration) (r : Words) (w : Contents) (base back : ℕ)
       (now : At program well frames fit code formed addresses pages calls few here c.output c.input r w run)
-      (s : Standing program frames addresses pages calls c r w base back (keeps_back frames c) c.active.slots)
+      (s : Standing program frames addresses pages calls c r w base back (stage_of frames c) c.active.slots)
       (caches : Caches program frames c.active.function c.active.next r c.active.slots) where
     abbrev IsThere : Operand → Type 0
     IsThere o = IsOperand (routine_at program c.active.function) o × IsOfWord o
@@ -82,6 +83,21 @@ module _ (program : Program) (well : IsWellFormed program) (frames : List Frame)
 
     -- ---- an exception is thrown
 
+    -- no function of the program saves the register: it is the same all the way
+    abbrev IsUnsaved : (j : ℕ) → Type 0
+    IsUnsaved j = (g : ℕ) → g < length program.functions → (frame_at frames g).saved ≤ j
+
+    -- The registers as if the call had returned: those that calls preserve have what its caller is left, and that one's frame is
+    -- the current one.
+    abbrev as_returned : (left q : Words) (base : ℕ) → Words
+    as_returned left q base = put (λ (n : ℕ). if nat_le 17 n && nat_lt n 24 then left (n - 17) else q n) FRAME base
+
+    returned_preserved : (left q : Words) (base j : ℕ) → j < 7 → as_returned left q base (17 + j) ≡ left j
+    returned_preserved left q base j high =
+        put-other (λ (n : ℕ). if nat_le 17 n && nat_lt n 24 then left (n - 17) else q n) FRAME (17 + j) base (λ e. absurd (omega (arith, e, high)))
+        ∙ (cond-true (nat_le 17 (17 + j) && nat_lt (17 + j) 24) (left (17 + j - 17)) (q (17 + j)) (and_from _ _ (le-leb 17 (17 + j) (omega arith)) (lt-ltb (17 + j) 24 (omega (arith, high))))
+        ∙ ap left (let e : 17 + j - 17 ≡ j = omega arith in e))
+
     -- the call that it comes to, as if it were the current one already
     record IsFound (tag value : ℕ) (t : states.State) : Type 0 where
       pub call : Activation
@@ -93,11 +109,12 @@ module _ (program : Program) (well : IsWellFormed program) (frames : List Frame)
       pub first : ℕ
       pub contents : Words
       pub rest : List Handler
-      pub stands : Standing program frames addresses pages calls (record c { active = call; frames = waiting }) q w low way_back (frame_at frames call.function).saves call.slots
+      pub stands : Standing program frames addresses pages calls (record c { active = call; frames = waiting }) q w low way_back (under_way (frame_at frames call.function).saves) call.slots
       pub one : IsRecord program frames addresses (q HANDLERS) low call.function index first contents
       pub others : IsNewest program frames addresses (contents 0) low call.function rest waiting
       pub kept : w.words (low + 4 * (frame_at frames call.function).return_address) ≡ way_back
       pub same : lasting q ≡ lasting r
+      pub unsaved : (j : ℕ) → j < 7 → IsUnsaved j → preserved_of q j ≡ preserved_of r j
       pub intact : is_intact call.slots first contents ≡ true
       pub does : t ≡ states.Running (record c { active = record call { next = index; slots = put (put call.slots first tag) (suc first) value; handlers = Caught ∷ rest }; frames = waiting })
 
@@ -113,13 +130,13 @@ module _ (program : Program) (well : IsWellFormed program) (frames : List Frame)
 
       -- in one call, or beyond it
       in_call : (call : Activation) (waiting : List states.Frame) (q : Words) (low back : ℕ) (beyond : states.State)
-          → Standing program frames addresses pages calls (record c { active = call; frames = waiting }) q w low back (frame_at frames call.function).saves call.slots → lasting q ≡ lasting r
+          → Standing program frames addresses pages calls (record c { active = call; frames = waiting }) q w low back (under_way (frame_at frames call.function).saves) call.slots → lasting q ≡ lasting r → ((j : ℕ) → j < 7 → IsUnsaved j → preserved_of q j ≡ preserved_of r j)
           → (call.handlers ≡ [] → Search tag value beyond) → (handlers : List Handler) → call.handlers ≡ handlers
           → IsNewest program frames addresses (q HANDLERS) low call.function handlers waiting
           → Search tag value (lands c tag value call waiting beyond handlers)
-      in_call call waiting q low back beyond stands same further [] is records = further is
-      in_call call waiting q low back beyond stands same further (Caught ∷ rest) is records = absurd records
-      in_call call waiting q low back beyond stands same further (Open index first contents ∷ rest) is (one, others) = go (is_intact call.slots first contents) refl
+      in_call call waiting q low back beyond stands same unsaved further [] is records = further is
+      in_call call waiting q low back beyond stands same unsaved further (Caught ∷ rest) is records = absurd records
+      in_call call waiting q low back beyond stands same unsaved further (Open index first contents ∷ rest) is (one, others) = go (is_intact call.slots first contents) refl
         where
           go : (whole : Bool) → is_intact call.slots first contents ≡ whole → Search tag value (if is_intact call.slots first contents then come call waiting index first rest else states.Stuck c.output c.input)
           go false broken = lost (ap (λ (b : Bool). if b then come call waiting index first rest else states.Stuck c.output c.input) broken)
@@ -138,22 +155,24 @@ module _ (program : Program) (well : IsWellFormed program) (frames : List Frame)
             others = others;
             kept = subst (λ (b : Bool). IsBack b (frame_at frames call.function) q w low back) (saves_at program frames fit call.function index (plain.Try first one.handler) stands.known one.opened refl) stands.way;
             same = same;
+            unsaved = unsaved;
             intact = intact;
             does = ap (λ (b : Bool). if b then come call waiting index first rest else states.Stuck c.output c.input) intact;
           })
 
       -- the caller, as if the call had returned
       popped : (call : Activation) (f : states.Frame) (waiting : List states.Frame) (q : Words) (low back : ℕ) → call.handlers ≡ []
-          → Standing program frames addresses pages calls (record c { active = call; frames = f ∷ waiting }) q w low back (frame_at frames call.function).saves call.slots
+          → (stands : Standing program frames addresses pages calls (record c { active = call; frames = f ∷ waiting }) q w low back (under_way (frame_at frames call.function).saves) call.slots)
           → Standing program frames addresses pages calls (record c { active = f.caller; frames = waiting })
-          (put q FRAME (low + frame_size)) w (low + frame_size)
-          (w.words (low + frame_size + 4 * (frame_at frames f.caller.function).return_address)) (frame_at frames f.caller.function).saves f.caller.slots
+          (as_returned stands.left q (low + frame_size)) w (low + frame_size)
+          (w.words (low + frame_size + 4 * (frame_at frames f.caller.function).return_address)) (under_way (frame_at frames f.caller.function).saves) f.caller.slots
       popped call f waiting q low back none stands =
-          let (arguments, count, index, known, at, next, is_back, holds, chain) = stands.chain in
+          let (arguments, count, index, known, at, next, is_back, holds, finds, chain) = stands.chain in
+          let its : Frame = frame_at frames f.caller.function in
           let above : ℕ = low + frame_size in
           let back_there : ℕ = w.words (above + 4 * (frame_at frames f.caller.function).return_address) in
           let saved = saves_at program frames fit f.caller.function index (plain.Call call.function arguments count f.result) known at refl in
-          subst (λ (b : Bool). Standing program frames addresses pages calls (record c { active = f.caller; frames = waiting }) (put q FRAME (low + frame_size)) w (low + frame_size) back_there b f.caller.slots) (sym saved)
+          subst (λ (b : Bool). Standing program frames addresses pages calls (record c { active = f.caller; frames = waiting }) (as_returned stands.left q (low + frame_size)) w (low + frame_size) back_there (under_way b) f.caller.slots) (sym saved)
           (record {
             known = known;
             base_is = refl;
@@ -161,7 +180,10 @@ module _ (program : Program) (well : IsWellFormed program) (frames : List Frame)
             lowest = stands.lowest;
             deep = omega (arith, stands.deep);
             holds = holds;
+            left = LeftBy its above stands.left w;
             chain = chain;
+            leaves = λ j high.
+                left_same its.first_saved its.saved above stands.left (preserved_of (as_returned stands.left q above)) w w (λ i past small. returned_preserved stands.left q above i small) (λ i below small. refl) j high;
             globals = stands.globals;
             input = stands.input;
             newest = subst (λ (hs : List Handler). IsNewest program frames addresses (q HANDLERS) low call.function hs (f ∷ waiting)) none stands.newest;
@@ -173,15 +195,23 @@ module _ (program : Program) (well : IsWellFormed program) (frames : List Frame)
             middle = stands.middle;
           })
 
-      search : (waiting : List states.Frame) (call : Activation) (q : Words) (low back : ℕ) → lasting q ≡ lasting r
-          → Standing program frames addresses pages calls (record c { active = call; frames = waiting }) q w low back (frame_at frames call.function).saves call.slots → Search tag value (throws c tag value call waiting)
-      search [] call q low back same stands =
-          in_call call [] q low back (states.Ended (Uncaught tag (signed value)) c.output c.input) stands same
+      unsaved_popped : (call : Activation) (f : states.Frame) (waiting : List states.Frame) (q : Words) (low back : ℕ) → ((j : ℕ) → j < 7 → IsUnsaved j → preserved_of q j ≡ preserved_of r j)
+          → (stands : Standing program frames addresses pages calls (record c { active = call; frames = f ∷ waiting }) q w low back (under_way (frame_at frames call.function).saves) call.slots)
+          → (j : ℕ) → j < 7 → IsUnsaved j → preserved_of (as_returned stands.left q (low + frame_size)) j ≡ preserved_of r j
+      unsaved_popped call f waiting q low back unsaved stands j high none =
+          let its : Frame = frame_at frames call.function in
+          returned_preserved stands.left q (low + frame_size) j high
+          ∙ (sym (stands.leaves j high) ∙ (left_past its.first_saved its.saved low (preserved_of q) w j (none call.function stands.known) ∙ unsaved j high none))
+
+      search : (waiting : List states.Frame) (call : Activation) (q : Words) (low back : ℕ) → lasting q ≡ lasting r → ((j : ℕ) → j < 7 → IsUnsaved j → preserved_of q j ≡ preserved_of r j)
+          → Standing program frames addresses pages calls (record c { active = call; frames = waiting }) q w low back (under_way (frame_at frames call.function).saves) call.slots → Search tag value (throws c tag value call waiting)
+      search [] call q low back same unsaved stands =
+          in_call call [] q low back (states.Ended (Uncaught tag (signed value)) c.output c.input) stands same unsaved
           (λ none. nobody (sym (newest_lasts q r same) ∙ subst (λ (hs : List Handler). IsNewest program frames addresses (q HANDLERS) low call.function hs []) none stands.newest) refl)
           call.handlers refl stands.newest
-      search (f ∷ waiting) call q low back same stands =
-          in_call call (f ∷ waiting) q low back (throws c tag value f.caller waiting) stands same
-          (λ none. search waiting f.caller _ _ _ same (popped call f waiting q low back none stands))
+      search (f ∷ waiting) call q low back same unsaved stands =
+          in_call call (f ∷ waiting) q low back (throws c tag value f.caller waiting) stands same unsaved
+          (λ none. search waiting f.caller _ _ _ same (unsaved_popped call f waiting q low back unsaved stands) (popped call f waiting q low back none stands))
           call.handlers refl stands.newest
 
       -- the record's words in memory
@@ -196,7 +226,7 @@ module _ (program : Program) (well : IsWellFormed program) (frames : List Frame)
         its_range = range_of it.call.function it.index it.first it.one.handler it.one.opened
 
         its_lies : Lies program frames fit addresses it.low (suc (length it.waiting))
-        its_lies = lies program well frames fit addresses pages calls few there it.q w it.low it.way_back its.saves it.call.slots it.stands
+        its_lies = lies program well frames fit addresses pages calls few there it.q w it.low it.way_back (under_way its.saves) it.call.slots it.stands
 
         record_at : r HANDLERS ≡ it.low + slot_offset its it.first
         record_at = sym (newest_lasts it.q r it.same) ∙ it.one.at
@@ -204,7 +234,7 @@ module _ (program : Program) (well : IsWellFormed program) (frames : List Frame)
         -- a word of it
         word_inside : (k : ℕ) → k < 4 → slot_word its (it.first + k) < MOST_FRAME_WORDS
         word_inside k below =
-            slot_inside program well frames fit addresses pages calls few there it.q w it.low it.way_back its.saves it.call.slots it.stands (it.first + k) (omega (arith, its_range.record_in_range, below))
+            slot_inside program well frames fit addresses pages calls few there it.q w it.low it.way_back (under_way its.saves) it.call.slots it.stands (it.first + k) (omega (arith, its_range.record_in_range, below))
 
         address_is : (k : ℕ) → k < 4 → memory_address (r HANDLERS) (4 * k) ≡ it.low + slot_offset its (it.first + k)
         address_is k below =
@@ -216,7 +246,7 @@ module _ (program : Program) (well : IsWellFormed program) (frames : List Frame)
         record_cell : (k : ℕ) → k < 4 → IsCell globals_length (words_per_call * calls) (memory_address (r HANDLERS) (4 * k))
         record_cell k below =
             subst (IsCell globals_length (words_per_call * calls)) (sym (address_is k below))
-            (word_cell program well frames fit addresses pages calls few there it.q w it.low it.way_back its.saves it.call.slots it.stands (slot_word its (it.first + k)) (word_inside k below))
+            (word_cell program well frames fit addresses pages calls few there it.q w it.low it.way_back (under_way its.saves) it.call.slots it.stands (slot_word its (it.first + k)) (word_inside k below))
 
         record_word : (k : ℕ) → k < 4 → w.words (memory_address (r HANDLERS) (4 * k)) ≡ it.call.slots (it.first + k)
         record_word k below =
@@ -231,13 +261,19 @@ module _ (program : Program) (well : IsWellFormed program) (frames : List Frame)
 
         -- where it goes on, with registers that have the record's words
         module _ (final : Words) (zero_is : final 0 ≡ 0) (previous_is : final HANDLERS ≡ it.contents 0) (base_is : final FRAME ≡ it.contents 1) (lowest_is : final LOWEST ≡ r LOWEST) (count_is : final REGIONS ≡ r REGIONS) (middle_is : final GLOBALS ≡ r GLOBALS)
-            (tag_is : final 4 ≡ tag) (value_is : final 5 ≡ value) (g : labelled.Configuration)
+            (preserved_is : (j : ℕ) → j < 7 → preserved_of final j ≡ preserved_of r j) (tag_is : final 4 ≡ tag) (value_is : final 5 ≡ value) (g : labelled.Configuration)
             (at_line : At program well frames fit code formed addresses pages calls few (instruction_line program frames it.call.function it.index + 3) c.output c.input final w g) where
           abbrev next : Configuration
           next = record c {
             active = record it.call { next = it.index; slots = put (put it.call.slots it.first tag) (suc it.first) value; handlers = Caught ∷ it.rest };
             frames = it.waiting;
           }
+
+          -- its function saves what any may have changed
+          saves_all : (j : ℕ) → its.saved ≤ j → IsUnsaved j
+          saves_all j past g known =
+              let most = fit.opening it.call.function g it.stands.known known (opens_at (routine_at program it.call.function).code it.index it.first it.one.handler it.one.opened) in
+              omega (arith, most, past)
 
           landed : Landed program well frames fit code formed addresses pages calls few next (Running g)
           landed = record {
@@ -260,7 +296,11 @@ module _ (program : Program) (well : IsWellFormed program) (frames : List Frame)
               lowest = ap (λ (n : ℕ). n + frame_size * calls) lowest_is ∙ s.lowest;
               deep = it.stands.deep;
               holds = it.stands.holds;
-              chain = subst (λ (b : ℕ). Chain program frames addresses w it.low b it.call.function it.waiting) (sym it.kept) it.stands.chain;
+              left = it.stands.left;
+              chain = subst (λ (b : ℕ). Chain program frames addresses w it.low b it.stands.left it.call.function it.waiting) (sym it.kept) it.stands.chain;
+              leaves = λ j high.
+                  left_same its.first_saved its.saved it.low (preserved_of it.q) (preserved_of final) w w (λ i past small. preserved_is i small ∙ sym (it.unsaved i small (saves_all i past))) (λ i below small. refl) j high
+                  ∙ it.stands.leaves j high;
               globals = it.stands.globals;
               input = it.stands.input;
               newest = subst (λ (n : ℕ). IsNewest program frames addresses n it.low it.call.function it.rest it.waiting) (sym previous_is) it.others;
@@ -361,6 +401,9 @@ module _ (program : Program) (well : IsWellFormed program) (frames : List Frame)
       p_middle : p GLOBALS ≡ r GLOBALS
       p_middle = kept GLOBALS (omega arith) (λ e. absurd (omega (arith, e))) (λ e. absurd (omega (arith, e)))
 
+      p_preserved : (j : ℕ) → j < 7 → preserved_of p j ≡ preserved_of r j
+      p_preserved j high = kept (17 + j) (omega (arith, high)) (λ e. absurd (omega (arith, e))) (λ e. absurd (omega (arith, e)))
+
       p_tag : p 4 ≡ word_in tag
       p_tag = second.others ARGUMENT (omega arith) (λ e. absurd (omega (arith, e))) ∙ first.result
 
@@ -422,6 +465,15 @@ module _ (program : Program) (well : IsWellFormed program) (frames : List Frame)
         previous_word : final HANDLERS ≡ it.contents 0
         previous_word = word_of 0 (omega arith) ∙ (ap it.call.slots (let e : it.first + 0 ≡ it.first = omega arith in e) ∙ holds_it.zeroth)
 
+        final_preserved : (j : ℕ) → j < 7 → preserved_of final j ≡ preserved_of r j
+        final_preserved j high =
+            let third : final (17 + j) ≡ after_r (load_record RETURN_ADDRESS 8 ∷ load_record FRAME 4 ∷ []) p w (17 + j) =
+            put-other (after_r (load_record RETURN_ADDRESS 8 ∷ load_record FRAME 4 ∷ []) p w) HANDLERS (17 + j) _ (λ e. absurd (omega (arith, e, high))) in
+            let second_same : after_r (load_record RETURN_ADDRESS 8 ∷ load_record FRAME 4 ∷ []) p w (17 + j) ≡ after_r (load_record RETURN_ADDRESS 8 ∷ []) p w (17 + j) =
+            put-other (after_r (load_record RETURN_ADDRESS 8 ∷ []) p w) FRAME (17 + j) _ (λ e. absurd (omega (arith, e, high))) in
+            let first_same : after_r (load_record RETURN_ADDRESS 8 ∷ []) p w (17 + j) ≡ p (17 + j) = put-other p RETURN_ADDRESS (17 + j) _ (λ e. absurd (omega (arith, e, high))) in
+            third ∙ (second_same ∙ (first_same ∙ p_preserved j high))
+
         found_goes : Goes 1 here hi (Running run)
         found_goes =
             let other : p HANDLERS ≢ p 0 = λ e. some (word_in tag) (word_in value) (performed program zeros c (plain.Throw tag value)) it (sym p_newest ∙ (e ∙ p_zero)) in
@@ -445,10 +497,10 @@ module _ (program : Program) (well : IsWellFormed program) (frames : List Frame)
             (states.Running (record c { active = record it.call { next = it.index; slots = put (put it.call.slots it.first (word_in tag)) (suc it.first) (word_in value); handlers = Caught ∷ it.rest }; frames = it.waiting }))
             (Running g) (zeros_at program c (plain.Throw tag value) at_i refl) at_i it.does
             (within program well frames fit code formed addresses pages calls few (record c { active = record it.call { next = it.index; slots = put (put it.call.slots it.first (word_in tag)) (suc it.first) (word_in value); handlers = Caught ∷ it.rest }; frames = it.waiting }) s.laid.paged it.stands.deep)
-            (inr (inr (inl (landed (word_in tag) (word_in value) (performed program zeros c (plain.Throw tag value)) it final p_zero previous_word base_word p_lowest p_count p_middle p_tag p_value g thrown))))))))))
+            (inr (inr (inl (landed (word_in tag) (word_in value) (performed program zeros c (plain.Throw tag value)) it final p_zero previous_word base_word p_lowest p_count p_middle final_preserved p_tag p_value g thrown))))))))))
 
       pub throw_goes : Goes 1 here hi (Running run)
-      throw_goes = by (search (word_in tag) (word_in value) c.frames c.active r base back refl s)
+      throw_goes = by (search (word_in tag) (word_in value) c.frames c.active r base back refl (λ j high unsaved. refl) s)
         where
           by : Search (word_in tag) (word_in value) (performed program zeros c (plain.Throw tag value)) → Goes 1 here hi (Running run)
           by (nobody none does) = ends_goes none does

@@ -396,7 +396,7 @@ module _ (globals stack : ℕ) where
 -- ---- what is made of a word
 
 -- the register where a slot's word is made is one that no call keeps
-pub made_scratch : (globals stack : ℕ) (program : Program) (r : Routine) (frame : Frame) → AreHomes program r frame.homes → (slot : ℕ) → IsScratch globals stack (made_in frame slot % 32)
+pub made_scratch : (globals stack : ℕ) (program : Program) (r : Routine) (frame : Frame) → AreHomes program r frame.saved frame.homes → (slot : ℕ) → IsScratch globals stack (made_in frame slot % 32)
 made_scratch globals stack program r frame right slot = go (value_register frame slot) refl
   where
     go : (o : Option ℕ) → value_register frame slot ≡ o → IsScratch globals stack (or_else o FIRST % 32)

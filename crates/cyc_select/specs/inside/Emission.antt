@@ -2,7 +2,6 @@
 -- looks targets up in. This project's own choice.
 use Rattle.std.specs.Prelude.{◌≡◌, ℕ, suc, ◌+◌, ◌<◌, ◌≤◌, ◌⊎◌, List, [], ◌∷◌, ◌++◌, length, sum_by, Option, Some, None, Result, OnOk}
 use Rattle.std.specs.declared.alloc.AllocError.{AllocError}
-use Rattle.cyc_machine.specs.declared.constants.TheConstants.{END_FULL, SERVICE}
 use Rattle.cyc_plain.specs.declared.instruction.Instruction.{Instruction}
 use Rattle.cyc_plain.specs.declared.instruction.Operand.{Operand}
 use Rattle.cyc_plain.specs.declared.instruction.Operand.TheVariants as operands
@@ -15,7 +14,7 @@ use Rattle.cyc_frame.specs.inside.Layout.{AreFrames, frame_at, slot_word}
 use Rattle.cyc_frame.specs.inside.Frame.{Frame}
 use Rattle.cyc_select.specs.declared.constants.TheConstants.{START_LINES}
 use Rattle.cyc_select.specs.declared.code.Line.{Line}
-use Rattle.cyc_select.specs.inside.Selection.{push_frame, small, syscall, ordinary, saving_count, count_of, function_count, function_line}
+use Rattle.cyc_select.specs.inside.Selection.{saving_count, count_of, function_count, function_line}
 use Rattle.cyc_select.specs.declared.emitter.Emitter.{Emitter}
 use Rattle.cyc_select.specs.declared.plan.Plan.{Plan}
 use Rattle.cyc_select.specs.declared.plan.Test.{Test}
@@ -26,10 +25,6 @@ use Rattle.cyc_select.specs.declared.tables.Tables.{Tables}
 -- these lines are added behind what there was
 abbrev pub AddsLines : {T : Type 0} → Result T AllocError → (old new : Emitter) → List Line → Type 0
 AddsLines result old new lines = OnOk result (new.lines.items ≡ old.lines.items ++ lines)
-
--- a call up to its arguments
-abbrev pub enter_code : List Line
-enter_code = ordinary (small SERVICE END_FULL ∷ syscall ∷ push_frame ∷ [])
 
 -- a slot lies where an offset reaches
 abbrev pub IsReached : Frame → (slot : ℕ) → Type 0

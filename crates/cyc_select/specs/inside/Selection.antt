@@ -39,6 +39,7 @@ use Rattle.cyc_plain.specs.inside.Program.{Routine, Program, routine_at}
 use Rattle.cyc_frame.specs.inside.Layout.{slot_word, frame_at}
 use Rattle.cyc_registers.specs.declared.home.Home.{Home}
 use Rattle.cyc_registers.specs.declared.home.Home.TheVariants as homes
+use Rattle.cyc_registers.specs.declared.home.TheConstants.{FIRST_PRESERVED}
 use Rattle.cyc_registers.specs.inside.Interference as homing
 use Rattle.cyc_frame.specs.inside.Frame.{Frame}
 use Rattle.cyc_registers.specs.inside.Fills.{fills_at}
@@ -223,16 +224,38 @@ push_frame = add_immediate FRAME FRAME (minus (4 * MOST_FRAME_WORDS))
 abbrev pub pop_frame : Instr
 pop_frame = add_immediate FRAME FRAME (4 * MOST_FRAME_WORDS)
 
--- The way back comes into the frame of a function that loses it, where the function begins, and from there again where it
--- returns.
-abbrev pub saving_code : Frame → List Instr
-saving_code frame = if frame.saves then store RETURN_ADDRESS (4 * frame.return_address) ∷ [] else []
+-- The registers that calls preserve come into the frame of a function that has some of them, so many from this one on, where the
+-- function begins, and from there again where it returns.
+abbrev pub saves_from : (first j count : ℕ) → List Instr
+saves_from first j zero = []
+saves_from first j (suc count) = store (FIRST_PRESERVED + j) (4 * (first + j)) ∷ saves_from first (suc j) count
+
+abbrev pub restores_from : (first j count : ℕ) → List Instr
+restores_from first j zero = []
+restores_from first j (suc count) = load (FIRST_PRESERVED + j) (4 * (first + j)) ∷ restores_from first (suc j) count
+
+abbrev pub saves : Frame → List Instr
+saves frame = saves_from frame.first_saved 0 frame.saved
+
+abbrev pub restores : Frame → List Instr
+restores frame = restores_from frame.first_saved 0 frame.saved
+
+-- So does the way back of a function that loses it.
+abbrev pub way_code : Frame → List Instr
+way_code frame = if frame.saves then store RETURN_ADDRESS (4 * frame.return_address) ∷ [] else []
 
 abbrev pub restoring_code : Frame → List Instr
 restoring_code frame = if frame.saves then load RETURN_ADDRESS (4 * frame.return_address) ∷ [] else []
 
+abbrev pub way_count : Frame → ℕ
+way_count frame = if frame.saves then 1 else 0
+
+-- all that a function saves where it begins
+abbrev pub saving_code : Frame → List Instr
+saving_code frame = way_code frame ++ saves frame
+
 abbrev pub saving_count : Frame → ℕ
-saving_count frame = if frame.saves then 1 else 0
+saving_count frame = way_count frame + frame.saved
 
 -- ---- operands
 
@@ -735,7 +758,8 @@ body_count program frames function (plain.Call callee arguments count result) =
     spills_count (frame_at frames function) (frame_at frames callee) arguments 0 count + 5
     + copies_count (frame_at frames function) (frame_at frames callee) arguments 0 count
 body_count program frames function (plain.Return value) =
-    saving_count (frame_at frames function) + ending_count program function + (routine_at program function).results + 2
+    way_count (frame_at frames function) + ending_count program function
+    + ((routine_at program function).results + (frame_at frames function).saved + 2)
 body_count program frames function (plain.ReadByte destination) = 2 + give_count (frame_at frames function) destination
 body_count program frames function (plain.AddressOf destination slot count) =
     1 + keep_count (frame_at frames function) destination
@@ -759,8 +783,10 @@ body_count program frames function (plain.Try first handler) = 8 + reload_count 
 body_count program frames function (plain.Leave first) = 1
 body_count program frames function (plain.Throw tag value) = load_count tag + load_count value + 7
 body_count program frames function (plain.Finish value) =
-    saving_count (frame_at frames function) + ending_count program function + (routine_at program function).results + 2
+    way_count (frame_at frames function) + ending_count program function
+    + ((routine_at program function).results + (frame_at frames function).saved + 2)
 body_count program frames function (plain.Uncaught tag value) = word_count tag + load_count value + 2
+body_count program frames function (plain.Enter callee) = 3
 
 -- behind a call, the lines that are executed after it returned
 abbrev pub behind_count : Program → List Frame → (function : ℕ) → Instruction → ℕ
@@ -914,17 +940,16 @@ uncaught_code frame tag value =
     ordinary (
     word_code ARGUMENT tag ++ (load_code frame SECOND_ARGUMENT value ++ small SERVICE END_UNCAUGHT ∷ syscall ∷ []))
 
--- A call of the function whose first line has this label. Where no more may be under way the run ends; otherwise the
--- callee's frame is the current one.
+-- Where no call more may be under way the run ends.
+abbrev pub room_code : (here : ℕ) → List Line
+room_code here =
+    lines.Branch (conditions.Registers branch.NotEqual (register_of FRAME) (register_of LOWEST)) (here + 3) ∷ []
+    ++ ordinary (small SERVICE END_FULL ∷ syscall ∷ [])
+
+-- A call of the function whose first line has this label. Where there is room for it the callee's frame is the current one.
 abbrev pub calling_code : (caller callee : Frame) → (here label arguments count : ℕ) → List Line
 calling_code caller callee here label arguments count =
-    lines.Branch (conditions.Registers branch.NotEqual (register_of FRAME) (register_of LOWEST)) (here + 3) ∷ []
-    ++ ordinary (
-    small SERVICE END_FULL
-    ∷ syscall
-    ∷ push_frame
-    ∷ copies caller callee arguments 0 count)
-    ++ lines.Call label ∷ []
+    room_code here ++ ordinary (push_frame ∷ copies caller callee arguments 0 count) ++ lines.Call label ∷ []
 
 -- After a call of a function with so many results, the caller gets what was returned.
 abbrev pub returned_code : Frame → (result results : ℕ) → List Line
@@ -942,8 +967,8 @@ ending_code is_main frame here value =
 abbrev pub returning_code : (is_main : Bool) → Frame → (here value results : ℕ) → List Line
 returning_code is_main frame here value results =
     ordinary (restoring_code frame)
-    ++ (ending_code is_main frame (here + saving_count frame) value
-    ++ ordinary (load_all frame value (result_registers results) ++ pop_frame ∷ [])
+    ++ (ending_code is_main frame (here + way_count frame) value
+    ++ ordinary (load_all frame value (result_registers results) ++ (restores frame ++ pop_frame ∷ []))
     ++ lines.Return ∷ [])
 
 -- A handler is opened. Its record has the handler before it, its frame, and the line behind the call here.
@@ -1038,6 +1063,7 @@ body program frames function here (plain.Throw tag value) = throw_code (frame_at
 body program frames function here (plain.Finish value) =
     returning_code (function == program.main) (frame_at frames function) here value (routine_at program function).results
 body program frames function here (plain.Uncaught tag value) = uncaught_code (frame_at frames function) tag value
+body program frames function here (plain.Enter callee) = room_code here
 
 -- behind a call, the lines that are executed after it returned
 abbrev pub behind : Program → List Frame → (function : ℕ) → Instruction → List Line

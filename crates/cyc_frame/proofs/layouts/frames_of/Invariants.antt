@@ -1,6 +1,7 @@
+use Rattle.std.proofs.Common.{◌≤◌}
 use Rattle.cyc_frame.specs.inside.Layout.{AreFirstFrames}
 use Rattle.cyc_frame.proofs.layouts.frames_of.Given as goal
 
--- the functions so far have their frames
+-- the functions so far have their frames, which save no more registers than these
 abbrev pub invariant-loop-number : goal.invariant-loop-number
-invariant-loop-number l = AreFirstFrames l.plain l.number l.frames.items
+invariant-loop-number l = AreFirstFrames l.plain l.number l.most l.frames.items × (l.most ≤ l.may_save)

@@ -1,5 +1,5 @@
-use Rattle.std.proofs.Common.{◌∙◌, sym, subst, length}
-use Rattle.cyc_frame.specs.inside.Layout.{AreFirstFrames}
+use Rattle.std.proofs.Common.{◌∙◌, sym, subst}
+use Rattle.cyc_frame.specs.inside.Layout.{AreFrames}
 use Rattle.cyc_frame.proofs.Sound.{framed, small_frames, too_large}
 use Rattle.cyc_frame.proofs.layouts.layout.Goals as goal
 
@@ -18,5 +18,5 @@ pub returns : goal.returns
 returns c =
     let functions = c.functions-functions in
     framed c.args.plain.now functions.result.now functions.ensures.value c.new-2.result
-    (subst (AreFirstFrames c.args.plain.now (length c.args.plain.now.functions)) (sym c.new-2.ensures) c.in_ok-frames.ensures)
+    (subst (AreFrames c.args.plain.now) (sym c.new-2.ensures) c.in_ok-frames.ensures)
     (sym c.first_too_large.ensures ∙ c.in_default.is)

@@ -27,5 +27,5 @@ returns c =
     let lives = c.args.lives.now in
     let code = c.args.function.now.code.items in
     let same : loop.index ≡ length code = omega (arith, c.loop-index-test.false, loop.auto.index-end, c.len-index-end.ensures) in
-    fillable c.args.plain.now (routine_of c.args.function.now) c.args.masks.now lives.live.items lives.kept lives.barred c.requires.sound c.requires.numbered c.args.homes.now c.requires.own loop.fills.items
+    fillable c.args.plain.now (routine_of c.args.function.now) c.args.masks.now lives.live.items lives.calls lives.clauses lives.barred c.requires.sound c.requires.numbered c.args.homes.now c.requires.own loop.fills.items
     (subst (λ (n : ℕ). AreLeft c.args.masks.now lives.live.items c.args.homes.now code n loop.fills.items) same loop.invariant)

@@ -13,5 +13,5 @@ loop-index-preserved c =
     subst (AreFirstIdle c.args.plain.now r c.args.homes.now (loop.index + 1)) (sym c.in_ok-push.ensures.items)
     (more_idle c.args.plain.now r c.args.homes.now loop.index loop.idle.items c.is_idle.result c.index.result.now loop.invariant
     (slice_get-get_or c.args.function.now.code.items loop.index c.index.result.now (omega (arith, c.loop-index-test.true, c.len-index-end.ensures)) ∙ ap Some (sym c.index.ensures))
-    (λ is. idle c.args.plain.now r c.args.masks.now lives.live.items lives.kept lives.barred c.requires.sound c.requires.numbered c.args.homes.now loop.index c.index.result.now
+    (λ is. idle c.args.plain.now r c.args.masks.now lives.live.items lives.calls lives.clauses lives.barred c.requires.sound c.requires.numbered c.args.homes.now loop.index c.index.result.now
     (ap (λ (live : List ℕ). is_idle c.args.masks.now live c.args.homes.now loop.index c.index.result.now) (sym c.deref.ensures.value) ∙ (sym c.is_idle.ensures ∙ is))))

@@ -9,4 +9,4 @@ use Rattle.cyc_registers.proofs.liveness.is_sound.Given as goal
 abbrev pub invariant-loop-index : goal.invariant-loop-index
 invariant-loop-index l =
     (k : ℕ) (i : Instruction) → At (routine_of l.function) k i → k < l.index
-    → is_sound_at l.plain (routine_of l.function).results l.masks i k l.lives.live.items l.lives.kept l.lives.barred ≡ true
+    → is_sound_at l.plain (routine_of l.function).results l.masks i k l.lives.live.items l.lives.calls l.lives.clauses l.lives.barred ≡ true

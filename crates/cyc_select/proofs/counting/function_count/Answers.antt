@@ -1,7 +1,8 @@
 use Rattle.std.proofs.Common.{ap, ◌∙◌, arith}
 use Rattle.cyc_plain.specs.inside.Program.{routine_at}
+use Rattle.cyc_frame.specs.inside.Layout.{frame_at}
 use Rattle.cyc_select.specs.inside.Selection.{saving_count, code_count}
-use Rattle.cyc_select.proofs.emission.Numbering.{reads_few, routine_small}
+use Rattle.cyc_select.proofs.emission.Numbering.{reads_few, is_saving, routine_small}
 use Rattle.cyc_select.proofs.counting.function_count.Goals as goal
 
 pub returns-clause-value : goal.returns-clause-value
@@ -23,5 +24,5 @@ returns-clause-small c =
       arith,
       saving,
       lines,
-      routine_small program frames function (reads_few program frames c.requires.fit function) c.requires.few (routine_at program function).code (c.requires.fit.each function c.requires.function).saved,
+      routine_small program frames function (reads_few program frames c.requires.fit function) c.requires.few (routine_at program function).code (is_saving (routine_at program function) (frame_at frames function) (c.requires.fit.each function c.requires.function)),
     )

@@ -1,0 +1,9 @@
+use Rattle.std.proofs.Common.{◌≡◌, ◌-◌, ◌++◌}
+use Rattle.cyc_select.specs.inside.Selection.{ordinary, restores_from, restores}
+use Rattle.cyc_select.proofs.emitter.Emitter.restores.Given as goal
+
+-- the lines so far, with those of the other registers, are all of them
+abbrev pub invariant-loop-number : goal.invariant-loop-number
+invariant-loop-number l =
+    l.self.lines.items ++ ordinary (restores_from l.frame.first_saved l.number (l.frame.saved - l.number))
+    ≡ l.fn.self.lines.items ++ ordinary (restores l.frame)
