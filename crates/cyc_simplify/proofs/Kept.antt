@@ -386,6 +386,8 @@ module _ (program simplified : Program) (replaced : (function : ℕ) → IsRepla
         thrown choice c (instructions.Throw tag value) at holds handling waiting (operand_word words tag) (operand_word words value) c.active c.frames handling waiting
     performs (instructions.Finish value) at = finished choice c (instructions.Finish value) at holds handling waiting value (routine_at program c.active.function).results c.active.handlers refl
     performs (instructions.Uncaught tag value) at = tt
+    performs (instructions.Enter function) at =
+        (stays_plainly choice c (instructions.Enter function) at holds handling waiting led refl (λ index next. refl) words holds, handling, waiting)
 
   -- what is known stays known
   pub known_behind : (choice : Choice) (c : Configuration) (i : Instruction) → At (routine_at simplified c.active.function) c.active.next i → IsKnown (Running c) → IsKnown (performed program choice c i)

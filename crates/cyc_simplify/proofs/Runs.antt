@@ -18,7 +18,7 @@ use Rattle.cyc_plain.specs.declared.instruction.Instruction.TheVariants as instr
 use Rattle.cyc_plain.specs.inside.Program.{Routine, Program, CodePlace, no_routine, routine_at}
 use Rattle.cyc_plain.specs.inside.State.{Activation, Frame, Configuration, State, Running, Ended, Stuck, seen_of, status_of, place_of}
 use Rattle.cyc_plain.specs.inside.Memory.{pins, is_pinned, global_at, slot_at, word_or, word_waiting, put_or, with_waiting, Range, OfGlobals, OfStore, OfSlots, range_of, word_in, memory_at, with_global, with_slot, with_word, with_memory}
-use Rattle.cyc_plain.specs.inside.Step.{Choice, operand_word, IsAllowed, MayLie, MayServe, returns, finishes, loads, saves, loads_byte, saves_byte, advanced, call_of, callee_of, called, performed, executed, instruction_at, step, limited, limited_step, Step, start, machine}
+use Rattle.cyc_plain.specs.inside.Step.{Choice, operand_word, IsAllowed, MayLie, MayServe, returns, finishes, loads, saves, loads_byte, saves_byte, advanced, call_of, callee_of, called, performed, executed, instruction_at, step, limit_of, limit_at, limited, limited_step, Step, start, machine}
 use Rattle.cyc_plain.proofs.RunLaws.{lawful, limited_either}
 use Rattle.cyc_simplify.specs.declared.fact.Fact.{Fact}
 use Rattle.cyc_simplify.specs.declared.fact.Fact.TheVariants as facts_are
@@ -26,7 +26,7 @@ use Rattle.cyc_simplify.specs.inside.Facts.{is_known}
 use Rattle.cyc_simplify.specs.inside.Replacement.{simplified_operand, holder_in, simplified_binary, simplified_move, decision_in, simplified_branch, simplified_instruction}
 use Rattle.cyc_simplify.specs.inside.Table.{IsReplaced, AreReplaced}
 use Rattle.cyc_simplify.proofs.Kept.{facts_in, IsKnown, known_behind, known_start}
-use Rattle.cyc_simplify.proofs.Steps.{performs_same, callee_same, request_same}
+use Rattle.cyc_simplify.proofs.Steps.{performs_same, callee_same, limit_same, request_same}
 use Rattle.cyc_simplify.proofs.Tables.{unchanged}
 
 -- ---- the functions
@@ -187,6 +187,7 @@ module _ (program simplified : Program) (are : AreReplaced program simplified) w
       pub knows : IsKnown program simplified (each_replaced program simplified are) (executed program choice c o)
       pub calls : callee_of other ≡ callee_of o
       pub asks : call_of c.active.slots other ≡ call_of c.active.slots o
+      pub limits : (most : ℕ) → limit_of other most ≡ limit_of o most
 
     executes_same : (o other : Option Instruction) → instruction_at simplified place ≡ other → AreBoth o other → IsSame o other
     executes_same None other at is = record {
@@ -194,6 +195,7 @@ module _ (program simplified : Program) (are : AreReplaced program simplified) w
       knows = tt;
       calls = ap callee_of is;
       asks = ap (call_of c.active.slots) is;
+      limits = λ most. ap (λ (x : Option Instruction). limit_of x most) is;
     }
     executes_same (Some i) other at is =
         let j : Instruction = simplified_instruction facts i in
@@ -204,6 +206,7 @@ module _ (program simplified : Program) (are : AreReplaced program simplified) w
               (known_behind program simplified (each_replaced program simplified are) choice c j (at ∙ is) known);
           calls = ap callee_of is ∙ callee_same facts i;
           asks = ap (call_of c.active.slots) is ∙ request_same c.active.slots facts known.0 i;
+          limits = λ most. ap (λ (x : Option Instruction). limit_of x most) is ∙ limit_same most facts i;
         }
 
     same_step : IsSame (instruction_at program place) (instruction_at simplified place)
@@ -227,10 +230,12 @@ module _ (program simplified : Program) (are : AreReplaced program simplified) w
 
     known_limited : (pages calls : ℕ) → IsKnown program simplified (each_replaced program simplified are) (limited_step program pages calls choice (Running c))
     known_limited pages calls =
-        limited_either (IsKnown program simplified (each_replaced program simplified are)) pages calls (Running c) (step program choice (Running c)) (λ within. same_step.knows) tt
+        limited_either (IsKnown program simplified (each_replaced program simplified are)) pages (limit_at program (Running c) calls) (Running c) (step program choice (Running c)) (λ within. same_step.knows) tt
 
     does_limited : (pages calls : ℕ) → limited_step simplified pages calls choice (Running c) ≡ limited_step program pages calls choice (Running c)
-    does_limited pages calls = ap (limited pages calls (Running c)) same_step.does
+    does_limited pages calls =
+        ap (λ (n : ℕ). limited pages n (Running c) (step simplified choice (Running c))) (same_step.limits calls)
+        ∙ ap (limited pages (limit_at program (Running c) calls) (Running c)) same_step.does
 
   -- ---- runs
 

@@ -341,6 +341,7 @@ module _ (program simplified : Program) (are : AreReplaced program simplified) (
     in_range (instructions.Throw tag value) (first, second) = (operand_in tag first, operand_in value second)
     in_range (instructions.Finish value) is = (let e = replaced.slots in let n = replaced.results in omega (arith, is, e, n))
     in_range (instructions.Uncaught tag value) is = operand_in value is
+    in_range (instructions.Enter function) is = (let l = are.as_many in omega (arith, is, l))
 
   last_leaves : (o : Option Instruction) → slice_get r.code (length r.code - 1) ≡ o → IsSomeAnd o (λ i. leaves i ≡ true) → IsSomeAnd (slice_get s.code (length s.code - 1)) (λ i. leaves i ≡ true)
   last_leaves None at none = absurd none

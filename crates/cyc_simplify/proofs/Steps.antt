@@ -18,7 +18,7 @@ use Rattle.cyc_plain.specs.inside.Operators.{unary_result, binary_result, has_no
 use Rattle.cyc_plain.specs.inside.Program.{Program}
 use Rattle.cyc_plain.specs.inside.State.{Words, put, Configuration, Running, Ended, Stuck}
 use Rattle.cyc_plain.specs.inside.Memory.{memory_at}
-use Rattle.cyc_plain.specs.inside.Step.{Choice, gives, branches, operand_word, advanced, loads, saves, loads_byte, saves_byte, call_in, call_of, asks, throws, callee_of, performed}
+use Rattle.cyc_plain.specs.inside.Step.{Choice, gives, branches, operand_word, advanced, loads, saves, loads_byte, saves_byte, call_in, call_of, asks, throws, callee_of, limit_of, performed}
 use Rattle.cyc_simplify.specs.declared.fact.Fact.{Fact}
 use Rattle.cyc_simplify.specs.declared.fact.Fact.TheVariants as facts_are
 use Rattle.cyc_simplify.specs.inside.Facts.{AreTrueIn, is_known}
@@ -153,6 +153,26 @@ callee_same facts (instructions.Branch comparison left right target) = go (decis
     go (Some false) = refl
     go None = refl
 callee_same facts i = refl
+
+-- and has the same limit of calls
+pub limit_same : (calls : ℕ) (facts : List Fact) (i : Instruction) → limit_of (Some (simplified_instruction facts i)) calls ≡ limit_of (Some i) calls
+limit_same calls facts (instructions.Move destination source) = go (is_known facts (facts_are.Equal destination (simplified_operand facts source)))
+  where
+    go : (b : Bool) → limit_of (Some (simplified_move b destination (simplified_operand facts source))) calls ≡ calls
+    go true = refl
+    go false = refl
+limit_same calls facts (instructions.Binary operator destination left right) = go (holder_in facts operator (simplified_operand facts left) (simplified_operand facts right))
+  where
+    go : (o : Option ℕ) → limit_of (Some (simplified_binary o operator destination (simplified_operand facts left) (simplified_operand facts right))) calls ≡ calls
+    go (Some slot) = refl
+    go None = refl
+limit_same calls facts (instructions.Branch comparison left right target) = go (decision_in facts comparison (simplified_operand facts left) (simplified_operand facts right))
+  where
+    go : (o : Option Bool) → limit_of (Some (simplified_branch o comparison (simplified_operand facts left) (simplified_operand facts right) target)) calls ≡ calls
+    go (Some true) = refl
+    go (Some false) = refl
+    go None = refl
+limit_same calls facts i = refl
 
 -- and the store for the same
 pub request_same : (slots : Words) (facts : List Fact) → AreTrueIn slots facts → (i : Instruction) → call_of slots (Some (simplified_instruction facts i)) ≡ call_of slots (Some i)

@@ -16,7 +16,7 @@ use Rattle.cyc_plain.specs.inside.State.{Configuration}
 use Rattle.cyc_plain.specs.inside.Step.{served_to}
 use Rattle.cyc_plain.specs.inside.Step as plain_step
 use Rattle.cyc_plain.specs.inside.Straight.{At, places_behind}
-use Rattle.cyc_plain.proofs.Steps.{step_serves, step_full}
+use Rattle.cyc_plain.proofs.Uniform.{uniform_serves as step_serves, uniform_full as step_full}
 use Rattle.cyc_meaning.specs.State.{World, Environment, Entry, Focus, State, Running, Ended}
 use Rattle.cyc_meaning.specs.Step.{step}
 use Rattle.cyc_meaning.specs.Run.{is_within, limited_step}

@@ -19,7 +19,7 @@ use Rattle.cyc_plain.specs.inside.Step.{Choice, advanced, at, operand_word, serv
 use Rattle.cyc_plain.specs.inside.Step as plain_step
 use Rattle.cyc_plain.specs.inside.Requests as plain_requests
 use Rattle.cyc_plain.specs.inside.Straight.{At}
-use Rattle.cyc_plain.proofs.Steps.{step_serves}
+use Rattle.cyc_plain.proofs.Uniform.{uniform_serves as step_serves}
 use Rattle.cyc_meaning.specs.Values.{Value, Int, Null, Thin, Fat, Handle, Key, Operand as Kinded}
 use Rattle.cyc_meaning.specs.Objects.{freed}
 use Rattle.cyc_meaning.specs.Regions.{frees_in_region, frees_owned, frees_object}

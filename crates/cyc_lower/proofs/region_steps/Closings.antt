@@ -18,7 +18,7 @@ use Rattle.cyc_plain.specs.inside.State as plain
 use Rattle.cyc_plain.specs.inside.State.{Configuration}
 use Rattle.cyc_plain.specs.inside.Step.{at, served_to}
 use Rattle.cyc_plain.specs.inside.Step as plain_step
-use Rattle.cyc_plain.proofs.Steps.{step_serves}
+use Rattle.cyc_plain.proofs.Uniform.{uniform_serves as step_serves}
 use Rattle.cyc_meaning.specs.State.{World, closed, Environment, Entry, CloseLexical, Focus, State, Running}
 use Rattle.cyc_meaning.specs.Step.{step}
 use Rattle.cyc_store.proofs.KeptUnwinding.{down_to-lower}

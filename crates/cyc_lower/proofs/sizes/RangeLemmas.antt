@@ -154,6 +154,7 @@ module _ (program : PlainProgram) (r : Routine) (longer : List Instruction) (loc
   one_cut (instructions.Throw tag value) least (first, second) = (operand_cut tag first, operand_cut value second)
   one_cut (instructions.Finish value) least inside = inside
   one_cut (instructions.Uncaught tag value) least inside = operand_cut value inside
+  one_cut (instructions.Enter function) least inside = inside
 
   pub all_cut : (code : List Instruction) → farthest code ≤ far → AllByRecursion (IsIn program full locals) code → AllByRecursion (IsIn program r locals) code
   all_cut [] least inside = tt

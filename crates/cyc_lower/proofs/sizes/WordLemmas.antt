@@ -24,6 +24,10 @@ use Rattle.cyc_plain.specs.declared.instruction.Operand.{Operand}
 use Rattle.cyc_plain.specs.declared.instruction.Operand.TheVariants as operands
 use Rattle.cyc_plain.specs.declared.instruction.Instruction.{Instruction}
 use Rattle.cyc_plain.specs.declared.instruction.Instruction.TheVariants as instructions
+use Rattle.cyc_plain.specs.inside.Program.{routine_at, no_routine}
+use Rattle.cyc_plain.specs.inside.Uniform.{AsksNoRoom}
+use Rattle.cyc_plain.proofs.Steps.{function_known}
+use Rattle.cyc_plain.proofs.Placed.{holds_at}
 use Rattle.cyc_plain.specs.inside.WellFormed.{IsOfWord, HasWord, HasWords, is_return}
 use Rattle.cyc_lower.specs.inside.Words.{IsOfWords, IsOfWordsCell, IsOfWordsObject, IsOfWordsConverted, AreOfWordsArguments, AreOfWordsOperations, IsOfWordsInitial, IsOfWordsStatement, AreOfWordsItems, IsOfWordsConstant, AreOfWordsGlobals, AreOfWordsFunctions, IsOfWordsProgram, IsOfWordsSide, IsOfWordsThrown, AreOfWordsClauses}
 use Rattle.cyc_plain.specs.declared.limits.TheConstants.{RECORD_WORDS, GLOBALS_BASE}
@@ -53,17 +57,20 @@ all_told P Q tells (x ∷ xs) (first, rest) = (tells x first, all_told P Q tells
 
 -- ---- instructions
 
--- an instruction that is made: it has words, and is no return that leaves handlers open
+-- an instruction that is made: it has words, is no return that leaves handlers open, and asks no room for a call
 abbrev IsMade : Instruction → Type 0
 IsMade (instructions.Return value) = ⊥
+IsMade (instructions.Enter function) = ⊥
 IsMade i = HasWord i
 
 made_word : (i : Instruction) → IsMade i → HasWord i
 made_word (instructions.Return value) made = absurd made
+made_word (instructions.Enter function) made = absurd made
 made_word i made = made
 
 made_no_return : (i : Instruction) → IsMade i → is_return i ≡ false
 made_no_return (instructions.Return value) made = absurd made
+made_no_return (instructions.Enter function) made = absurd made
 made_no_return i made = refl
 
 abbrev HaveWords : List Instruction → Type 0
@@ -957,3 +964,24 @@ has_words source words =
       functions = All-from_recursion (λ r. All HasWord r.code) (map (lower_function source.structs (globals_of source) scopes) source.functions) (functions_words source.structs (globals_of source) scopes source.functions words.functions);
       globals = All-from_recursion IsWord (lower_globals source.globals) (globals_words source.globals words.globals);
     }
+
+-- no function has an `Enter`
+abbrev is_no_enter : Instruction → Bool
+is_no_enter (instructions.Enter function) = false
+is_no_enter i = true
+
+made_no_enter : (i : Instruction) → IsMade i → is_no_enter i ≡ true
+made_no_enter (instructions.Enter function) made = absurd made
+made_no_enter i made = refl
+
+functions_enter : (structs : List StructType) (globals : List ℕ) (scopes : Option ℕ) (hs : List Function) → AreOfWordsFunctions hs → AllByRecursion (λ r. All (λ i. is_no_enter i ≡ true) r.code) (map (lower_function structs globals scopes) hs)
+functions_enter structs globals scopes [] words = tt
+functions_enter structs globals scopes (h ∷ hs) (first, rest) =
+    (All-from_recursion (λ i. is_no_enter i ≡ true) (function_code structs globals scopes h) (all_told IsMade (λ i. is_no_enter i ≡ true) made_no_enter (function_code structs globals scopes h) (function_words structs globals scopes h first)), functions_enter structs globals scopes hs rest)
+
+pub no_enter : (source : Program) → IsOfWordsProgram source → AsksNoRoom (lower_program source)
+no_enter source words place function at =
+    let all = All-from_recursion (λ r. All (λ i. is_no_enter i ≡ true) r.code) (map (lower_function source.structs (globals_of source) (scopes_of source)) source.functions) (functions_enter source.structs (globals_of source) (scopes_of source) source.functions words.functions) in
+    let known = function_known (lower_program source) place (instructions.Enter function) at in
+    let of_code : All (λ i. is_no_enter i ≡ true) (routine_at (lower_program source) place.function).code = all place.function no_routine known in
+    let e : false ≡ true = holds_at (λ i. is_no_enter i ≡ true) (routine_at (lower_program source) place.function).code place.index (instructions.Enter function) of_code at in cc

@@ -18,10 +18,12 @@ use Rattle.cyc_plain.specs.inside.Program.{CodePlace, places_of}
 use Rattle.cyc_store.specs.State.{demand}
 use Rattle.cyc_plain.specs.inside.State as plain
 use Rattle.cyc_plain.specs.inside.State.{Words, Configuration}
-use Rattle.cyc_plain.specs.inside.Step.{Choice, performed, machine}
+use Rattle.cyc_plain.specs.inside.Step.{Choice, performed}
+use Rattle.cyc_plain.specs.inside.Uniform.{uniform_machine as machine}
+use Rattle.cyc_plain.proofs.Uniform.{uniform_performs as step_performs}
 use Rattle.cyc_plain.specs.inside.Step as plain_step
 use Rattle.cyc_words.proofs.Matching.{by_none, way_before}
-use Rattle.cyc_plain.proofs.Steps.{step_performs, place_known}
+use Rattle.cyc_plain.proofs.Steps.{place_known}
 use Rattle.cyc_plain.specs.inside.Straight.{At}
 use Rattle.cyc_words.specs.Demand.{demand_of}
 use Rattle.cyc_meaning.specs.State.{World, Environment, Entry, counted, calls_in, Focus, Given, Proceeding, Breaking, Continuing, Returning, Throwing, State, Running, Ended, Dead, Wrong, output_of, input_of, status_of}

@@ -20,7 +20,10 @@ use Rattle.cyc_store.proofs.NewStores.{new_demand}
 use Rattle.cyc_plain.specs.inside.State as plain
 use Rattle.cyc_plain.specs.inside.State.{Words, Configuration}
 use Rattle.cyc_plain.specs.inside.Step as plain_step
-use Rattle.cyc_plain.proofs.RunLaws.{lawful}
+use Rattle.cyc_plain.specs.inside.Uniform.{UniformStep}
+use Rattle.cyc_plain.proofs.Uniform.{uniform_lawful, of_uniform, follows_uniform}
+use Rattle.cyc_lower.proofs.sizes.WordLemmas.{no_enter}
+use Rattle.cyc_plain.specs.inside.Program.{places_of}
 use Rattle.cyc_plain.proofs.WordLaws.{words_stay, words_at_start}
 use Rattle.cyc_plain.specs.inside.WellFormed.{HasWords}
 use Rattle.cyc_plain.specs.inside.Memory.{LieBelow, IsBelow, slots_end}
@@ -192,8 +195,10 @@ module _ (source : Program) (pages calls : ℕ) (well_typed : AreWellTypedGlobal
   abbrev Lies : plain.State → Type 0
   Lies t = plain.HoldsWords t × LieBelow (lower_program source) t
 
-  lies_kept : (old new : plain.State) → Lies old → plain_step.Step (lower_program source) pages calls old new → Lies new
-  lies_kept old new (words, lie) stepped = (words_stay (lower_program source) pages calls 1 old new of_words words (new, stepped, refl), below_step (lower_program source) pages calls old new lie stepped)
+  lies_kept : (old new : plain.State) → Lies old → UniformStep (lower_program source) pages calls old new → Lies new
+  lies_kept old new (words, lie) uniform =
+      let stepped = of_uniform (lower_program source) (no_enter source typed_words) pages calls old new uniform in
+      (words_stay (lower_program source) pages calls 1 old new of_words words (new, stepped, refl), below_step (lower_program source) pages calls old new lie stepped)
 
   -- regions nest, and variables that are live have names
   abbrev Named : State → Type 0
@@ -286,9 +291,11 @@ module _ (source : Program) (pages calls : ℕ) (well_typed : AreWellTypedGlobal
 
   follows_source : (base : ℕ) (store : StoreState) (input : List ℕ) → IsNew pages store → 1 ≤ pages → pages ≤ MOST_PAGES → 1 ≤ calls → AllByRecursion (λ b. b < 256) input
       → IsBelow (lower_program source) (lower_program source).main base slots_end → FollowsSource source (lower_program source) pages calls base store input
+  -- (shown on the machine whose limits are the same at each instruction, since the lowered code has no `Enter`)
   follows_source base store input new some_page few_pages some_call bytes lies never =
       let (h, starts, there) = from_start (slice_get source.functions source.main) input refl some_call (never 0 (start source input) refl) in
-      simulates (above source pages calls) (below source pages calls) matching_named steps (lawful (lower_program source) pages calls) [] (start source input) never
+      follows_uniform (lower_program source) (no_enter source typed_words) pages calls (above source pages calls) [] (λ state. places_of (lower_program source)) (start source input) (plain_step.start (lower_program source) base store input)
+      (simulates (above source pages calls) (below source pages calls) matching_named steps (uniform_lawful (lower_program source) (no_enter source typed_words) pages calls) [] (start source input) never
       (plain_step.start (lower_program source) base store input)
       (ap (λ s. status_in (status_of s)) starts) (
         (
@@ -299,7 +306,7 @@ module _ (source : Program) (pages calls : ℕ) (well_typed : AreWellTypedGlobal
           ),
         ),
         (nests_start source input, names_start source input rise),
-      )
+      ))
 
 -- The lowered program of one that fits does what that does.
 pub follows : (source : Program) → IsFitting source → IsOfWordsProgram source → FunctionsRise source → words_of_all (global_types source.globals) ≤ MOST_GLOBALS → HasWords (lower_program source) → (pages calls base : ℕ) (store : StoreState) (input : List ℕ)

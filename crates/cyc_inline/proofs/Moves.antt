@@ -1,0 +1,47 @@
+-- Words that are moved one by one to slots apart from where they come from are moved as at once.
+use Rattle.std.proofs.Common.{◌≡◌, ℕ, zero, suc, ◌+◌, ◌<◌, ◌≤◌, inl, inr, refl, ap, ◌∙◌, arith}
+use Rattle.std.specs.Prelude.{◌⊎◌}
+use Rattle.cyc_plain.specs.inside.State.{Words, put}
+use Rattle.cyc_plain.proofs.SlotLaws.{put-same, put-other}
+
+-- the slots behind them
+abbrev pub passed : (destination source count : ℕ) → Words → Words
+passed destination source zero slots = slots
+passed destination source (suc count) slots = passed (destination + 1) (source + 1) count (put slots destination (slots source))
+
+-- where the two lie apart, what others hold stays, and each has its word
+pub passed_other : (destination source count : ℕ) (slots : Words) (k : ℕ) → (k < destination) ⊎ (destination + count ≤ k) → passed destination source count slots k ≡ slots k
+passed_other destination source zero slots k apart = refl
+passed_other destination source (suc count) slots k apart =
+    passed_other (destination + 1) (source + 1) count (put slots destination (slots source)) k (further apart)
+    ∙ put-other slots destination k (slots source) (λ e. elsewhere apart e)
+  where
+    further : (k < destination) ⊎ (destination + suc count ≤ k) → (k < destination + 1) ⊎ (destination + 1 + count ≤ k)
+    further (inl below) = inl (omega (arith, below))
+    further (inr above) = inr (omega (arith, above))
+
+    elsewhere : (k < destination) ⊎ (destination + suc count ≤ k) → k ≡ destination → ⊥
+    elsewhere (inl below) e = omega (arith, below, e)
+    elsewhere (inr above) e = omega (arith, above, e)
+
+pub passed_inside : (destination source count : ℕ) (slots : Words) (k : ℕ) → (destination + count ≤ source) ⊎ (source + count ≤ destination) → k < count
+    → passed destination source count slots (destination + k) ≡ slots (source + k)
+passed_inside destination source zero slots k apart below = absurd (omega (arith, below))
+passed_inside destination source (suc count) slots zero apart below =
+    passed_other (destination + 1) (source + 1) count (put slots destination (slots source)) (destination + 0) (inl (omega arith))
+    ∙ ap (put slots destination (slots source)) (let e : destination + 0 ≡ destination = omega arith in e)
+    ∙ put-same slots destination (slots source)
+    ∙ ap slots (let e : source ≡ source + 0 = omega arith in e)
+passed_inside destination source (suc count) slots (suc k) apart below =
+    ap (passed (destination + 1) (source + 1) count (put slots destination (slots source))) (let e : destination + suc k ≡ destination + 1 + k = omega arith in e)
+    ∙ passed_inside (destination + 1) (source + 1) count (put slots destination (slots source)) k (further apart) (omega (arith, below))
+    ∙ put-other slots destination (source + 1 + k) (slots source) (elsewhere apart)
+    ∙ ap slots (let e : source + 1 + k ≡ source + suc k = omega arith in e)
+  where
+    further : (destination + suc count ≤ source) ⊎ (source + suc count ≤ destination) → (destination + 1 + count ≤ source + 1) ⊎ (source + 1 + count ≤ destination + 1)
+    further (inl before) = inl (omega (arith, before))
+    further (inr behind) = inr (omega (arith, behind))
+
+    elsewhere : (destination + suc count ≤ source) ⊎ (source + suc count ≤ destination) → source + 1 + k ≡ destination → ⊥
+    elsewhere (inl before) e = omega (arith, before, e)
+    elsewhere (inr behind) e = omega (arith, behind, e, below)

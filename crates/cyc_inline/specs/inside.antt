@@ -1,0 +1,6 @@
+-- what the contract of `inline` rests on
+pub mod Inlined
+-- the functions inside the crate
+pub mod Opened
+pub mod Sites
+pub mod Emission

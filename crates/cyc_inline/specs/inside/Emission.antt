@@ -1,0 +1,223 @@
+-- The code of a function, some of whose calls are opened, as the crate makes it, and which may be.
+use Rattle.std.specs.Prelude.{◌≡◌, All, ℕ, suc, ◌+◌, ◌<◌, ◌≤◌, ◌^◌, ◌⊎◌, Bool, true, false, List, [], ◌∷◌, ◌++◌, length, Result, OnOk, Option, Some, None, slice_get, slice_index_or, drop, map, max, sum_by, if◌then◌else◌}
+use Rattle.std.specs.List.{AllByRecursion}
+use Rattle.std.specs.declared.alloc.AllocError.{AllocError}
+use Rattle.std.specs.declared.alloc.Global.{Global}
+use Rattle.std.specs.declared.vec.Vec.{Vec}
+use Rattle.cyc_plain.specs.declared.instruction.Instruction.{Instruction}
+use Rattle.cyc_plain.specs.declared.instruction.Instruction.TheVariants as instructions
+use Rattle.cyc_plain.specs.declared.instruction.Operand.{Operand}
+use Rattle.cyc_plain.specs.declared.instruction.Operand.TheVariants as operands
+use Rattle.cyc_plain.specs.declared.limits.TheConstants.{GREATEST_VALUE, LAYOUT_WORDS, MOST_FRAME_WORDS, MOST_SIZE}
+use Rattle.cyc_plain.specs.inside.Program.{Routine, Program, no_routine, routine_at, size}
+use Rattle.cyc_plain.specs.inside.Straight.{At}
+use Rattle.cyc_plain.specs.inside.WellFormed.{leaves, IsRoutine, IsPlain, HasWord}
+use Rattle.cyc_inline.specs.declared.caller.Caller.{Caller}
+use Rattle.cyc_inline.specs.declared.choice.Choice.{Choice}
+use Rattle.cyc_inline.specs.declared.choice.Need.{Need}
+use Rattle.cyc_inline.specs.declared.emission.Emission.{Emission}
+use Rattle.cyc_inline.specs.declared.limits.TheConstants.{MOST_LEAF_CODE, MOST_GROWTH}
+use Rattle.cyc_inline.specs.declared.origin.Origin.{Origin}
+use Rattle.cyc_inline.specs.declared.site.Call.{Call}
+use Rattle.cyc_inline.specs.declared.site.Site.{Site}
+use Rattle.cyc_inline.specs.inside.Opened.{moved, is_of_leaf, is_end, origin_at, origins_of, IsOpened}
+use Rattle.cyc_inline.specs.inside.Sites.{chosen_call, place_in, site_code, site_origins, site_size}
+
+-- ---- what the methods that emit add
+
+abbrev pub AddsCode : {T : Type 0} → Result T AllocError → (old new : Emission) → List Instruction → Type 0
+AddsCode result old new code = OnOk result (new.code.items ≡ old.code.items ++ code)
+
+abbrev pub AddsOrigins : {T : Type 0} → Result T AllocError → (old new : Emission) → List Origin → Type 0
+AddsOrigins result old new origins = OnOk result (new.origins.items ≡ old.origins.items ++ origins)
+
+-- ---- numbers that fit a machine word
+
+abbrev pub IsFitOperand : (shift : ℕ) → Operand → Type 0
+IsFitOperand shift (operands.Slot number) = shift + number < 2 ^ 64
+IsFitOperand shift (operands.Word word) = Unit {0}
+
+-- the slots of an instruction, shifted
+abbrev pub IsFit : (shift : ℕ) → Instruction → Type 0
+IsFit shift (instructions.Move destination source) = (shift + destination < 2 ^ 64) × IsFitOperand shift source
+IsFit shift (instructions.MoveWords destination source count) = (shift + destination < 2 ^ 64) × (shift + source < 2 ^ 64)
+IsFit shift (instructions.Unary operator destination operand) = (shift + destination < 2 ^ 64) × IsFitOperand shift operand
+IsFit shift (instructions.Binary operator destination left right) =
+    (shift + destination < 2 ^ 64) × IsFitOperand shift left × IsFitOperand shift right
+IsFit shift (instructions.Branch comparison left right target) = IsFitOperand shift left × IsFitOperand shift right
+IsFit shift (instructions.ReadByte destination) = shift + destination < 2 ^ 64
+IsFit shift (instructions.WriteByte source) = IsFitOperand shift source
+IsFit shift (instructions.LoadGlobal destination global) = shift + destination < 2 ^ 64
+IsFit shift (instructions.StoreGlobal global source) = IsFitOperand shift source
+IsFit shift (instructions.Load destination address offset) = (shift + destination < 2 ^ 64) × IsFitOperand shift address
+IsFit shift (instructions.Store address offset source) = IsFitOperand shift address × IsFitOperand shift source
+IsFit shift (instructions.LoadByte destination address offset) = (shift + destination < 2 ^ 64) × IsFitOperand shift address
+IsFit shift (instructions.StoreByte address offset source) = IsFitOperand shift address × IsFitOperand shift source
+IsFit shift (instructions.CountLexical destination) = shift + destination < 2 ^ 64
+IsFit shift (instructions.Throw tag value) = IsFitOperand shift tag × IsFitOperand shift value
+IsFit shift instruction = Unit {0}
+
+-- the words that a return gives, shifted
+abbrev pub IsFitEnd : (shift results : ℕ) → Option ℕ → Type 0
+IsFitEnd shift results (Some value) = shift + value + results < 2 ^ 64
+IsFitEnd shift results None = Unit {0}
+
+-- an instruction of the callee's code
+abbrev pub IsFitInside : Site → Instruction → Type 0
+IsFitInside site i = IsFit site.shift i × IsFitEnd site.shift site.results (is_end i)
+
+-- a call that is opened, and the code of its callee
+pub record IsFitSite (site : Site) (code : List Instruction) : Type 0 where
+  pub each : AllByRecursion (IsFitInside site) code
+  pub results : site.results ≤ GREATEST_VALUE
+  pub result : site.call.result + site.results < 2 ^ 64
+  pub arguments : site.call.arguments + site.call.count < 2 ^ 64
+  pub shift : site.shift + site.call.count < 2 ^ 64
+
+-- ---- which calls may be opened
+
+-- A function whose code may stand in the place of its calls. The last instruction in line leads nowhere behind it.
+pub record IsLeaf (r : Routine) (line : ℕ) : Type 0 where
+  pub few : length r.code ≤ MOST_LEAF_CODE
+  pub all : AllByRecursion (λ (i : Instruction). is_of_leaf i ≡ true) r.code
+  pub within : line ≤ length r.code
+  pub last : (k : ℕ) (i : Instruction) → At r.code k i → k + 1 ≡ line → leaves i ≡ true
+
+-- the functions of a program that are said to be so are, and so many of their instructions may stand in line
+abbrev pub AreLeafs : Program → (lines : List ℕ) → Type 0
+AreLeafs program lines = (k : ℕ) → 0 < place_in lines k → IsLeaf (routine_at program k) (place_in lines k)
+
+-- the instructions that stand for a call: in its place, or the rest
+abbrev pub call_size : Program → (in_line : Bool) → Call → ℕ
+call_size program in_line call = site_size call (routine_at program call.callee).results in_line (routine_at program call.callee).code
+
+-- so few that they can be counted
+pub record IsSmallCall (program : Program) (call : Call) : Type 0 where
+  pub is_function : call.callee < length program.functions
+  pub few : length (routine_at program call.callee).code ≤ MOST_LEAF_CODE
+  pub small : call.count ≤ MOST_GROWTH
+
+-- A call that may be opened in a function that then has so many slots.
+pub record IsOpenable (program : Program) (r : Routine) (slots : ℕ) (call : Call) : Type 0 where
+  pub leaf : IsLeaf (routine_at program call.callee) call.line
+  pub some : 0 < call.line
+  pub room : r.slots + (routine_at program call.callee).slots ≤ slots
+  pub small : call.count ≤ MOST_GROWTH
+
+-- What the caller needs for an instruction, if that is a call that may be opened.
+pub record IsNeed (program : Program) (r : Routine) (i : Instruction) (need : Need) : Type 0 where
+  pub openable : (call : Call) → chosen_call i need.line ≡ Some call → IsOpenable program r need.slots call
+  pub least : r.slots ≤ need.slots
+  pub frame : need.slots + LAYOUT_WORDS ≤ MOST_FRAME_WORDS
+
+-- One instruction more is chosen, or is not.
+pub record IsChosenBy (old new : Choice) (need : Option Need) : Type 0 where
+  pub line : ℕ
+  pub chosen : new.chosen.items ≡ old.chosen.items ++ line ∷ []
+  pub needed : 0 < line → (it : Need) × (need ≡ Some it) × (line ≡ it.line) × (it.slots ≤ new.slots)
+  pub slots : (new.slots ≡ old.slots) ⊎ ((it : Need) × (need ≡ Some it) × (new.slots ≡ it.slots))
+  pub least : old.slots ≤ new.slots
+  pub growth : new.growth ≤ MOST_GROWTH
+
+-- The calls of a function that are chosen may be opened, and it then has so many slots.
+pub record AreChosen (program : Program) (r : Routine) (chosen : List ℕ) (slots : ℕ) : Type 0 where
+  pub each : (index : ℕ) (i : Instruction) (call : Call) → At r.code index i → chosen_call i (place_in chosen index) ≡ Some call → IsOpenable program r slots call
+  pub least : r.slots ≤ slots
+  pub frame : (slots ≡ r.slots) ⊎ ((r.frame_count ≤ MOST_FRAME_WORDS) × (slots + LAYOUT_WORDS ≤ MOST_FRAME_WORDS))
+
+-- ---- the code of a function: in line, and the rest behind it
+
+abbrev pub site_of : Program → Routine → Call → (behind rest : ℕ) → Site
+site_of program r call behind rest = record {
+  call = call;
+  shift = r.slots;
+  results = (routine_at program call.callee).results;
+  behind = behind;
+  rest = rest;
+}
+
+-- what an instruction becomes: the code of a call that is opened, or itself with other places
+abbrev pub part : Program → (number : ℕ) → (place rest : ℕ → ℕ) → (in_line : Bool) → (index : ℕ) → Instruction → Option Call → List Instruction
+part program number place rest in_line index i (Some call) =
+    site_code (site_of program (routine_at program number) call (place (index + 1)) (rest index)) in_line (place index) (routine_at program call.callee).code
+part program number place rest in_line index i None = if in_line then moved 0 place i ∷ [] else []
+
+abbrev pub part_origins : Program → (number : ℕ) → (in_line : Bool) → (index : ℕ) → Option Call → List Origin
+part_origins program number in_line index (Some call) =
+    site_origins call (routine_at program call.callee).results in_line (origin_at number index) (routine_at program call.callee).code
+part_origins program number in_line index None = if in_line then origin_at number index ∷ [] else []
+
+abbrev pub part_count : Program → (in_line : Bool) → Option Call → ℕ
+part_count program in_line (Some call) = call_size program in_line call
+part_count program in_line None = if in_line then 1 else 0
+
+-- the same of all instructions from an index on
+abbrev pub opened_code : Program → (number : ℕ) → List ℕ → (place rest : ℕ → ℕ) → (in_line : Bool) → (index : ℕ) → List Instruction → List Instruction
+opened_code program number chosen place rest in_line index [] = []
+opened_code program number chosen place rest in_line index (i ∷ code) =
+    part program number place rest in_line index i (chosen_call i (place_in chosen index)) ++ opened_code program number chosen place rest in_line (suc index) code
+
+abbrev pub opened_origins : Program → (number : ℕ) → List ℕ → (in_line : Bool) → (index : ℕ) → List Instruction → List Origin
+opened_origins program number chosen in_line index [] = []
+opened_origins program number chosen in_line index (i ∷ code) =
+    part_origins program number in_line index (chosen_call i (place_in chosen index)) ++ opened_origins program number chosen in_line (suc index) code
+
+-- where each of them stands, if the first stands here, and what stands behind the last
+abbrev pub opened_places : Program → List ℕ → (in_line : Bool) → (index here : ℕ) → List Instruction → List ℕ
+opened_places program chosen in_line index here [] = here ∷ []
+opened_places program chosen in_line index here (i ∷ code) =
+    here ∷ opened_places program chosen in_line (suc index) (here + part_count program in_line (chosen_call i (place_in chosen index))) code
+
+abbrev pub opened_end : Program → List ℕ → (in_line : Bool) → (index here : ℕ) → List Instruction → ℕ
+opened_end program chosen in_line index here [] = here
+opened_end program chosen in_line index here (i ∷ code) =
+    opened_end program chosen in_line (suc index) (here + part_count program in_line (chosen_call i (place_in chosen index))) code
+
+-- What the code of a function is made from: the calls that are chosen, where each of its instructions stands, and where the rest of what
+-- stands for it.
+pub record AreParts (program : Program) (number : ℕ) (chosen places rests : List ℕ) (slots : ℕ) : Type 0 where
+  pub plain : IsPlain program
+  pub is_function : number < length program.functions
+  pub calls : AreChosen program (routine_at program number) chosen slots
+  pub few : slots < 2 ^ 64
+  pub standing : places ≡ opened_places program chosen true 0 0 (routine_at program number).code
+  pub resting : rests ≡ opened_places program chosen false 0 (opened_end program chosen true 0 0 (routine_at program number).code) (routine_at program number).code
+  pub fit : (k : ℕ) → place_in rests k < 2 ^ 64
+
+abbrev pub IsKnown : Caller → Type 0
+IsKnown caller =
+    AreParts caller.plain.now caller.number caller.choice.now.chosen.items caller.places.now caller.rests.now caller.choice.now.slots
+
+-- ---- functions that are made
+
+-- A function that stands for one of the program: one of the same program, with some of its calls inlined.
+pub record IsMade (program : Program) (number : ℕ) (s : Routine) (origins : List Origin) : Type 0 where
+  pub opened : IsOpened program number (routine_at program number) s origins
+  pub routine : IsRoutine program s
+  pub words : All HasWord s.code
+
+-- Instructions of a function, so many of them, each made of itself.
+pub record AreOwn (number count : ℕ) (origins : List Origin) : Type 0 where
+  pub as_many : length origins ≡ count
+  pub each : (k : ℕ) → k < count → slice_get origins k ≡ Some (origin_at number k)
+
+-- functions that stand for the first of a program, so many of them
+pub record AreFirstMade (program : Program) (count : ℕ) (routines : List Routine) (origins : List (List Origin)) : Type 0 where
+  pub as_many : length routines ≡ count
+  pub as_many_origins : length origins ≡ count
+  pub each : (k : ℕ) → k < count → IsMade program k (slice_index_or routines k no_routine) (origins_of origins k)
+
+-- what a vector of vectors holds
+abbrev pub told : List (Vec Origin Global) → List (List Origin)
+told vectors = map (λ (v : Vec Origin Global). v.items) vectors
+
+-- Of each instruction of a program it is told what it is made of.
+pub record AreTold (inlined : Program) (origins : List (List Origin)) : Type 0 where
+  pub as_many : length origins ≡ length inlined.functions
+  pub each : (k : ℕ) → k < length inlined.functions → length (origins_of origins k) ≡ length (routine_at inlined k).code
+
+-- The first functions of a program have been made, so many of them, and so much larger may the others become than they are.
+pub record AreBegun (program : Program) (room count : ℕ) (routines : List Routine) (origins : List (List Origin)) (spare : ℕ) : Type 0 where
+  pub made : AreFirstMade program count routines origins
+  pub most : (sum_by size routines + sum_by size (drop count program.functions) + spare ≤ max (sum_by size program.functions) room)
+      × (sum_by size routines + sum_by size (drop count program.functions) + spare ≤ MOST_SIZE)

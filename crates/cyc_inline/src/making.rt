@@ -1,0 +1,132 @@
+//! Functions that stand for those of a program: with some of their calls opened, or as they are.
+ghost use Rattle.std.specs.Prelude.{◌≡◌, ◌+◌, ◌<◌, ◌≤◌, length, IfOk, IfSome};
+ghost use Rattle.cyc_plain.specs.inside.Program.{routine_at, routine_of, size};
+ghost use Rattle.cyc_plain.specs.inside.WellFormed.{IsPlain};
+ghost use Rattle.cyc_inline.specs.inside.Emission.{AreChosen, AreLeafs, IsMade};
+
+use crate::caller::{Caller, opened_places};
+use crate::choice::{Choice, choose, larger};
+use crate::emission::Emission;
+use crate::origin::Origin;
+use crate::sizes::code_size;
+use cyc_plain::{Function, LAYOUT_WORDS, MOST_SIZE, Plain};
+use std::alloc::{AllocError, Global};
+
+/// A function that stands for one of a program.
+#[derive(Drop)]
+pub(crate) struct Made {
+    pub(crate) function: Function,
+    /// What each of its instructions is made of.
+    pub(crate) origins: Vec<Origin>,
+    /// By how many words the functions behind it may become larger.
+    pub(crate) spare: usize,
+}
+
+/// The function as it is.
+fn copied(alloc: Global, plain: &Plain, number: usize, spare: usize) -> Result<Made, AllocError>
+    requires plain { IsPlain plain.now }
+    requires number { number < length plain.now.functions }
+    ensures made { IfOk result (λ made. IsMade plain.now number (routine_of made.function) made.origins.items) }
+    ensures size { IfOk result (λ made. size (routine_of made.function) + made.spare ≤ size (routine_at plain.now number) + spare) }
+{
+    let function = plain.function(number);
+    let mut origins = Vec::with_capacity(alloc, function.code.len())?;
+    for index in 0..function.code.len() {
+        origins.push(Origin {
+            function: number,
+            index,
+        })?;
+    }
+    let code = Vec::from_slice(alloc, &function.code)?;
+    Ok(Made {
+        function: Function {
+            name: function.name,
+            parameters: function.parameters,
+            results: function.results,
+            slots: function.slots,
+            frame_count: function.frame_count,
+            code,
+        },
+        origins,
+        spare,
+    })
+}
+
+/// The function with these calls opened.
+fn opened(
+    alloc: Global,
+    plain: &Plain,
+    number: usize,
+    choice: &Choice,
+    spare: usize,
+) -> Result<Made, AllocError>
+    requires plain { IsPlain plain.now }
+    requires number { number < length plain.now.functions }
+    requires chosen { AreChosen plain.now (routine_at plain.now number) choice.now.chosen.items choice.now.slots }
+    ensures { IfOk result (λ made. IsMade plain.now number (routine_of made.function) made.origins.items) }
+{
+    let slots = choice.slots;
+    let table = opened_places(alloc, plain, number, choice, true, 0)?;
+    let rest = opened_places(alloc, plain, number, choice, false, table.end)?;
+    let caller = Caller {
+        plain,
+        number,
+        choice,
+        places: &table.places,
+        rests: &rest.places,
+    };
+    let mut emission = Emission::new(alloc);
+    emission.push_parts(alloc, &caller, true)?;
+    emission.push_parts(alloc, &caller, false)?;
+    let function = plain.function(number);
+    Ok(Made {
+        function: Function {
+            name: function.name,
+            parameters: function.parameters,
+            results: function.results,
+            slots,
+            frame_count: larger(function.frame_count, slots + LAYOUT_WORDS),
+            code: emission.code,
+        },
+        origins: emission.origins,
+        spare,
+    })
+}
+
+/// By how many words the other functions may become larger behind a function, if it does not become too large itself.
+fn spare_behind(given: &Function, made: &Function, spare: usize) -> Option<usize>
+    ensures { IfSome result (λ left. size (routine_of made.now) + left ≤ size (routine_of given.now) + spare) }
+{
+    let before = code_size(&given.code, MOST_SIZE)?;
+    if spare > MOST_SIZE - before {
+        return None;
+    }
+    let most = before + spare;
+    let behind = code_size(&made.code, most)?;
+    Some(most - behind)
+}
+
+/// A function that stands for the one of this number: with calls opened, if it has such calls and there is room for their code.
+pub(crate) fn make(
+    alloc: Global,
+    plain: &Plain,
+    leafs: &[usize],
+    number: usize,
+    spare: usize,
+) -> Result<Made, AllocError>
+    requires plain { IsPlain plain.now }
+    requires leafs { AreLeafs plain.now leafs.now }
+    requires number { number < length plain.now.functions }
+    ensures made { IfOk result (λ made. IsMade plain.now number (routine_of made.function) made.origins.items) }
+    ensures size { IfOk result (λ made. size (routine_of made.function) + made.spare ≤ size (routine_at plain.now number) + spare) }
+{
+    let choice = choose(alloc, plain, leafs, number)?;
+    if choice.growth > 0 {
+        let mut made = opened(alloc, plain, number, &choice, spare)?;
+        if let Some(left) = spare_behind(plain.function(number), &made.function, spare) {
+            made.spare = left;
+            return Ok(made);
+        }
+    }
+    copied(alloc, plain, number, spare)
+}
