@@ -3,4 +3,14 @@ pub mod CallLemmas
 pub mod CallSteps
 pub mod CallRuns
 pub mod WalkLemmas
+pub mod CostsFound
+pub mod CostWorlds
+pub mod CostLemmas
+pub mod CostSteps
+pub mod CostRuns
+pub mod MoreLemmas
+pub mod RoundLemmas
+pub mod PageRuns
+pub mod UniqueLemmas
 pub mod BoundExamples
+pub mod CostExamples

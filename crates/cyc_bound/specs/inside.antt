@@ -3,3 +3,9 @@ pub mod UnderWay
 -- parts of lists, and what the walk over calls promises itself
 pub mod Parts
 pub mod Walk
+-- what a run still costs in each of its states
+pub mod Remaining
+-- parts of lists, as costs are added up
+pub mod ItemCosts
+-- rounds in which the costs of functions settle
+pub mod Rounds

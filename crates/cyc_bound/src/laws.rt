@@ -1,10 +1,15 @@
 //! What the bound on calls says of runs. Each function does nothing: its contract is the law, and so it is proved with the crate.
 
-ghost use Rattle.std.specs.Prelude.{◌≡◌, ℕ, ◌≤◌, List, nat_le};
+ghost use Rattle.std.specs.Prelude.{◌≡◌, ℕ, ◌<◌, ◌≤◌, List, nat_le};
 ghost use Rattle.cyc_types.specs.TypedTrees.{Program};
 ghost use Rattle.cyc_meaning.specs.State.{demand, depth};
 ghost use Rattle.cyc_meaning.specs.Run.{run, is_within, limited_run};
+ghost use Rattle.cyc_bound.specs.declared.costs.Measure.{Measure};
+ghost use Rattle.cyc_bound.specs.declared.costs.Measure.TheVariants as measures;
 ghost use Rattle.cyc_bound.specs.Bound.{IsAtMost, IsCircle};
+ghost use Rattle.cyc_bound.specs.Costs.{too_many, IsRunCost};
+ghost use Rattle.cyc_bound.specs.Pages.{most_pages, AreCounted};
+ghost use Rattle.cyc_bound.specs.Steps.{IsOver};
 
 /// In no state of any run are more calls under way than the longest row of functions from `main` on has. So a limit that allows as many
 /// calls is kept by every state, and is as good as any greater one: no run is full because of calls.
@@ -20,4 +25,26 @@ pub fn calls_stay_within()
 /// Where functions lead back to themselves, and `main` leads to them, no number is a bound.
 pub fn circles_have_no_bound()
     ensures { (program : Program) (functions : List ℕ) (bound : ℕ) → IsCircle program functions → IsAtMost program program.main bound → ⊥ }
+{}
+
+/// Each run is over after as many steps as a run costs, wherever that is less than is counted. A run that is over stays as it is, so none
+/// takes more steps.
+pub fn steps_end()
+    ensures { (program : Program) (cost : ℕ) (input : List ℕ) (count : ℕ) → IsRunCost program measures.Steps cost → cost < too_many → cost ≤ count
+        → IsOver (run program input count) }
+{}
+
+/// No state of any run asks for more pages than its costs tell. So a limit that allows as many pages is kept by every state, and is as
+/// good as any greater one: no run is full because of pages.
+pub fn pages_stay_within()
+    ensures demand { (program : Program) (cost : Measure → ℕ) (input : List ℕ) (count : ℕ) → AreCounted program cost → demand (run program input count) ≤ most_pages cost }
+    ensures within { (program : Program) (cost : Measure → ℕ) (pages calls : ℕ) (input : List ℕ) (count : ℕ) → AreCounted program cost → most_pages cost ≤ pages
+        → is_within pages calls (run program input count) ≡ nat_le (depth (run program input count)) calls }
+    ensures alike { (program : Program) (cost : Measure → ℕ) (pages more calls : ℕ) (input : List ℕ) (count : ℕ) → AreCounted program cost → most_pages cost ≤ pages → most_pages cost ≤ more
+        → limited_run program pages calls input count ≡ limited_run program more calls input count }
+{}
+
+/// A run costs one number: two that are told of it are the same.
+pub fn costs_are_one()
+    ensures { (program : Program) (m : Measure) (cost other : ℕ) → IsRunCost program m cost → IsRunCost program m other → cost ≡ other }
 {}

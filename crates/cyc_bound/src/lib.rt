@@ -1,8 +1,18 @@
-//! How many calls may be under way in any run of a program, read off its typed tree before it runs.
+//! What any run of a program needs at most, read off its typed tree before it runs: calls under way, steps and pages.
 #![tactic(auto)]
 
 pub use bound::{CallBound, MOST_CALLS, bound_of_calls};
+pub use costs::{Measure, TOO_MANY};
+pub use loops::{loop_of_pages, loop_of_steps};
+pub use pages::{PageBound, pages_of};
+pub use steps::{StepBound, steps_of};
 
 mod bound;
 mod callees;
+mod costs;
+mod function_costs;
 pub mod laws;
+mod loops;
+mod pages;
+mod steps;
+mod tree_costs;

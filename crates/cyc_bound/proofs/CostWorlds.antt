@@ -1,0 +1,165 @@
+-- What changes of the world make of what is spent: making and opening add their costs, and nothing else does.
+use Rattle.std.proofs.Common.{◌≡◌, ℕ, zero, suc, ◌+◌, true, false, List, [], ◌∷◌, ◌++◌, set, reverse, Option, Some, None, refl, sym, ap, ◌∙◌, arith}
+use Rattle.std.specs.Prelude.{if◌then◌else◌, slice_get, ◌*◌}
+use Rattle.std.proofs.lemmas.Grind.{reverse_onto}
+use Rattle.cyc_types.specs.declared.typed.Kind.{Kind}
+use Rattle.cyc_types.specs.declared.typed.Kind.TheVariants as kinds
+use Rattle.cyc_meaning.specs.Values.{Value, Operand, Cell, kinds_of, bytes_of_kind, begins, behind, bytes_from, block_size}
+use Rattle.cyc_meaning.specs.State.{Sort, Stack, Region, Owner, InRegion, Unique, Object, World, Access, Found, Closed, Missing, region_at, Located, cell_at, new_region, opened, opened_as, closed, variable, made, written}
+use Rattle.cyc_meaning.specs.Objects.{made_in, made_unique, created_in, created, freed}
+use Rattle.cyc_meaning.specs.Allocation.{blanks_of, blanks}
+use Rattle.cyc_meaning.proofs.ListLemmas.{map-set}
+use Rattle.cyc_meaning.proofs.NestingLemmas.{region_found}
+use Rattle.cyc_meaning.proofs.WorldLaws.{cell_found}
+use Rattle.cyc_bound.specs.declared.costs.Measure.{Measure}
+use Rattle.cyc_bound.specs.Costs.{block_cost, size_of_bytes}
+use Rattle.cyc_bound.specs.inside.Remaining.{is_unique, bytes_before, blocks_spent, sort_spent, regions_spent, object_spent, objects_spent, spent}
+
+-- ---- sizes
+
+bytes_joined : (at : ℕ) (done rest : List Kind) → bytes_from at (done ++ rest) ≡ bytes_from (bytes_from at done) rest
+bytes_joined at [] rest = refl
+bytes_joined at (a ∷ done) rest = bytes_joined (behind a at) done rest
+
+kinds_joined : (before : List Operand) (v : Operand) → kinds_of (blanks_of (before ++ v ∷ [])) ≡ kinds_of (blanks_of before) ++ v.kind ∷ []
+kinds_joined [] v = refl
+kinds_joined (x ∷ before) v = ap (λ (ks : List Kind). x.kind ∷ ks) (kinds_joined before v)
+
+-- the bytes of fields, whose values are newest first
+bytes_of_fields : (before : List Operand) → bytes_from 0 (kinds_of (blanks_of (reverse before))) ≡ bytes_before before
+bytes_of_fields [] = refl
+bytes_of_fields (v ∷ before) =
+    ap (λ (vs : List Operand). bytes_from 0 (kinds_of (blanks_of vs))) (reverse_more v before)
+    ∙ ap (λ (ks : List Kind). bytes_from 0 ks) (kinds_joined (reverse before) v)
+    ∙ bytes_joined 0 (kinds_of (blanks_of (reverse before))) (v.kind ∷ [])
+    ∙ ap (λ (at : ℕ). behind v.kind at) (bytes_of_fields before)
+  where
+    reverse_more : (v : Operand) (before : List Operand) → reverse (v ∷ before) ≡ reverse before ++ v ∷ []
+    reverse_more v before = reverse_onto before v []
+
+pub fields_size : (before : List Operand) → block_size (blanks_of (reverse before)) ≡ size_of_bytes (bytes_before before)
+fields_size before = ap (λ (bytes : ℕ). size_of_bytes bytes) (bytes_of_fields before)
+
+begins_first : (kind : Kind) → begins kind 0 ≡ 0
+begins_first kinds.Int = refl
+begins_first kinds.Char = refl
+begins_first kinds.Nullable = refl
+begins_first kinds.NonNull = refl
+begins_first kinds.Fat = refl
+begins_first kinds.Handle = refl
+begins_first kinds.Key = refl
+
+begins_next : (kind : Kind) (at : ℕ) → begins kind (behind kind at) ≡ behind kind at
+begins_next kinds.Int at = omega arith
+begins_next kinds.Char at = omega arith
+begins_next kinds.Nullable at = omega arith
+begins_next kinds.NonNull at = omega arith
+begins_next kinds.Fat at = omega arith
+begins_next kinds.Handle at = omega arith
+begins_next kinds.Key at = omega arith
+
+bytes_of_blanks : (at count : ℕ) (kind : Kind) → begins kind at ≡ at → bytes_from at (kinds_of (blanks count kind)) ≡ at + count * bytes_of_kind kind
+bytes_of_blanks at zero kind even = omega arith
+bytes_of_blanks at (suc count) kind even = bytes_of_blanks (behind kind at) count kind (begins_next kind at) ∙ next (begins kind at) at (bytes_of_kind kind) count even
+  where
+    next : (here at bytes count : ℕ) → here ≡ at → here + bytes + count * bytes ≡ at + suc count * bytes
+    next here at bytes count even = omega (arith, even)
+
+pub elements_size : (count : ℕ) (kind : Kind) → block_size (blanks count kind) ≡ size_of_bytes (count * bytes_of_kind kind)
+elements_size count kind = ap (λ (bytes : ℕ). size_of_bytes bytes) (bytes_of_blanks 0 count kind (begins_first kind) ∙ none (count * bytes_of_kind kind))
+  where
+    none : (n : ℕ) → 0 + n ≡ n
+    none n = omega arith
+
+-- ---- what is spent
+
+module _ (m : Measure) where
+  blocks_more : (sizes : List ℕ) (size : ℕ) → blocks_spent m (sizes ++ size ∷ []) ≡ blocks_spent m sizes + block_cost m false size
+  blocks_more [] size = omega arith
+  blocks_more (x ∷ sizes) size = omega (arith, blocks_more sizes size)
+
+  regions_more : (regions : List Region) (r : Region) → regions_spent m (regions ++ r ∷ []) ≡ regions_spent m regions + (sort_spent m r.sort + blocks_spent m r.blocks)
+  regions_more [] r = omega arith
+  regions_more (x ∷ regions) r = omega (arith, regions_more regions r)
+
+  regions_set : (regions : List Region) (n : ℕ) (r s : Region) → slice_get regions n ≡ Some r
+      → regions_spent m (set regions n s) + (sort_spent m r.sort + blocks_spent m r.blocks) ≡ regions_spent m regions + (sort_spent m s.sort + blocks_spent m s.blocks)
+  regions_set [] n r s there = absurd (let e : None ≡ Some r = there in cc)
+  regions_set (x ∷ regions) zero r s there =
+      let e : Some x ≡ Some r = there in
+      let same : x ≡ r = cc in
+      let k : sort_spent m x.sort + blocks_spent m x.blocks ≡ sort_spent m r.sort + blocks_spent m r.blocks = ap (λ (y : Region). sort_spent m y.sort + blocks_spent m y.blocks) same in
+      omega (arith, k)
+  regions_set (x ∷ regions) (suc n) r s there = omega (arith, regions_set regions n r s there)
+
+  objects_more : (objects : List Object) (x : Object) → objects_spent m (objects ++ x ∷ []) ≡ objects_spent m objects + object_spent m x
+  objects_more [] x = omega arith
+  objects_more (y ∷ objects) x = omega (arith, objects_more objects x)
+
+  objects_set : (objects : List Object) (n : ℕ) (x y : Object) → slice_get objects n ≡ Some x → object_spent m y ≡ object_spent m x → objects_spent m (set objects n y) ≡ objects_spent m objects
+  objects_set [] n x y there same = absurd (let e : None ≡ Some x = there in cc)
+  objects_set (z ∷ objects) zero x y there same =
+      let e : Some z ≡ Some x = there in
+      let is : z ≡ x = cc in
+      let k : object_spent m z ≡ object_spent m x = ap (λ (o : Object). object_spent m o) is in
+      omega (arith, k, same)
+  objects_set (z ∷ objects) (suc n) x y there same = omega (arith, objects_set objects n x y there same)
+
+  -- ---- changes
+
+  pub spent_opened : (w : World) → spent m (opened w) ≡ spent m w
+  spent_opened w = omega (arith, regions_more w.regions (new_region Stack))
+
+  pub spent_opened_as : (sort : Sort) (w : World) → spent m (opened_as sort w) ≡ spent m w + sort_spent m sort
+  spent_opened_as sort w = omega (arith, regions_more w.regions (new_region sort))
+
+  pub spent_closed : (w : World) (n : ℕ) (r : Region) → region_at w n ≡ Found r → spent m (closed w n r) ≡ spent m w
+  spent_closed w n r found = omega (arith, regions_set w.regions n r (record r { is_open = false }) (region_found w n r found))
+
+  pub spent_variable : (w : World) (region : ℕ) (kind : Kind) (content : Option Value) → spent m (made w (variable region kind content)) ≡ spent m w
+  spent_variable w region kind content = omega (arith, objects_more w.objects (variable region kind content))
+
+  pub spent_made_in : (w : World) (region : ℕ) (r : Region) (cells : List Cell) → region_at w region ≡ Found r → spent m (made_in w region r cells) ≡ spent m w + block_cost m false (block_size cells)
+  spent_made_in w region r cells found =
+      let size = block_size cells in
+      omega (
+        arith,
+        regions_set w.regions region r (record r { blocks = r.blocks ++ size ∷ [] }) (region_found w region r found),
+        blocks_more r.blocks size,
+        objects_more w.objects (record { owner = InRegion region; cells = cells }),
+      )
+
+  pub spent_unique : (w : World) (cells : List Cell) → spent m (made_unique w cells) ≡ spent m w + block_cost m true (block_size cells)
+  spent_unique w cells = omega (arith, objects_more w.objects (record { owner = Unique true; cells = cells }))
+
+  pub spent_freed : (w : World) (n : ℕ) (x : Object) → slice_get w.objects n ≡ Some x → x.owner ≡ Unique true → spent m (freed w n x) ≡ spent m w
+  spent_freed w n x there owner =
+      let same : object_spent m (record x { owner = Unique false }) ≡ object_spent m x = ap (λ (o : Owner). if is_unique o then block_cost m true (block_size x.cells) else 0) (sym owner) in
+      omega (arith, objects_set w.objects n x (record x { owner = Unique false }) there same)
+
+  pub spent_written : (w : World) (object offset : ℕ) (at : Located) (value : Value) → cell_at w object offset ≡ Found at → spent m (written w object offset at value) ≡ spent m w
+  spent_written w object offset at value found =
+      let (there, inside) = cell_found w object offset at found in
+      let cell : Cell = record at.cell { content = Some value } in
+      let cells : List Cell = set at.object.cells offset cell in
+      let kinds : kinds_of cells ≡ kinds_of at.object.cells = map-set (λ (c : Cell). c.kind) at.object.cells offset at.cell cell inside refl in
+      let same : object_spent m (record at.object { cells = cells }) ≡ object_spent m at.object =
+      ap (λ (ks : List Kind). if is_unique at.object.owner then block_cost m true (size_of_bytes (bytes_from 0 ks)) else 0) kinds in
+      omega (arith, objects_set w.objects object at.object (record at.object { cells = cells }) there same)
+
+  -- an object that is made costs its block
+  pub spent_created : (w new : World) (owner : Owner) (cells : List Cell) → created w owner cells ≡ Found new → spent m new ≡ spent m w + block_cost m (is_unique owner) (block_size cells)
+  spent_created w new (InRegion region) cells is = go (region_at w region) refl is
+    where
+      go : (a : Access Region) → region_at w region ≡ a → created w (InRegion region) cells ≡ Found new → spent m new ≡ spent m w + block_cost m false (block_size cells)
+      go (Found r) at is =
+          let e : Found (made_in w region r cells) ≡ Found new = ap (λ (a : Access Region). created_in w region a cells) (sym at) ∙ is in
+          let same : made_in w region r cells ≡ new = cc in
+          ap (λ (v : World). spent m v) (sym same) ∙ spent_made_in w region r cells at
+      go Closed at is = absurd (let e : Closed ≡ Found new = ap (λ (a : Access Region). created_in w region a cells) (sym at) ∙ is in cc)
+      go Missing at is = absurd (let e : Missing ≡ Found new = ap (λ (a : Access Region). created_in w region a cells) (sym at) ∙ is in cc)
+  spent_created w new (Unique true) cells is =
+      let e : Found (made_unique w cells) ≡ Found new = is in
+      let same : made_unique w cells ≡ new = cc in
+      ap (λ (v : World). spent m v) (sym same) ∙ spent_unique w cells
+  spent_created w new (Unique false) cells is = absurd (let e : Missing ≡ Found new = is in cc)

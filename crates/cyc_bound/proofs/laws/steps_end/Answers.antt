@@ -1,0 +1,6 @@
+-- Steps.
+use Rattle.cyc_bound.proofs.CostRuns.{runs_end}
+use Rattle.cyc_bound.proofs.laws.steps_end.Goals as goal
+
+pub returns : goal.returns
+returns c = λ program cost input count is less enough. runs_end program cost input count is less enough

@@ -1,0 +1,253 @@
+-- What a run costs at most, read off a typed tree: its steps, or the regions or the blocks of one sort that it makes. Costs of parts that
+-- are executed one after the other are added, of two of which one is executed the greater one counts, and an array's element counts as
+-- often as it may be evaluated. A loop that costs anything has no bound, and its cost is as great as is counted. (This project's own choice.)
+use Rattle.std.specs.Prelude.{◌≡◌, ◌<◌, ◌≤◌, ℕ, zero, suc, ◌+◌, ◌*◌, ◌^◌, ◌==◌, Bool, true, false, if◌then◌else◌, min, max, List, [], map, length, Option, None, Some, get_or}
+use Rattle.cyc_words.specs.Demand.{class_of}
+use Rattle.cyc_types.specs.declared.typed.Kind.{Kind}
+use Rattle.cyc_types.specs.declared.typed.Kind.TheVariants as kinds
+use Rattle.cyc_types.specs.declared.typed.Callee.{Callee}
+use Rattle.cyc_types.specs.declared.typed.Callee.TheVariants as callees
+use Rattle.cyc_types.specs.TypedTrees.{Expression, Number, Load, AddressOfCell, NumberOfElements, FreeUnique, FreeKey, Call, Unary, Binary, Assign, Store, New, Dereference, Target, Member, Element, Placement, OnHeap, AsUnique, ByHandle, Initial, Plain, Fields, Array, Converted, Convert, Arguments, NoArguments, MoreArguments, Operations, NoOperations, ThenCompute, ThenTest, ThenPointer, ThenPointerPeek, Side, VariableSide, CellSide, Statement, Block, Evaluate, Swap, If, While, Return, Throw, Try, Item, Items, NoItems, MoreItems, Execute, Declare, DeclareRegion, OpenRegion, DeclareAlias, DeclareKey, Clauses, NoClauses, Default, Case, Function, Program}
+use Rattle.cyc_meaning.specs.Values.{bytes_of_kind, behind, words_for}
+use Rattle.cyc_meaning.specs.Allocation.{most_words}
+use Rattle.cyc_bound.specs.declared.costs.Measure.{Measure}
+use Rattle.cyc_bound.specs.declared.costs.Measure.TheVariants as measures
+use Rattle.cyc_bound.specs.declared.steps.StepBound.{StepBound}
+use Rattle.cyc_bound.specs.declared.steps.StepBound.TheVariants as bounds
+
+-- as much as is counted: what costs more is not told apart
+abbrev pub too_many : ℕ
+too_many = 2 ^ 50
+
+-- ---- what is counted
+
+-- a step
+abbrev pub step_cost : Measure → ℕ
+step_cost measures.Steps = 1
+step_cost m = 0
+
+-- a region that has pages: the heap, or one that a program declares
+abbrev pub opening_cost : Measure → ℕ
+opening_cost measures.Openings = 1
+opening_cost m = 0
+
+-- a block of so many words, by whether it is unique or in a region
+abbrev pub block_cost : Measure → (is_unique : Bool) → (size : ℕ) → ℕ
+block_cost measures.Blocks false size = 1
+block_cost measures.Words false size = size
+block_cost (measures.Uniques class) true size = if class_of size == class then 1 else 0
+block_cost m is_unique size = 0
+
+-- a block of an array whose length is not known
+abbrev pub array_block_cost : Measure → (is_unique : Bool) → ℕ
+array_block_cost measures.Blocks false = 1
+array_block_cost measures.Words false = most_words
+array_block_cost (measures.Uniques class) true = 1
+array_block_cost m is_unique = 0
+
+-- ---- new objects
+
+-- the words of an object of so many bytes
+abbrev pub size_of_bytes : ℕ → ℕ
+size_of_bytes bytes = max 1 (words_for bytes)
+
+-- the most elements of this kind that an array may have
+abbrev pub most_elements : Kind → ℕ
+most_elements kinds.Char = 4000
+most_elements kinds.Fat = 333
+most_elements kind = 1000
+
+-- the length of an array, where it is written
+abbrev pub written_length : Expression → Option ℕ
+written_length (Number n) = Some n
+written_length a = None
+
+abbrev pub makes_unique : Placement → Bool
+makes_unique AsUnique = true
+makes_unique placement = false
+
+-- A cell that is made and written: its block, one step for it, one for the write and two to hand the pointer on.
+abbrev pub plain_cost : Measure → (is_unique : Bool) → Kind → ℕ
+plain_cost m is_unique kind = 3 * step_cost m + block_cost m is_unique (size_of_bytes (behind kind 0))
+
+-- so many fields are there, and so many bytes
+abbrev pub fields_made_cost : Measure → (is_unique : Bool) → (count bytes : ℕ) → ℕ
+fields_made_cost m is_unique count bytes = count * step_cost m + (2 * step_cost m + block_cost m is_unique (size_of_bytes bytes))
+
+-- an array of so many elements, each of which costs so much
+abbrev pub elements_cost : Measure → (element count : ℕ) → ℕ
+elements_cost m element count = count * (step_cost m + element) + 3 * step_cost m
+
+abbrev pub array_cost : Measure → (is_unique : Bool) → Kind → (element : ℕ) → Option ℕ → ℕ
+array_cost m is_unique kind element None = elements_cost m element (most_elements kind) + array_block_cost m is_unique
+array_cost m is_unique kind element (Some n) =
+    elements_cost m element (min n (most_elements kind)) + block_cost m is_unique (size_of_bytes (min n (most_elements kind) * bytes_of_kind kind))
+
+-- ---- expressions
+
+-- a call, once its arguments are evaluated, by what functions cost
+abbrev pub callee_cost : Measure → (costs : List ℕ) → Callee → ℕ
+callee_cost m costs (callees.Function number) = 2 * step_cost m + get_or costs number 0
+callee_cost m costs service = 2 * step_cost m
+
+abbrev mutual
+  pub expression_cost : Measure → (costs : List ℕ) → Expression → ℕ
+  expression_cost m costs (Load d) = 2 * step_cost m + place_cost m costs d
+  expression_cost m costs (AddressOfCell d t) = 2 * step_cost m + place_cost m costs d
+  expression_cost m costs (NumberOfElements a) = 2 * step_cost m + expression_cost m costs a
+  expression_cost m costs (FreeUnique a) = 2 * step_cost m + expression_cost m costs a
+  expression_cost m costs (FreeKey a) = 2 * step_cost m + expression_cost m costs a
+  expression_cost m costs (Call f cs t) = step_cost m + (arguments_cost m costs cs + callee_cost m costs f)
+  expression_cost m costs (Unary o a) = 2 * step_cost m + expression_cost m costs a
+  expression_cost m costs (Binary a os t) = 2 * step_cost m + (expression_cost m costs a + operations_cost m costs os)
+  expression_cost m costs (Assign l c t) = 2 * step_cost m + converted_cost m costs c
+  expression_cost m costs (Store d c t) = 2 * step_cost m + (place_cost m costs d + converted_cost m costs c)
+  expression_cost m costs (New w i t) = step_cost m + (placement_cost m costs w + initial_cost m costs (makes_unique w) i)
+  expression_cost m costs a = 2 * step_cost m
+
+  pub place_cost : Measure → (costs : List ℕ) → Dereference → ℕ
+  place_cost m costs (Target k a t) = 2 * step_cost m + expression_cost m costs a
+  place_cost m costs (Member k a s f t) = 2 * step_cost m + expression_cost m costs a
+  place_cost m costs (Element a i t) = 3 * step_cost m + (expression_cost m costs a + expression_cost m costs i)
+
+  -- a handle is evaluated, and is let go once the object is made
+  pub placement_cost : Measure → (costs : List ℕ) → Placement → ℕ
+  placement_cost m costs OnHeap = 0
+  placement_cost m costs AsUnique = 0
+  placement_cost m costs (ByHandle a) = expression_cost m costs a + step_cost m
+
+  pub initial_cost : Measure → (costs : List ℕ) → (is_unique : Bool) → Initial → ℕ
+  initial_cost m costs is_unique (Plain k a) = expression_cost m costs a + plain_cost m is_unique k
+  initial_cost m costs is_unique (Fields cs) = fields_cost m costs is_unique 0 0 cs
+  initial_cost m costs is_unique (Array p l n k a) =
+      expression_cost m costs n + array_cost m is_unique k (expression_cost m costs a) (written_length n)
+
+  -- behind so many fields, which have so many bytes
+  pub fields_cost : Measure → (costs : List ℕ) → (is_unique : Bool) → (count bytes : ℕ) → Arguments → ℕ
+  fields_cost m costs is_unique count bytes NoArguments = fields_made_cost m is_unique count bytes
+  fields_cost m costs is_unique count bytes (MoreArguments (Convert from to a) cs) =
+      expression_cost m costs a + step_cost m + fields_cost m costs is_unique (suc count) (behind to bytes) cs
+
+  -- evaluated and converted
+  pub converted_cost : Measure → (costs : List ℕ) → Converted → ℕ
+  converted_cost m costs (Convert from to a) = expression_cost m costs a + step_cost m
+
+  pub arguments_cost : Measure → (costs : List ℕ) → Arguments → ℕ
+  arguments_cost m costs NoArguments = 0
+  arguments_cost m costs (MoreArguments c cs) = converted_cost m costs c + arguments_cost m costs cs
+
+  pub operations_cost : Measure → (costs : List ℕ) → Operations → ℕ
+  operations_cost m costs NoOperations = 0
+  operations_cost m costs (ThenCompute o a os) = expression_cost m costs a + step_cost m + operations_cost m costs os
+  operations_cost m costs (ThenTest o a os) = expression_cost m costs a + step_cost m + operations_cost m costs os
+  operations_cost m costs (ThenPointer o a os) = expression_cost m costs a + step_cost m + operations_cost m costs os
+  operations_cost m costs (ThenPointerPeek n o a os) = expression_cost m costs a + step_cost m + operations_cost m costs os
+
+-- ---- statements
+
+-- what may be left out
+abbrev pub value_cost : Measure → (costs : List ℕ) → Option Converted → ℕ
+value_cost m costs None = 0
+value_cost m costs (Some c) = converted_cost m costs c
+
+abbrev pub thrown_cost : Measure → (costs : List ℕ) → Option Expression → ℕ
+thrown_cost m costs None = 0
+thrown_cost m costs (Some a) = expression_cost m costs a
+
+abbrev pub side_cost : Measure → (costs : List ℕ) → Side → ℕ
+side_cost m costs (VariableSide l t) = 0
+side_cost m costs (CellSide d) = place_cost m costs d
+
+-- any number of turns, of which each costs so much
+abbrev pub loop_cost : ℕ → ℕ
+loop_cost zero = 0
+loop_cost (suc turn) = too_many
+
+-- the items of a clause, with the local that gets the exception's int
+abbrev pub caught_cost : Measure → Option ℕ → (items : ℕ) → ℕ
+caught_cost m None items = 2 * step_cost m + items
+caught_cost m (Some number) items = 3 * step_cost m + items
+
+abbrev mutual
+  pub statement_cost : Measure → (costs : List ℕ) → Statement → ℕ
+  statement_cost m costs (Block r js) = 3 * step_cost m + items_cost m costs js
+  statement_cost m costs (Evaluate a) = 2 * step_cost m + expression_cost m costs a
+  statement_cost m costs (Swap a b) = 7 * step_cost m + (side_cost m costs a + side_cost m costs b)
+  statement_cost m costs (If a s t) = 2 * step_cost m + (expression_cost m costs a + max (statement_cost m costs s) (statement_cost m costs t))
+  statement_cost m costs (While p a s) = loop_cost (step_cost m + (expression_cost m costs a + statement_cost m costs s))
+  statement_cost m costs (Return v) = 2 * step_cost m + value_cost m costs v
+  statement_cost m costs (Throw n v) = 2 * step_cost m + thrown_cost m costs v
+  statement_cost m costs (Try s cs) = step_cost m + (statement_cost m costs s + clauses_cost m costs cs)
+  statement_cost m costs s = 2 * step_cost m
+
+  -- one item of a block
+  pub item_cost : Measure → (costs : List ℕ) → Item → ℕ
+  item_cost m costs (Execute s) = statement_cost m costs s
+  item_cost m costs (Declare n t v) = step_cost m + value_cost m costs v
+  item_cost m costs (DeclareRegion r n) = 3 * step_cost m + opening_cost m
+  item_cost m costs (OpenRegion r n p k) = 4 * step_cost m
+  item_cost m costs (DeclareAlias r n t p l) = 4 * step_cost m
+  item_cost m costs (DeclareKey r n) = 2 * step_cost m + opening_cost m
+
+  pub items_cost : Measure → (costs : List ℕ) → Items → ℕ
+  items_cost m costs NoItems = step_cost m
+  items_cost m costs (MoreItems j js) = item_cost m costs j + items_cost m costs js
+
+  -- clauses are tried one by one
+  pub clauses_cost : Measure → (costs : List ℕ) → Clauses → ℕ
+  clauses_cost m costs NoClauses = 2 * step_cost m
+  clauses_cost m costs (Default r js) = caught_cost m None (step_cost m + items_cost m costs js)
+  clauses_cost m costs (Case e n r js cs) = step_cost m + max (caught_cost m n (items_cost m costs js)) (clauses_cost m costs cs)
+
+-- ---- functions
+
+-- a call of a function, from the opening of its region on
+abbrev pub function_cost : Measure → (costs : List ℕ) → Function → ℕ
+function_cost m costs h = length h.parameters * step_cost m + (4 * step_cost m + items_cost m costs h.body)
+
+-- what functions cost by what their bodies cost, where those that they call cost so much
+abbrev pub next_costs : Program → Measure → (costs : List ℕ) → List ℕ
+next_costs program m costs = map (λ (h : Function). min too_many (function_cost m costs h)) program.functions
+
+-- nowhere more
+abbrev pub Below : List ℕ → List ℕ → Type 0
+Below costs others = (f : ℕ) → get_or costs f 0 ≤ get_or others f 0
+
+-- what is told of each function is enough for its body
+abbrev pub IsClosed : Program → Measure → (costs : List ℕ) → Type 0
+IsClosed program m costs = Below (next_costs program m costs) costs
+
+-- What functions cost: the least that is enough for all of them, and so one number for each. Where functions lead back to themselves and
+-- nothing is counted on the way round, they cost no more than what else they do.
+abbrev pub AreCosts : Program → Measure → (costs : List ℕ) → Type 0
+AreCosts program m costs = IsClosed program m costs × ((others : List ℕ) → IsClosed program m others → Below costs others)
+
+-- What a run costs, where functions cost so much: with the heap, which is there from the start, and the end of the call of `main`.
+abbrev pub run_cost : Program → Measure → (costs : List ℕ) → ℕ
+run_cost program m costs = min too_many (step_cost m + (opening_cost m + get_or costs program.main 0))
+
+abbrev pub IsRunCost : Program → Measure → ℕ → Type 0
+IsRunCost program m cost = (costs : List ℕ) × AreCosts program m costs × (cost ≡ run_cost program m costs)
+
+-- ---- costs that are not told
+
+-- by so many calls, one behind the other, where the last of them cost nothing
+abbrev pub costs_after : Program → Measure → (rounds : ℕ) → List ℕ
+costs_after program m zero = []
+costs_after program m (suc rounds) = next_costs program m (costs_after program m rounds)
+
+-- the rounds in which costs may settle
+abbrev pub most_rounds : ℕ
+most_rounds = 16
+
+-- after as many rounds costs still grow
+abbrev pub StillGrow : Program → Measure → Type 0
+StillGrow program m = IsClosed program m (costs_after program m most_rounds) → ⊥
+
+-- ---- what is told of steps
+
+-- a number of steps by which every run is over; that no number below `too_many` is one by the costs; or that the costs still grow
+abbrev pub IsStepAnswer : Program → StepBound → Type 0
+IsStepAnswer program (bounds.Steps count) = IsRunCost program measures.Steps count × (count < too_many)
+IsStepAnswer program bounds.TooMany = IsRunCost program measures.Steps too_many
+IsStepAnswer program bounds.Circle = StillGrow program measures.Steps

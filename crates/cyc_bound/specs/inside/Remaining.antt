@@ -1,0 +1,166 @@
+-- What a run still costs at most in each of its states: the cost of what is done next, and that of each entry that waits, down to `main`.
+-- No step makes it more, and one that makes something makes it less by as much. Each entry costs a step at least, by which it is left.
+-- (This project's own choice.)
+use Rattle.std.specs.Prelude.{ℕ, suc, ◌+◌, ◌*◌, ◌-◌, Bool, true, false, nat_le, if◌then◌else◌, max, ◌≤◌, List, [], ◌∷◌, length, Option, None, Some}
+use Rattle.cyc_types.specs.declared.typed.Kind.{Kind}
+use Rattle.cyc_types.specs.declared.typed.Kind.TheVariants as kinds
+use Rattle.cyc_types.specs.TypedTrees.{Expression}
+use Rattle.cyc_meaning.specs.Values.{Value, Int, Operand, bytes_of_kind, behind, block_size}
+use Rattle.cyc_meaning.specs.State.{Sort, Heap, Lexical, Dynamic, Region, Owner, InRegion, Unique, Object, World, Awaiting, ConvertTo, Chain, Pass, Index, Advance, PlaceBy, MakePlain, MakeFields, MakeArray, FillElement, Initialise, Choose, Test, OpenBy, AliasOf, AwaitingPlace, StoreTo, SwapLeft, SwapRight, Entry, Needs, NeedsPlace, Rest, Loop, Handler, Focus, Evaluating, Locating, Given, Executing, Calling, Entering, Binding, Naming, Writing, Beginning, Repeating, Swapping, Breaking, Continuing, Returning, Throwing, Catching, State, Running, Ended, Dead, Wrong}
+use Rattle.cyc_bound.specs.declared.costs.Measure.{Measure}
+use Rattle.cyc_bound.specs.Costs.{too_many, step_cost, opening_cost, block_cost, size_of_bytes, written_length, plain_cost, elements_cost, array_cost, callee_cost, expression_cost, place_cost, initial_cost, fields_cost, converted_cost, arguments_cost, operations_cost, side_cost, loop_cost, statement_cost, items_cost, clauses_cost, function_cost}
+
+-- ---- what is known of a value before it is there
+
+-- that none comes, nothing, or its kind, and where it is an int maybe that
+pub data Delivery : Type 0 where
+  Nothing : Delivery
+  Anything : Delivery
+  OfKind : Kind → Option ℕ → Delivery
+
+abbrev pub delivered_number : Option ℕ → Delivery
+delivered_number None = Anything
+delivered_number (Some n) = OfKind kinds.Int (Some n)
+
+abbrev pub delivered_by : Expression → Delivery
+delivered_by a = delivered_number (written_length a)
+
+abbrev pub number_of : Value → Option ℕ
+number_of (Int n) = Some n
+number_of value = None
+
+abbrev pub focus_delivers : Focus → Delivery
+focus_delivers (Evaluating a) = delivered_by a
+focus_delivers (Given v) = OfKind v.kind (number_of v.value)
+focus_delivers Breaking = Nothing
+focus_delivers Continuing = Nothing
+focus_delivers (Returning value) = Nothing
+focus_delivers (Throwing tag value) = Nothing
+focus_delivers focus = Anything
+
+-- what the entry behind this one gets
+abbrev pub entry_delivers : Entry → Delivery
+entry_delivers (Needs (ConvertTo from to target)) = OfKind to None
+entry_delivers entry = Anything
+
+-- ---- entries
+
+abbrev pub is_unique : Owner → Bool
+is_unique (InRegion region) = false
+is_unique (Unique live) = true
+
+-- the bytes of fields whose values are these, newest first
+abbrev pub bytes_before : List Operand → ℕ
+bytes_before [] = 0
+bytes_before (v ∷ before) = behind v.kind (bytes_before before)
+
+-- A field waits behind its conversion, and nowhere else.
+abbrev pub field_awaited : Measure → (fields : Kind → ℕ) → Delivery → ℕ
+field_awaited m fields Nothing = step_cost m
+field_awaited m fields Anything = too_many
+field_awaited m fields (OfKind kind n) = fields kind
+
+abbrev pub length_awaited : Measure → (array : Option ℕ → ℕ) → Delivery → ℕ
+length_awaited m array Nothing = step_cost m
+length_awaited m array Anything = array None
+length_awaited m array (OfKind kind n) = array n
+
+-- the elements from this one on
+abbrev pub elements_left : Measure → (element count index : ℕ) → ℕ
+elements_left m element count index = if nat_le index count then (count - index) * (step_cost m + element) + 2 * step_cost m else too_many
+
+abbrev pub awaiting_cost : Measure → (costs : List ℕ) → Delivery → Awaiting → ℕ
+awaiting_cost m costs d (Chain rest) = operations_cost m costs rest + step_cost m
+awaiting_cost m costs d (Pass callee before arguments) = arguments_cost m costs arguments + callee_cost m costs callee
+awaiting_cost m costs d (Index peek target index) = expression_cost m costs index + 2 * step_cost m
+awaiting_cost m costs d (Advance peek target base) = 2 * step_cost m
+awaiting_cost m costs d (PlaceBy initial) = initial_cost m costs false initial + step_cost m
+awaiting_cost m costs d (MakePlain owner kind) = plain_cost m (is_unique owner) kind
+awaiting_cost m costs d (MakeFields owner before fields) =
+    field_awaited m (λ (kind : Kind). fields_cost m costs (is_unique owner) (suc (length before)) (behind kind (bytes_before before)) fields) d
+awaiting_cost m costs d (MakeArray owner level kind element) =
+    length_awaited m (λ (n : Option ℕ). array_cost m (is_unique owner) kind (expression_cost m costs element) n) d
+awaiting_cost m costs d (FillElement object count index level kind element) = elements_left m (expression_cost m costs element) count (suc index)
+awaiting_cost m costs d (Initialise number kind items) = step_cost m + items_cost m costs items
+awaiting_cost m costs d (Choose first second) = step_cost m + max (statement_cost m costs first) (statement_cost m costs second)
+awaiting_cost m costs d (Test condition body) = loop_cost (step_cost m + (expression_cost m costs condition + statement_cost m costs body))
+awaiting_cost m costs d (OpenBy number lent items) = 3 * step_cost m + items_cost m costs items
+awaiting_cost m costs d (AliasOf number lent items) = 3 * step_cost m + items_cost m costs items
+awaiting_cost m costs d waiting = step_cost m
+
+abbrev pub awaiting_place_cost : Measure → (costs : List ℕ) → AwaitingPlace → ℕ
+awaiting_place_cost m costs (StoreTo peek value) = converted_cost m costs value + step_cost m
+awaiting_place_cost m costs (SwapLeft kind peek right) = side_cost m costs right + 6 * step_cost m
+awaiting_place_cost m costs (SwapRight kind peek is_cell left) = 6 * step_cost m
+awaiting_place_cost m costs waiting = step_cost m
+
+abbrev pub entry_cost : Measure → (costs : List ℕ) → Delivery → Entry → ℕ
+entry_cost m costs d (Needs waiting) = awaiting_cost m costs d waiting
+entry_cost m costs d (NeedsPlace waiting) = awaiting_place_cost m costs waiting
+entry_cost m costs d (Rest items) = items_cost m costs items
+entry_cost m costs d (Loop condition body) = loop_cost (step_cost m + (expression_cost m costs condition + statement_cost m costs body))
+entry_cost m costs d (Handler clauses) = clauses_cost m costs clauses
+entry_cost m costs d entry = step_cost m
+
+abbrev pub stack_cost : Measure → (costs : List ℕ) → Delivery → List Entry → ℕ
+stack_cost m costs d [] = 0
+stack_cost m costs d (entry ∷ stack) = entry_cost m costs d entry + stack_cost m costs (entry_delivers entry) stack
+
+-- ---- what is done next
+
+abbrev pub swapping_cost : Measure → Option Operand → ℕ
+swapping_cost m None = 6 * step_cost m
+swapping_cost m (Some before) = 5 * step_cost m
+
+abbrev pub focus_cost : Measure → (costs : List ℕ) → Focus → ℕ
+focus_cost m costs (Evaluating a) = expression_cost m costs a
+focus_cost m costs (Locating d) = place_cost m costs d
+focus_cost m costs (Executing s) = statement_cost m costs s
+focus_cost m costs (Calling callee arguments) = callee_cost m costs callee
+focus_cost m costs (Entering h arguments) = function_cost m costs h
+focus_cost m costs (Binding number types arguments body) = length types * step_cost m + (2 * step_cost m + items_cost m costs body)
+focus_cost m costs (Naming number operand items) = 2 * step_cost m + items_cost m costs items
+focus_cost m costs (Writing writes result) = length writes * step_cost m + 2 * step_cost m
+focus_cost m costs (Beginning owner count level kind element) =
+    elements_cost m (expression_cost m costs element) count + block_cost m (is_unique owner) (size_of_bytes (count * bytes_of_kind kind))
+focus_cost m costs (Repeating object count index level kind element) = elements_left m (expression_cost m costs element) count index
+focus_cost m costs (Swapping kind left right before) = swapping_cost m before
+focus_cost m costs (Catching tag value clauses) = clauses_cost m costs clauses
+focus_cost m costs focus = step_cost m
+
+-- ---- what is spent
+
+abbrev pub blocks_spent : Measure → List ℕ → ℕ
+blocks_spent m [] = 0
+blocks_spent m (size ∷ sizes) = block_cost m false size + blocks_spent m sizes
+
+abbrev pub sort_spent : Measure → Sort → ℕ
+sort_spent m Heap = opening_cost m
+sort_spent m Lexical = opening_cost m
+sort_spent m Dynamic = opening_cost m
+sort_spent m sort = 0
+
+-- the regions that were opened and all that was made in them, whether they are open or not
+abbrev pub regions_spent : Measure → List Region → ℕ
+regions_spent m [] = 0
+regions_spent m (r ∷ regions) = sort_spent m r.sort + (blocks_spent m r.blocks + regions_spent m regions)
+
+abbrev pub object_spent : Measure → Object → ℕ
+object_spent m x = if is_unique x.owner then block_cost m true (block_size x.cells) else 0
+
+-- the unique objects that were made, whether they are given back or not
+abbrev pub objects_spent : Measure → List Object → ℕ
+objects_spent m [] = 0
+objects_spent m (x ∷ objects) = object_spent m x + objects_spent m objects
+
+abbrev pub spent : Measure → World → ℕ
+spent m w = regions_spent m w.regions + objects_spent m w.objects
+
+-- ---- states
+
+-- what is spent, and what is still to come, is no more than this
+abbrev pub CostsAtMost : Measure → (costs : List ℕ) → (most : ℕ) → State → Type 0
+CostsAtMost m costs most (Running focus stack e w) = focus_cost m costs focus + (stack_cost m costs (focus_delivers focus) stack + spent m w) ≤ most
+CostsAtMost m costs most (Ended ending output input) = Unit {0}
+CostsAtMost m costs most (Dead output input) = Unit {0}
+CostsAtMost m costs most (Wrong output input) = Unit {0}

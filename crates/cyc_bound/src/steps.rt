@@ -1,0 +1,54 @@
+//! The bound on steps: what a run costs in them.
+ghost use Rattle.std.specs.Prelude.{IfOk};
+ghost use Rattle.cyc_types.specs.TypedTreeView.{view_program};
+ghost use Rattle.cyc_bound.specs.Costs.{IsStepAnswer};
+ghost use Rattle.cyc_bound.specs.inside.Rounds.{IsFound};
+
+use crate::costs::{Measure, TOO_MANY, known_cost, opening_cost, plus, step_cost};
+use crate::function_costs::{costs_of, order_of};
+use cyc_types::typed::TypedTree;
+use std::alloc::{AllocError, Global};
+
+/// How many steps a run of a program may take.
+#[derive(Drop)]
+pub enum StepBound {
+    /// Each run is over after so many.
+    Steps { count: u64 },
+    /// No number below `TOO_MANY` is a bound by the costs.
+    TooMany,
+    /// What functions cost still grew after the last round, as it does where they lead back to themselves: each time round costs more.
+    Circle,
+}
+
+/// What a run costs, unless that still grows after the last round.
+pub(crate) fn run_cost(
+    alloc: Global,
+    tree: &TypedTree,
+    order: &[usize],
+    measure: Measure,
+) -> Result<Option<u64>, AllocError>
+    ensures { IfOk result (λ found. IsFound (view_program tree.now) measure found) }
+{
+    let Some(costs) = costs_of(alloc, tree, order, measure)? else {
+        return Ok(None);
+    };
+    let called = plus(opening_cost(measure), known_cost(&costs, tree.main));
+    Ok(Some(plus(step_cost(measure), called)))
+}
+
+/// How many steps any run of a program may take, for all inputs.
+///
+/// A loop and a circle of calls always cost something. Any growth may be refused for want of memory.
+pub fn steps_of(alloc: Global, tree: &TypedTree) -> Result<StepBound, AllocError>
+    ensures { IfOk result (λ bound. IsStepAnswer (view_program tree.now) bound) }
+{
+    let order = order_of(alloc, tree)?;
+    let Some(count) = run_cost(alloc, tree, &order, Measure::Steps)? else {
+        return Ok(StepBound::Circle);
+    };
+    if count < TOO_MANY {
+        Ok(StepBound::Steps { count })
+    } else {
+        Ok(StepBound::TooMany)
+    }
+}
