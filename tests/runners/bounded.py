@@ -1,28 +1,47 @@
 #!/usr/bin/env python3
-"""How many calls programs need, as `cyclone bound` says, beside a second reading of which functions call which, and beside their runs.
+"""What programs need, as `cyclone bound` says, beside a second reading of their trees, and beside their runs.
 
     python3 tests/runners/bounded.py [--program PATH] [--count N] [--seed N]
 
-Of each example, and of N random programs, 300 where it is left out: the number is the longest row of functions of which each calls the
-next, from `main` on. Where there is none, each function that is named calls the next one at the place that is told, the last one calls the
-first, and `main` leads to them. No run has more calls under way, and one that is allowed so many ends as one that is allowed more. The last
-line is `N passed, M failed`, of programs; before it stands how many have a bound, and how near their runs come to it.
+Of each example, and of N random programs, 300 where it is left out, two thirds of which have no functions that lead back to themselves, and a
+third no loops either. Calls: the number is the longest row of functions of which each calls the next, from `main` on; where there is none,
+each function that is named calls the next one at the place that is told, the last one calls the first, and `main` leads to them. Pages:
+where nothing leads back, there is a number just where no loop makes or opens anything, also by calls, and else the place is that of one
+that does. Steps: there is a number just where nothing leads back and `main` leads to no loop, and else the place is that of one. No run has
+more calls under way, takes more pages or executes more instructions, and one that is allowed just so many calls and pages ends as one that
+is allowed more. The last line is `N passed, M failed`, of programs; before it stands how many have a bound, and how near their runs come to
+it.
 """
 import itertools
 import json
 import os
-import random
 import re
 import tempfile
 
 import suite  # first: it says where the references and the generators are
 import makers
 import reference
-from language import runs
+import texts
 
-EXAMPLES = os.path.join(suite.ROOT, "examples")
 STEPS = "2000000"
 LINE = re.compile(r"main\.cyc:(\d+):(\d+): (\w+) calls (\w+)")
+LOOP = re.compile(r"main\.cyc:(\d+):(\d+): (?:each turn of )?this loop .*")
+
+
+def parts_of(part):
+    """A part of a tree, and all that are in it."""
+    for inner in part if isinstance(part, list) else [part]:
+        if hasattr(inner, "kind"):
+            yield inner
+            for deeper in vars(inner).values():
+                yield from parts_of(deeper)
+        elif isinstance(inner, list):
+            yield from parts_of(inner)
+
+
+def is_making(part):
+    """Whether a part makes an object or opens a region."""
+    return part.kind in ("new", "key") or part.kind == "region" and hasattr(part, "at")
 
 
 class Calls:
@@ -32,18 +51,9 @@ class Calls:
         self.functions = reference.Program(text).functions
         self.sites = {name: {} for name in self.functions}
         for name, function in self.functions.items():
-            self.add(function.body, self.sites[name])
-
-    def add(self, part, found):
-        if isinstance(part, list):
-            for inner in part:
-                self.add(inner, found)
-        elif hasattr(part, "kind"):
-            if part.kind == "call" and part.name in self.functions:
-                found.setdefault(part.name, set()).add(part.place)
-            for name, inner in vars(part).items():
-                if isinstance(inner, list) or hasattr(inner, "kind"):
-                    self.add(inner, found)
+            for part in parts_of(function.body):
+                if part.kind == "call" and part.name in self.functions:
+                    self.sites[name].setdefault(part.name, set()).add(part.place)
 
     def height(self, name, heights, path):
         """The longest row from a function on, or None where there is none."""
@@ -63,6 +73,19 @@ class Calls:
                 left += self.sites[name]
         return found
 
+    def loops(self, is_counted):
+        """The places of loops that `main` leads to of which a part is counted, also in a function that is called there."""
+        counted = {name for name, function in self.functions.items() if any(is_counted(part) for part in parts_of(function.body))}
+        for _ in self.functions:
+            counted |= {name for name, sites in self.sites.items() if counted & set(sites)}
+        return {
+            loop.place
+            for name in self.reached()
+            for loop in parts_of(self.functions[name].body)
+            if loop.kind == "while"
+            and any(is_counted(part) or part.kind == "call" and part.name in counted for part in parts_of(loop))
+        }
+
     def fault_of_circle(self, lines):
         """What is wrong with a circle that is told, if anything is."""
         found = [LINE.fullmatch(line) for line in lines]
@@ -76,68 +99,80 @@ class Calls:
         return None if names[0] in self.reached() else f"tells {names[0]}, to which main does not lead"
 
 
+class Told:
+    """What `cyclone bound` says of a program: the lines of each bound, and the numbers that there are."""
+
+    def __init__(self, lines):
+        self.lines = {"calls": [], "pages": [], "steps": [], "instructions": []}
+        word = None
+        for line in lines:
+            word = line.split(" ")[0] if line.split(" ")[0] in self.lines else word
+            self.lines[word].append(line)
+        self.numbers = {word: int(lines[0].split(" ")[1]) for word, lines in self.lines.items() if lines and lines[0].split(" ")[1].isdigit()}
+
+    def fault_of_loop(self, word, loops):
+        """What is wrong with a loop that is told to stand in the way, or with a number where one does."""
+        found = [LOOP.fullmatch(line) for line in self.lines[word][1:]]
+        if not loops:
+            return None if word in self.numbers else f"has no loop in the way, and {self.lines[word]}"
+        if len(found) != 1 or None in found:
+            return f"says {self.lines[word]}"
+        return None if (int(found[0][1]), int(found[0][2])) in loops else f"tells {found[0][0]}"
+
+
 class Tried:
     def __init__(self, program):
-        self.program, self.ratios, self.bounded = program, [], 0
+        self.program, self.ratios = program, {"calls": [], "pages": []}
 
-    def peak(self, folder, given, calls):
-        """How a run ends with a limit of calls, and the most calls that it has under way."""
+    def run(self, folder, given, limits):
+        """How a run ends with these limits, and what is reported of it."""
         report = os.path.join(folder, "report")
-        ended = suite.answer([self.program, "run", os.path.join(folder, "main.elf"), "--steps", STEPS, "--calls", str(calls),
+        ended = suite.answer([self.program, "run", os.path.join(folder, "main.elf"), "--steps", STEPS, *limits,
                               "--report", report, "--peaks"], given)
         with open(report, encoding="utf-8") as file:
-            return ended, json.load(file)["most_calls"]
+            return ended, json.load(file)
 
     def fault(self, text, given):
         with tempfile.TemporaryDirectory(prefix="bounded-") as folder:
             source = os.path.join(folder, "main.cyc")
             with open(source, "w", encoding="latin-1") as file:
                 file.write(text)
-            told, last, status = suite.answer([self.program, "bound", source])
-            lines = told.decode("latin-1").replace(source, "main.cyc").split("\n")[:-1]
+            said, last, status = suite.answer([self.program, "bound", source])
+            lines = said.decode("latin-1").replace(source, "main.cyc").split("\n")[:-1]
             if (last, status) != ("done", 0) or not lines:
-                return f"says {told} {last}"
-            calls = Calls(text)
+                return f"says {said} {last}"
+            told, calls = Told(lines), Calls(text)
             height = calls.height("main", {}, frozenset())
-            if height is None:
-                return calls.fault_of_circle(lines[1:]) if lines[0] == "calls unbounded" else f"says {lines}"
-            return f"says {lines}, not {height}" if lines != [f"calls {height}"] else self.runs_fault(folder, source, given, height)
+            return self.fault_of_text(told, calls, height) or self.fault_of_run(folder, source, given, told)
 
-    def runs_fault(self, folder, source, given, height):
-        """What is wrong with what a run of a program with such a bound takes, if anything is."""
-        self.bounded += 1
-        if suite.answer([self.program, "compile", source, "-o", os.path.join(folder, "main.elf")])[1] != "done":
+    def fault_of_text(self, told, calls, height):
+        if height is None:
+            return calls.fault_of_circle(told.lines["calls"][1:]) if told.lines["calls"][0] == "calls unbounded" else f"says {told.lines['calls']}"
+        if told.lines["calls"] != [f"calls {height}"]:
+            return f"says {told.lines['calls']}, not {height}"
+        return told.fault_of_loop("pages", calls.loops(is_making)) or told.fault_of_loop("steps", calls.loops(lambda part: True))
+
+    def fault_of_run(self, folder, source, given, told):
+        """What is wrong with what a run takes beside what is told, if anything is."""
+        limits = [word for name in ("calls", "pages") if name in told.numbers for word in (f"--{name}", str(max(told.numbers[name], 3)))]
+        most = ["--calls", "4096", "--pages", "65536"]
+        image = os.path.join(folder, "main.elf")
+        if suite.answer([self.program, "compile", source, "-o", image])[1] != "done":
             return "is not compiled"
-        ended, peak = self.peak(folder, given, height)
-        if (ended, peak) != self.peak(folder, given, 4096):
-            return f"ends otherwise where {height} calls are allowed"
-        self.ratios.append(height / peak)
-        return None if peak <= height else f"has {peak} calls under way, and not {height}"
-
-
-def examples():
-    for name in sorted(name[:-4] for name in os.listdir(EXAMPLES) if name.endswith(".out")):
-        given = b""
-        if os.path.exists(os.path.join(EXAMPLES, f"{name}.in")):
-            with open(os.path.join(EXAMPLES, f"{name}.in"), "rb") as file:
-                given = file.read()
-        with open(os.path.join(EXAMPLES, f"{name}.cyc"), encoding="latin-1") as file:
-            yield f"examples/{name}.cyc", file.read(), given
-
-
-def random_programs(seed, count):
-    profiles, made = list(makers.PROFILES), 0
-    numbers = random.Random(f"bounded {seed}")
-    while made < count:
-        profile = profiles[made % len(profiles)]
-        text = makers.PROFILES[profile](numbers).text()
-        given = bytes(numbers.choice([0, 1, 10, 48, 65, 255]) for _ in range(numbers.randint(0, 12)))
-        try:
-            reference.Program(text).hold_to_sizes()
-        except (reference.Refused, runs.Dead, runs.Wrong):
-            continue
-        made += 1
-        yield f"{profile} {seed} {made}", text, given
+        words = int(re.search(rb"^text at \w+, (\d+) words", suite.answer([self.program, "info", image])[0], re.M)[1])
+        if "steps" in told.numbers and told.numbers["instructions"] != words * (told.numbers["steps"] + 1):
+            return f"says {told.lines}, of an image of {words} words"
+        ended, report = self.run(folder, given, limits)
+        if "calls" in told.numbers and "pages" in told.numbers and (ended, report) != self.run(folder, given, most):
+            return f"ends otherwise with {limits} than where more is allowed"
+        for name, peak in (("calls", "most_calls"), ("pages", "most_pages")):
+            if name in told.numbers:
+                self.ratios[name].append(told.numbers[name] / report[peak])
+                if report[peak] > told.numbers[name]:
+                    return f"takes {report[peak]} {name}, and not {told.numbers[name]}"
+        if report["instructions"] > told.numbers.get("instructions", report["instructions"]):
+            return f"executes {report['instructions']} instructions, and not {told.numbers['instructions']}"
+        return None
 
 
 def main():
@@ -148,15 +183,21 @@ def main():
     tried = Tried(suite.program_of(options, options.count))
 
     def all_faults():
-        passed, failed, of_examples = 0, 0, 0
-        for name, text, given in itertools.chain(examples(), random_programs(options.seed, options.count)):
+        passed, failed, of_examples = 0, 0, {}
+        made = [
+            texts.random_programs(f"bounded {number}", options.seed, options.count // 3, profiles=profiles)
+            for number, profiles in enumerate((makers.PROFILES, makers.IN_ROWS, makers.WITHOUT_LOOPS))
+        ]
+        for name, text, given in itertools.chain(texts.examples(), *made):
             fault = tried.fault(text, given)
             failed, passed = failed + bool(fault), passed + (not fault)
             if fault:
                 print(f"FAILED {name}: {fault}")
-            of_examples = tried.bounded if name.startswith("examples/") else of_examples
-        mean = sum(tried.ratios) / max(len(tried.ratios), 1)
-        print(f"{tried.bounded} have a bound, {of_examples} of them examples; it is {mean:.2f} times what their runs take in the mean, {max(tried.ratios, default=0):.2f} at most")
+            if name.startswith("examples/"):
+                of_examples = {name: len(ratios) for name, ratios in tried.ratios.items()}
+        for name, ratios in tried.ratios.items():
+            mean = sum(ratios) / max(len(ratios), 1)
+            print(f"{len(ratios)} have a bound on {name}, {of_examples[name]} of them examples; it is {mean:.2f} times what their runs take in the mean, {max(ratios, default=0):.2f} at most")
         suite.end(passed, failed)
 
     reference.with_room(all_faults)

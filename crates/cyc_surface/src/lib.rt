@@ -35,9 +35,9 @@ use cyc_select::{Code, FunctionLines, lines_of, select};
 use cyc_store::{BadHandle, BadMark, No, NotABlock, Store};
 use cyc_syntax::{Name, Names, Span, Token, Tree};
 use cyc_system::{
-    Bounds, Limit, Peaks, Placed, Report, RunFault, Source, Stop, Stretch, Trail, bounds, compile,
+    Bounds, Limit, Peaks, Placed, Report, RunFault, Stop, Stretch, Trail, bounds, compile,
     compile_with, compile_with_places, disassemble, follow, note_of, run, run_counting, run_with,
-    source_at,
+    stretch_at,
 };
 use cyc_types::{Kind, Outlives, Region, TypedTree};
 use cyc_words::{
@@ -532,9 +532,9 @@ pub fn followed(
     follow(alloc, image, stretches, limits, 1000, input)
 }
 
-/// The place that an address comes from.
-pub fn come_from(stretches: &[Stretch], address: u32) -> Option<Source> {
-    source_at(stretches, address)
+/// Where the word at an address comes from.
+pub fn come_from(stretches: &[Stretch], address: u32) -> Option<Stretch> {
+    stretch_at(stretches, address)
 }
 
 /// The limits that an image carries.

@@ -1,23 +1,17 @@
 -- The image that the chain makes is one of the program.
 use Rattle.std.proofs.Common.{◌≡◌, ℕ, ◌*◌, ◌≤◌, ◌<◌, List, [], ◌∷◌, length, Option, refl, sym, ap, subst, ◌∙◌, arith, Ok}
-use Rattle.std.specs.Prelude.{sum_by}
 use Rattle.std.specs.List.{AllByRecursion}
-use Rattle.std.proofs.lemmas.List.Sums.{sum_by-cons}
 use Rattle.cyc_words.specs.Word.{IsWord}
 use Rattle.cyc_elf.specs.Layout.{layout}
 use Rattle.cyc_elf.specs.Reading.{reading}
 use Rattle.cyc_machine.specs.State.{globals_length}
 use Rattle.cyc_machine.specs.Run.{World}
 use Rattle.cyc_machine.specs.Start.{start_world}
-use Rattle.cyc_types.specs.TypedTrees.{Function, Program}
-use Rattle.cyc_types.specs.Weight.{function_weight}
-use Rattle.cyc_syntax.specs.inside.Weight.{sum_of}
+use Rattle.cyc_types.specs.TypedTrees.{Program}
 use Rattle.cyc_meaning.specs.Run.{start}
-use Rattle.cyc_meaning.specs.Sizes.{size_per_weight}
 use Rattle.cyc_words.specs.Simulation.{Preserves}
-use Rattle.cyc_plain.specs.inside.Program.{Routine, Program as PlainProgram, size}
+use Rattle.cyc_plain.specs.inside.Program.{Program as PlainProgram}
 use Rattle.cyc_soundness.specs.Sound.{IsSound}
-use Rattle.cyc_lower.specs.inside.Lowered.{AreLoweredFunctions, IsLowered}
 use Rattle.cyc_meaning.specs.SourceMachine.{source_machine}
 use Rattle.cyc_select.specs.inside.Labelled.{Labelled, IsCode}
 use Rattle.cyc_select.specs.inside.Selected.{IsCodeOf}
@@ -27,22 +21,15 @@ use Rattle.cyc_asm.proofs.Stretches.{text_has_words}
 use Rattle.cyc_machine.specs.WorldMachine.{world_machine}
 use Rattle.cyc_system.specs.FullPreservation.{DoesTheSame, IsImageOf}
 use Rattle.cyc_system.specs.ProgramImage.{program_image, HasForm}
+use Rattle.cyc_system.specs.inside.Chain.{IsProgramOf}
 use Rattle.cyc_system.proofs.Composition.{chain_preserves}
 use Rattle.cyc_system.proofs.Preservation.{never_fails}
 use Rattle.cyc_system.proofs.ProgramImages.{text_words-image, image_form, image_loads, image_starts}
 
--- ---- it is small
-
-lowered_small : (hs : List Function) (rs : List Routine) → AreLoweredFunctions hs rs → sum_by size rs ≤ size_per_weight * sum_of function_weight hs
-lowered_small [] [] are = omega arith
-lowered_small [] (r ∷ rs) are = absurd are
-lowered_small (h ∷ hs) [] are = absurd are
-lowered_small (h ∷ hs) (r ∷ rs) (is, are) = omega (arith, sum_by-cons size r rs, is.small, lowered_small hs rs are)
-
 -- ---- it does what the program means
 
 module _ (p : Program) (lowered : PlainProgram) (code : Labelled) (addresses : ℕ → ℕ) (words : List ℕ) (note : Option (ℕ × ℕ))
-    (sound : IsSound p) (is : IsLowered p lowered) (selected : IsCodeOf lowered code) (globals : code.globals ≡ lowered.globals) (text : IsTextOf code addresses words) (runs : Runs code addresses words)
+    (sound : IsSound p) (is : IsProgramOf p lowered) (selected : IsCodeOf lowered code) (globals : code.globals ≡ lowered.globals) (text : IsTextOf code addresses words) (runs : Runs code addresses words)
     (is_code : IsCode code) (fit : AllByRecursion IsWord words) (fit_globals : AllByRecursion IsWord code.globals) where
   few : length code.globals ≤ globals_length
   few = is_code.few_globals
@@ -69,12 +56,12 @@ module _ (p : Program) (lowered : PlainProgram) (code : Labelled) (addresses : �
     form = subst (λ (n : ℕ). HasForm n (program_image words code.globals note)) (ap length globals ∙ is.globals) (image_form words code.globals note);
     loads = image_loads words code.globals note some text.inside few fit fit_globals;
     does = does;
-    few = omega (arith, text_words-image words code.globals note some text.inside few fit fit_globals, text.few, selected.few_words, lowered_small p.functions lowered.functions is.functions);
+    few = omega (arith, text_words-image words code.globals note some text.inside few fit fit_globals, text.few, selected.few_words, is.small);
   }
 
 -- the same, for words and globals that the image was made of
 pub image_made : (p : Program) (lowered : PlainProgram) (code : Labelled) (addresses : ℕ → ℕ) (words there globals : List ℕ) (note : Option (ℕ × ℕ)) (file : List ℕ)
-    → there ≡ words → globals ≡ code.globals → IsSound p → IsLowered p lowered → IsCodeOf lowered code → code.globals ≡ lowered.globals → IsTextOf code addresses words → Runs code addresses words
+    → there ≡ words → globals ≡ code.globals → IsSound p → IsProgramOf p lowered → IsCodeOf lowered code → code.globals ≡ lowered.globals → IsTextOf code addresses words → Runs code addresses words
     → IsCode code → AllByRecursion IsWord there → AllByRecursion IsWord globals → reading file ≡ Ok (program_image there globals note)
     → file ≡ layout (program_image there globals note) → IsImageOf p file
 image_made p lowered code addresses words there globals note file same same_globals sound is selected are text runs is_code fit fit_globals read written =

@@ -17,7 +17,7 @@ use Rattle.cyc_types.specs.TypedTreeView.{view_program}
 use Rattle.cyc_types.specs.typing.Programs.{IsTypedProgram, IsRefusedProgram}
 use Rattle.cyc_types.specs.flow.Programs.{IsAllowedProgram, IsStoppedProgram}
 use Rattle.cyc_flow.specs.declared.check.Flowed.{Flowed}
-use Rattle.cyc_bound.specs.Bound.{IsAnswer}
+use Rattle.cyc_system.specs.Needs.{AreBounds}
 use Rattle.cyc_system.specs.declared.bounded.Bounds.{Bounds}
 use Rattle.cyc_system.specs.declared.bounded.Bounded.{Bounded}
 use Rattle.cyc_system.specs.declared.front.Phases.{Phases}
@@ -111,7 +111,7 @@ abbrev pub HasPhases : Program → Phases → Type 0
 HasPhases p v = HasProgram p v.program
 
 abbrev pub HasBounds : Program → Bounds → Type 0
-HasBounds p bounds = IsAnswer p p.main bounds.calls
+HasBounds p bounds = AreBounds p bounds
 
 abbrev pub HasBoundsBeside : Program → Bounded → Type 0
 HasBoundsBeside p bounded = HasBounds p bounded.bounds

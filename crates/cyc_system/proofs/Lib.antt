@@ -3,7 +3,7 @@ pub mod Fronts
 pub mod Refusals
 -- the passes in a row, and the image that they make
 pub mod Composition
-pub mod Simplified
+pub mod Passes
 pub mod Amounts
 pub mod Sizes
 pub mod ProgramImages

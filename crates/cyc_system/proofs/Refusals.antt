@@ -8,7 +8,6 @@ use Rattle.cyc_types.specs.TypedTrees.{Program}
 use Rattle.cyc_plain.specs.inside.Program.{Program as PlainProgram}
 use Rattle.cyc_meaning.specs.Sizes.{max_functions, HasTooMany}
 use Rattle.cyc_lower.specs.inside.Lowered as lowering
-use Rattle.cyc_lower.specs.inside.Lowered.{IsLowered}
 use Rattle.cyc_frame.specs.inside.Layout as frames
 use Rattle.cyc_frame.specs.inside.Layout.{HasSmallFrames}
 use Rattle.cyc_system.specs.FullPreservation.{IsImageOf}
@@ -16,6 +15,7 @@ use Rattle.cyc_system.specs.declared.compiler.Compilation.{Compilation}
 use Rattle.cyc_system.specs.declared.places.Placed.{Placed}
 use Rattle.cyc_system.specs.Front.{IsAcceptedText, IsRefusedText, HasFault}
 use Rattle.cyc_system.specs.Compiled.{IsTooLarge, IsSmallEnough, IsSmall, IsCompiledText, IsRefusedAtLast, HasFaultAtLast}
+use Rattle.cyc_system.specs.inside.Chain.{IsProgramOf}
 use Rattle.cyc_system.proofs.Sizes.{large_above, large_below, small_above, small_below}
 
 -- the bytes of a file are an image of the program, alone, beside the text's tokens, or beside where it comes from as well
@@ -41,7 +41,7 @@ module _ {X : Type 0} (Image : Program → X → Type 0) (p : Program) where
     refuses = λ fault large. ⊎_elim (λ many. d.refuses fault many) (λ (few, frame). inl (d.accepts p (refl, few))) large;
   }
 
-  module _ (lowered : PlainProgram) (is : IsLowered p lowered) (few : length p.functions ≤ max_functions) (none : (f : Fault) → HasTooMany p f → ⊥) where
+  module _ (lowered : PlainProgram) (is : IsProgramOf p lowered) (few : length p.functions ≤ max_functions) (none : (f : Fault) → HasTooMany p f → ⊥) where
     -- what the layout refuses
     pub layout_refuses : {Y : Type 0} (Gives : PlainProgram → Y → Type 0) (f : Fault) → Decides (frames.IsAccepted lowered) Gives (frames.IsTooLarge lowered) (frames.IsTooLarge lowered) (Err f)
         → Decides (IsSmall p) Image (IsTooLarge p) (IsTooLarge p) (Err f)

@@ -6,6 +6,8 @@ pub mod Asking
 pub mod ProgramImage
 -- that of `note_of`, and what `compile_with` says of limits
 pub mod Notes
+-- that of `bounds`
+pub mod Needs
 -- those of `run` and `disassemble`
 pub mod Engine
 pub mod Faults

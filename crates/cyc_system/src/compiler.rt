@@ -1,6 +1,6 @@
 //! Compiles a text to an image.
 
-ghost use Rattle.std.specs.Prelude.{◌≡◌, ◌≤◌, None, IfOk, IfErr};
+ghost use Rattle.std.specs.Prelude.{◌≡◌, ◌*◌, ◌≤◌, None, IfOk, IfErr};
 ghost use Rattle.cyc_words.specs.Decision.{Decides};
 ghost use Rattle.cyc_words.specs.Fault.{memory_fault};
 ghost use Rattle.cyc_syntax.specs.TokenRule.{max_tokens};
@@ -10,8 +10,10 @@ ghost use Rattle.cyc_types.specs.typing.WellTyped.{IsWellTypedProgram};
 ghost use Rattle.cyc_types.specs.Weight.{program_weight};
 ghost use Rattle.cyc_soundness.specs.Sound.{IsSound};
 ghost use Rattle.cyc_meaning.specs.Sizes.{HasTooMany};
-ghost use Rattle.cyc_lower.specs.inside.Lowered.{CanBeLowered, IsAccepted, IsLowered};
+ghost use Rattle.cyc_meaning.specs.Sizes.{size_per_weight};
+ghost use Rattle.cyc_lower.specs.inside.Lowered.{CanBeLowered, IsAccepted};
 ghost use Rattle.cyc_frame.specs.inside.Layout.{AreFrames};
+ghost use Rattle.cyc_system.specs.inside.Chain.{IsProgramOf};
 ghost use Rattle.cyc_system.specs.Front.{IsAcceptedText};
 ghost use Rattle.cyc_system.specs.inside.Phases.{HasTokens};
 ghost use Rattle.cyc_system.specs.FullPreservation.{IsImageOf};
@@ -23,12 +25,15 @@ use crate::image::write_program;
 use cyc_asm::assemble;
 use cyc_flow::Flowed;
 use cyc_frame::{Frames, layout};
+use cyc_inline::inline;
 use cyc_lower::lower;
 use cyc_plain::Plain;
 use cyc_select::select;
 use cyc_simplify::simplify;
 use cyc_syntax::Token;
+use cyc_types::typed::TypedTree;
 use cyc_warnings::{Found, find_warnings};
+use cyc_weight::weight_of;
 use cyc_words::Fault;
 use std::alloc::Global;
 
@@ -41,7 +46,7 @@ fn compile_plain(
 ) -> Result<Vec<u8>, Fault>
     requires frames { AreFrames plain frames }
     requires allowed { AreAllowedIfAny note }
-    ensures image { IfOk result (λ file. (p : Program) → IsSound p → IsLowered p plain → IsImageOf p file.items) }
+    ensures image { IfOk result (λ file. (p : Program) → IsSound p → IsProgramOf p plain → IsImageOf p file.items) }
     ensures note { IfOk result (λ file. Carries file.items note) }
     ensures refused { IfErr result (λ f. f ≡ memory_fault) }
 {
@@ -54,16 +59,28 @@ fn compile_plain(
     Ok(file)
 }
 
-/// The plain program of a typed one, in which what is known is not computed, tested or moved once more. What is refused is so by the
-/// lowering.
-fn lower_simplified(alloc: Global, program: &Flowed) -> Result<Plain, Fault>
+/// How many words the text of an image may have for each token of the program's weight.
+const SIZE_PER_WEIGHT: usize = 100;
+
+/// How many words the code of a program may have with what is inlined: where it has more without, nothing is.
+pub(crate) fn room_for(tree: &TypedTree) -> usize
+    requires { program_weight (view_program tree.now) ≤ max_tokens }
+    ensures { result ≡ size_per_weight * program_weight (view_program tree.now) }
+{
+    SIZE_PER_WEIGHT * weight_of(tree)
+}
+
+/// The plain program of a typed one, in which small functions stand in the place of their calls, and what is known is not computed, tested
+/// or moved once more. What is refused is so by the lowering.
+fn lower_improved(alloc: Global, program: &Flowed) -> Result<Plain, Fault>
     requires well_typed { IsWellTypedProgram (view_program program.now.tree) }
     requires small { program_weight (view_program program.now.tree) ≤ max_tokens }
     requires can_be { CanBeLowered (view_program program.now.tree) }
-    ensures { Decides (IsAccepted (view_program program.now.tree)) IsLowered (HasTooMany (view_program program.now.tree)) (HasTooMany (view_program program.now.tree)) result }
+    ensures { Decides (IsAccepted (view_program program.now.tree)) IsProgramOf (HasTooMany (view_program program.now.tree)) (HasTooMany (view_program program.now.tree)) result }
 {
     let plain = lower(alloc, program)?;
-    let simplified = simplify(alloc, &plain)?;
+    let inlined = inline(alloc, &plain, room_for(&program.tree))?;
+    let simplified = simplify(alloc, &inlined.plain)?;
     Ok(simplified)
 }
 
@@ -82,7 +99,7 @@ pub(crate) fn build(
         (IsTooLarge (view_program program.now.tree)) (IsTooLarge (view_program program.now.tree)) result }
     ensures note { IfOk result (λ file. Carries file.items note) }
 {
-    let plain = lower_simplified(alloc, program)?;
+    let plain = lower_improved(alloc, program)?;
     let frames = layout(alloc, &plain)?;
     compile_plain(alloc, plain, frames, note)
 }

@@ -61,8 +61,8 @@ pub struct Trail {
     pub others: u32,
 }
 
-/// What a word is made from.
-pub fn source_at(stretches: &[Stretch], address: u32) -> Option<Source> {
+/// The stretch that a word is in.
+pub fn stretch_at(stretches: &[Stretch], address: u32) -> Option<Stretch> {
     let mut found = None;
     let mut low: usize = 0;
     let mut high = stretches.len();
@@ -71,7 +71,7 @@ pub fn source_at(stretches: &[Stretch], address: u32) -> Option<Source> {
         let middle = low.saturating_add(high.saturating_sub(low) / 2);
         match stretches.get(middle) {
             Some(stretch) if middle < high && stretch.address <= address => {
-                found = Some(stretch.source);
+                found = Some(*stretch);
                 low = middle.saturating_add(1);
             }
             _ => high = middle,
@@ -80,21 +80,16 @@ pub fn source_at(stretches: &[Stretch], address: u32) -> Option<Source> {
     found
 }
 
-/// The function that a word is in.
-fn function_of(source: Source) -> Option<usize> {
-    match source {
-        Source::Start => None,
-        Source::Part { function, .. }
-        | Source::Raise { function }
-        | Source::PassOn { function, .. } => Some(function),
-    }
+/// What a word is made from.
+fn source_at(stretches: &[Stretch], address: u32) -> Option<Source> {
+    Some(stretch_at(stretches, address)?.source)
 }
 
 /// Where the functions begin.
 fn entries_of(alloc: Global, stretches: &[Stretch]) -> Result<Vec<u32>, AllocError> {
     let mut entries = Vec::new(alloc);
     for stretch in stretches {
-        if let Some(function) = function_of(stretch.source) {
+        if let Some(function) = stretch.frame_function() {
             if function >= entries.len() {
                 entries.push(stretch.address)?;
             }
@@ -147,7 +142,7 @@ struct Map<'a> {
 impl Map<'_> {
     /// Where the function of a word begins.
     fn entry(&self, address: u32) -> Option<u32> {
-        let function = function_of(source_at(self.stretches, address)?)?;
+        let function = stretch_at(self.stretches, address)?.frame_function()?;
         self.entries.get(function).copied()
     }
 

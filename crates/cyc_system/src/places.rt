@@ -15,11 +15,12 @@ ghost use Rattle.cyc_system.specs.FullPreservation.{IsImageOf};
 ghost use Rattle.cyc_system.specs.Notes.{AreAllowedIfAny, Carries};
 ghost use Rattle.cyc_system.specs.Compiled.{IsCompiledText, IsRefusedAtLast, HasFaultAtLast};
 
-use crate::compiler::{Compilation, build};
+use crate::compiler::{Compilation, build, room_for};
 use crate::front::run_phases;
 use cyc_asm::sources;
 use cyc_flow::Flowed;
 use cyc_frame::layout;
+use cyc_inline::{Inlined, Origin, inline, line_of};
 use cyc_lower::{Marks, lower, marks_of};
 use cyc_machine::constants::TEXT_BASE;
 use cyc_plain::{Function, Instruction, Operand};
@@ -43,11 +44,38 @@ pub enum Source {
     PassOn { function: usize, span: Span },
 }
 
+/// A call in whose place the code of the function stands that it calls.
+#[derive(Clone, Copy, Debug, PartialEq, Eq)]
+pub struct Site {
+    /// The number of the function that calls, in whose frame the code is executed.
+    pub function: usize,
+    /// The place of the call.
+    pub span: Span,
+}
+
 /// The words of an image's text from an address on, up to the next stretch, have one source.
 #[derive(Clone, Copy, Debug, PartialEq, Eq)]
 pub struct Stretch {
     pub address: u32,
     pub source: Source,
+    /// The call that the words stand in the place of, where they do.
+    pub site: Option<Site>,
+}
+
+impl Stretch {
+    /// The function in whose frame the words are executed.
+    pub fn frame_function(&self) -> Option<usize> {
+        match (self.site, self.source) {
+            (Some(site), _) => Some(site.function),
+            (None, Source::Start) => None,
+            (
+                None,
+                Source::Part { function, .. }
+                | Source::Raise { function }
+                | Source::PassOn { function, .. },
+            ) => Some(function),
+        }
+    }
 }
 
 /// An exception that a program declares.
@@ -117,12 +145,39 @@ fn is_passing(instruction: &Instruction) -> bool {
     )
 }
 
-/// One source for the lines up to a number.
-fn fill(sources: &mut Vec<Source>, end: usize, source: Source) -> Result<(), AllocError> {
-    for _ in sources.len()..end {
-        sources.push(source)?;
+/// What a line is made from, and the call in whose place it stands, where it does.
+#[derive(Clone, Copy, PartialEq, Eq)]
+struct Cause {
+    source: Source,
+    site: Option<Site>,
+}
+
+/// One cause for the lines up to a number.
+fn fill(causes: &mut Vec<Cause>, end: usize, cause: Cause) -> Result<(), AllocError> {
+    for _ in causes.len()..end {
+        causes.push(cause)?;
     }
     Ok(())
+}
+
+/// A cause in the function's own text.
+fn own_cause(source: Source) -> Cause {
+    Cause { source, site: None }
+}
+
+/// The place of the mark of this number, or else that of the name.
+fn span_of(marks: &Marks, mark: usize, name: Span) -> Span {
+    match marks.marks.get(mark) {
+        Some(mark) => mark.span,
+        None => name,
+    }
+}
+
+/// What was lowered: the functions, and the marks of each.
+#[derive(Clone, Copy)]
+struct Lowered<'a> {
+    functions: &'a [Function],
+    marks: &'a [Marks],
 }
 
 /// What the instruction of this number is made from, in the function of that number.
@@ -137,85 +192,206 @@ fn source_of(
     if number >= marks.raises {
         return Source::Raise { function };
     }
-    let span = match marks.marks.get(mark) {
-        Some(mark) => mark.span,
-        None => name,
-    };
+    let span = span_of(marks, mark, name);
     match code.get(number) {
         Some(instruction) if is_passing(instruction) => Source::PassOn { function, span },
         _ => Source::Part { function, span },
     }
 }
 
-/// The sources of a function's lines, behind those of the lines before.
-fn add_function(
-    sources: &mut Vec<Source>,
-    plain: &Function,
-    marks: &Marks,
-    lines: &[usize],
-    end: usize,
+/// What an inlined instruction is made from, which stands in the place of a call.
+fn inlined_cause(lowered: Lowered<'_>, origin: Origin, site: Site) -> Cause {
+    let (Some(function), Some(marks)) = (
+        lowered.functions.get(origin.function),
+        lowered.marks.get(origin.function),
+    ) else {
+        return own_cause(Source::Start);
+    };
+    let mark = mark_at(marks, 0, origin.index);
+    Cause {
+        source: source_of(
+            &function.code,
+            marks,
+            mark,
+            origin.function,
+            origin.index,
+            function.name,
+        ),
+        site: Some(site),
+    }
+}
+
+/// How many instructions of an inlined function stand behind the code of the one that calls it.
+fn rest_of(function: &Function) -> usize {
+    let mut count: usize = 0;
+    for index in line_of(&function.code)..function.code.len() {
+        let moved = match function.code[index] {
+            Instruction::Return { .. } | Instruction::Finish { .. } => function.results,
+            _ => 0,
+        };
+        count = count.saturating_add(1).saturating_add(moved);
+    }
+    count
+}
+
+/// The calls of a function that others stand in the place of, and how much of each is still to come behind its code.
+#[derive(Drop)]
+struct Sites {
+    sites: Vec<(Site, usize)>,
+    /// The first of them of which something is still to come.
+    next: usize,
+    /// How many instructions are still to come of all.
+    left: usize,
+}
+
+impl Sites {
+    /// Notes a call that a function stands in the place of.
+    fn note(&mut self, site: Site, callee: Option<&Function>) -> Result<(), AllocError> {
+        let rest = match callee {
+            Some(function) => rest_of(function),
+            None => 0,
+        };
+        self.left = self.left.saturating_add(rest);
+        self.sites.push((site, rest))?;
+        Ok(())
+    }
+
+    /// The call of an inlined instruction, before which so many instructions of the function's code are left, itself among them.
+    fn site_at(&mut self, left: usize) -> Option<Site> {
+        if left > self.left {
+            return Some(self.sites.last()?.0);
+        }
+        for number in self.next..self.sites.len() {
+            let (site, rest) = self.sites[number];
+            if rest > 0 {
+                self.sites[number] = (site, rest - 1);
+                self.left = self.left.saturating_sub(1);
+                self.next = number;
+                return Some(site);
+            }
+        }
+        None
+    }
+}
+
+/// What a function's code was made to, and in which lines it stands.
+#[derive(Clone, Copy)]
+struct Lines<'a> {
+    /// The number of the function.
     number: usize,
+    /// Its code with what is inlined, and what each instruction is made of.
+    code: &'a [Instruction],
+    origins: &'a [Origin],
+    /// The first line of each of them, and the line behind them all.
+    lines: &'a [usize],
+    end: usize,
+}
+
+/// The causes of a function's lines, behind those of the lines before.
+fn add_function(
+    alloc: Global,
+    causes: &mut Vec<Cause>,
+    lowered: Lowered<'_>,
+    made: Lines<'_>,
 ) -> Result<(), AllocError> {
-    let name = plain.name;
-    let entry = Source::Part {
+    let number = made.number;
+    let (Some(function), Some(marks)) = (lowered.functions.get(number), lowered.marks.get(number))
+    else {
+        return Ok(());
+    };
+    let name = function.name;
+    let entry = own_cause(Source::Part {
         function: number,
         span: name,
+    });
+    fill(
+        causes,
+        made.lines.first().copied().unwrap_or(made.end),
+        entry,
+    )?;
+    let mut sites = Sites {
+        sites: Vec::new(alloc),
+        next: 0,
+        left: 0,
     };
-    fill(sources, lines.first().copied().unwrap_or(end), entry)?;
     let mut mark = 0;
-    for index in 0..lines.len() {
-        mark = mark_at(marks, mark, index);
-        let behind = lines.get(index.saturating_add(1)).copied().unwrap_or(end);
-        let source = source_of(&plain.code, marks, mark, number, index, name);
-        fill(sources, behind, source)?;
+    for (index, origin) in made.origins.iter().enumerate() {
+        let cause = if origin.function == number {
+            mark = mark_at(marks, mark, origin.index);
+            if let Some(Instruction::Enter { function: callee }) = made.code.get(index) {
+                let span = span_of(marks, mark, name);
+                let site = Site {
+                    function: number,
+                    span,
+                };
+                sites.note(site, lowered.functions.get(*callee))?;
+            }
+            own_cause(source_of(&function.code, marks, mark, number, origin.index, name))
+        } else {
+            match sites.site_at(made.origins.len().saturating_sub(index)) {
+                Some(site) => inlined_cause(lowered, *origin, site),
+                None => entry,
+            }
+        };
+        let behind = made.lines.get(index.saturating_add(1)).copied();
+        fill(causes, behind.unwrap_or(made.end), cause)?;
     }
     Ok(())
 }
 
-/// The sources of so many lines.
-fn sources_of_lines(
+/// The causes of so many lines.
+fn causes_of_lines(
     alloc: Global,
-    functions: &[Function],
-    marks: &[Marks],
+    lowered: Lowered<'_>,
+    inlined: &Inlined,
     lines: &[FunctionLines],
     count: usize,
-) -> Result<Vec<Source>, AllocError> {
-    let mut sources = Vec::new(alloc);
-    for number in 0..functions.len() {
-        let (Some(marks), Some(own)) = (marks.get(number), lines.get(number)) else {
-            return Ok(sources);
+) -> Result<Vec<Cause>, AllocError> {
+    let functions = inlined.plain.functions();
+    let mut causes = Vec::new(alloc);
+    for number in 0..lowered.functions.len() {
+        let (Some(function), Some(origins), Some(own)) = (
+            functions.get(number),
+            inlined.origins.get(number),
+            lines.get(number),
+        ) else {
+            return Ok(causes);
         };
-        fill(&mut sources, own.first, Source::Start)?;
+        fill(&mut causes, own.first, own_cause(Source::Start))?;
         let end = match lines.get(number + 1) {
             Some(next) => next.first,
             None => count,
         };
-        add_function(
-            &mut sources,
-            &functions[number],
-            marks,
-            &own.lines,
-            end,
+        let made = Lines {
             number,
-        )?;
+            code: &function.code,
+            origins,
+            lines: &own.lines,
+            end,
+        };
+        add_function(alloc, &mut causes, lowered, made)?;
     }
-    Ok(sources)
+    Ok(causes)
 }
 
 /// The stretches of words that are made from these lines.
 fn stretches_of(
     alloc: Global,
     numbers: &[usize],
-    sources: &[Source],
+    causes: &[Cause],
 ) -> Result<Vec<Stretch>, AllocError> {
     let mut stretches: Vec<Stretch> = Vec::new(alloc);
     for (word, number) in numbers.iter().enumerate() {
-        let source = sources.get(*number).copied().unwrap_or(Source::Start);
+        let cause = causes
+            .get(*number)
+            .copied()
+            .unwrap_or(own_cause(Source::Start));
         match stretches.last() {
-            Some(last) if last.source == source => {}
+            Some(last) if last.source == cause.source && last.site == cause.site => {}
             _ => stretches.push(Stretch {
                 address: address_of(word),
-                source,
+                source: cause.source,
+                site: cause.site,
             })?,
         }
     }
@@ -237,12 +413,17 @@ fn places_of(alloc: Global, program: &Flowed, exceptions: Vec<Declared>) -> Resu
 {
     let plain = lower(alloc, program)?;
     let marks = marks_of(alloc, program)?;
-    let simplified = simplify(alloc, &plain)?;
+    let inlined = inline(alloc, &plain, room_for(&program.tree))?;
+    let simplified = simplify(alloc, &inlined.plain)?;
     let frames = layout(alloc, &simplified)?;
     let lines = lines_of(alloc, &simplified, &frames)?;
     let code = select(alloc, &simplified, &frames)?;
     let numbers = sources(alloc, &code)?;
-    let of_lines = sources_of_lines(alloc, plain.functions(), &marks, &lines, code.lines().len())?;
+    let lowered = Lowered {
+        functions: plain.functions(),
+        marks: &marks,
+    };
+    let causes = causes_of_lines(alloc, lowered, &inlined, &lines, code.lines().len())?;
     let mut functions = Vec::new(alloc);
     for function in plain.functions() {
         functions.push(function.name)?;
@@ -250,7 +431,7 @@ fn places_of(alloc: Global, program: &Flowed, exceptions: Vec<Declared>) -> Resu
     Ok(Places {
         exceptions,
         functions,
-        stretches: stretches_of(alloc, &numbers, &of_lines)?,
+        stretches: stretches_of(alloc, &numbers, &causes)?,
         end: address_of(numbers.len()),
     })
 }

@@ -11,14 +11,14 @@ use Rattle.clap.specs.declared.parser.matches.ArgMatches.TheViews.{out-ArgMatche
 use Rattle.clap.specs.declared.parser.matches.Found.{Found}
 use Rattle.clap.specs.declared.parser.matches.SubCommand.{SubCommand}
 use Rattle.cyc_terminal.specs.inside.Limits.{Given}
-use Rattle.cyc_terminal.specs.inside.Request.{AreLimitsOf, IsAskedOf, IsCodeOf, IsCompileRequest, IsNumberIfGiven, IsRequestOf, IsRunRequest, AreCapsOf, IsFlagOf}
+use Rattle.cyc_terminal.specs.inside.Request.{AreLimitsOf, IsAskedOf, IsCodeOf, IsCompileRequest, IsNumberIfGiven, IsRequestOf, IsRunRequest, AreCapsOf, IsAutoOf, IsFlagOf}
 use Rattle.cyc_terminal.specs.declared.arguments.Request.{Request}
 use Rattle.cyc_terminal.specs.declared.arguments.Request.TheVariants.{Check, Compile, Run, Disassemble, Explain, Describe, Bound, Format}
 
 -- ---- the request of a command, by its name
 
 pub compiled : {E : Type 0} (name : List ℕ) (given : List ℕ → Option (List ℕ)) (r : Result Request E) → name ≡ codes "compile" → IfOk r (IsCompileRequest given) → IfOk r (IsRequestOf name given)
-compiled name given (Ok (Compile source image limits places json)) named is = (named, is)
+compiled name given (Ok (Compile source image limits auto places json)) named is = (named, is)
 compiled name given (Ok (Check source json)) named is = absurd is
 compiled name given (Ok (Run image limits caps budget report peaks places)) named is = absurd is
 compiled name given (Ok (Disassemble image)) named is = absurd is
@@ -31,7 +31,7 @@ compiled name given (Err e) named is = tt
 pub run : {E : Type 0} (name : List ℕ) (given : List ℕ → Option (List ℕ)) (r : Result Request E) → name ≡ codes "run" → IfOk r (IsRunRequest given) → IfOk r (IsRequestOf name given)
 run name given (Ok (Run image limits caps budget report peaks places)) named is = (named, is)
 run name given (Ok (Check source json)) named is = absurd is
-run name given (Ok (Compile source image limits places json)) named is = absurd is
+run name given (Ok (Compile source image limits auto places json)) named is = absurd is
 run name given (Ok (Disassemble image)) named is = absurd is
 run name given (Ok (Explain code)) named is = absurd is
 run name given (Ok (Describe image places)) named is = absurd is
@@ -58,8 +58,8 @@ flag_by_rows f flag is = subst (λ (o : Option (List ℕ)). IsFlagOf o flag) (fi
 
 by_rows : (name : Text) (f : Found) (request : Request) → IsRequestOf name (first_value f) request → IsRequestOf name (λ id. first_of id (rows_of f)) request
 by_rows name f (Check source json) (named, s, j) = (named, sym (first_value-rows f (codes "source")) ∙ s, flag_by_rows f json j)
-by_rows name f (Compile source image limits places json) (named, (s, i, l, p, j)) =
-    (named, (sym (first_value-rows f (codes "source")) ∙ s, sym (first_value-rows f (codes "image")) ∙ i, limits_by_rows f limits l, sym (first_value-rows f (codes "places")) ∙ p, flag_by_rows f json j))
+by_rows name f (Compile source image limits auto places json) (named, (s, i, l, a, p, j)) =
+    (named, (sym (first_value-rows f (codes "source")) ∙ s, sym (first_value-rows f (codes "image")) ∙ i, limits_by_rows f limits l, subst (λ (o : Option (List ℕ)). IsAutoOf o limits auto) (first_value-rows f (codes "limits")) a, sym (first_value-rows f (codes "places")) ∙ p, flag_by_rows f json j))
 by_rows name f (Run image limits caps budget report peaks places) (named, (i, l, m, n, least, most, r, k, p)) = (
   named,
   (

@@ -2,7 +2,7 @@
 ghost use Rattle.std.specs.Prelude.{◌≡◌, ◌≤◌, Some, IfOk, IfSome, codes, map, string_bytes};
 ghost use Rattle.std.specs.Str.Parse.{digits_value};
 ghost use Rattle.clap.specs.Words.{app_of, first_value, found_of};
-ghost use Rattle.cyc_terminal.specs.inside.Request.{AreLimitsOf, IsCodeOf, IsCompileRequest, IsNumberIfGiven, IsNumberOf, IsAskedOf, IsRequestOf, IsRunRequest, IsWithinBudget, AreCapsOf, IsFlagOf};
+ghost use Rattle.cyc_terminal.specs.inside.Request.{AreLimitsOf, IsCodeOf, IsCompileRequest, IsNumberIfGiven, IsNumberOf, IsAskedOf, IsRequestOf, IsRunRequest, IsWithinBudget, AreCapsOf, IsAutoOf, IsFlagOf};
 
 use crate::codes::{code_written, list_of_codes};
 use crate::limits::GivenLimits;
@@ -22,12 +22,13 @@ pub enum Request<'a> {
         source: &'a str,
         is_json: bool,
     },
-    /// `compile SOURCE -o IMAGE`: to compile the program in the file `source` to the file `image`, which carries the limits, and to write
-    /// where it comes from to the file `places`, if one is given.
+    /// `compile SOURCE -o IMAGE`: to compile the program in the file `source` to the file `image`, which carries the limits, or the
+    /// program's own bounds where `auto` says so, and to write where it comes from to the file `places`, if one is given.
     Compile {
         source: &'a str,
         image: &'a str,
         limits: GivenLimits,
+        auto: bool,
         places: Option<&'a str>,
         is_json: bool,
     },
@@ -56,7 +57,7 @@ pub enum Request<'a> {
         image: &'a str,
         places: Option<&'a str>,
     },
-    /// `bound SOURCE`: to say how many calls the program in the file `source` may have under way.
+    /// `bound SOURCE`: to say what the program in the file `source` needs at most, whatever its input.
     Bound {
         source: &'a str,
     },
@@ -98,11 +99,13 @@ it. With --json each refusal and each warning is an object on a line of the stan
 const COMPILE_HELP: &str = "Examples:
   cyclone compile hello.cyc -o hello.elf
   cyclone compile hello.cyc -o hello.elf --pages 16 --calls 64
+  cyclone compile hello.cyc -o hello.elf --limits auto
   cyclone compile hello.cyc -o hello.elf --places hello.places
 
 Where the program is refused, no file is written: a message says what is wrong, and where.
 With --pages or --calls the image carries both limits, and each run without these options
-has them. With --places a run can say where in the program it ended; the image is the same.";
+has them. With --limits auto they are what the program needs at most, as cyclone bound says.
+With --places a run can say where in the program it ended; the image is the same.";
 
 const RUN_HELP: &str = "Examples:
   echo hello | cyclone run echo.elf --calls 64 --steps 5000000
@@ -139,9 +142,10 @@ compile wrote, a line for each function has its address and its size.";
 const BOUND_HELP: &str = "Example:
   cyclone bound hello.cyc
 
-The line says how many calls a run of the program has under way at most, whatever its input, that
-of main among them: a run whose limit allows as many never ends for want of calls. Where functions
-lead back to themselves there is no such number, and a line for each says where it calls the next.";
+The lines say what a run of the program needs at most, whatever its input: how many calls are
+under way, that of main among them; how many pages of memory it takes; and how many steps it goes.
+A run whose limits allow as many never ends for want of calls or of pages. Where there is no such
+number, the lines behind say what stands in the way, and where.";
 
 const FORMAT_HELP: &str = "Examples:
   cyclone format hello.cyc
@@ -168,6 +172,8 @@ enum Form {
     Code,
     /// A file behind the option's name, where it is there.
     FileIfGiven,
+    /// A word behind the option's name, where it is there.
+    WordIfGiven,
     /// The option's name alone, where it is there.
     Flag,
 }
@@ -283,6 +289,13 @@ const PEAKS: Word = Word {
     help: "With --report: count the most calls under way and the most pages in use too; the run takes several times as long",
 };
 
+const LIMITS: Word = Word {
+    id: "limits",
+    shown: "auto",
+    form: Form::WordIfGiven,
+    help: "Take both limits from the program, where it has bounds (cyclone bound)",
+};
+
 const PLACES: Word = Word {
     id: "places",
     shown: "FILE",
@@ -331,7 +344,15 @@ const COMMANDS: &[Plan] = &[
         path: "cyclone compile",
         about: "Compiles a program to an image",
         after_help: COMPILE_HELP,
-        words: &[SOURCE, OUTPUT, CARRIED_PAGES, CARRIED_CALLS, PLACES, JSON],
+        words: &[
+            SOURCE,
+            OUTPUT,
+            CARRIED_PAGES,
+            CARRIED_CALLS,
+            LIMITS,
+            PLACES,
+            JSON,
+        ],
     },
     Plan {
         name: "run",
@@ -374,7 +395,7 @@ const COMMANDS: &[Plan] = &[
     Plan {
         name: "bound",
         path: "cyclone bound",
-        about: "Says how many calls a program needs",
+        about: "Says what a program needs, whatever its input",
         after_help: BOUND_HELP,
         words: &[SOURCE],
     },
@@ -399,7 +420,7 @@ fn argument<'a>(alloc: Global, word: &Word) -> Arg<'a> {
         Form::OutputIfGiven => argument.short('o'),
         Form::Number(default) => argument.long(word.id).default_value(default),
         Form::Code => argument,
-        Form::Limit | Form::FileIfGiven | Form::Flag => argument.long(word.id),
+        Form::Limit | Form::FileIfGiven | Form::WordIfGiven | Form::Flag => argument.long(word.id),
     }
 }
 
@@ -578,6 +599,26 @@ fn caps_of<'a>(
     Ok(GivenLimits { pages, calls })
 }
 
+/// Whether the image is to carry the program's own bounds: then neither limit is given by its number.
+fn is_auto<'a>(
+    command: &mut Command<'a>,
+    matches: &ArgMatches<'a>,
+    limits: GivenLimits,
+) -> Result<bool, Error>
+    ensures { IfOk result (IsAutoOf (first_value (found_of matches.now) (codes "limits")) limits) }
+{
+    match matches.get_str("limits") {
+        None => Ok(false),
+        Some("auto") if limits.pages.is_none() && limits.calls.is_none() => Ok(true),
+        Some("auto") => {
+            let message =
+                "--limits auto takes both limits from the program: leave out --pages and --calls";
+            Err(command.error(ErrorKind::ArgumentConflict, message)?)
+        }
+        Some(_) => Err(command.error(ErrorKind::ValueValidation, "--limits takes the word auto")?),
+    }
+}
+
 fn compile_request<'a>(
     alloc: Global,
     command: &mut Command<'a>,
@@ -588,10 +629,12 @@ fn compile_request<'a>(
     let source = file_of(command, matches, "source")?;
     let image = file_of(command, matches, "image")?;
     let limits = limits_of(alloc, command, matches)?;
+    let auto = is_auto(command, matches, limits)?;
     Ok(Request::Compile {
         source,
         image,
         limits,
+        auto,
         places: matches.get_str("places"),
         is_json: is_given(matches, "json"),
     })

@@ -2,9 +2,10 @@
 
 ghost use Rattle.std.specs.Prelude.{◌≡◌, IfSome};
 ghost use Rattle.cyc_machine.specs.Bounds.{AreAllowed};
-ghost use Rattle.cyc_terminal.specs.inside.Limits.{capped, capped_by, carried_by, limits_by};
+ghost use Rattle.cyc_terminal.specs.inside.Limits.{capped, capped_by, carried_by, limits_by, limits_for};
 
 use cyc_machine::Limits;
+use cyc_machine::constants::{MAX_CALLS, MAX_PAGES, MIN_CALLS, MIN_PAGES};
 use std::marker::Model;
 
 /// The pages of a run whose limits nobody names.
@@ -44,6 +45,21 @@ fn capped(number: u32, cap: Option<u32>) -> u32
 }
 
 impl GivenLimits {
+    /// Both limits, for a run that needs so many pages and calls: as many, or the fewest that a limit may be. None where it needs more
+    /// than a limit may be.
+    pub fn for_needs(pages: u64, calls: u64) -> Option<GivenLimits>
+        ensures { result ≡ limits_for pages calls }
+    {
+        if pages <= u64::from(MAX_PAGES) && calls <= u64::from(MAX_CALLS) {
+            Some(GivenLimits {
+                pages: Some(MIN_PAGES.max(pages as u32)),
+                calls: Some(MIN_CALLS.max(calls as u32)),
+            })
+        } else {
+            None
+        }
+    }
+
     /// What an image carries that is compiled with these: both limits, the one that is left out by its default; none where neither is
     /// given.
     pub fn carried(self) -> Option<(u32, u32)>

@@ -1,5 +1,5 @@
-//! What is said of how many calls a program needs.
-use cyc_bound::{CallBound, MOST_CALLS};
+//! What is said of what a program needs, whatever its input.
+use cyc_bound::{CallBound, MOST_CALLS, PageBound, StepBound};
 use cyc_syntax::{Sign, Token, TokenKind};
 use cyc_system::Bounded;
 use cyc_terminal::{FileName, Shown};
@@ -7,13 +7,16 @@ use cyc_types::typed::Function;
 use cyc_words::Span;
 use std::fmt;
 
-/// What is said of a program in a file: a line with the number of calls that it needs, or that there is none; behind that, where functions
-/// lead back to themselves, a line for each of them with the place where it calls the next.
+/// What is said of a program in a file: a line each with the number of calls, of pages and of steps that it needs, or that there is none.
+/// Behind that it says what stands in the way: where functions lead back to themselves, a line for each of them with the place where it calls
+/// the next; else the place of a loop. Behind the steps stands how many instructions they are at most.
 #[derive(Drop)]
 pub struct Needs<'a> {
     pub name: &'a str,
     pub text: &'a [u8],
     pub bounded: &'a Bounded,
+    /// How many words the text of the program's image has, where it was compiled: no step takes more instructions.
+    pub words: Option<u32>,
 }
 
 /// The tokens from the first one that stands at a place or behind it.
@@ -93,12 +96,70 @@ impl<'a> Needs<'a> {
     }
 }
 
-impl fmt::Display for Needs<'_> {
-    fn fmt<W: fmt::Write>(&self, f: &mut fmt::Formatter<W>) -> fmt::Result {
+impl Needs<'_> {
+    /// Writes the line of a loop that stands in the way.
+    fn write_loop<W: fmt::Write>(
+        &self,
+        place: Span,
+        said: &str,
+        f: &mut fmt::Formatter<W>,
+    ) -> fmt::Result {
+        let file = FileName(self.name.as_bytes());
+        write!(f, "{file}:{}:{}: {said}\n", place.line, place.column)
+    }
+
+    fn write_calls<W: fmt::Write>(&self, f: &mut fmt::Formatter<W>) -> fmt::Result {
         match &self.bounded.bounds.calls {
             CallBound::Calls { count } => write!(f, "calls {count}\n"),
             CallBound::Circle { functions } => self.write_circle(functions.as_slice(), f),
             CallBound::Deep => write!(f, "calls more than {MOST_CALLS}\n"),
         }
+    }
+
+    fn write_pages<W: fmt::Write>(&self, f: &mut fmt::Formatter<W>) -> fmt::Result {
+        if let PageBound::Pages { count } = self.bounded.bounds.pages {
+            return write!(f, "pages {count}\n");
+        }
+        f.write_str("pages unbounded\n")?;
+        match self.bounded.loop_of_pages {
+            Some(place) => {
+                self.write_loop(place, "each turn of this loop makes or opens something", f)
+            }
+            None => Ok(()),
+        }
+    }
+
+    fn write_steps<W: fmt::Write>(&self, f: &mut fmt::Formatter<W>) -> fmt::Result {
+        match self.bounded.bounds.steps {
+            StepBound::Steps { count } => {
+                write!(f, "steps {count}\n")?;
+                match self.words {
+                    Some(words) => {
+                        let instructions = u128::from(words) * (u128::from(count) + 1);
+                        write!(f, "instructions {instructions}\n")
+                    }
+                    None => Ok(()),
+                }
+            }
+            StepBound::Circle | StepBound::TooMany => {
+                f.write_str("steps unbounded\n")?;
+                match self.bounded.loop_of_steps {
+                    Some(place) => self.write_loop(
+                        place,
+                        "this loop may have any number of turns",
+                        f,
+                    ),
+                    None => Ok(()),
+                }
+            }
+        }
+    }
+}
+
+impl fmt::Display for Needs<'_> {
+    fn fmt<W: fmt::Write>(&self, f: &mut fmt::Formatter<W>) -> fmt::Result {
+        self.write_calls(f)?;
+        self.write_pages(f)?;
+        self.write_steps(f)
     }
 }

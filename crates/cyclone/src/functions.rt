@@ -1,21 +1,11 @@
 //! The functions of an image, as its file of places has them.
 use crate::places::Table;
-use cyc_system::{Source, Stretch};
+use cyc_system::Stretch;
 use cyc_terminal::Shown;
 use std::fmt;
 
 /// How many bytes a word of text has.
 const WORD: u32 = 4;
-
-/// The number of the function that words of text are of, which those of the start have none of.
-fn function_of(source: Source) -> Option<usize> {
-    match source {
-        Source::Start => None,
-        Source::Part { function, .. }
-        | Source::Raise { function }
-        | Source::PassOn { function, .. } => Some(function),
-    }
-}
 
 /// Where a function begins: at its first word.
 #[derive(Clone, Copy)]
@@ -71,7 +61,7 @@ impl Functions<'_> {
     ) -> fmt::Result {
         let mut begun: Option<Begun> = None;
         for stretch in stretches {
-            let number = function_of(stretch.source);
+            let number = stretch.frame_function();
             if goes_on(begun, number) {
                 continue;
             }

@@ -1,13 +1,13 @@
 //! Files of places: where in a program each word of its image's text comes from, as lines of text. `docs/PLACES.md` says what they are.
 use cyc_syntax::Token;
-use cyc_system::{Places, Source, Stretch};
+use cyc_system::{Places, Site, Source, Stretch};
 use cyc_terminal::Shown;
 use cyc_words::Span;
 use std::alloc::{AllocError, Global};
 use std::fmt;
 
 /// The first line of a file of places.
-const HEAD: &[u8] = b"cyclone places 1";
+const HEAD: &[u8] = b"cyclone places 2";
 
 /// The most bytes of a name that are kept.
 const MOST_NAME: usize = 128;
@@ -69,6 +69,23 @@ impl PlacesText<'_> {
     }
 }
 
+/// Writes the line of a stretch.
+fn write_stretch<W: fmt::Write>(stretch: &Stretch, f: &mut fmt::Formatter<W>) -> fmt::Result {
+    write!(f, "{:08x} ", stretch.address)?;
+    match stretch.source {
+        Source::Start => f.write_str("start")?,
+        Source::Part { function, span } => write!(f, "{function} {} {}", span.line, span.column)?,
+        Source::Raise { function } => write!(f, "{function} raise")?,
+        Source::PassOn { function, span } => {
+            write!(f, "{function} {} {} pass", span.line, span.column)?
+        }
+    }
+    if let Some(Site { function, span }) = stretch.site {
+        write!(f, " in {function} {} {}", span.line, span.column)?;
+    }
+    f.write_str("\n")
+}
+
 impl fmt::Display for PlacesText<'_> {
     fn fmt<W: fmt::Write>(&self, f: &mut fmt::Formatter<W>) -> fmt::Result {
         write!(f, "{}\n", Shown(HEAD))?;
@@ -83,23 +100,8 @@ impl fmt::Display for PlacesText<'_> {
             let name = Shown(self.name_at(*span));
             write!(f, "function {name} {} {}\n", span.line, span.column)?;
         }
-        for Stretch { address, source } in &self.places.stretches {
-            match source {
-                Source::Start => write!(f, "{address:08x} start\n")?,
-                Source::Part { function, span } => {
-                    write!(
-                        f,
-                        "{address:08x} {function} {} {}\n",
-                        span.line, span.column
-                    )?
-                }
-                Source::Raise { function } => write!(f, "{address:08x} {function} raise\n")?,
-                Source::PassOn { function, span } => write!(
-                    f,
-                    "{address:08x} {function} {} {} pass\n",
-                    span.line, span.column
-                )?,
-            }
+        for stretch in &self.places.stretches {
+            write_stretch(stretch, f)?;
         }
         write!(f, "{:08x} end\n", self.places.end)
     }
@@ -157,26 +159,55 @@ fn word_in(line: &[u8], number: usize) -> Option<&[u8]> {
     line.split(|byte| *byte == b' ').nth(number)
 }
 
-/// What the words behind an address say that it comes from.
-fn source_in(line: &[u8]) -> Option<Source> {
+/// The place that two words of a line write, from the one of this number on.
+fn span_in(line: &[u8], number: usize) -> Option<Span> {
+    Some(Span {
+        line: small_in(word_in(line, number), 10)?,
+        column: small_in(word_in(line, number.saturating_add(1)), 10)?,
+    })
+}
+
+/// What the words behind an address say that it comes from, and the number of the word behind these.
+fn source_in(line: &[u8]) -> Option<(Source, usize)> {
     let first = word_in(line, 1);
     if first == Some(b"start") {
-        return Some(Source::Start);
+        return Some((Source::Start, 2));
     }
     let function = small_in(first, 10)? as usize;
-    let second = word_in(line, 2);
-    if second == Some(b"raise") {
-        return Some(Source::Raise { function });
+    if word_in(line, 2) == Some(b"raise") {
+        return Some((Source::Raise { function }, 3));
     }
-    let span = Span {
-        line: small_in(second, 10)?,
-        column: small_in(word_in(line, 3), 10)?,
-    };
+    let span = span_in(line, 2)?;
     match word_in(line, 4) {
-        Some(b"pass") => Some(Source::PassOn { function, span }),
-        Some(_) => None,
-        None => Some(Source::Part { function, span }),
+        Some(b"pass") => Some((Source::PassOn { function, span }, 5)),
+        _ => Some((Source::Part { function, span }, 4)),
     }
+}
+
+/// The call that the words from one of this number on write, which are the last of a line.
+fn site_in(line: &[u8], number: usize) -> Option<Site> {
+    if word_in(line, number.saturating_add(4)).is_some() {
+        return None;
+    }
+    Some(Site {
+        function: small_in(word_in(line, number.saturating_add(1)), 10)? as usize,
+        span: span_in(line, number.saturating_add(2))?,
+    })
+}
+
+/// What the line of a stretch says.
+fn stretch_in(line: &[u8], address: u32) -> Option<Stretch> {
+    let (source, behind) = source_in(line)?;
+    let site = match word_in(line, behind) {
+        None => None,
+        Some(b"in") => Some(site_in(line, behind)?),
+        Some(_) => return None,
+    };
+    Some(Stretch {
+        address,
+        source,
+        site,
+    })
 }
 
 /// Why a file of places was not read.
@@ -229,8 +260,8 @@ impl Table {
                 if word_in(line, 1) == Some(b"end") {
                     self.end = address;
                 } else {
-                    let source = source_in(line).ok_or(Unread::Malformed)?;
-                    put(&mut self.stretches, Stretch { address, source })?;
+                    let stretch = stretch_in(line, address).ok_or(Unread::Malformed)?;
+                    put(&mut self.stretches, stretch)?;
                 }
             }
         }

@@ -18,9 +18,11 @@ use crate::work::{
     widen_heap,
 };
 use clap::error::ErrorKind;
+use cyc_bound::{CallBound, PageBound, StepBound};
+use cyc_elf::read_outline;
 use cyc_format::format;
 use cyc_machine::Limits;
-use cyc_system::{Report, bounds_with_tokens, follow};
+use cyc_system::{Bounds, Report, bounds_with_tokens, compile_with_tokens, follow};
 use cyc_terminal::{FileName, GivenLimits, Lines, Request, read_request};
 use cyc_warnings::find_warnings;
 use cyc_words::{Code, Fault};
@@ -74,12 +76,46 @@ fn refuse_places(rt: &HostRuntime, source: &str, image: &str, places: &str) -> R
     Err(Answer::Usage)
 }
 
+/// The limits of a program with these bounds, where both have one.
+fn limits_by(bounds: &Bounds) -> Option<GivenLimits> {
+    match (&bounds.calls, &bounds.pages) {
+        (CallBound::Calls { count: calls }, PageBound::Pages { count: pages }) => {
+            GivenLimits::for_needs(*pages, *calls as u64)
+        }
+        _ => None,
+    }
+}
+
+/// The limits that a program's own bounds are, or why it has none.
+fn own_limits(rt: &HostRuntime, source: Source<'_>) -> Result<GivenLimits, Answer> {
+    match bounds_with_tokens(rt.alloc(), source.text) {
+        Ok(bounded) => match limits_by(&bounded.bounds) {
+            Some(limits) => Ok(limits),
+            None => {
+                let needs = Needs {
+                    name: source.name,
+                    text: source.text,
+                    bounded: &bounded,
+                    words: None,
+                };
+                let _ = eprintln!(rt;
+                    "cyclone: --limits auto wants a bound on calls and one on pages, of which no image may carry more than 4096 and 65536:"
+                );
+                say(rt, needs);
+                Err(Answer::Usage)
+            }
+        },
+        Err(fault) => Err(tell_refusal(rt, source, fault)),
+    }
+}
+
 /// `compile SOURCE -o IMAGE`. The image's file is opened only where there is an image to write.
 fn compile_file(
     rt: &HostRuntime,
     source: &str,
     image: &str,
     limits: GivenLimits,
+    auto: bool,
     places: Option<&str>,
     is_json: bool,
 ) -> Result<Answer, Answer> {
@@ -94,6 +130,11 @@ fn compile_file(
         is_json,
     };
     widen_heap(rt.alloc());
+    let limits = if auto {
+        own_limits(rt, source)?
+    } else {
+        limits
+    };
     if let Some(path) = places {
         return compile_with_file(rt, source, image, limits, path);
     }
@@ -337,6 +378,22 @@ fn print_needs(rt: &HostRuntime, needs: Needs<'_>) -> io::Result<()> {
     output.flush()
 }
 
+/// How many words the text of the image has that a program is compiled to, if it is.
+fn words_of(rt: &HostRuntime, text: &[u8]) -> Option<u32> {
+    let made = compile_with_tokens(rt.alloc(), text, None).ok()?;
+    let outline = read_outline(rt.alloc(), made.image.as_slice()).ok()?;
+    let header = outline.loads.first()?;
+    Some(header.memory_size / 4)
+}
+
+/// The same, where its steps have a bound: else nobody asks.
+fn words_by(rt: &HostRuntime, text: &[u8], bounds: &Bounds) -> Option<u32> {
+    match bounds.steps {
+        StepBound::Steps { .. } => words_of(rt, text),
+        StepBound::Circle | StepBound::TooMany => None,
+    }
+}
+
 /// `bound SOURCE`.
 fn bound_file(rt: &HostRuntime, source: &str) -> Result<Answer, Answer> {
     let text = read_text(rt, source)?;
@@ -348,6 +405,7 @@ fn bound_file(rt: &HostRuntime, source: &str) -> Result<Answer, Answer> {
                 name: source,
                 text,
                 bounded: &bounded,
+                words: words_by(rt, text, &bounded.bounds),
             };
             match print_needs(rt, needs) {
                 Ok(()) => Ok(Answer::Done),
@@ -394,9 +452,10 @@ fn carry_out(rt: &HostRuntime, request: &Request<'_>) -> Answer {
             source,
             image,
             limits,
+            auto,
             places,
             is_json,
-        } => compile_file(rt, source, image, *limits, *places, *is_json),
+        } => compile_file(rt, source, image, *limits, *auto, *places, *is_json),
         Request::Run {
             image,
             limits,

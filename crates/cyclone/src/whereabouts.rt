@@ -1,12 +1,16 @@
 //! Where in the program a run stopped that ended before its program did: its place, and those of the calls that were under way.
 use crate::answer::Answer;
 use crate::places::{Named, Table};
-use cyc_system::{Limit, Report, Source, Trail, source_at};
+use cyc_system::{Limit, Report, Site, Source, Trail, stretch_at};
 use cyc_terminal::Shown;
+use cyc_words::Span;
 use std::fmt;
 
 /// The exceptions of the language, in the order of their numbers.
 const BUILT_IN: [&str; 4] = ["Null_Exception", "Array_bounds", "Array_size", "Div_zero"];
+
+/// The most calls that are told, as `follow` does.
+const MOST_CALLS: usize = 32;
 
 /// Where a run stopped. Its `Display` is a line for its place and one for each call under way, the innermost first.
 #[derive(Drop)]
@@ -39,20 +43,21 @@ fn said_of(answer: Answer, report: Report) -> &'static str {
 }
 
 impl Whereabouts<'_> {
-    /// Writes the place that a word comes from. Where it has none, nothing is written, and false answered.
-    fn write_place<W: fmt::Write>(
-        &self,
-        address: u32,
-        f: &mut fmt::Formatter<W>,
-    ) -> Result<Option<usize>, fmt::Error> {
-        match source_at(&self.table.stretches, address) {
-            Some(Source::Part { function, span } | Source::PassOn { function, span }) => {
-                let name = Shown(&self.table.source);
-                write!(f, "{name}:{}:{}: ", span.line, span.column)?;
-                Ok(Some(function))
+    /// The place that a word comes from, and where its code stands in the place of a call, that call. None where the word has no place.
+    fn place_of(&self, address: u32) -> Option<(Site, Option<Site>)> {
+        let stretch = stretch_at(&self.table.stretches, address)?;
+        match stretch.source {
+            Source::Part { function, span } | Source::PassOn { function, span } => {
+                Some((Site { function, span }, stretch.site))
             }
-            Some(Source::Start | Source::Raise { .. }) | None => Ok(None),
+            Source::Start | Source::Raise { .. } => None,
         }
+    }
+
+    /// Writes the beginning of a line: a place.
+    fn write_place<W: fmt::Write>(&self, span: Span, f: &mut fmt::Formatter<W>) -> fmt::Result {
+        let name = Shown(&self.table.source);
+        write!(f, "{name}:{}:{}: ", span.line, span.column)
     }
 
     /// Writes the end of a line: the function.
@@ -89,27 +94,52 @@ impl Whereabouts<'_> {
 
     /// Writes the line of the place where the run stopped.
     fn write_stop<W: fmt::Write>(&self, f: &mut fmt::Formatter<W>) -> fmt::Result {
-        let Some(function) = self.write_place(self.trail.address, f)? else {
+        let Some((place, site)) = self.place_of(self.trail.address) else {
             return Ok(());
         };
+        self.write_place(place.span, f)?;
         if let Answer::Uncaught(number, value) = self.answer {
             self.write_exception(number, value, f)?;
         }
         f.write_str(said_of(self.answer, self.report))?;
-        self.write_function(function, f)
+        self.write_function(place.function, f)?;
+        match site {
+            Some(site) => self.write_call(site, f),
+            None => Ok(()),
+        }
+    }
+
+    /// Writes the line of a call that was under way.
+    fn write_call<W: fmt::Write>(&self, call: Site, f: &mut fmt::Formatter<W>) -> fmt::Result {
+        self.write_place(call.span, f)?;
+        f.write_str("called here")?;
+        self.write_function(call.function, f)
+    }
+}
+
+impl Whereabouts<'_> {
+    /// How many of the calls of the trail are told: the call in whose place an inlined function stands is told before them.
+    fn told_count(&self) -> usize {
+        let count = self.trail.calls.len();
+        match self.place_of(self.trail.address) {
+            Some((_, Some(_))) => count.min(MOST_CALLS - 1),
+            _ => count,
+        }
     }
 }
 
 impl fmt::Display for Whereabouts<'_> {
     fn fmt<W: fmt::Write>(&self, f: &mut fmt::Formatter<W>) -> fmt::Result {
         self.write_stop(f)?;
-        for address in &self.trail.calls {
-            if let Some(function) = self.write_place(*address, f)? {
-                f.write_str("called here")?;
-                self.write_function(function, f)?;
+        let told = self.told_count();
+        for address in self.trail.calls.iter().take(told) {
+            // A function that calls is never inlined, so its call stands in its own code.
+            if let Some((call, _)) = self.place_of(*address) {
+                self.write_call(call, f)?;
             }
         }
-        match self.trail.others {
+        let left = self.trail.calls.len().saturating_sub(told);
+        match self.trail.others.saturating_add(left as u32) {
             0 => Ok(()),
             others => write!(f, "    .. and {others} more calls\n"),
         }

@@ -1,5 +1,5 @@
 -- The limits that a command line gives, and what becomes of them. This project's own choice.
-use Rattle.std.specs.Prelude.{ℕ, ◌≤◌, min, Option, Some, None, IfSome, unwrap_or}
+use Rattle.std.specs.Prelude.{ℕ, ◌≤◌, ◌&&◌, nat_le, min, max, if◌then◌else◌, Option, Some, None, IfSome, unwrap_or}
 use Rattle.cyc_machine.specs.Bounds.{Bounds}
 use Rattle.cyc_machine.specs.declared.constants.TheConstants.{MIN_PAGES, MAX_PAGES, MIN_CALLS, MAX_CALLS}
 use Rattle.cyc_terminal.specs.declared.limits.TheConstants.{DEFAULT_PAGES, DEFAULT_CALLS}
@@ -19,6 +19,14 @@ abbrev pub carried_by : (pages calls : Option ℕ) → Option (ℕ × ℕ)
 carried_by None None = None
 carried_by None (Some calls) = Some (DEFAULT_PAGES, calls)
 carried_by (Some pages) calls = Some (pages, unwrap_or calls DEFAULT_CALLS)
+
+-- Both limits for a run that needs so many pages and calls: as many, or the fewest that a limit may be; none where it needs more than a
+-- limit may be.
+abbrev pub limits_for : (pages calls : ℕ) → Option Given
+limits_for pages calls =
+    if nat_le pages MAX_PAGES && nat_le calls MAX_CALLS
+    then Some (record { pages = Some (max MIN_PAGES pages); calls = Some (max MIN_CALLS calls) })
+    else None
 
 -- The limits of a run of an image that carries these, or none: each is the one that is given, else the image's, else the default.
 abbrev pub limits_by : Given → (note : Option (ℕ × ℕ)) → Bounds

@@ -1,5 +1,5 @@
 -- What a command line asks for. This project's own choice.
-use Rattle.std.specs.Prelude.{◌≡◌, ◌↔◌, ℕ, Bool, true, ◌≤◌, List, codes, Option, Some, None, IfSome, option_map}
+use Rattle.std.specs.Prelude.{◌≡◌, ◌↔◌, ℕ, Bool, true, false, ◌≤◌, List, codes, Option, Some, None, IfSome, option_map}
 use Rattle.std.specs.Str.Parse.{digits_value}
 use Rattle.clap.specs.Words.{App, Row, Text, is_simple, subcommand_of}
 use Rattle.clap.specs.Walk.{first_of}
@@ -13,7 +13,7 @@ use Rattle.cyc_terminal.specs.declared.arguments.Request.TheVariants.{Check, Com
 abbrev pub IsWithinBudget : Request → Type 0
 IsWithinBudget (Run image limits caps budget report peaks places) = (1 ≤ budget) × (budget ≤ 1000000000000)
 IsWithinBudget (Check source json) = Unit {0}
-IsWithinBudget (Compile source image limits places json) = Unit {0}
+IsWithinBudget (Compile source image limits auto places json) = Unit {0}
 IsWithinBudget (Disassemble image) = Unit {0}
 IsWithinBudget (Explain code) = Unit {0}
 IsWithinBudget (Describe image places) = Unit {0}
@@ -41,12 +41,18 @@ AreCapsOf given caps = IsNumberIfGiven (given (codes "at-most-pages")) caps.page
 abbrev pub IsFlagOf : Option (List ℕ) → Bool → Type 0
 IsFlagOf given flag = flag ≡ true ↔ given ≡ Some (codes "true")
 
--- the request is to compile the source file that was given to the image that was given, which carries the limits that were given, and to
--- write a file of places, if one was given
+-- Where `auto` is written for the limits, and it is the one word that may be, both come from the program, and neither is given.
+abbrev pub IsAutoOf : Option (List ℕ) → Given → Bool → Type 0
+IsAutoOf None limits auto = auto ≡ false
+IsAutoOf (Some text) limits auto = (text ≡ codes "auto") × (auto ≡ true) × (limits.pages ≡ None) × (limits.calls ≡ None)
+
+-- the request is to compile the source file that was given to the image that was given, which carries the limits that were given or those
+-- of the program, and to write a file of places, if one was given
 abbrev pub IsCompileRequest : (List ℕ → Option (List ℕ)) → Request → Type 0
-IsCompileRequest given (Compile source image limits places json) = (given (codes "source") ≡ Some source.now)
+IsCompileRequest given (Compile source image limits auto places json) = (given (codes "source") ≡ Some source.now)
     × (given (codes "image") ≡ Some image.now)
     × AreLimitsOf given limits
+    × IsAutoOf (given (codes "limits")) limits auto
     × (given (codes "places") ≡ option_map (λ path. path.now) places)
     × IsFlagOf (given (codes "json")) json
 IsCompileRequest given (Check source json) = ⊥
@@ -69,7 +75,7 @@ IsRunRequest given (Run image limits caps budget report peaks places) = (given (
     × IsFlagOf (given (codes "peaks")) peaks
     × (given (codes "places") ≡ option_map (λ path. path.now) places)
 IsRunRequest given (Check source json) = ⊥
-IsRunRequest given (Compile source image limits places json) = ⊥
+IsRunRequest given (Compile source image limits auto places json) = ⊥
 IsRunRequest given (Disassemble image) = ⊥
 IsRunRequest given (Explain code) = ⊥
 IsRunRequest given (Describe image places) = ⊥
@@ -84,7 +90,7 @@ IsCodeOf None code = ⊥
 -- the request is what the command of this name asks for, with the files, the limits, the caps, the budget or the code that were given
 abbrev pub IsRequestOf : (name : List ℕ) → (List ℕ → Option (List ℕ)) → Request → Type 0
 IsRequestOf name given (Check source json) = (name ≡ codes "check") × (given (codes "source") ≡ Some source.now) × IsFlagOf (given (codes "json")) json
-IsRequestOf name given (Compile source image limits places json) = (name ≡ codes "compile") × IsCompileRequest given (Compile source image limits places json)
+IsRequestOf name given (Compile source image limits auto places json) = (name ≡ codes "compile") × IsCompileRequest given (Compile source image limits auto places json)
 IsRequestOf name given (Run image limits caps budget report peaks places) = (name ≡ codes "run") × IsRunRequest given (Run image limits caps budget report peaks places)
 IsRequestOf name given (Disassemble image) = (name ≡ codes "disasm") × (given (codes "image") ≡ Some image.now)
 IsRequestOf name given (Explain code) = (name ≡ codes "explain") × IsCodeOf (given (codes "code")) code

@@ -6,9 +6,9 @@ use Rattle.cyc_types.specs.TypedTreeView.{view_program}
 use Rattle.cyc_plain.specs.inside.Program.{Program as PlainProgram}
 use Rattle.cyc_meaning.specs.Sizes.{max_functions}
 use Rattle.cyc_soundness.specs.Sound.{IsSound}
-use Rattle.cyc_lower.specs.inside.Lowered.{IsLowered}
 use Rattle.cyc_frame.specs.inside.Layout.{AreFrames, HasSmallFrames}
 use Rattle.cyc_system.specs.FullPreservation.{IsImageOf}
+use Rattle.cyc_system.specs.inside.Chain.{IsProgramOf}
 use Rattle.cyc_system.proofs.Refusals.{lowering_refuses, layout_refuses, image_answers}
 use Rattle.cyc_system.proofs.compiler.build.Goals as goal
 
@@ -23,12 +23,12 @@ returns-in_err-frames-clause-decides c =
     let (a, (same, few), is) = c.in_ok-plain.ensures.accepted in
     let e = err_from_is_err_and c.from_residual-in_err-frames.result c.from_residual-in_err-frames.ensures.1 in
     rw (e.1, e.2) (layout_refuses (λ q file. IsImageOf q file.items) p c.in_ok-plain.plain
-    (subst (λ (q : Program). IsLowered q c.in_ok-plain.plain) same is) (subst (λ (q : Program). length q.functions ≤ max_functions) same few)
+    (subst (λ (q : Program). IsProgramOf q c.in_ok-plain.plain) same is) (subst (λ (q : Program). length q.functions ≤ max_functions) same few)
     c.in_ok-plain.ensures.refuses _ c.in_err-frames.field-0.0 c.in_err-frames.ensures)
 
 -- the image of the program that was lowered to the plain one
-image_there : {X F : Type 0} (Image : Program → X → Type 0) (p : Program) (lowered : PlainProgram) (result : Result X F) → IsSound p → IsLowered p lowered
-    → IfOk result (λ x. (q : Program) → IsSound q → IsLowered q lowered → Image q x) → IfOk result (Image p)
+image_there : {X F : Type 0} (Image : Program → X → Type 0) (p : Program) (lowered : PlainProgram) (result : Result X F) → IsSound p → IsProgramOf p lowered
+    → IfOk result (λ x. (q : Program) → IsSound q → IsProgramOf q lowered → Image q x) → IfOk result (Image p)
 image_there Image p lowered (Ok x) sound is image = image p sound is
 image_there Image p lowered (Err f) sound is image = tt
 
@@ -37,7 +37,7 @@ returns-clause-decides c =
     let p = view_program c.args.program.now.tree in
     let (a, (one, few), is) = c.in_ok-plain.ensures.accepted in
     let (l, (same, small), are) = c.in_ok-frames.ensures.accepted in
-    let lowered = subst (λ (q : Program). IsLowered q c.in_ok-plain.plain) one is in
+    let lowered = subst (λ (q : Program). IsProgramOf q c.in_ok-plain.plain) one is in
     image_answers (λ q file. IsImageOf q file.items) p c.in_ok-plain.plain lowered (subst (λ (q : Program). length q.functions ≤ max_functions) one few)
     c.in_ok-plain.ensures.refuses (subst HasSmallFrames same small) c.in_ok-frames.ensures.refuses
     c.compile_plain.result

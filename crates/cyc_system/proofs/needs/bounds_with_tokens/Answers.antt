@@ -1,7 +1,8 @@
 use Rattle.std.proofs.Common.{subst}
 use Rattle.std.proofs.lemmas.Result.{err_from_is_err_and}
 use Rattle.cyc_types.specs.TypedTrees.{Program}
-use Rattle.cyc_bound.specs.Bound.{IsAnswer}
+use Rattle.cyc_system.specs.declared.bounded.Bounds.{Bounds}
+use Rattle.cyc_system.specs.Needs.{AreBounds}
 use Rattle.cyc_system.proofs.Fronts.{HasPhases, HasBoundsBeside, refused_alike, accepted_alike}
 use Rattle.cyc_system.proofs.needs.bounds_with_tokens.Goals as goal
 
@@ -12,4 +13,5 @@ returns-in_err-phases-clause-decides c =
 
 pub returns-clause-decides : goal.returns-clause-decides
 returns-clause-decides c =
-    accepted_alike HasPhases HasBoundsBeside c.in_ok-phases.phases _ (λ p same. subst (λ (q : Program). IsAnswer q q.main c.in_ok-calls.calls) same c.in_ok-calls.ensures) c.in_ok-phases.ensures.decides
+    let made : Bounds = record { calls = c.in_ok-calls.calls; pages = c.in_ok-pages.pages; steps = c.in_ok-steps.steps } in
+    accepted_alike HasPhases HasBoundsBeside c.in_ok-phases.phases _ (λ p same. subst (λ (q : Program). AreBounds q made) same (record { calls = c.in_ok-calls.ensures; pages = c.in_ok-pages.ensures; steps = c.in_ok-steps.ensures })) c.in_ok-phases.ensures.decides

@@ -1,0 +1,28 @@
+use Rattle.std.proofs.Common.{◌≡◌, ◌*◌, ◌≤◌, refl, sym, ap, arith}
+use Rattle.cyc_types.specs.TypedTrees.{Program}
+use Rattle.cyc_types.specs.TypedTreeView.{view_program}
+use Rattle.cyc_types.specs.Weight.{program_weight}
+use Rattle.cyc_meaning.specs.Sizes.{size_per_weight}
+use Rattle.cyc_lower.specs.inside.Lowered.{IsLowered}
+use Rattle.cyc_system.specs.inside.Chain.{IsProgramOf}
+use Rattle.cyc_system.proofs.Passes.{lowered_is, inlined_is, simplified_is}
+use Rattle.cyc_system.proofs.compiler.lower_improved.Goals as goal
+
+pub returns : goal.returns
+returns c =
+    let d = c.in_ok-plain.ensures in
+    let (p, (same, few), is) = d.accepted in
+    record {
+      accepted = (p, (same, few), through p same is);
+      refused = tt;
+      accepts = λ q accepted. through q accepted.0 (d.accepts q accepted);
+      refuses = d.refuses;
+    }
+  where
+    through : (q : Program) → q ≡ view_program c.args.program.now.tree → IsLowered q c.in_ok-plain.plain → IsProgramOf q c.in_ok-simplified.simplified
+    through q same is =
+        let made = c.in_ok-inlined.ensures in
+        simplified_is q c.in_ok-inlined.inlined.plain c.in_ok-simplified.simplified made.inlined.plain.well_formed.main
+        (inlined_is q c.in_ok-plain.plain c.in_ok-inlined.inlined.plain c.room_for.result is.well_formed.main (lowered_is q c.in_ok-plain.plain is) made.inlined made.size
+        (omega (arith, c.room_for.ensures, ap (λ (r : Program). size_per_weight * program_weight r) same)))
+        c.in_ok-simplified.ensures
