@@ -17,12 +17,9 @@ use Rattle.cyc_inline.specs.inside.Opened.{moved, passing, is_end, origin_at, Ar
 use Rattle.cyc_inline.specs.inside.Sites.{place_in, stands_in, way_behind, way_count, inside_part, inside_count, count_in, inside_code, inside_origins, inside_size, inside_places, places_inside, site_code, site_origins, site_size}
 use Rattle.cyc_inline.specs.inside.Emission.{IsLeaf, IsOpenable, call_size, site_of}
 use Rattle.cyc_inline.proofs.EmissionPieces.{StandsAt, stands_front, stands_back, stands_within, has_at, made_of, pieces, offset, offset_next, piece_stands, pieces_long}
+use Rattle.cyc_inline.proofs.Passing.{passing_length}
 
 -- ---- an instruction of the callee
-
-pub passing_long : (destination source count : ℕ) → length (passing destination source count) ≡ count
-passing_long destination source zero = refl
-passing_long destination source (suc count) = ap suc (passing_long (destination + 1) (source + 1) count)
 
 way_long : (is_last : Bool) (behind : ℕ) → length (way_behind is_last behind) ≡ way_count is_last
 way_long true behind = refl
@@ -34,7 +31,7 @@ part_long site place index i (Some value) =
     omega (
       arith,
       length-append (passing site.call.result (site.shift + value) site.results) (way_behind (index + 1 == site.call.line) site.behind),
-      passing_long site.call.result (site.shift + value) site.results,
+      passing_length site.call.result (site.shift + value) site.results,
       way_long (index + 1 == site.call.line) site.behind,
     )
 part_long site place index i None = refl
@@ -243,7 +240,7 @@ module _ (program : Program) (code : List Instruction) (origins : List Origin) (
     goes k value false end stand are =
         let moves = passing site.call.result (site.shift + value) site.results in
         let jump = stands_back code moves (instructions.Jump site.behind ∷ []) (place k) stand in
-        let there : place k + length moves ≡ place k + site.results = ap (λ (n : ℕ). place k + n) (passing_long site.call.result (site.shift + value) site.results) in
+        let there : place k + length moves ≡ place k + site.results = ap (λ (n : ℕ). place k + n) (passing_length site.call.result (site.shift + value) site.results) in
         let (at, none) = has_at code (instructions.Jump site.behind ∷ []) (place k + length moves) jump in
         inr (subst (λ (n : ℕ). At code n (instructions.Jump site.behind)) there at, later (place k) site.results 1 (origin_at site.call.callee k) are)
 
@@ -301,7 +298,7 @@ module _ (program : Program) (r s : Routine) (origins : List Origin) (number ind
 
   moves_long : length moves ≡ call.count + 1
   moves_long =
-      omega (arith, length-append (passing r.slots call.arguments call.count) (instructions.Enter call.callee ∷ []), passing_long r.slots call.arguments call.count)
+      omega (arith, length-append (passing r.slots call.arguments call.count) (instructions.Enter call.callee ∷ []), passing_length r.slots call.arguments call.count)
 
   body_stands : (in_line : Bool) → StandsAt s.code (inside_code site (places_inside site here callee.code) in_line 0 callee.code) (if in_line then here + call.count + 1 else rest)
   body_stands true =
@@ -357,7 +354,7 @@ site_long site true here code =
     omega (
       arith,
       length-append (passing site.shift site.call.arguments site.call.count) (instructions.Enter site.call.callee ∷ inside_code site place true 0 code),
-      passing_long site.shift site.call.arguments site.call.count,
+      passing_length site.shift site.call.arguments site.call.count,
       inside_long site place true code,
     )
 site_long site false here code = inside_long site (places_inside site here code) false code

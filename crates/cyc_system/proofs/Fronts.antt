@@ -18,7 +18,6 @@ use Rattle.cyc_types.specs.typing.Programs.{IsTypedProgram, IsRefusedProgram}
 use Rattle.cyc_types.specs.flow.Programs.{IsAllowedProgram, IsStoppedProgram}
 use Rattle.cyc_flow.specs.declared.check.Flowed.{Flowed}
 use Rattle.cyc_system.specs.Needs.{AreBounds}
-use Rattle.cyc_system.specs.declared.bounded.Bounds.{Bounds}
 use Rattle.cyc_system.specs.declared.bounded.Bounded.{Bounded}
 use Rattle.cyc_system.specs.declared.front.Phases.{Phases}
 use Rattle.cyc_system.specs.Front.{names_in, IsAcceptedText, IsStoppedText, IsRefusedText, HasFault}
@@ -110,11 +109,8 @@ HasProgram p v = view_program v.tree ≡ p
 abbrev pub HasPhases : Program → Phases → Type 0
 HasPhases p v = HasProgram p v.program
 
-abbrev pub HasBounds : Program → Bounds → Type 0
-HasBounds p bounds = AreBounds p bounds
-
 abbrev pub HasBoundsBeside : Program → Bounded → Type 0
-HasBoundsBeside p bounded = HasBounds p bounded.bounds
+HasBoundsBeside p bounded = AreBounds p bounded.bounds
 
 abbrev pub IsAnswered : List ℕ → Result Flowed Fault → Type 0
 IsAnswered = IsAnsweredBy HasProgram

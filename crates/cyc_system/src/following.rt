@@ -14,7 +14,7 @@ use cyc_store::Store;
 use std::alloc::{AllocError, Global};
 
 /// The most calls that are told.
-const MOST_CALLS: usize = 32;
+pub const MOST_TOLD: usize = 32;
 
 /// How many instructions before its stop a run is followed one at a time at first.
 const FIRST_WINDOW: u64 = 10_000;
@@ -226,7 +226,7 @@ impl Map<'_> {
         if let Some((first, back)) = self.current(machine, machine.counter()) {
             let mut frame = first;
             let mut behind = back;
-            for _ in 0..MOST_CALLS {
+            for _ in 0..MOST_TOLD {
                 if behind == 0 {
                     break;
                 }

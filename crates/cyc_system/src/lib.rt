@@ -17,7 +17,7 @@ mod report;
 pub use bounded::{Bounded, Bounds};
 pub use compiler::{Compilation, compile, compile_with, compile_with_tokens};
 pub use engine::{run, run_counting, run_with};
-pub use following::{Trail, follow, stretch_at};
+pub use following::{MOST_TOLD, Trail, follow, stretch_at};
 pub use front::{Phases, accept, run_phases};
 pub use listing::disassemble;
 pub use needs::{bounds, bounds_with_tokens};

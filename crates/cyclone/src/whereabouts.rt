@@ -1,16 +1,13 @@
 //! Where in the program a run stopped that ended before its program did: its place, and those of the calls that were under way.
 use crate::answer::Answer;
 use crate::places::{Named, Table};
-use cyc_system::{Limit, Report, Site, Source, Trail, stretch_at};
+use cyc_system::{Limit, MOST_TOLD, Report, Site, Source, Trail, stretch_at};
 use cyc_terminal::Shown;
 use cyc_words::Span;
 use std::fmt;
 
 /// The exceptions of the language, in the order of their numbers.
 const BUILT_IN: [&str; 4] = ["Null_Exception", "Array_bounds", "Array_size", "Div_zero"];
-
-/// The most calls that are told, as `follow` does.
-const MOST_CALLS: usize = 32;
 
 /// Where a run stopped. Its `Display` is a line for its place and one for each call under way, the innermost first.
 #[derive(Drop)]
@@ -122,7 +119,7 @@ impl Whereabouts<'_> {
     fn told_count(&self) -> usize {
         let count = self.trail.calls.len();
         match self.place_of(self.trail.address) {
-            Some((_, Some(_))) => count.min(MOST_CALLS - 1),
+            Some((_, Some(_))) => count.min(MOST_TOLD - 1),
             _ => count,
         }
     }
