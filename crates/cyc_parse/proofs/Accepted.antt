@@ -18,6 +18,7 @@ use Rattle.cyc_parse.specs.Faults.{end_of, fault_of}
 use Rattle.cyc_parse.specs.inside.Answers.{at_end, whole_program, IsAnswer}
 use Rattle.cyc_syntax.specs.inside.TreeView.{declarations_of}
 use Rattle.cyc_parse.specs.Acceptance.{IsAccepted, IsRefused, BreaksLimit, IsFaulty}
+use Rattle.cyc_parse.proofs.Locality.{one_refusal}
 use Rattle.cyc_parse.proofs.Soundness.{program_of-sound, answered_weight}
 use Rattle.cyc_parse.proofs.Refused.{program_of-refused, within_limits_answered, first_limit_refused}
 
@@ -32,9 +33,9 @@ pub whole_read : (ts : List Symbol) (ds : List Declaration) → whole_program ts
 unfolding bind
 whole_read ts ds e = whole_ok (program_of ts) ds e
 
-whole_of : (ts : List Symbol) (ds : List Declaration) → program_of ts ≡ Ok (ds, []) → whole_program ts ≡ Ok (ds, [])
+whole_program_of : (ts : List Symbol) (ds : List Declaration) → program_of ts ≡ Ok (ds, []) → whole_program ts ≡ Ok (ds, [])
 unfolding bind
-whole_of ts ds e = ap (λ (o : Outcome (List Declaration)). and_then o at_end) e
+whole_program_of ts ds e = ap (λ (o : Outcome (List Declaration)). and_then o at_end) e
 
 whole_refuses : (ts : List Symbol) (refusal : Refusal) → program_of ts ≡ Err refusal → whole_program ts ≡ Err refusal
 unfolding bind
@@ -62,10 +63,10 @@ accepted text tokens (Ok t) h =
     (declarations_of t, record { has = parsed.has; within = parsed.within }, refl)
 accepted text tokens (Err fault) h = tt
 
-pub named : (text : List ℕ) (tokens : List Token) (result : Result Tree Fault) → IsAnswer text tokens result
+pub names_are : (text : List ℕ) (tokens : List Token) (result : Result Tree Fault) → IsAnswer text tokens result
     → IfOk result (λ t. t.names ≡ distinct_texts (texts_in tokens))
-named text tokens (Ok t) h = h.names
-named text tokens (Err fault) h = tt
+names_are text tokens (Ok t) h = h.names
+names_are text tokens (Err fault) h = tt
 
 pub weighed : (text : List ℕ) (tokens : List Token) (count : ℕ) (result : Result Tree Fault) → length tokens ≡ count → IsAnswer text tokens result
     → IfOk result (λ t. tree_weight (declarations_of t) ≡ count)
@@ -73,10 +74,10 @@ weighed text tokens count (Ok t) same h =
     answered_weight (symbols_of tokens) [] (declarations_of t) (whole_read (symbols_of tokens) (declarations_of t) h.declarations) ∙ length-map tokens _ ∙ same
 weighed text tokens count (Err fault) same h = tt
 
-refused : (text : List ℕ) (tokens : List Token) (result : Result Tree Fault) → IsAnswer text tokens result → IfErr result (λ f. (f ≡ memory_fault) ⊎ IsRefused text tokens f)
-refused text tokens (Ok tree) h = tt
-refused text tokens (Err fault) (inl memory) = inl memory
-refused text tokens (Err fault) (inr h) =
+answer_is_refused : (text : List ℕ) (tokens : List Token) (result : Result Tree Fault) → IsAnswer text tokens result → IfErr result (λ f. (f ≡ memory_fault) ⊎ IsRefused text tokens f)
+answer_is_refused text tokens (Ok tree) h = tt
+answer_is_refused text tokens (Err fault) (inl memory) = inl memory
+answer_is_refused text tokens (Err fault) (inr h) =
     inr (record { refusal = h.refusal; refused = program_of-refused (symbols_of tokens) h.refusal (whole_refused (symbols_of tokens) h.refusal h.refused); is = h.is })
 
 abbrev answered : List Declaration → Outcome (List Declaration)
@@ -92,18 +93,15 @@ read_of (Err refusal) = []
 same_declarations : (ds es : List Declaration) → answered ds ≡ answered es → ds ≡ es
 same_declarations ds es e = ap read_of e
 
-same_refusal : (a b : Refusal) → refusing a ≡ refusing b → a ≡ b
-same_refusal a b e = cc
-
 differ : (ds : List Declaration) (refusal : Refusal) → answered ds ≡ refusing refusal → ⊥
 differ ds refusal e = cc
 
 accepts : (text : List ℕ) (tokens : List Token) (result : Result Tree Fault) → IsAnswer text tokens result
     → (tree : List Declaration) → HasTree (symbols_of tokens) tree → IsWithinLimits tree → MatchResult result (λ t. declarations_of t ≡ tree) (λ f. f ≡ memory_fault)
 accepts text tokens (Ok t) h tree has within =
-    same_declarations (declarations_of t) tree (sym h.declarations ∙ whole_of (symbols_of tokens) tree (within_limits_answered (symbols_of tokens) tree has within))
+    same_declarations (declarations_of t) tree (sym h.declarations ∙ whole_program_of (symbols_of tokens) tree (within_limits_answered (symbols_of tokens) tree has within))
 accepts text tokens (Err fault) (inl memory) tree has within = memory
-accepts text tokens (Err fault) (inr h) tree has within = absurd (differ tree h.refusal (sym (whole_of (symbols_of tokens) tree (within_limits_answered (symbols_of tokens) tree has within)) ∙ h.refused))
+accepts text tokens (Err fault) (inr h) tree has within = absurd (differ tree h.refusal (sym (whole_program_of (symbols_of tokens) tree (within_limits_answered (symbols_of tokens) tree has within)) ∙ h.refused))
 
 limit_refused : (tokens : List Token) (refusal : Refusal) → BreaksLimit tokens refusal → whole_program (symbols_of tokens) ≡ Err refusal
 limit_refused tokens refusal b = whole_refuses (symbols_of tokens) refusal
@@ -115,14 +113,14 @@ limits : (text : List ℕ) (tokens : List Token) (result : Result Tree Fault) �
 limits text tokens (Ok t) h refusal b = absurd (differ (declarations_of t) refusal (sym h.declarations ∙ limit_refused tokens refusal b))
 limits text tokens (Err fault) (inl memory) refusal b = inl memory
 limits text tokens (Err fault) (inr h) refusal b =
-    inr (h.is ∙ ap (fault_of (end_of text)) (same_refusal h.refusal refusal (sym h.refused ∙ limit_refused tokens refusal b)))
+    inr (h.is ∙ ap (fault_of (end_of text)) (one_refusal h.refusal refusal (sym h.refused ∙ limit_refused tokens refusal b)))
 
 pub decides : (text : List ℕ) (tokens : List Token) (result : Result Tree Fault) → IsAnswer text tokens result
     → Decides (IsAccepted tokens) (λ tree t. declarations_of t ≡ tree) (IsRefused text tokens) (IsFaulty text tokens) result
 decides text tokens result h =
     record {
       accepted = accepted text tokens result h;
-      refused = refused text tokens result h;
+      refused = answer_is_refused text tokens result h;
       accepts = λ tree is. accepts text tokens result h tree is.has is.within;
       refuses = λ fault is. subst (λ (g : Fault). MatchResult result (λ _. ⊥) (λ f. (f ≡ memory_fault) ⊎ (f ≡ g))) (sym is.is) (limits text tokens result h is.refusal is.breaks);
     }

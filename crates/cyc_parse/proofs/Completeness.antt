@@ -8,7 +8,7 @@ use Rattle.cyc_syntax.specs.Yields as yields
 use Rattle.cyc_syntax.specs.Grammar.{IsSpelled, HasTree, IsDeclaration, AreDeclarations}
 use Rattle.cyc_parse.specs.inside.Parsing.{pure, bind, choose}
 use Rattle.cyc_parse.specs.inside.Declarations.{declaration, declarations_in, program, program_of}
-use Rattle.cyc_parse.proofs.Rules.{Front, judge, Reads, Always, front-length, then_reads, last_reads, pure_reads, reads_as}
+use Rattle.cyc_parse.proofs.Rules.{Front, judge, Reads, Always, front-length, then_reads, last_reads, pure_reads, reads_instead}
 use Rattle.cyc_parse.proofs.DeclarationReads.{all_declarations}
 
 -- the text ends
@@ -41,12 +41,12 @@ declaration_first (Global t x v) = first_append _ (type_first 0 t)
 declaration_first (Function None f ps b) = record { first = _; others = _; are = refl }
 declaration_first (Function (Some t) f ps b) = first_append _ (type_first 0 t)
 
-declaration-length : (x : Declaration) → 1 ≤ length (yields.declaration 0 x)
-declaration-length x = let h = declaration_first x in subst (λ (ys : Yield). 1 ≤ length ys) (sym h.are) (omega arith)
+declaration_some : (x : Declaration) → 1 ≤ length (yields.declaration 0 x)
+declaration_some x = let h = declaration_first x in subst (λ (ys : Yield). 1 ≤ length ys) (sym h.are) (omega arith)
 
 declarations-length : (xs : List Declaration) → length xs ≤ length (yields.program xs)
 declarations-length [] = omega arith
-declarations-length (x ∷ xs) = omega (arith, declarations-length xs, declaration-length x, length-append (yields.declaration 0 x) (yields.program xs))
+declarations-length (x ∷ xs) = omega (arith, declarations-length xs, declaration_some x, length-append (yields.declaration 0 x) (yields.program xs))
 
 one_reads : (x : Declaration) → IsDeclaration x → Reads (declaration 200) x (yields.declaration 0 x) Always
 one_reads x is = all_declarations 198 0 refl x is
@@ -55,11 +55,11 @@ declarations_in_reads : (turns : ℕ) (xs : List Declaration) → length xs ≤ 
 unfolding declarations_in choose
 declarations_in_reads zero [] few are = pure_reads [] IsEnd
 declarations_in_reads zero (x ∷ xs) few are = absurd (omega arith)
-declarations_in_reads (suc turns) [] few are = reads_as (pure []) (λ ts rest front ends. at_end ts (front ∙ ends.end)) (pure_reads [] IsEnd)
+declarations_in_reads (suc turns) [] few are = reads_instead (pure []) (λ ts rest front ends. at_end ts (front ∙ ends.end)) (pure_reads [] IsEnd)
   where
     at_end : (ts : List Symbol) → ts ≡ [] → declarations_in 200 (suc turns) ts ≡ pure [] ts
     at_end ts e = subst (λ (w : List Symbol). declarations_in 200 (suc turns) w ≡ pure [] w) (sym e) refl
-declarations_in_reads (suc turns) (x ∷ xs) few (is, are) = reads_as (bind (declaration 200) (λ v. bind (declarations_in 200 turns) (λ vs. pure (v ∷ vs))))
+declarations_in_reads (suc turns) (x ∷ xs) few (is, are) = reads_instead (bind (declaration 200) (λ v. bind (declarations_in 200 turns) (λ vs. pure (v ∷ vs))))
     (λ ts rest front ends. going ts rest (subst (λ (ys : Yield). Front (ys ++ yields.program xs) ts rest) (declaration_first x).are front))
     (then_reads _ (one_reads x is) (last_reads (λ (vs : List Declaration). pure (x ∷ vs)) (λ ts. refl) (declarations_in_reads turns xs (omega arith) are)) (λ mid rest front ends. tt))
   where

@@ -18,15 +18,15 @@ left_of : Outcome (List Declaration) → List Symbol
 left_of (Ok p) = p.1
 left_of (Err refusal) = []
 
-none_left : (outcome : Outcome (List Declaration)) (ds : List Declaration) (left : List Symbol) → and_then outcome at_end ≡ Ok (ds, left) → left ≡ []
+end_leaves_none : (outcome : Outcome (List Declaration)) (ds : List Declaration) (left : List Symbol) → and_then outcome at_end ≡ Ok (ds, left) → left ≡ []
 unfolding left_of
-none_left (Ok (es, [])) ds left e = sym (ap left_of e)
-none_left (Ok (es, t ∷ ts)) ds left e = absurd (cc)
-none_left (Err refusal) ds left e = absurd (cc)
+end_leaves_none (Ok (es, [])) ds left e = sym (ap left_of e)
+end_leaves_none (Ok (es, t ∷ ts)) ds left e = absurd (cc)
+end_leaves_none (Err refusal) ds left e = absurd (cc)
 
 pub whole_ends : (ts : List Symbol) (ds : List Declaration) (left : List Symbol) → whole_program ts ≡ Ok (ds, left) → whole_program ts ≡ Ok (ds, [])
 unfolding bind
-whole_ends ts ds left e = e ∙ ap (λ (us : List Symbol). Ok (ds, us)) (none_left (program_of ts) ds left e)
+whole_ends ts ds left e = e ∙ ap (λ (us : List Symbol). Ok (ds, us)) (end_leaves_none (program_of ts) ds left e)
 
 -- The place behind the whole text is its end.
 pub end_behind : (text : List ℕ) (end : Span) → IsBehind end text → place_of_span end ≡ end_of text

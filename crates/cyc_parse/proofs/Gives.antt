@@ -16,7 +16,7 @@ use Rattle.cyc_syntax.specs.Yields.{Leaf, Yield, item_number}
 use Rattle.cyc_syntax.specs.Grammar.{IsWithin, max_nesting, max_items}
 use Rattle.cyc_parse.specs.inside.Parsing.{Parser, Outcome, Refusal, Reason, Unexpected, TooDeep, TooLong, and_then, bind, choose, next, take, same_keyword, same_sign, is_sign, is_word, identifier_name, region_of_terminal, named, only_place, sign, word, identifier, region_name, accept_if, advance, if_sees, sees, sees_terminal, refuse, refuse_item, reason_by, starts, if_starts, on_some, if_is, pure}
 use Rattle.cyc_parse.proofs.Rules.{Front, Fits, leaf_of, leaf_at}
-use Rattle.cyc_parse.proofs.Locality.{left_of}
+use Rattle.cyc_parse.proofs.Locality.{left_of, one_refusal}
 use Rattle.cyc_parse.proofs.LocalExpressions.{WasRead, was_read}
 
 -- Symbols begin with a yield that keeps the limits, of which this holds.
@@ -90,9 +90,9 @@ pub front-append : (xs ys : Yield) (ts mid rest : List Symbol) → Front xs ts m
 front-append [] ys ts mid rest f g = subst (λ (s : List Symbol). Front ys s rest) (sym f) g
 front-append (l ∷ xs) ys ts mid rest (t, more, e, is, f) g = (t, more, e, is, front-append xs ys more mid rest f g)
 
-pub all-append : (xs ys : Yield) → AllByRecursion IsWithin xs → AllByRecursion IsWithin ys → AllByRecursion IsWithin (xs ++ ys)
-all-append [] ys f g = g
-all-append (l ∷ xs) ys (one, f) g = (one, all-append xs ys f g)
+pub within-append : (xs ys : Yield) → AllByRecursion IsWithin xs → AllByRecursion IsWithin ys → AllByRecursion IsWithin (xs ++ ys)
+within-append [] ys f g = g
+within-append (l ∷ xs) ys (one, f) g = (one, within-append xs ys f g)
 
 begins_behind : (xs : Yield) {ys : Yield} {ts mid left : List Symbol} → Front xs ts mid → Begins ys mid left → Begins (xs ++ ys) ts left
 begins_behind xs {ts = ts} {mid = mid} front b = record {
@@ -106,9 +106,9 @@ begins_behind xs {ts = ts} {mid = mid} front b = record {
 }
 
 -- behind one symbol
-pub begins_next : (leaf : Leaf) (t : Symbol) {ys : Yield} {more mid left : List Symbol} → t.terminal ≡ leaf.terminal → IfSome leaf.place (λ q. t.place ≡ q) → more ≡ mid → Begins ys mid left
+pub leaf_begins : (leaf : Leaf) (t : Symbol) {ys : Yield} {more mid left : List Symbol} → t.terminal ≡ leaf.terminal → IfSome leaf.place (λ q. t.place ≡ q) → more ≡ mid → Begins ys mid left
     → Begins (leaf ∷ ys) (t ∷ more) left
-begins_next leaf t {more = more} terminal place same b = begins_behind (leaf ∷ []) (t, more, refl, record { terminal = terminal; place = place }, same) b
+leaf_begins leaf t {more = more} terminal place same b = begins_behind (leaf ∷ []) (t, more, refl, record { terminal = terminal; place = place }, same) b
 
 begins_before : {xs : Yield} (ys : Yield) {ts left : List Symbol} → Begins xs ts left → Begins (xs ++ ys) ts left
 begins_before ys b = record {
@@ -136,18 +136,11 @@ begins_here leaf behind t more left terminal place same = record {
 
 -- ---- refusals
 
-abbrev refusal_of : {A : Type 0} → Refusal → Outcome A → Refusal
-refusal_of e (Ok q) = e
-refusal_of e (Err r) = r
-
-same_refusal : {A : Type 0} (r e : Refusal) → ◌≡◌ {A = Outcome A} (Err r) (Err e) → r ≡ e
-same_refusal r e h = ap (λ (o : Outcome _). refusal_of e o) h
-
 no_limit : {P : Type 0} {A : Type 0} (left : List Symbol) (e : Refusal) → ◌≡◌ {A = Outcome A} (Err (record { reason = Unexpected; left = left })) (Err e) → IsLimit e.reason → P
-no_limit left e h limit = absurd (subst IsLimit (sym (ap (λ (r : Refusal). r.reason) (same_refusal _ e h))) limit)
+no_limit left e h limit = absurd (subst IsLimit (sym (ap (λ (r : Refusal). r.reason) (one_refusal _ e h))) limit)
 
-answers : {P : Type 0} {A : Type 0} {e : Refusal} {r : A × List Symbol} → ◌≡◌ {A = Outcome A} (Ok r) (Err e) → P
-answers h = absurd (cc)
+no_refusal : {P : Type 0} {A : Type 0} {e : Refusal} {r : A × List Symbol} → ◌≡◌ {A = Outcome A} (Ok r) (Err e) → P
+no_refusal h = absurd (cc)
 
 -- either of two parsers refuses
 data WasRefused {A B : Type 0} (p : Parser A) (f : A → Parser B) (ts : List Symbol) (e : Refusal) : Type 0 where
@@ -160,7 +153,7 @@ was_refused {A} {B} p f ts e h = go (p ts) refl h
   where
     go : (o : Outcome A) → p ts ≡ o → and_then o f ≡ Err e → WasRefused p f ts e
     go (Ok q) is k = in_second q.0 q.1 is k
-    go (Err r) is k = in_first (is ∙ ap Err (same_refusal r e k))
+    go (Err r) is k = in_first (is ∙ ap Err (one_refusal r e k))
 
 -- ---- one part and then another
 
@@ -174,7 +167,7 @@ part_then {p = p} {f = f} {Q = Q} {ts = ts} first second = record {
       record {
         leaves = a.leaves ++ b.leaves;
         front = front-append a.leaves b.leaves ts w.mid rest a.front b.front;
-        within = all-append a.leaves b.leaves a.within b.within;
+        within = within-append a.leaves b.leaves a.within b.within;
         post = b.post;
       };
   goes = λ e h limit. completed e limit (was_refused p f ts e h);
@@ -232,7 +225,7 @@ last_then {A} {B} {p = p} make {yield = yield} {Is = Is} {Q = Q} {ts = ts} first
     completed e limit (in_first h) =
         let a = first.goes e h limit in
         record { value = make a.value; leaves = a.leaves; begins = a.begins; post = made a.value a.leaves a.post }
-    completed e limit (in_second x mid h k) = answers k
+    completed e limit (in_second x mid h k) = no_refusal k
 
 pub pure_gives : {A : Type 0} {Q : A → Yield → List Symbol → Type 0} {ts : List Symbol} {x : A} → Q x [] ts → Gives (pure x) Q ts
 pure_gives {A} {Q = Q} {ts = ts} {x = x} post = record {
@@ -240,7 +233,7 @@ pure_gives {A} {Q = Q} {ts = ts} {x = x} post = record {
       let same : ts ≡ rest = ap left_of h in
       let value : x ≡ y = ap (answer_of y) h in
       record { leaves = []; front = same; within = tt; post = subst (λ (z : A). Q z [] rest) value (subst (λ (s : List Symbol). Q x [] s) same post) };
-  goes = λ e h limit. answers h;
+  goes = λ e h limit. no_refusal h;
   ending = λ none. record { value = x; leaves = []; post = subst (λ (s : List Symbol). Q x [] s) none post };
 }
 
@@ -262,7 +255,7 @@ then_unexpected {A} {Q = Q} {ts = ts} possible = record {
 
     refused : (ts : List Symbol) (e : Refusal) → IsLimit e.reason → WasRefused advance (λ _. refuse {A = A} Unexpected) ts e → Completed Q ts e.left
     refused [] e limit (in_first h) = no_limit [] e h limit
-    refused (t ∷ ts) e limit (in_first h) = answers h
+    refused (t ∷ ts) e limit (in_first h) = no_refusal h
     refused ts e limit (in_second x mid h k) = no_limit mid e k limit
 
 completed_here : {A : Type 0} {Q : A → Yield → List Symbol → Type 0} (t : Symbol) (more left : List Symbol) → left ≡ t ∷ more → Opened Q t.terminal t.place → Completed Q (t ∷ more) left
@@ -273,7 +266,7 @@ completed_here t more left same o =
 pub limit_gives : {A : Type 0} {Q : A → Yield → List Symbol → Type 0} {ts : List Symbol} (why : Reason) (u : Terminal) → next ts ≡ Some u → ((p : Place) → Opened Q u p) → Gives (refuse {A = A} why) Q ts
 limit_gives {A} {Q = Q} {ts = ts} why u comes opened = record {
   gives = λ rest y h. absurd (cc);
-  goes = λ e h limit. start ts e comes (ap (λ (r : Refusal). r.left) (same_refusal _ e h));
+  goes = λ e h limit. start ts e comes (ap (λ (r : Refusal). r.left) (one_refusal _ e h));
   ending = λ none. absurd (nothing (ap next (sym none) ∙ comes));
 }
   where
@@ -304,7 +297,7 @@ item_refusal_gives {A} {Q = Q} {ts = ts} begins why possible opened = record {
   where
     by_begin : (b : Bool) (t : Symbol) (more : List Symbol) (e : Refusal) → begins t.terminal ≡ b
         → ◌≡◌ {A = Outcome A} (Err (record { reason = if b then why else Unexpected; left = t ∷ more })) (Err e) → IsLimit e.reason → Completed Q (t ∷ more) e.left
-    by_begin true t more e is h limit = completed_here t more e.left (sym (ap (λ (r : Refusal). r.left) (same_refusal _ e h))) (opened t.terminal t.place is)
+    by_begin true t more e is h limit = completed_here t more e.left (sym (ap (λ (r : Refusal). r.left) (one_refusal _ e h))) (opened t.terminal t.place is)
     by_begin false t more e is h limit = no_limit (t ∷ more) e h limit
 
     start : (ts : List Symbol) (e : Refusal) → ◌≡◌ {A = Outcome A} (Err (record { reason = reason_by begins why (next ts); left = ts })) (Err e) → IsLimit e.reason → Completed Q ts e.left
@@ -322,8 +315,8 @@ gives_as weaker h = record {
 }
 
 -- the parser does here what another does
-pub gives_same : {A : Type 0} {p : Parser A} (q : Parser A) {Q : A → Yield → List Symbol → Type 0} {ts : List Symbol} → p ts ≡ q ts → Gives q Q ts → Gives p Q ts
-gives_same q same h = record { gives = λ rest x e. h.gives rest x (sym same ∙ e); goes = λ e is limit. h.goes e (sym same ∙ is) limit; ending = h.ending }
+pub gives_instead : {A : Type 0} {p : Parser A} (q : Parser A) {Q : A → Yield → List Symbol → Type 0} {ts : List Symbol} → p ts ≡ q ts → Gives q Q ts → Gives p Q ts
+gives_instead q same h = record { gives = λ rest x e. h.gives rest x (sym same ∙ e); goes = λ e is limit. h.goes e (sym same ∙ is) limit; ending = h.ending }
 
 -- ---- items, whose first leaves have their numbers
 
@@ -355,18 +348,18 @@ item_gives {yield = yield} i few h = record {
 
 -- ---- one symbol
 
-taken : {A B : Type 0} (room : ℕ) (o : Option A) (give : A → Place → B) (t : Symbol) (ts rest : List Symbol) (y : B) → accept_if room o give t ts ≡ Ok (y, rest)
+taken_parts : {A B : Type 0} (room : ℕ) (o : Option A) (give : A → Place → B) (t : Symbol) (ts rest : List Symbol) (y : B) → accept_if room o give t ts ≡ Ok (y, rest)
     → (r : ℕ) × (a : A) × (room ≡ suc r) × (o ≡ Some a) × (give a t.place ≡ y) × (ts ≡ rest)
-taken room None give t ts rest y h = absurd (cc)
-taken zero (Some a) give t ts rest y h = absurd (cc)
-taken (suc r) (Some a) give t ts rest y h = (r, a, refl, refl, ap (answer_of y) h, ap left_of h)
+taken_parts room None give t ts rest y h = absurd (cc)
+taken_parts zero (Some a) give t ts rest y h = absurd (cc)
+taken_parts (suc r) (Some a) give t ts rest y h = (r, a, refl, refl, ap (answer_of y) h, ap left_of h)
 
 -- what is refused for a limit stands too deep
 too_deep : {A B : Type 0} (room : ℕ) (o : Option A) (give : A → Place → B) (t : Symbol) (ts : List Symbol) (e : Refusal) → accept_if room o give t ts ≡ Err e → IsLimit e.reason
     → (a : A) × (o ≡ Some a) × (e.left ≡ t ∷ ts)
 too_deep room None give t ts e h limit = no_limit (t ∷ ts) e h limit
-too_deep zero (Some a) give t ts e h limit = (a, refl, sym (ap (λ (r : Refusal). r.left) (same_refusal _ e h)))
-too_deep (suc r) (Some a) give t ts e h limit = answers h
+too_deep zero (Some a) give t ts e h limit = (a, refl, sym (ap (λ (r : Refusal). r.left) (one_refusal _ e h)))
+too_deep (suc r) (Some a) give t ts e h limit = no_refusal h
 
 pub some_place : Place
 some_place = record { line = 1; column = 1 }
@@ -387,7 +380,7 @@ take_then {A} {B} {C} room reads give f {Q = Q} {ts = ts} some leaf fits few is 
   where
     go : (t : Symbol) (more rest : List Symbol) (y : C) → (w : WasRead (take room reads give) f (t ∷ more) rest y) → accept_if room (reads t.terminal) give t more ≡ Ok (w.value, w.mid) → Derived (t ∷ more) rest (λ ls. Q y ls rest)
     go t more rest y w e =
-        let (r, a, roomy, reading, value, same) = taken room (reads t.terminal) give t more w.mid w.value e in
+        let (r, a, roomy, reading, value, same) = taken_parts room (reads t.terminal) give t more w.mid w.value e in
         let d = (second a t.place w.mid).gives rest y (ap (λ (b : B). f b w.mid) value ∙ w.second) in
         record {
           leaves = leaf a t.place ∷ d.leaves;
@@ -414,9 +407,9 @@ take_then {A} {B} {C} room reads give f {Q = Q} {ts = ts} some leaf fits few is 
         let b = (second a t.place []).ending refl in
         record { value = b.value; leaves = leaf a t.place ∷ b.leaves; begins = begins_here (leaf a t.place) b.leaves t more e.left (is a t.terminal t.place reading) (place a t.place) same; post = b.post }
     refused (t ∷ more) e limit (in_second x mid h k) =
-        let (r, a, roomy, reading, value, same) = taken room (reads t.terminal) give t more mid x h in
+        let (r, a, roomy, reading, value, same) = taken_parts room (reads t.terminal) give t more mid x h in
         let d = (second a t.place mid).goes e (ap (λ (b : B). f b mid) value ∙ k) limit in
-        record { value = d.value; leaves = leaf a t.place ∷ d.leaves; begins = begins_next (leaf a t.place) t (is a t.terminal t.place reading) (place a t.place) same d.begins; post = d.post }
+        record { value = d.value; leaves = leaf a t.place ∷ d.leaves; begins = leaf_begins (leaf a t.place) t (is a t.terminal t.place reading) (place a t.place) same d.begins; post = d.post }
 
 -- with no room left nothing is read
 pub stuck_then : {A B C : Type 0} (reads : Terminal → Option A) (give : A → Place → B) (f : B → Parser C) {Q : C → Yield → List Symbol → Type 0} {ts : List Symbol} (leaf : Leaf) (possible : Possible (λ y ys rest. Q y (leaf ∷ ys) rest))
@@ -479,13 +472,13 @@ identifier_is (Character c) a h = absurd (cc)
 identifier_is (Word k) a h = absurd (cc)
 identifier_is (Mark s) a h = absurd (cc)
 
-region_is : (u : Terminal) (a : ℕ) → region_of_terminal u ≡ Some a → u ≡ RegionName a
-region_is (RegionName x) a h = cc
-region_is (Identifier x) a h = absurd (cc)
-region_is (Number n) a h = absurd (cc)
-region_is (Character c) a h = absurd (cc)
-region_is (Word k) a h = absurd (cc)
-region_is (Mark s) a h = absurd (cc)
+region_terminal : (u : Terminal) (a : ℕ) → region_of_terminal u ≡ Some a → u ≡ RegionName a
+region_terminal (RegionName x) a h = cc
+region_terminal (Identifier x) a h = absurd (cc)
+region_terminal (Number n) a h = absurd (cc)
+region_terminal (Character c) a h = absurd (cc)
+region_terminal (Word k) a h = absurd (cc)
+region_terminal (Mark s) a h = absurd (cc)
 
 module _ {C : Type 0} {Q : C → Yield → List Symbol → Type 0} {ts : List Symbol} (room d : ℕ) where
   -- a sign that is the item of this number of its chain, or no item
@@ -509,7 +502,7 @@ module _ {C : Type 0} {Q : C → Yield → List Symbol → Type 0} {ts : List Sy
   identifier_then fits second = take_then room identifier_name named _ 0 (λ a q. leaf_at d (Identifier a) q) (λ _ _. fits) (λ _ _. omega arith) (λ a u _ e. identifier_is u a e) (λ _ _. refl) (λ a q mid. second (named a q) mid)
 
   pub region_then : {f : Named → Parser C} → Fits room d → ((x : Named) (mid : List Symbol) → Gives (f x) (λ y ys rest. Q y (leaf_at d (RegionName x.name) x.place ∷ ys) rest) mid) → Gives (bind (region_name room) f) Q ts
-  region_then fits second = take_then room region_of_terminal named _ 0 (λ a q. leaf_at d (RegionName a) q) (λ _ _. fits) (λ _ _. omega arith) (λ a u _ e. region_is u a e) (λ _ _. refl) (λ a q mid. second (named a q) mid)
+  region_then fits second = take_then room region_of_terminal named _ 0 (λ a q. leaf_at d (RegionName a) q) (λ _ _. fits) (λ _ _. omega arith) (λ a u _ e. region_terminal u a e) (λ _ _. refl) (λ a q mid. second (named a q) mid)
 
 pub stuck_sign : {C : Type 0} {Q : C → Yield → List Symbol → Type 0} {ts : List Symbol} (d : ℕ) (s : Sign) (f : Place → Parser C)
     → Possible (λ y ys rest. Q y (leaf_of d (Mark s) ∷ ys) rest) → Gives (bind (sign zero s) f) Q ts
@@ -540,7 +533,7 @@ advance_leaf_then {C} {f = f} {Q = Q} {ts = ts} leaf u comes is shallow few plac
     refused (t ∷ more) e comes h limit =
         let same : t.terminal ≡ u = cc in
         let d = (second t.place more).goes e h limit in
-        record { value = d.value; leaves = leaf t.place ∷ d.leaves; begins = begins_next (leaf t.place) t (same ∙ sym (is t.place)) (place t.place) refl d.begins; post = d.post }
+        record { value = d.value; leaves = leaf t.place ∷ d.leaves; begins = leaf_begins (leaf t.place) t (same ∙ sym (is t.place)) (place t.place) refl d.begins; post = d.post }
 
     start : (ts rest : List Symbol) (y : C) → next ts ≡ Some u → bind advance f ts ≡ Ok (y, rest) → Derived ts rest (λ ls. Q y ls rest)
     start [] rest y e h = absurd (cc)
@@ -565,14 +558,14 @@ advance_bare_then d u comes shallow second = advance_leaf_then (λ q. leaf_of d 
 
 pub choose_gives : {A : Type 0} {f : Option Terminal → Parser A} {Q : A → Yield → List Symbol → Type 0} {ts : List Symbol} → ((o : Option Terminal) → next ts ≡ o → Gives (f o) Q ts) → Gives (choose f) Q ts
 unfolding choose
-choose_gives {f = f} {ts = ts} h = gives_same (f (next ts)) refl (h (next ts) refl)
+choose_gives {f = f} {ts = ts} h = gives_instead (f (next ts)) refl (h (next ts) refl)
 
 cond_gives : {A : Type 0} {p q : Parser A} {Q : A → Yield → List Symbol → Type 0} {ts : List Symbol} (b : Bool) → (b ≡ true → Gives p Q ts) → (b ≡ false → Gives q Q ts) → Gives (cond b p q) Q ts
 cond_gives true h k = h refl
 cond_gives false h k = k refl
 
 pub test_gives : {A : Type 0} {p q : Parser A} {Q : A → Yield → List Symbol → Type 0} {ts : List Symbol} (g : List Symbol → Bool) → (g ts ≡ true → Gives p Q ts) → (g ts ≡ false → Gives q Q ts) → Gives (λ s. cond (g s) p q s) Q ts
-test_gives {p = p} {q = q} {ts = ts} g h k = gives_same (cond (g ts) p q) refl (cond_gives (g ts) h k)
+test_gives {p = p} {q = q} {ts = ts} g h k = gives_instead (cond (g ts) p q) refl (cond_gives (g ts) h k)
 
 pub sees_gives : {A : Type 0} (s : Sign) {p q : Parser A} {Q : A → Yield → List Symbol → Type 0} {ts : List Symbol} → Gives p Q ts → Gives q Q ts → Gives (if_sees s p q) Q ts
 unfolding if_sees
@@ -584,7 +577,7 @@ starts_gives begins h k = test_gives (λ s. starts begins (next s)) h k
 
 pub is_gives : {A B : Type 0} (reads : Option Terminal → Option A) {f : A → Parser B} {q : Parser B} {Q : B → Yield → List Symbol → Type 0} {ts : List Symbol} → ((x : A) → reads (next ts) ≡ Some x → Gives (f x) Q ts) → Gives q Q ts → Gives (if_is reads f q) Q ts
 unfolding if_is
-is_gives {A} reads {f = f} {q = q} {Q = Q} {ts = ts} h k = gives_same (on_some (reads (next ts)) f q) refl (go (reads (next ts)) refl)
+is_gives {A} reads {f = f} {q = q} {Q = Q} {ts = ts} h k = gives_instead (on_some (reads (next ts)) f q) refl (go (reads (next ts)) refl)
   where
     go : (o : Option A) → reads (next ts) ≡ o → Gives (on_some o f q) Q ts
     go None e = k
@@ -593,7 +586,7 @@ is_gives {A} reads {f = f} {q = q} {Q = Q} {ts = ts} h k = gives_same (on_some (
 -- a parser of which nothing is made
 pub bare_gives : {A : Type 0} {p : Parser A} {Q : A → Yield → List Symbol → Type 0} {ts : List Symbol} → Gives (bind p (λ x. pure x)) Q ts → Gives p Q ts
 unfolding bind
-bare_gives {A} {p = p} {ts = ts} h = gives_same (bind p (λ x. pure x)) (same (p ts)) h
+bare_gives {A} {p = p} {ts = ts} h = gives_instead (bind p (λ x. pure x)) (same (p ts)) h
   where
     same : (o : Outcome A) → o ≡ and_then o (λ x. pure x)
     same (Ok q) = refl
@@ -631,5 +624,5 @@ opened_then {Q = Q} o more =
     let b = more o.value o.post.1 in
     record { value = b.value; leaf = o.leaf; behind = o.behind ++ b.leaves; terminal = o.terminal; place = o.place; post = subst (λ (zs : Yield). Q b.value (zs ++ b.leaves) []) (sym o.post.0) b.post }
 
-pub opened_as : {A : Type 0} {P Q : A → Yield → List Symbol → Type 0} {u : Terminal} {p : Place} → ((x : A) (ls : Yield) → P x ls [] → Q x ls []) → Opened P u p → Opened Q u p
-opened_as weaker o = record { value = o.value; leaf = o.leaf; behind = o.behind; terminal = o.terminal; place = o.place; post = weaker o.value (o.leaf ∷ o.behind) o.post }
+pub opening_as : {A : Type 0} {P Q : A → Yield → List Symbol → Type 0} {u : Terminal} {p : Place} → ((x : A) (ls : Yield) → P x ls [] → Q x ls []) → Opened P u p → Opened Q u p
+opening_as weaker o = record { value = o.value; leaf = o.leaf; behind = o.behind; terminal = o.terminal; place = o.place; post = weaker o.value (o.leaf ∷ o.behind) o.post }

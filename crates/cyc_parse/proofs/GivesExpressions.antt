@@ -5,19 +5,19 @@ use Rattle.std.specs.List.{AllByRecursion}
 use Rattle.cyc_syntax.specs.declared.tokens.Keyword.TheVariants as words
 use Rattle.cyc_syntax.specs.declared.tokens.Sign.{Sign}
 use Rattle.cyc_syntax.specs.declared.tokens.Sign.TheVariants as signs
-use Rattle.cyc_syntax.specs.declared.tree.PrefixOperator.TheVariants as prefixes
+use Rattle.cyc_syntax.specs.declared.tree.PrefixOperator.{PrefixOperator}
 use Rattle.cyc_syntax.specs.declared.tree.BinaryOperator.{BinaryOperator}
-use Rattle.cyc_syntax.specs.declared.tree.BinaryOperator.TheVariants as operators
 use Rattle.cyc_syntax.specs.Symbols.{Terminal, Identifier, Word, Mark, Symbol}
 use Rattle.cyc_syntax.specs.Symbols as terminals
 use Rattle.cyc_syntax.specs.Trees.{Named, Expression, NumberOfElements, LowByteOf, FreeUnique, Prefixed, New, RegionNew, Assign, Plain, MoreExpressions, Postfixes, NoPostfixes, ThenIndex, ThenField, Operations, NoOperations, ThenOperation}
-use Rattle.cyc_syntax.specs.Yields.{Yield, operator_sign}
+use Rattle.cyc_syntax.specs.Yields.{Yield, prefix_sign, operator_sign}
 use Rattle.cyc_syntax.specs.Yields as yields
 use Rattle.cyc_syntax.specs.Grammar.{level, is_primary, IsExpression, IsInitial, AreExpressions, ArePostfixes, AreOperations, IsSomeExpression, max_nesting, max_items}
 use Rattle.cyc_parse.specs.inside.Parsing.{Parser, TooDeep, TooLong, next, bind, refuse_item, opens_regions}
-use Rattle.cyc_parse.specs.inside.Expressions.{begins_expression, begins_initial, binary_operator, of_level, operator_at, chain_of, chained, binary_of, operations, climb, Nested, group, arguments, from_name, primary_by, primary, postfixes, with_postfixes, unary_by, unary, assignment, binary, expression, more_values, values, fields, initial_from_name, array, initial_by, initial, nested}
+use Rattle.cyc_parse.specs.inside.Expressions.{begins_expression, begins_initial, prefix_operator, binary_operator, of_level, operator_at, chain_of, chained, binary_of, operations, climb, Nested, group, arguments, from_name, primary_by, primary, postfixes, with_postfixes, prefixed_by, unary_by, unary, assignment, binary, expression, more_values, values, fields, initial_from_name, array, initial_by, initial, nested}
 use Rattle.cyc_parse.proofs.Rules.{Fits, leaf_of, leaf_at}
-use Rattle.cyc_parse.proofs.Gives.{Gives, Follows, Spells, part_then, spelled_then, last_then, pure_gives, possibly, unexpected_gives, limit_gives, item_refusal_gives, gives_as, gives_same, some_place, sign_then, sign_item_then, word_then_at, identifier_then, advance_then, advance_leaf_then, choose_gives, test_gives, sees_gives, sees_limit_gives, is_gives, opened_item, opened_as}
+use Rattle.cyc_parse.proofs.OperatorSigns.{is_prefix_sign, is_operator_sign}
+use Rattle.cyc_parse.proofs.Gives.{Gives, Follows, Spells, part_then, spelled_then, last_then, pure_gives, possibly, unexpected_gives, limit_gives, item_refusal_gives, gives_as, gives_instead, some_place, sign_then, sign_item_then, word_then_at, identifier_then, advance_then, advance_leaf_then, choose_gives, test_gives, sees_gives, sees_limit_gives, is_gives, opened_item, opening_as}
 use Rattle.cyc_parse.proofs.Openings.{named_at, zero_at, looser, expression_opened, group_opened, initial_opened}
 use Rattle.cyc_parse.proofs.GivesTypes.{separated_gives, region_list_gives}
 
@@ -27,27 +27,6 @@ abbrev pub Level : ℕ → Expression → List Symbol → Type 0
 Level k e rest = IsExpression k e
 
 -- ---- operators
-
-sign_of : (s : Sign) (o : BinaryOperator) → binary_operator s ≡ Some o → s ≡ operator_sign o
-sign_of signs.OrOr o h = let e : operators.OrElse ≡ o = cc in ap operator_sign e
-sign_of signs.AndAnd o h = let e : operators.AndThen ≡ o = cc in ap operator_sign e
-sign_of signs.Or o h = let e : operators.Or ≡ o = cc in ap operator_sign e
-sign_of signs.Xor o h = let e : operators.Xor ≡ o = cc in ap operator_sign e
-sign_of signs.And o h = let e : operators.And ≡ o = cc in ap operator_sign e
-sign_of signs.Equal o h = let e : operators.Equal ≡ o = cc in ap operator_sign e
-sign_of signs.NotEqual o h = let e : operators.NotEqual ≡ o = cc in ap operator_sign e
-sign_of signs.Less o h = let e : operators.Less ≡ o = cc in ap operator_sign e
-sign_of signs.LessOrEqual o h = let e : operators.LessOrEqual ≡ o = cc in ap operator_sign e
-sign_of signs.Greater o h = let e : operators.Greater ≡ o = cc in ap operator_sign e
-sign_of signs.GreaterOrEqual o h = let e : operators.GreaterOrEqual ≡ o = cc in ap operator_sign e
-sign_of signs.ShiftLeft o h = let e : operators.ShiftLeft ≡ o = cc in ap operator_sign e
-sign_of signs.ShiftRight o h = let e : operators.ShiftRight ≡ o = cc in ap operator_sign e
-sign_of signs.Plus o h = let e : operators.Add ≡ o = cc in ap operator_sign e
-sign_of signs.Minus o h = let e : operators.Subtract ≡ o = cc in ap operator_sign e
-sign_of signs.Star o h = let e : operators.Multiply ≡ o = cc in ap operator_sign e
-sign_of signs.Slash o h = let e : operators.Divide ≡ o = cc in ap operator_sign e
-sign_of signs.Percent o h = let e : operators.Remainder ≡ o = cc in ap operator_sign e
-sign_of _ o h = absurd (cc)
 
 of_level_is : (k : ℕ) (b : Option BinaryOperator) (o : BinaryOperator) → of_level k b ≡ Some o → (b ≡ Some o) × (level o ≡ k)
 of_level_is k None o h = absurd (cc)
@@ -61,15 +40,15 @@ of_level_is k (Some b) o h = go (nat_eq (level b) k) refl h
         level_at (Some o) = level o
     go false e h = absurd (cc)
 
-operator_comes : (k : ℕ) (u : Option Terminal) (o : BinaryOperator) → operator_at k u ≡ Some o → (u ≡ Some (Mark (operator_sign o))) × (level o ≡ k)
-operator_comes k (Some (Mark s)) o h = let (b, same) = of_level_is k (binary_operator s) o h in (ap (λ (w : Sign). Some (Mark w)) (sign_of s o b), same)
-operator_comes k _ o h = absurd (cc)
+operator_read : (k : ℕ) (u : Option Terminal) (o : BinaryOperator) → operator_at k u ≡ Some o → (u ≡ Some (Mark (operator_sign o))) × (level o ≡ k)
+operator_read k (Some (Mark s)) o h = let (b, same) = of_level_is k (binary_operator s) o h in (ap (λ (w : Sign). Some (Mark w)) (is_operator_sign s o b), same)
+operator_read k _ o h = absurd (cc)
 
 module _ (d : ℕ) (shallow : d ≤ max_nesting) where
   operations_give : (operand : Parser Expression) (k : ℕ) → ((ts : List Symbol) → Gives operand (Spells (yields.expression d) (Level k)) ts)
       → (left i : ℕ) → left + i ≡ suc max_items → (ts : List Symbol) → Gives (operations operand (suc k) left) (Spells (yields.operations d i) (λ os _. AreOperations k os)) ts
   unfolding operations
-  operations_give operand k h zero i count ts = is_gives (operator_at (suc k)) (λ o e. let (comes, same) = operator_comes (suc k) (next ts) o e in limit_gives TooLong (Mark (operator_sign o)) comes (λ p. record {
+  operations_give operand k h zero i count ts = is_gives (operator_at (suc k)) (λ o e. let (comes, same) = operator_read (suc k) (next ts) o e in limit_gives TooLong (Mark (operator_sign o)) comes (λ p. record {
     value = ThenOperation o p (zero_at p) NoOperations;
     leaf = record { terminal = Mark (operator_sign o); place = Some p; nesting = d; item = i };
     behind = leaf_at d (terminals.Number 0) p ∷ [];
@@ -78,8 +57,8 @@ module _ (d : ℕ) (shallow : d ≤ max_nesting) where
     post = (refl, (same, tt, tt));
   })) (pure_gives (refl, tt))
   operations_give operand k h (suc left) i count ts = is_gives (operator_at (suc k)) (λ o e. advance_leaf_then (λ p. record { terminal = Mark (operator_sign o); place = Some p; nesting = d; item = i }) (Mark (operator_sign o))
-      ((operator_comes (suc k) (next ts) o e).0) (λ _. refl) (λ _. shallow) (λ _. omega arith) (λ _. refl)
-      (λ p mid. spelled_then (h mid) (λ r mid is. last_then (λ os. ThenOperation o p r os) (operations_give operand k h left (suc i) (omega arith) mid) (λ os rest are. (refl, ((operator_comes (suc k) (next ts) o e).1, is, are))))))
+      ((operator_read (suc k) (next ts) o e).0) (λ _. refl) (λ _. shallow) (λ _. omega arith) (λ _. refl)
+      (λ p mid. spelled_then (h mid) (λ r mid is. last_then (λ os. ThenOperation o p r os) (operations_give operand k h left (suc i) (omega arith) mid) (λ os rest are. (refl, ((operator_read (suc k) (next ts) o e).1, is, are))))))
       (pure_gives (refl, tt))
 
   binary_yield : (first : Expression) (os : Operations) → yields.expression d first ++ yields.operations d 1 os ≡ yields.expression d (binary_of first os)
@@ -137,7 +116,7 @@ module _ (room d : ℕ) (inner : Nested) (fits : Fits (suc room) d) (h : NestedG
   arguments_give : (ts : List Symbol) → Gives (arguments room inner) (Spells (yields.arguments (suc d)) (λ es _. AreExpressions es)) ts
   arguments_give ts = sees_gives signs.RightParen (pure_gives (refl, tt))
       (last_then chain_of (separated_gives room (suc d) deeper begins_expression inner.expression (yields.expression (suc d)) (λ e. IsExpression 11 e) h.expression
-      (λ u p begins. opened_as (λ e ls (eq, is). (eq, looser 0 11 (omega arith) e is)) (expression_opened (suc d) u p begins)) ts) (λ es rest all. (chain_yield (suc d) es, chain_are es all.1)))
+      (λ u p begins. opening_as (λ e ls (eq, is). (eq, looser 0 11 (omega arith) e is)) (expression_opened (suc d) u p begins)) ts) (λ es rest all. (chain_yield (suc d) es, chain_are es all.1)))
 
   from_name_gives : (x : Named) (ts : List Symbol) → Gives (from_name room inner x) (Follows (leaf_at d (Identifier x.name) x.place ∷ []) (yields.expression d) IsOperand) ts
   from_name_gives x ts = sees_gives signs.LeftParen (sign_then (suc room) d signs.LeftParen fits (λ _ mid. spelled_then (arguments_give mid) (λ es mid are. sign_then room (suc d) signs.RightParen deeper (λ _ mid. pure_gives (refl, (refl, are))))))
@@ -190,12 +169,13 @@ module _ (room d : ℕ) (inner : Nested) (fits : Fits (suc room) d) (h : NestedG
   named_gives : (x : Named) (ts : List Symbol) → Gives (with_postfixes room inner (from_name room inner x)) (Follows (leaf_at d (Identifier x.name) x.place ∷ []) (yields.expression d) (Level 0)) ts
   named_gives x ts = with_postfixes_give (leaf_at d (Identifier x.name) x.place ∷ []) (from_name room inner x) ts (from_name_gives x ts)
 
+  prefixed_by_gives : (s : Sign) (o : Option PrefixOperator) → prefix_operator s ≡ o → (ts : List Symbol) → next ts ≡ Some (Mark s) → Gives (prefixed_by room inner o) (Spells (yields.expression d) (Level 0)) ts
+  prefixed_by_gives s (Some o) is ts e =
+      advance_then d (Mark (prefix_sign o)) (e ∙ ap (λ (w : Sign). Some (Mark w)) (is_prefix_sign s o is)) shallow (λ p mid. last_then (Prefixed p o) (h.unary mid) (λ x rest is. (refl, is)))
+  prefixed_by_gives s None is ts e = with_postfixes_give [] (primary room inner) ts (primary_gives ts)
+
   unary_by_gives : (o : Option Terminal) (ts : List Symbol) → next ts ≡ o → Gives (unary_by room inner o) (Spells (yields.expression d) (Level 0)) ts
-  unary_by_gives (Some (Mark signs.Minus)) ts e = advance_then d (Mark signs.Minus) e shallow (λ p mid. last_then (Prefixed p prefixes.Negate) (h.unary mid) (λ x rest is. (refl, is)))
-  unary_by_gives (Some (Mark signs.Not)) ts e = advance_then d (Mark signs.Not) e shallow (λ p mid. last_then (Prefixed p prefixes.Not) (h.unary mid) (λ x rest is. (refl, is)))
-  unary_by_gives (Some (Mark signs.Tilde)) ts e = advance_then d (Mark signs.Tilde) e shallow (λ p mid. last_then (Prefixed p prefixes.Complement) (h.unary mid) (λ x rest is. (refl, is)))
-  unary_by_gives (Some (Mark signs.Star)) ts e = advance_then d (Mark signs.Star) e shallow (λ p mid. last_then (Prefixed p prefixes.Dereference) (h.unary mid) (λ x rest is. (refl, is)))
-  unary_by_gives (Some (Mark signs.And)) ts e = advance_then d (Mark signs.And) e shallow (λ p mid. last_then (Prefixed p prefixes.AddressOf) (h.unary mid) (λ x rest is. (refl, is)))
+  unary_by_gives (Some (Mark s)) ts e = prefixed_by_gives s (prefix_operator s) refl ts e
   unary_by_gives (Some (Word words.New)) ts e = advance_then d (Word words.New) e shallow (λ p mid. last_then (New p) (h.initial mid) (λ i rest is. (refl, is)))
   unary_by_gives (Some (Word words.RegionNew)) ts e = advance_then d (Word words.RegionNew) e shallow (λ p mid. spelled_then (h.group mid) (λ g mid isg. last_then (RegionNew p g) (h.initial mid)
       (λ i rest is. (ap (λ (zs : Yield). leaf_at d (Word words.RegionNew) p ∷ leaf_of (suc d) (Mark signs.LeftParen) ∷ zs) (append_assoc (yields.expression (suc (suc d)) g) (leaf_of (suc (suc d)) (Mark signs.RightParen) ∷ []) (yields.initial (suc d) i)), (isg, is)))))
@@ -231,7 +211,7 @@ module _ (room d : ℕ) (inner : Nested) (fits : Fits (suc room) d) (h : NestedG
       (pure_gives (refl, tt))
 
   values_give : (ts : List Symbol) → Gives (values room inner) (Spells (yields.values (suc d)) (λ es _. IsSomeExpression es × AreExpressions es)) ts
-  values_give ts = spelled_then (h.expression ts) (λ e mid is. last_then (MoreExpressions e) (gives_same (more_values room inner (length mid)) refl (more_values_give (length mid) mid)) (λ es rest are. (refl, (tt, (is, are)))))
+  values_give ts = spelled_then (h.expression ts) (λ e mid is. last_then (MoreExpressions e) (gives_instead (more_values room inner (length mid)) refl (more_values_give (length mid) mid)) (λ es rest are. (refl, (tt, (is, are)))))
 
   fields_give : (s : Named) (rs : List Named) (ts : List Symbol) → Gives (fields room inner s rs) (Follows (leaf_at d (Identifier s.name) s.place ∷ yields.region_list d rs) (yields.initial d) (λ i _. IsInitial i)) ts
   fields_give s rs ts = sign_then (suc room) d signs.LeftBrace fits (λ _ mid. spelled_then (values_give mid) (λ es mid are. sign_then room (suc d) signs.RightBrace deeper (λ _ mid. pure_gives (refl, are))))

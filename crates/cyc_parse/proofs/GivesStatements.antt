@@ -4,7 +4,7 @@ use Rattle.cyc_words.proofs.Booleans.{and_right}
 use Rattle.cyc_syntax.specs.declared.tokens.Keyword.TheVariants as words
 use Rattle.cyc_syntax.specs.declared.tokens.Sign.TheVariants as signs
 use Rattle.cyc_syntax.specs.Symbols.{Place, Terminal, Identifier, Word, Mark, Symbol}
-use Rattle.cyc_syntax.specs.Trees.{Named, Expression, Number, Character, Null, HeapRegion, UniqueRegion, Variable, Call, Bracketed, NumberOfElements, LowByteOf, FreeUnique, FreeKey, Chained, Prefixed, New, RegionNew, Binary, Assign, Statement, Block, Labelled, Empty, IfElse, While, NoItems, MoreItems, Execute, DynamicRegion, Default, Case}
+use Rattle.cyc_syntax.specs.Trees.{Named, Expression, New, Binary, Assign, Statement, Block, Labelled, Empty, IfElse, While, NoItems, MoreItems, Execute, DynamicRegion, Default, Case}
 use Rattle.cyc_syntax.specs.Yields.{Leaf, Yield}
 use Rattle.cyc_syntax.specs.Yields as yields
 use Rattle.cyc_syntax.specs.Grammar.{IsExpression, IsExpressionOrNone, wants_else, IsBody, AreItems, IsItem, AreClauses, IsSomeClause, max_nesting}
@@ -12,7 +12,7 @@ use Rattle.cyc_parse.specs.inside.Parsing.{TooDeep, next, bind, pure, inside, se
 use Rattle.cyc_parse.specs.inside.Expressions.{nested}
 use Rattle.cyc_parse.specs.inside.Statements.{begins_statement, begins_item, begins_clause, is_case, is_default, is_else, is_unary, ends_in_new, end_of_swap, Nested, body, expression, expression_from, swap, behind, statement_from_name, else_part, return_value, thrown, caught, clauses_in, clauses, if_statement, while_statement, throw_statement, try_statement, statement_by, statement, local_value, local, opened_key, region, alias, new_key, dynamic_region, let_by, executed, item_by, item, items_in, items, nested_statements}
 use Rattle.cyc_parse.proofs.Rules.{Fits, leaf_of, leaf_at}
-use Rattle.cyc_parse.proofs.Gives.{Gives, Follows, Spells, Any, part_then, spelled_then, last_then, pure_gives, possibly, unexpected_gives, then_unexpected, begun_gives, item_refusal_gives, gives_as, gives_same, some_place, sign_then, sign_then_at, word_then, identifier_then, advance_then, advance_bare_then, choose_gives, test_gives, sees_gives, starts_gives, bare_gives, stuck_sign, stuck_word}
+use Rattle.cyc_parse.proofs.Gives.{Gives, Follows, Spells, Any, part_then, spelled_then, last_then, pure_gives, possibly, unexpected_gives, then_unexpected, begun_gives, item_refusal_gives, gives_as, gives_instead, some_place, sign_then, sign_then_at, word_then, identifier_then, advance_then, advance_bare_then, choose_gives, test_gives, sees_gives, starts_gives, bare_gives, stuck_sign, stuck_word}
 use Rattle.cyc_parse.proofs.Openings.{named_at, IsStatementBefore, statement_opened, items_opened}
 use Rattle.cyc_parse.proofs.GivesTypes.{region_of_gives, written_type_gives}
 use Rattle.cyc_parse.proofs.GivesExpressions.{Level, NestedGive, nested_give, named_climb_gives, assignment_gives}
@@ -21,24 +21,9 @@ no_else : {P : Type 0} → false ≡ true → P
 no_else e = absurd (true≢false (sym e))
 
 unary_of : (e : Expression) → IsExpression 11 e → is_unary e ≡ true → IsExpression 0 e
-unary_of (Number p n) is u = tt
-unary_of (Character p c) is u = tt
-unary_of (Null p) is u = tt
-unary_of (HeapRegion p) is u = tt
-unary_of (UniqueRegion p) is u = tt
-unary_of (Variable x) is u = tt
-unary_of (Call f es) is u = is
-unary_of (Bracketed p e) is u = is
-unary_of (NumberOfElements p e) is u = is
-unary_of (LowByteOf p e) is u = is
-unary_of (FreeUnique p e) is u = is
-unary_of (FreeKey p x) is u = tt
-unary_of (Chained e ps) is u = is
-unary_of (Prefixed p o e) is u = is
-unary_of (New p i) is u = is
-unary_of (RegionNew p h i) is u = is
 unary_of (Binary e os) is u = absurd (cc)
 unary_of (Assign a b) is u = absurd (cc)
+unary_of e is u = is
 
 -- ---- parts with brackets of their own, where one level of room may be left
 
@@ -165,7 +150,7 @@ module _ (room d : ℕ) (inner : Nested) (fits : Fits (suc room) d) (h : Stateme
       (λ no_default. pure_gives (refl, (tt, (λ _ begins. begins_or ts begins no_case no_default)))))
 
   clauses_give : (ts : List Symbol) → Gives (clauses room inner) (Spells (yields.clauses (suc d)) (λ cs _. IsSomeClause cs × AreClauses cs)) ts
-  clauses_give ts = starts_gives begins_clause (λ begins. gives_as (λ cs ls rest (e, (are, some)). (e, (some (positive ts begins) begins, are))) (gives_same (clauses_in room inner (length ts)) refl (clauses_in_give (length ts) ts))) (λ _. unexpected_gives (possibly (Default NoItems) _ (refl, (tt, tt))))
+  clauses_give ts = starts_gives begins_clause (λ begins. gives_as (λ cs ls rest (e, (are, some)). (e, (some (positive ts begins) begins, are))) (gives_instead (clauses_in room inner (length ts)) refl (clauses_in_give (length ts) ts))) (λ _. unexpected_gives (possibly (Default NoItems) _ (refl, (tt, tt))))
     where
       positive : (ts : List Symbol) → starts begins_clause (next ts) ≡ true → 0 < length ts
       positive [] begins = absurd (true≢false (sym begins))
@@ -246,7 +231,7 @@ module _ (room d : ℕ) (inner : Nested) (fits : Fits (suc room) d) (h : Stateme
   items_in_give (suc turns) ts = starts_gives begins_item (λ _. spelled_then (item_gives ts) (λ i mid is. last_then (MoreItems i) (items_in_give turns mid) (λ is' rest are. (refl, (is, are))))) (λ _. pure_gives (refl, tt))
 
   pub items_give : (ts : List Symbol) → Gives (items room inner) (Spells (yields.items d) (λ is _. AreItems is)) ts
-  items_give ts = gives_same (items_in room inner (length ts)) refl (items_in_give (length ts) ts)
+  items_give ts = gives_instead (items_in room inner (length ts)) refl (items_in_give (length ts) ts)
 
 pub nested_statements_give : (room d : ℕ) → Fits room d → StatementsGive d (nested_statements room)
 unfolding nested_statements

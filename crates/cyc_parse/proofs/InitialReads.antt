@@ -11,10 +11,10 @@ use Rattle.cyc_syntax.specs.Yields as yields
 use Rattle.cyc_syntax.specs.Grammar.{IsExpression, AreExpressions, ArePostfixes, AreOperations, IsInitial, IsSomePostfix, IsSomeOperation, IsSomeExpression}
 use Rattle.cyc_parse.specs.inside.Parsing.{Parser, pure, sees, sees_terminal, if_sees, bind, choose, opens_regions, region_list}
 use Rattle.cyc_parse.specs.inside.Expressions.{begins_expression, begins_initial, nested, from_name, primary, chained, with_postfixes, unary, unary_by, climb, assignment, initial, initial_by, fields, values, more_values}
-use Rattle.cyc_parse.proofs.Rules.{Front, Reads, Fits, Always, leaf_of, leaf_at, front-next, front-length, then_reads, last_reads, pure_reads, reads_as, word_reads_at, sign_reads, identifier_reads, choose_reads, advance_reads_at, sees_reads, unseen_reads, deep_reads, between_then}
+use Rattle.cyc_parse.proofs.Rules.{Front, Reads, Fits, Always, leaf_of, leaf_at, front-next, front-length, then_reads, last_reads, pure_reads, reads_instead, word_reads_at, sign_reads, identifier_reads, choose_reads, advance_reads_at, sees_reads, unseen_reads, deep_reads, between_then}
 use Rattle.cyc_parse.proofs.Lists.{EndsList}
 use Rattle.cyc_parse.proofs.Stops.{Stops, stops_leaf, no_brace, no_regions, binds, binds_terminal}
-use Rattle.cyc_parse.proofs.Starts.{expression_starts, initial_starts, IsSecond, alone, goes_on, second}
+use Rattle.cyc_parse.proofs.Starts.{expression_starts, initial_starts, IsSecond, alone, goes_on, second_goes_on}
 use Rattle.cyc_parse.proofs.RegionReads.{region_list_reads, regions_open, regions_next}
 use Rattle.cyc_parse.proofs.OperatorReads.{OperationParts, climb_more, chain_reads}
 use Rattle.cyc_parse.proofs.ExpressionReads.{deeper, shallow, ReadsDeeper, AreRead, list_of, PostfixParts}
@@ -78,7 +78,7 @@ module _ (room d : ℕ) (fits : Fits (suc room) d) where
       (sees_reads signs.LeftBrace _ _ (leaf_of d (Mark signs.LeftBrace)) _ refl (fields_reads s [] e es (Stops 0) all)))
   struct_reads s (r ∷ rs) e es all = choose_reads (initial_by room (nested room)) (leaf_at d (Identifier s.name) s.place) _ (advance_reads_at d (Identifier s.name) s.place _ (shallow room d fits)
       (unseen_reads signs.LeftBrace _ _ (λ ts rest front ends. ap (sees_terminal signs.LeftBrace) (regions_next d r rs _ ts rest front))
-      (reads_as (bind (region_list (suc room)) (λ (v : List Named). fields room (nested room) s v))
+      (reads_instead (bind (region_list (suc room)) (λ (v : List Named). fields room (nested room) s v))
       (λ ts rest front ends. ap (λ (b : Bool). (cond b (bind (region_list (suc room)) (λ (v : List Named). fields room (nested room) s v)) (bind (with_postfixes room (nested room) (from_name room (nested room) s)) (λ v. pure (Plain v)))) ts) (regions_open d r rs _ ts rest front))
       (then_reads _ (region_list_reads (suc room) d fits (shallow room d fits) r rs Always) (fields_reads s (r ∷ rs) e es (Stops 0) all) (λ mid rest front ends. tt)))))
 
@@ -132,7 +132,7 @@ module _ (room d : ℕ) (fits : Fits (suc room) d) where
     by_terminal : (u : Terminal) → (expression_starts d e).first.terminal ≡ u → (t : Symbol) (more rest : List Symbol) → t.terminal ≡ u → Front (expression_starts d e).others more rest → Stops 0 rest
         → initial room (nested room) (t ∷ more) ≡ bind (unary room (nested room)) (λ v. pure (Plain v)) (t ∷ more)
     by_terminal (Identifier x) same t more rest named front ends =
-        let k : NamesNoStruct more = no_struct more rest (second 0 d e x is same) front ends in on_name room d fits x t more named k.plain k.closed
+        let k : NamesNoStruct more = no_struct more rest (second_goes_on 0 d e x is same) front ends in on_name room d fits x t more named k.plain k.closed
     by_terminal (Mark s) same t more rest named front ends = on_other t more (bind (unary room (nested room)) (λ v. pure (Plain v))) (ap (λ (v : Terminal). initial_by room (nested room) (Some v)) named ∙ not_name room d fits (Mark s) (ap begins_expression (sym same) ∙ (expression_starts d e).begin) (λ x k. cc))
     by_terminal (Word w) same t more rest named front ends = on_other t more (bind (unary room (nested room)) (λ v. pure (Plain v))) (ap (λ (v : Terminal). initial_by room (nested room) (Some v)) named ∙ not_name room d fits (Word w) (ap begins_expression (sym same) ∙ (expression_starts d e).begin) (λ x k. cc))
     by_terminal (RegionName r) same t more rest named front ends = on_other t more (bind (unary room (nested room)) (λ v. pure (Plain v))) (ap (λ (v : Terminal). initial_by room (nested room) (Some v)) named ∙ not_name room d fits (RegionName r) (ap begins_expression (sym same) ∙ (expression_starts d e).begin) (λ x k. cc))
@@ -144,14 +144,14 @@ module _ (room d : ℕ) (fits : Fits (suc room) d) where
         subst (λ (w : List Symbol). initial room (nested room) w ≡ bind (unary room (nested room)) (λ v. pure (Plain v)) w) (sym eq) (by_terminal ((expression_starts d e).first.terminal) refl t more rest is_leaf.terminal front ends)
 
     pub plain_reads : Reads (unary room (nested room)) e (yields.expression d e) (Stops 0) → Reads (initial room (nested room)) (Plain e) (yields.initial d (Plain e)) (Stops 0)
-    plain_reads h = reads_as (bind (unary room (nested room)) (λ v. pure (Plain v)))
+    plain_reads h = reads_instead (bind (unary room (nested room)) (λ v. pure (Plain v)))
         (λ ts rest front ends. at_first ts rest (subst (λ (ys : Yield). Front ys ts rest) (expression_starts d e).are front) ends)
         (last_reads (λ (v : Expression). pure (Plain v)) (λ ts. refl) h)
 
 -- ---- all expressions
 
-below_next : (a b : ℕ) → a < suc b → (a ≡ b → ⊥) → a < b
-below_next a b h other = omega arith
+below_if_other : (a b : ℕ) → a < suc b → (a ≡ b → ⊥) → a < b
+below_if_other a b h other = omega arith
 
 binary_read : (e : Expression) → IsReadAll e → (room d : ℕ) → Fits room d → IsExpression 10 e → Reads (nested room).binary e (yields.expression d e) (Stops 10)
 unfolding nested
@@ -180,7 +180,7 @@ chain_read e os h parts = record { unary = at_unary; operand = at_operand; expre
     climbing (suc k) below room d fits less limit first some are = elim (eqb_tells below k) [
       | inl same ↦ subst (λ (n : ℕ). Reads (bind (nested (suc room)).unary (climb (nested (suc room)).unary (suc n))) (Binary e os) (yields.expression d (Binary e os)) (Stops (suc n))) same.1
           (chain_reads (nested (suc room)).unary below d (shallow room d fits) e os some (h.operand below (suc room) d fits (omega arith) first) (parts below room d fits are (omega arith)))
-      | inr other ↦ climb_more (nested (suc room)).unary k (climbing k below room d fits (below_next below k less other.1) limit first some are)
+      | inr other ↦ climb_more (nested (suc room)).unary k (climbing k below room d fits (below_if_other below k less other.1) limit first some are)
     ]
 
     at_operand : (k room d : ℕ) → Fits room d → k ≤ 10 → IsExpression k (Binary e os) → Reads (bind (nested room).unary (climb (nested room).unary k)) (Binary e os) (yields.expression d (Binary e os)) (Stops k)
@@ -241,9 +241,9 @@ some-chained e NoPostfixes some = absurd some
 some-chained e (ThenIndex i ps) some = refl
 some-chained e (ThenField x ps) some = refl
 
-nested_unary : (room : ℕ) {e : Expression} {xs : Yield} → Reads (nested (suc room)).unary e xs (Stops 0) → Reads (unary room (nested room)) e xs (Stops 0)
+unnested_reads : (room : ℕ) {e : Expression} {xs : Yield} → Reads (nested (suc room)).unary e xs (Stops 0) → Reads (unary room (nested room)) e xs (Stops 0)
 unfolding nested
-nested_unary room h = h
+unnested_reads room h = h
 
 struct_read : (room d : ℕ) → Fits (suc room) d → (s : Named) (rs : List Named) (es : Expressions) → IsSomeExpression es → AreRead room (suc d) (list_of es) → Reads (initial room (nested room)) (Fields s rs es) (yields.initial d (Fields s rs es)) (Stops 0)
 struct_read room d fits s rs NoExpressions some all = absurd some
@@ -274,7 +274,7 @@ mutual
   all_read (Assign a b) = assign_read a b (all_read a) (all_read b)
 
   pub value_read : (i : Initial) → IsInitialRead i
-  value_read (Plain e) = initial_read (Plain e) (λ room d fits is. plain_reads room d fits e is (nested_unary room ((all_read e).unary (suc room) d fits is)))
+  value_read (Plain e) = initial_read (Plain e) (λ room d fits is. plain_reads room d fits e is (unnested_reads room ((all_read e).unary (suc room) d fits is)))
   value_read (Fields s rs es) = initial_read (Fields s rs es) (λ room d fits (some, are). struct_read room d fits s rs es some (read_deeper es (list_read es) are room (suc d) (deeper room d fits)))
   value_read (Array p x n e) = initial_read (Array p x n e) (λ room d fits (bound, element). array_reads room d fits p x n e (binary_read n (all_read n) room (suc d) (deeper room d fits) bound) ((all_read e).expression room (suc d) (deeper room d fits) element))
 

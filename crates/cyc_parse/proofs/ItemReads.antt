@@ -12,7 +12,7 @@ use Rattle.cyc_syntax.specs.Grammar.{IsExpressionOrNone, wants_else, IsStatement
 use Rattle.cyc_parse.specs.inside.Parsing.{Parser, ◌>>=◌, ◌>>◌, pure, next, inside, sees, sees_terminal, starts, opens_low_byte, sign, word, identifier, bind, choose}
 use Rattle.cyc_parse.specs.inside.Types.{begins_type, region_of}
 use Rattle.cyc_parse.specs.inside.Statements.{begins_statement, begins_item, begins_clause, is_case, is_default, is_else, nested_statements, statement, executed, item, item_by, local, local_value, opened_key, new_key, let_by, items_in, items, caught, clauses_in, clauses, body}
-use Rattle.cyc_parse.proofs.Rules.{Front, Reads, starting_reads, deep_refusal, Fits, Always, starts-next, starts_append, leaf_of, leaf_at, front-next, front-length, then_reads, last_reads, pure_reads, reads_as, reads_before, word_reads, sign_reads, identifier_reads, choose_reads, advance_reads, sees_reads, unseen_reads, word_deep_reads, sign_deep_reads, starts_reads, unstarted_reads, deep_reads}
+use Rattle.cyc_parse.proofs.Rules.{Front, Reads, starting_reads, deep_refusal, Fits, Always, starts-next, starts_append, leaf_of, leaf_at, front-next, front-length, then_reads, last_reads, pure_reads, reads_instead, reads_before, word_reads, sign_reads, identifier_reads, choose_reads, advance_reads, sees_reads, unseen_reads, word_deep_reads, sign_deep_reads, starts_reads, unstarted_reads, deep_reads}
 use Rattle.cyc_parse.proofs.Stops.{Stops, stops_leaf}
 use Rattle.cyc_parse.proofs.TypeReads.{type_starts, type_reads, region_of_reads_any}
 use Rattle.cyc_parse.proofs.ExpressionReads.{deeper, shallow, NoParen}
@@ -119,7 +119,7 @@ module _ (room d : ℕ) (fits : Fits (suc room) d) where
 
   pub local_item_reads : (t : WrittenType) (x : Named) (v : Option Expression) (Ends : List Symbol → Type 0) → IsExpressionOrNone v → Reads (item room (nested_statements room)) (Local t x v) (yields.item d (Local t x v)) Ends
   unfolding item choose
-  local_item_reads t x v Ends is = reads_as (local room (nested_statements room)) (λ ts rest front ends.
+  local_item_reads t x v Ends is = reads_instead (local room (nested_statements room)) (λ ts rest front ends.
       ap (λ (o : Option Terminal). item_by room (nested_statements room) o ts) (starts-next (type_starts d t) _ ts rest front)
       ∙ by_type ((type_starts d t).first.terminal) ((type_starts d t).begin) ts (type_opens_none d t.place t.base t.marks x _ ts rest front)) (local_reads t x v Ends is)
 
@@ -165,7 +165,7 @@ module _ (room d : ℕ) (fits : Fits (suc room) d) where
 
   pub execute_reads : (s : Statement) → Reads (statement room (nested_statements room)) s (yields.statement d s) (EndsStatement (wants_else s)) → Reads (item room (nested_statements room)) (Execute s) (yields.item d (Execute s)) (EndsStatement (wants_else s))
   unfolding item choose
-  execute_reads s h = reads_as (executed room (nested_statements room))
+  execute_reads s h = reads_instead (executed room (nested_statements room))
       (λ ts rest front ends. ap (λ (o : Option Terminal). item_by room (nested_statements room) o ts) (starts-next (statement_starts d s) [] ts rest (subst (λ (zs : Yield). Front zs ts rest) (sym (append-nil (yields.statement d s))) front))
       ∙ by_statement ((statement_starts d s).first.terminal) ((statement_starts d s).begin) ts
       (λ is. opens_here (statement_starts d s).first (statement_starts d s).others ts rest (subst (λ (zs : Yield). Front zs ts rest) (statement_starts d s).are front) is (statement_char_opens d s is)))

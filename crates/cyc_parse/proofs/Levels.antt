@@ -55,31 +55,31 @@ not_within : (b : Bool) (k : ℕ) → cond b (Some k) None ≡ None → b ≡ fa
 not_within true k h = absurd (cc)
 not_within false k h = refl
 
-both : (b c : Bool) → b && c ≡ false → b ≡ true → c ≡ true → ⊥
-both true true h p q = absurd (cc)
-both true false h p q = absurd (cc)
-both false c h p q = absurd (cc)
+one_fails : (b c : Bool) → b && c ≡ false → b ≡ true → c ≡ true → ⊥
+one_fails true true h p q = absurd (cc)
+one_fails true false h p q = absurd (cc)
+one_fails false c h p q = absurd (cc)
 
-beyond : (o : Option BinaryOperator) (below most k : ℕ) → level_within below most o ≡ None → below < k → k ≤ most → of_level k o ≡ None
-beyond None below most k none lt le = refl
-beyond (Some o) below most k none lt le =
-    rw (ne_eqb (level o) k (λ e. both (nat_lt below (level o)) (is_within most (Some o)) (not_within (nat_lt below (level o) && is_within most (Some o)) (level o) none) (lt-ltb below (level o) (omega (arith, e, lt))) (le-leb (level o) most (omega (arith, e, le))))) refl
+operator_beyond : (o : Option BinaryOperator) (below most k : ℕ) → level_within below most o ≡ None → below < k → k ≤ most → of_level k o ≡ None
+operator_beyond None below most k none lt le = refl
+operator_beyond (Some o) below most k none lt le =
+    rw (ne_eqb (level o) k (λ e. one_fails (nat_lt below (level o)) (is_within most (Some o)) (not_within (nat_lt below (level o) && is_within most (Some o)) (level o) none) (lt-ltb below (level o) (omega (arith, e, lt))) (le-leb (level o) most (omega (arith, e, le))))) refl
 
 other : (o : Option BinaryOperator) (below most l k : ℕ) → level_within below most o ≡ Some l → (k ≡ l → ⊥) → of_level k o ≡ None
 other None below most l k is apart = refl
 other (Some o) below most l k is apart = rw (ne_eqb (level o) k (λ e. apart (sym e ∙ some_level (nat_lt below (level o) && is_within most (Some o)) (level o) l is))) refl
 
 none_beyond : (t : Option Terminal) (below most k : ℕ) → level_at below most t ≡ None → below < k → k ≤ most → operator_at k t ≡ None
-none_beyond (Some (Mark s)) below most k none lt le = beyond (binary_operator s) below most k none lt le
+none_beyond (Some (Mark s)) below most k none lt le = operator_beyond (binary_operator s) below most k none lt le
 none_beyond _ below most k none lt le = refl
 
 none_other : (t : Option Terminal) (below most l k : ℕ) → level_at below most t ≡ Some l → (k ≡ l → ⊥) → operator_at k t ≡ None
 none_other (Some (Mark s)) below most l k is apart = other (binary_operator s) below most l k is apart
 none_other _ below most l k is apart = refl
 
-within : (o : Option BinaryOperator) (below most l : ℕ) → level_within below most o ≡ Some l → (below < l) × (l ≤ most)
-within None below most l is = absurd (cc)
-within (Some o) below most l is = go (nat_lt below (level o)) (is_within most (Some o)) refl refl is
+level_within_range : (o : Option BinaryOperator) (below most l : ℕ) → level_within below most o ≡ Some l → (below < l) × (l ≤ most)
+level_within_range None below most l is = absurd (cc)
+level_within_range (Some o) below most l is = go (nat_lt below (level o)) (is_within most (Some o)) refl refl is
   where
     go : (b c : Bool) → nat_lt below (level o) ≡ b → is_within most (Some o) ≡ c → cond (b && c) (Some (level o)) None ≡ Some l → (below < l) × (l ≤ most)
     go true true p q e = (omega (arith, ltb-true below (level o) p, some_level true (level o) l e), omega (arith, leb-true (level o) most q, some_level true (level o) l e))
@@ -87,14 +87,14 @@ within (Some o) below most l is = go (nat_lt below (level o)) (is_within most (S
     go false c p q e = absurd (cc)
 
 level_in : (t : Option Terminal) (below most l : ℕ) → level_at below most t ≡ Some l → (below < l) × (l ≤ most)
-level_in (Some (Mark s)) below most l is = within (binary_operator s) below most l is
+level_in (Some (Mark s)) below most l is = level_within_range (binary_operator s) below most l is
 level_in None below most l is = absurd (cc)
 level_in _ below most l is = absurd (cc)
 
-no_more : (operand : Parser Expression) (k left : ℕ) (ts : List Symbol) → operator_at k (next ts) ≡ None → operations operand k left ts ≡ Ok (NoOperations, ts)
+no_more_operators : (operand : Parser Expression) (k left : ℕ) (ts : List Symbol) → operator_at k (next ts) ≡ None → operations operand k left ts ≡ Ok (NoOperations, ts)
 unfolding operations if_is
-no_more operand k zero ts none = rw none refl
-no_more operand k (suc left) ts none = rw none refl
+no_more_operators operand k zero ts none = rw none refl
+no_more_operators operand k (suc left) ts none = rw none refl
 
 module _ (unary : Parser Expression) where
   -- the operators of the level above this one, and then those above it up to the last
@@ -103,7 +103,7 @@ module _ (unary : Parser Expression) where
 
   passes : (count below : ℕ) (e : Expression) (ts : List Symbol) → operator_at (suc below) (next ts) ≡ None → climb_from unary below (suc count) e ts ≡ climb_from unary (suc below) count e ts
   unfolding climb_from bind
-  passes count below e ts none = ap (λ (o : Outcome Operations). and_then o (λ os us. climb_from unary (suc below) count (binary_of e os) us)) (no_more (bind unary (climb unary below)) (suc below) max_items ts none)
+  passes count below e ts none = ap (λ (o : Outcome Operations). and_then o (λ os us. climb_from unary (suc below) count (binary_of e os) us)) (no_more_operators (bind unary (climb unary below)) (suc below) max_items ts none)
 
   idle : (count below : ℕ) (e : Expression) (ts : List Symbol) → ((k : ℕ) → below < k → k ≤ below + count → operator_at k (next ts) ≡ None) → climb_from unary below count e ts ≡ Ok (e, ts)
   unfolding climb_from

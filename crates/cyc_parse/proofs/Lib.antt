@@ -9,6 +9,7 @@ pub mod Rules
 pub mod Signs
 pub mod Lists
 pub mod Stops
+pub mod OperatorSigns
 pub mod Starts
 pub mod ExpressionReads
 pub mod OperatorReads

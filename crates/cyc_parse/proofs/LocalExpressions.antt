@@ -2,6 +2,7 @@
 use Rattle.std.proofs.Common.{◌≡◌, ℕ, zero, suc, ◌≤◌, Bool, true, false, cond, List, [], ◌∷◌, ◌++◌, length, ◌&&◌, ◌||◌, Option, Some, None, is_some, Ok, Err, refl, sym, ap, subst, ◌∙◌, arith, true≢false}
 use Rattle.cyc_syntax.specs.declared.tokens.Keyword.TheVariants as words
 use Rattle.cyc_syntax.specs.declared.tokens.Sign.TheVariants as signs
+use Rattle.cyc_syntax.specs.declared.tree.PrefixOperator.{PrefixOperator}
 use Rattle.cyc_syntax.specs.declared.tree.BinaryOperator.{BinaryOperator}
 use Rattle.cyc_syntax.specs.declared.tree.BinaryOperator.TheVariants as operators
 use Rattle.cyc_syntax.specs.Symbols.{Place, Terminal, Identifier, Word, Mark, Symbol}
@@ -9,10 +10,10 @@ use Rattle.cyc_syntax.specs.Symbols as terminals
 use Rattle.cyc_syntax.specs.Trees.{Named, Expression, Initial, Plain, Variable, Operations, NoOperations, ThenOperation, LowByteOf}
 use Rattle.cyc_syntax.specs.Grammar.{max_items}
 use Rattle.cyc_parse.specs.inside.Parsing.{Parser, Outcome, Refusal, Unexpected, TooDeep, TooLong, and_then, bind, pure, refuse, next, is_sign, opens_regions, regions, region_list, sign, take, advance, on_some, if_sees, if_is}
-use Rattle.cyc_parse.specs.inside.Expressions.{begins_expression, begins_initial, operator_at, binary_of, operations, climb, Nested, group, arguments, from_name, primary_by, primary, postfixes, with_postfixes, unary_by, unary, assignment, binary, expression, more_values, values, fields, initial_from_name, array, initial_by, initial, nested}
+use Rattle.cyc_parse.specs.inside.Expressions.{begins_expression, begins_initial, prefix_operator, operator_at, binary_of, operations, climb, Nested, group, arguments, from_name, primary_by, primary, postfixes, with_postfixes, prefixed_by, unary_by, unary, assignment, binary, expression, more_values, values, fields, initial_from_name, array, initial_by, initial, nested}
 use Rattle.cyc_parse.specs.inside.Statements.{ends_in_new, ends_in_name, is_variable}
 use Rattle.cyc_parse.specs.Refusals.{region_next}
-use Rattle.cyc_parse.proofs.Locality.{IsSuffix, left_of, IsLess, Differ, Beyond, reads_on, refuses_on, opens, overflows, Agrees, both_read, both_refuse, goes_on, Runs, Local, Never, Tolerates, beyond_suffix, beyond_as, open_then_runs, then_runs, tolerates_pure, tolerates_then, pure_runs, unexpected_runs, opened_as, runs_open, sign_runs, word_runs, identifier_runs, advance_runs, choose_runs, sees_runs, is_runs, is_limit_runs, sees_limit_runs, item_refusal_runs, same_behind, same_behind_read, same_first, sees_same, turns_run}
+use Rattle.cyc_parse.proofs.Locality.{IsSuffix, left_of, IsLess, Differ, Beyond, reads_on, refuses_on, opens, overflows, Agrees, both_read, both_refuse, goes_on, Runs, Local, Never, Tolerates, beyond_suffix, beyond_as, open_then_runs, then_runs, tolerates_pure, tolerates_then, pure_runs, unexpected_runs, opens_as, runs_open, sign_runs, word_runs, identifier_runs, advance_runs, choose_runs, sees_runs, is_runs, is_limit_runs, sees_limit_runs, item_refusal_runs, same_behind, same_behind_read, same_first, sees_same, turns_run}
 use Rattle.cyc_parse.proofs.LocalTypes.{separated_runs, regions_run, region_list_runs}
 
 abbrev pub Anything : {A : Type 0} → A → Type 0
@@ -169,8 +170,8 @@ module _ (unary : Parser Expression) where
       (halts_then unary (climb unary (suc (suc (suc (suc j))))) (λ x. climb_halts j x)) max_items w.mid rest os (climb_halts j e ts w.mid w.value w.first) e') w.second
 
 -- where no answer leaves `<`
-closed : {A : Type 0} {c : Bool} {Open : A → Type 0} {p : Parser A} → Runs c Open p → Halts p → Local c p
-closed {A} {Open = Open} {p = p} h halts = record { suffix = h.suffix; shorter = h.shorter; ends = h.ends; agrees = λ front a b. agree (front ++ a) a b (h.agrees front a b) }
+local_if_halts : {A : Type 0} {c : Bool} {Open : A → Type 0} {p : Parser A} → Runs c Open p → Halts p → Local c p
+local_if_halts {A} {Open = Open} {p = p} h halts = record { suffix = h.suffix; shorter = h.shorter; ends = h.ends; agrees = λ front a b. agree (front ++ a) a b (h.agrees front a b) }
   where
     agree : {u : Outcome A} (ts a b : List Symbol) → Agrees Open a b (p ts) u → Agrees Never a b (p ts) u
     agree ts a b (both_read x t f e e') = both_read x t f e e'
@@ -181,7 +182,7 @@ closed {A} {Open = Open} {p = p} h halts = record { suffix = h.suffix; shorter =
     agree ts a b (goes_on (overflows t e less differ)) = goes_on (overflows t e less differ)
 
 pub climb_all_runs : {c : Bool} (operand : Parser Expression) → Runs c Anything operand → (e : Expression) → Local false (climb operand 10 e)
-climb_all_runs operand h e = closed ((climbs operand h 10).runs e) (climb_halts operand 6 e)
+climb_all_runs operand h e = local_if_halts ((climbs operand h 10).runs e) (climb_halts operand 6 e)
 
 -- ---- at one depth
 
@@ -230,12 +231,12 @@ module _ (room : ℕ) (inner : Nested) (h : NestedRuns inner) where
   with_postfixes_run : {c : Bool} {first : Parser Expression} → Local c first → Local c (with_postfixes room inner first)
   with_postfixes_run k = then_runs k (λ e. then_runs (postfixes_run max_items) (λ ps. pure_runs _))
 
+  prefixed_by_runs : (o : Option PrefixOperator) → Runs true IsOpen (prefixed_by room inner o)
+  prefixed_by_runs (Some o) = then_runs advance_runs (λ p. open_then_runs h.unary (λ e. pure_runs _) (λ e ready. tolerates_pure _ ready))
+  prefixed_by_runs None = runs_open (with_postfixes_run primary_runs)
+
   unary_by_runs : (t : Option Terminal) → Runs true IsOpen (unary_by room inner t)
-  unary_by_runs (Some (Mark signs.Minus)) = then_runs advance_runs (λ p. open_then_runs h.unary (λ e. pure_runs _) (λ e ready. tolerates_pure _ ready))
-  unary_by_runs (Some (Mark signs.Not)) = then_runs advance_runs (λ p. open_then_runs h.unary (λ e. pure_runs _) (λ e ready. tolerates_pure _ ready))
-  unary_by_runs (Some (Mark signs.Tilde)) = then_runs advance_runs (λ p. open_then_runs h.unary (λ e. pure_runs _) (λ e ready. tolerates_pure _ ready))
-  unary_by_runs (Some (Mark signs.Star)) = then_runs advance_runs (λ p. open_then_runs h.unary (λ e. pure_runs _) (λ e ready. tolerates_pure _ ready))
-  unary_by_runs (Some (Mark signs.And)) = then_runs advance_runs (λ p. open_then_runs h.unary (λ e. pure_runs _) (λ e ready. tolerates_pure _ ready))
+  unary_by_runs (Some (Mark s)) = prefixed_by_runs (prefix_operator s)
   unary_by_runs (Some (Word words.New)) = then_runs advance_runs (λ p. open_then_runs h.initial (λ i. pure_runs _) (λ i ready. tolerates_pure _ ready))
   unary_by_runs (Some (Word words.RegionNew)) = then_runs advance_runs (λ p. then_runs h.group (λ g. open_then_runs h.initial (λ i. pure_runs _) (λ i ready. tolerates_pure _ ready)))
   unary_by_runs _ = runs_open (with_postfixes_run primary_runs)
@@ -248,10 +249,10 @@ module _ (room : ℕ) (inner : Nested) (h : NestedRuns inner) where
   assignment_runs e = sees_runs signs.Assign (then_runs (sign_runs _ signs.Assign) (λ _. then_runs h.expression (λ v. pure_runs _))) (pure_runs _)
 
   pub binary_runs : Local true (binary room inner)
-  binary_runs = closed (open_then_runs unary_runs (λ e. (climbs (unary room inner) any 10).runs e) (λ e _. (climbs (unary room inner) any 10).tolerates e)) (halts_then (unary room inner) (climb (unary room inner) 10) (λ e. climb_halts (unary room inner) 6 e))
+  binary_runs = local_if_halts (open_then_runs unary_runs (λ e. (climbs (unary room inner) any 10).runs e) (λ e _. (climbs (unary room inner) any 10).tolerates e)) (halts_then (unary room inner) (climb (unary room inner) 10) (λ e. climb_halts (unary room inner) 6 e))
     where
       any : Runs true Anything (unary room inner)
-      any = opened_as (λ e _. tt) unary_runs
+      any = opens_as (λ e _. tt) unary_runs
 
   pub expression_runs : Local true (expression room inner)
   expression_runs = then_runs binary_runs (λ e. assignment_runs e)
@@ -375,11 +376,11 @@ module _ (room : ℕ) (inner : Nested) (h : NestedRuns inner) where
 
   -- an expression that begins with this name
   pub named_run : (x : Named) → Local false (bind (with_postfixes room inner (from_name room inner x)) (climb (unary room inner) 10))
-  named_run x = then_runs (with_postfixes_run (from_name_run x)) (λ e. climb_all_runs (unary room inner) (opened_as (λ e _. tt) unary_runs) e)
+  named_run x = then_runs (with_postfixes_run (from_name_run x)) (λ e. climb_all_runs (unary room inner) (opens_as (λ e _. tt) unary_runs) e)
 
   -- an expression that begins with the low byte of a value, behind its word
   pub low_byte_run : (p : Place) → Local true (bind (with_postfixes room inner (bind (group room inner) (λ e. pure (LowByteOf p e)))) (climb (unary room inner) 10))
-  low_byte_run p = then_runs (with_postfixes_run (then_runs group_runs (λ e. pure_runs _))) (λ e. climb_all_runs (unary room inner) (opened_as (λ e _. tt) unary_runs) e)
+  low_byte_run p = then_runs (with_postfixes_run (then_runs group_runs (λ e. pure_runs _))) (λ e. climb_all_runs (unary room inner) (opens_as (λ e _. tt) unary_runs) e)
 
 pub nested_runs : (room : ℕ) → NestedRuns (nested room)
 unfolding nested

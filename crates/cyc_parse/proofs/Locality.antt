@@ -16,14 +16,14 @@ pub record IsSuffix (left ts : List Symbol) : Type 0 where
   pub before : List Symbol
   pub are : ts ≡ before ++ left
 
-pub whole : (ts : List Symbol) → IsSuffix ts ts
-whole ts = record { before = []; are = refl }
+pub suffix_whole : (ts : List Symbol) → IsSuffix ts ts
+suffix_whole ts = record { before = []; are = refl }
 
 pub suffix_of_suffix : {left mid ts : List Symbol} → IsSuffix left mid → IsSuffix mid ts → IsSuffix left ts
 suffix_of_suffix {left = left} h k = record { before = k.before ++ h.before; are = k.are ∙ ap (λ (w : List Symbol). k.before ++ w) h.are ∙ sym (append_assoc k.before h.before left) }
 
-pub behind_one : {left ts : List Symbol} (t : Symbol) → IsSuffix left ts → IsSuffix left (t ∷ ts)
-behind_one t h = record { before = t ∷ h.before; are = ap (λ (w : List Symbol). t ∷ w) h.are }
+pub suffix_behind : {left ts : List Symbol} (t : Symbol) → IsSuffix left ts → IsSuffix left (t ∷ ts)
+suffix_behind t h = record { before = t ∷ h.before; are = ap (λ (w : List Symbol). t ∷ w) h.are }
 
 pub suffix-length : {left ts : List Symbol} → IsSuffix left ts → length left ≤ length ts
 suffix-length {left = left} {ts = ts} h = subst (λ (w : List Symbol). length left ≤ length w) (sym h.are) (omega (arith, length-append h.before left))
@@ -32,6 +32,9 @@ suffix-length {left = left} {ts = ts} h = subst (λ (w : List Symbol). length le
 abbrev pub left_of : {A : Type 0} → Outcome A → List Symbol
 left_of (Ok p) = p.1
 left_of (Err e) = e.left
+
+pub one_refusal : {A : Type 0} (r e : Refusal) → ◌≡◌ {A = Outcome A} (Err r) (Err e) → r ≡ e
+one_refusal r e h = cc
 
 -- ---- where one symbol more is looked at
 
@@ -85,7 +88,7 @@ agree_as {Open = Open} {a = a} {b = b} {o' = o'} {u = u} e e' h = subst (λ (w :
 
 -- an answer that leaves what stands behind the front
 pub answered : {A : Type 0} {Open : A → Type 0} (x : A) (f a b : List Symbol) → Agrees Open a b (Ok (x, f ++ a)) (Ok (x, f ++ b))
-answered x [] a b = goes_on (reads_on x a refl (whole a))
+answered x [] a b = goes_on (reads_on x a refl (suffix_whole a))
 answered x (t ∷ f) a b = both_read x t f refl refl
 
 -- ---- rules
@@ -144,7 +147,7 @@ tolerates_then p f first second tolerates t a b less differ = beyond_then f seco
 
 pub pure_runs : {A : Type 0} {Open : A → Type 0} (x : A) → Runs false Open (pure x)
 pure_runs x = record {
-  suffix = λ ts. whole ts;
+  suffix = λ ts. suffix_whole ts;
   shorter = λ is. absurd (cc);
   ends = λ ts e h. absurd (cc);
   agrees = λ front a b. answered x front a b;
@@ -152,22 +155,22 @@ pure_runs x = record {
 
 pub unexpected_runs : {A : Type 0} {Open : A → Type 0} → Runs true Open (refuse {A = A} Unexpected)
 unexpected_runs {A} {Open = Open} = record {
-  suffix = λ ts. whole ts;
+  suffix = λ ts. suffix_whole ts;
   shorter = λ is ts rest x h. absurd (cc);
   ends = λ ts e h end. cc;
   agrees = λ front a b. refused front a b;
 }
   where
     refused : (front a b : List Symbol) → Agrees Open a b (refuse {A = A} Unexpected (front ++ a)) (refuse {A = A} Unexpected (front ++ b))
-    refused [] a b = goes_on (refuses_on _ refl (whole a))
+    refused [] a b = goes_on (refuses_on _ refl (suffix_whole a))
     refused (t ∷ front) a b = both_refuse Unexpected t front refl refl
 
 -- it may be said to read none, and `<` to go on behind its answers
 pub weaker_runs : {A : Type 0} {c : Bool} {Open : A → Type 0} {p : Parser A} → Runs c Open p → Runs false Open p
 weaker_runs h = record { suffix = h.suffix; shorter = λ is. absurd (cc); ends = h.ends; agrees = h.agrees }
 
-pub opened_as : {A : Type 0} {c : Bool} {Open Open' : A → Type 0} {p : Parser A} → ((x : A) → Open x → Open' x) → Runs c Open p → Runs c Open' p
-opened_as {A} {Open = Open} {Open' = Open'} {p = p} weaker h = record { suffix = h.suffix; shorter = h.shorter; ends = h.ends; agrees = λ front a b. agree a b (h.agrees front a b) }
+pub opens_as : {A : Type 0} {c : Bool} {Open Open' : A → Type 0} {p : Parser A} → ((x : A) → Open x → Open' x) → Runs c Open p → Runs c Open' p
+opens_as {A} {Open = Open} {Open' = Open'} {p = p} weaker h = record { suffix = h.suffix; shorter = h.shorter; ends = h.ends; agrees = λ front a b. agree a b (h.agrees front a b) }
   where
     agree : {o u : Outcome A} (a b : List Symbol) → Agrees Open a b o u → Agrees Open' a b o u
     agree a b (both_read x t f e e') = both_read x t f e e'
@@ -178,7 +181,7 @@ opened_as {A} {Open = Open} {Open' = Open'} {p = p} weaker h = record { suffix =
     agree a b (goes_on (overflows t e less differ)) = goes_on (overflows t e less differ)
 
 pub runs_open : {A : Type 0} {c : Bool} {Open : A → Type 0} {p : Parser A} → Local c p → Runs c Open p
-runs_open h = opened_as (λ x no. absurd no) h
+runs_open h = opens_as (λ x no. absurd no) h
 
 -- the same parser, written otherwise
 pub runs_as : {A : Type 0} {c : Bool} {Open : A → Type 0} {p q : Parser A} → ((ts : List Symbol) → p ts ≡ q ts) → Runs c Open q → Runs c Open p
@@ -186,11 +189,11 @@ runs_as {c = c} {Open = Open} same h = subst (λ (r : Parser _). Runs c Open r) 
 
 -- ---- one symbol
 
-taken : {A B : Type 0} {Open : B → Type 0} (room : ℕ) (o : Option A) (give : A → Place → B) (t : Symbol) (f a b : List Symbol)
+take_agrees : {A B : Type 0} {Open : B → Type 0} (room : ℕ) (o : Option A) (give : A → Place → B) (t : Symbol) (f a b : List Symbol)
     → Agrees Open a b (accept_if room o give t (f ++ a)) (accept_if room o give t (f ++ b))
-taken room None give t f a b = both_refuse Unexpected t f refl refl
-taken zero (Some x) give t f a b = both_refuse TooDeep t f refl refl
-taken (suc room) (Some x) give t f a b = answered (give x t.place) f a b
+take_agrees room None give t f a b = both_refuse Unexpected t f refl refl
+take_agrees zero (Some x) give t f a b = both_refuse TooDeep t f refl refl
+take_agrees (suc room) (Some x) give t f a b = answered (give x t.place) f a b
 
 pub take_runs : {A B : Type 0} {Open : B → Type 0} (room : ℕ) (reads : Terminal → Option A) (give : A → Place → B) → Runs true Open (take room reads give)
 unfolding take
@@ -202,12 +205,12 @@ take_runs {A} {B} {Open = Open} room reads give = record {
 }
   where
     one : (room : ℕ) (o : Option A) (t : Symbol) (ts : List Symbol) → IsSuffix (left_of (accept_if room o give t ts)) (t ∷ ts)
-    one room None t ts = whole (t ∷ ts)
-    one zero (Some x) t ts = whole (t ∷ ts)
-    one (suc room) (Some x) t ts = behind_one t (whole ts)
+    one room None t ts = suffix_whole (t ∷ ts)
+    one zero (Some x) t ts = suffix_whole (t ∷ ts)
+    one (suc room) (Some x) t ts = suffix_behind t (suffix_whole ts)
 
     suffix : (ts : List Symbol) → IsSuffix (left_of (take room reads give ts)) ts
-    suffix [] = whole []
+    suffix [] = suffix_whole []
     suffix (t ∷ ts) = one room (reads t.terminal) t ts
 
     less : (room : ℕ) (o : Option A) (t : Symbol) (ts rest : List Symbol) (x : B) → accept_if room o give t ts ≡ Ok (x, rest) → length rest < length (t ∷ ts)
@@ -230,7 +233,7 @@ take_runs {A} {B} {Open = Open} room reads give = record {
 
     agree : (front a b : List Symbol) → Agrees Open a b (take room reads give (front ++ a)) (take room reads give (front ++ b))
     agree [] a b = goes_on (beyond_suffix (take room reads give a) (suffix a))
-    agree (t ∷ f) a b = taken room (reads t.terminal) give t f a b
+    agree (t ∷ f) a b = take_agrees room (reads t.terminal) give t f a b
 
 pub sign_runs : {Open : Place → Type 0} (room : ℕ) (s : Sign) → Runs true Open (sign room s)
 sign_runs room s = take_runs room _ _
@@ -248,8 +251,8 @@ pub advance_runs : Local true advance
 advance_runs = record { suffix = suffix; shorter = shorter; ends = ends; agrees = agree }
   where
     suffix : (ts : List Symbol) → IsSuffix (left_of (advance ts)) ts
-    suffix [] = whole []
-    suffix (t ∷ ts) = behind_one t (whole ts)
+    suffix [] = suffix_whole []
+    suffix (t ∷ ts) = suffix_behind t (suffix_whole ts)
 
     shorter : true ≡ true → (ts rest : List Symbol) (x : Place) → advance ts ≡ Ok (x, rest) → length rest < length ts
     shorter is [] rest x h = absurd (cc)
@@ -315,7 +318,7 @@ limit_runs {A} {d} {Open = Open} g why {q = q} none h = record {
 }
   where
     left : (b : Bool) (ts : List Symbol) → IsSuffix (left_of (cond b (refuse why) q ts)) ts
-    left true ts = whole ts
+    left true ts = suffix_whole ts
     left false ts = h.suffix ts
 
     last : (b : Bool) (t : Symbol) (ts : List Symbol) (e : Refusal) → cond b (refuse why) q (t ∷ ts) ≡ Err e → e.left ≡ [] → e.reason ≡ Unexpected
@@ -353,7 +356,7 @@ starts_limit_runs begins why h = limit_runs (starts begins) why refl h
 pub item_refusal_runs : {A : Type 0} {Open : A → Type 0} (begins : Terminal → Bool) (why : Reason) → Runs true Open (refuse_item {A = A} begins why)
 unfolding refuse_item
 item_refusal_runs {A} {Open = Open} begins why = record {
-  suffix = λ ts. whole ts;
+  suffix = λ ts. suffix_whole ts;
   shorter = λ is ts rest x h. absurd (cc);
   ends = ends;
   agrees = agree;
@@ -364,7 +367,7 @@ item_refusal_runs {A} {Open = Open} begins why = record {
     ends (t ∷ ts) e h end = absurd (cc)
 
     agree : (front a b : List Symbol) → Agrees Open a b (refuse {A = A} (reason_by begins why (next (front ++ a))) (front ++ a)) (refuse {A = A} (reason_by begins why (next (front ++ b))) (front ++ b))
-    agree [] a b = goes_on (refuses_on _ refl (whole a))
+    agree [] a b = goes_on (refuses_on _ refl (suffix_whole a))
     agree (t ∷ front) a b = both_refuse _ t front refl refl
 
 -- ---- lists whose turns are counted by the symbols

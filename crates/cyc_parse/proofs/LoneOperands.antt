@@ -20,20 +20,20 @@ no_level : (o : Option ℕ) → is_some o ≡ false → o ≡ None
 no_level None h = refl
 no_level (Some k) h = absurd (cc)
 
-no_postfixes : (room left : ℕ) (inner : Nested) (ts : List Symbol) → sees signs.LeftBracket ts || sees signs.Arrow ts ≡ false → postfixes room inner left ts ≡ Ok (NoPostfixes, ts)
+no_postfix_seen : (room left : ℕ) (inner : Nested) (ts : List Symbol) → sees signs.LeftBracket ts || sees signs.Arrow ts ≡ false → postfixes room inner left ts ≡ Ok (NoPostfixes, ts)
 unfolding postfixes if_sees
-no_postfixes room zero inner ts none = let each = no_either (sees signs.LeftBracket ts) (sees signs.Arrow ts) none in rw (each.0, each.1) refl
-no_postfixes room (suc left) inner ts none = let each = no_either (sees signs.LeftBracket ts) (sees signs.Arrow ts) none in rw (each.0, each.1) refl
+no_postfix_seen room zero inner ts none = let each = no_either (sees signs.LeftBracket ts) (sees signs.Arrow ts) none in rw (each.0, each.1) refl
+no_postfix_seen room (suc left) inner ts none = let each = no_either (sees signs.LeftBracket ts) (sees signs.Arrow ts) none in rw (each.0, each.1) refl
 
 -- an operand without postfixes
 pub no_chain : (room : ℕ) (e : Expression) (ts : List Symbol) → sees signs.LeftBracket ts || sees signs.Arrow ts ≡ false → with_chain room (nested room) e ts ≡ Ok (e, ts)
 unfolding bind
-no_chain room e ts none = rw (no_postfixes room max_items (nested room) ts none) refl
+no_chain room e ts none = rw (no_postfix_seen room max_items (nested room) ts none) refl
 
 -- an operand of which the first symbols are all
-ends : (room below : ℕ) (e : Expression) (ts us : List Symbol) → unary room (nested room) ts ≡ Ok (e, us) → level_at 0 below (next us) ≡ None → operand room (nested room) below ts ≡ Ok (e, us)
+operand_ends : (room below : ℕ) (e : Expression) (ts us : List Symbol) → unary room (nested room) ts ≡ Ok (e, us) → level_at 0 below (next us) ≡ None → operand room (nested room) below ts ≡ Ok (e, us)
 unfolding bind
-ends room below e ts us first none = rw first (climb_all room below e us ∙ climb_ends room 0 below e us none)
+operand_ends room below e ts us first none = rw first (climb_all room below e us ∙ climb_ends room 0 below e us none)
 
 module _ (room below : ℕ) (t : Symbol) (ts : List Symbol) (alone : is_continued below ts ≡ false) where
   no_call : sees signs.LeftParen ts ≡ false
@@ -45,11 +45,11 @@ module _ (room below : ℕ) (t : Symbol) (ts : List Symbol) (alone : is_continue
 
   number : (n : ℕ) → t.terminal ≡ terminals.Number n → operand room (nested room) below (t ∷ ts) ≡ Ok (Number t.place n, ts)
   unfolding unary primary choose bind
-  number n is = ends room below (Number t.place n) (t ∷ ts) ts (rw is (rw (no_postfixes room max_items (nested room) ts no_more.0) refl)) (no_level (level_at 0 below (next ts)) no_more.1)
+  number n is = operand_ends room below (Number t.place n) (t ∷ ts) ts (rw is (rw (no_postfix_seen room max_items (nested room) ts no_more.0) refl)) (no_level (level_at 0 below (next ts)) no_more.1)
 
   variable : (x : ℕ) → t.terminal ≡ Identifier x → operand room (nested room) below (t ∷ ts) ≡ Ok (Variable (record { name = x; place = t.place }), ts)
   unfolding unary primary choose bind if_sees
-  variable x is = ends room below (Variable (record { name = x; place = t.place })) (t ∷ ts) ts (rw is (rw no_call (rw (no_postfixes room max_items (nested room) ts no_more.0) refl))) (no_level (level_at 0 below (next ts)) no_more.1)
+  variable x is = operand_ends room below (Variable (record { name = x; place = t.place })) (t ∷ ts) ts (rw is (rw no_call (rw (no_postfix_seen room max_items (nested room) ts no_more.0) refl))) (no_level (level_at 0 below (next ts)) no_more.1)
 
 terminal_of : Terminal → Option Terminal → Terminal
 terminal_of t None = t
@@ -65,6 +65,6 @@ unfolding terminal_of
 lone_variable room below x [] us p is taken alone = absurd (cc)
 lone_variable room below x (t ∷ ts) us p is taken alone = variable room below t ts alone x (ap (terminal_of t.terminal) is) ∙ ap (λ (o : Outcome Place). and_then o (λ q vs. Ok (Variable (record { name = x; place = q }), vs))) taken
 
-pub no_bracket : (room : ℕ) (ts : List Symbol) → sees signs.LeftBracket ts ≡ false → one_field (suc room) ts ≡ one_postfix room (nested room) ts
+pub field_is_postfix : (room : ℕ) (ts : List Symbol) → sees signs.LeftBracket ts ≡ false → one_field (suc room) ts ≡ one_postfix room (nested room) ts
 unfolding if_sees
-no_bracket room ts h = rw h refl
+field_is_postfix room ts h = rw h refl

@@ -154,16 +154,16 @@ pub lift : {A B C : Type 0} (k : C → Parser B) (o : Outcome A) (f : A → Pars
 lift k (Ok p) f g h = h p.0 p.1
 lift k (Err e) f g h = refl
 
-pub by_test : {B C : Type 0} (k : C → Parser B) (b : Bool) (p q : Parser B) (p' q' : Parser C) (ts : List Symbol) → p ts ≡ and_then (p' ts) k → q ts ≡ and_then (q' ts) k → cond b p q ts ≡ and_then (cond b p' q' ts) k
-by_test k true p q p' q' ts a b = a
-by_test k false p q p' q' ts a b = b
+pub then_by_test : {B C : Type 0} (k : C → Parser B) (b : Bool) (p q : Parser B) (p' q' : Parser C) (ts : List Symbol) → p ts ≡ and_then (p' ts) k → q ts ≡ and_then (q' ts) k → cond b p q ts ≡ and_then (cond b p' q' ts) k
+then_by_test k true p q p' q' ts a b = a
+then_by_test k false p q p' q' ts a b = b
 
 pub postfixes_steps : (room : ℕ) (inner : Nested) → Steps (λ f ps. f ps) (pure NoPostfixes) (one_postfix room inner) (postfixes room inner)
 unfolding postfixes if_sees bind
 postfixes_steps room inner = record {
-  step = λ n ts. by_test _ (sees signs.LeftBracket ts) _ _ _ _ ts
+  step = λ n ts. then_by_test _ (sees signs.LeftBracket ts) _ _ _ _ ts
       (lift _ (sign (suc room) signs.LeftBracket ts) _ _ (λ _ us. lift _ (inner.expression us) _ _ (λ e vs. lift _ (sign room signs.RightBracket vs) _ _ (λ _ ws. refl))))
-      (by_test _ (sees signs.Arrow ts) _ _ _ _ ts (lift _ (sign (suc room) signs.Arrow ts) _ _ (λ _ us. lift _ (identifier (suc room) us) _ _ (λ x vs. refl))) refl);
+      (then_by_test _ (sees signs.Arrow ts) _ _ _ _ ts (lift _ (sign (suc room) signs.Arrow ts) _ _ (λ _ us. lift _ (identifier (suc room) us) _ _ (λ x vs. refl))) refl);
 }
 
 by_operator : (operand : Parser Expression) (rest : Parser Operations) (operator : Option BinaryOperator) (ts : List Symbol)
@@ -183,7 +183,7 @@ more_values_steps room inner = record { step = λ n ts. by_comma MoreExpressions
 
 pub more_of_steps : {A : Type 0} (begins : Terminal → Bool) (item : Parser A) → Steps (λ x xs. x ∷ xs) (pure []) (one_of begins item) (more_of begins item)
 unfolding more_of if_starts bind
-more_of_steps begins item = record { step = λ n ts. by_test _ (starts begins (next ts)) _ _ _ _ ts (lift _ (item ts) _ _ (λ x us. refl)) refl }
+more_of_steps begins item = record { step = λ n ts. then_by_test _ (starts begins (next ts)) _ _ _ _ ts (lift _ (item ts) _ _ (λ x us. refl)) refl }
 
 by_symbol : (room : ℕ) (rest : Parser (List Declaration)) (next : Option Terminal) (ts : List Symbol)
     → (elim next as (λ _. Parser (List Declaration)) [ None ↦ pure [] | Some t ↦ bind (declaration room) (λ d. bind rest (λ ds. pure (d ∷ ds))) ]) ts

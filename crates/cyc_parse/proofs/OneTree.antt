@@ -23,14 +23,14 @@ chosen : {A : Type 0} (b : Bool) (e : Refusal) (outcome : Outcome A) (y : A × L
 chosen true e outcome y h = cc
 chosen false e outcome y h = h
 
-judged : {A : Type 0} (leaves : Yield) (ts : List Symbol) (x y : A × List Symbol) → judge leaves ts (Ok x) ≡ Ok y → x ≡ y
-judged [] ts x y h = cc
-judged (l ∷ ls) [] x y h = cc
-judged (l ∷ ls) (t ∷ ts) x y h =
-    judged ls ts x y (chosen (nat_lt max_items l.item) (record { reason = TooLong; left = t ∷ ts }) _ y
+judged_same : {A : Type 0} (leaves : Yield) (ts : List Symbol) (x y : A × List Symbol) → judge leaves ts (Ok x) ≡ Ok y → x ≡ y
+judged_same [] ts x y h = cc
+judged_same (l ∷ ls) [] x y h = cc
+judged_same (l ∷ ls) (t ∷ ts) x y h =
+    judged_same ls ts x y (chosen (nat_lt max_items l.item) (record { reason = TooLong; left = t ∷ ts }) _ y
     (chosen (nat_lt max_nesting l.nesting) (record { reason = TooDeep; left = t ∷ ts }) _ y h))
 
 pub one_tree : (ts : List Symbol) (a b : List Declaration) → HasTree ts a → IsWithinLimits a → HasTree ts b → a ≡ b
 one_tree ts a b has small other =
     ap (λ (p : List Declaration × List Symbol). p.0)
-    (sym (judged (yields.program b) ts (b, []) (a, []) (sym (program_of-complete ts b other) ∙ (program_of-complete ts a has ∙ judge-within (yields.program a) ts (Ok (a, [])) small))))
+    (sym (judged_same (yields.program b) ts (b, []) (a, []) (sym (program_of-complete ts b other) ∙ (program_of-complete ts a has ∙ judge-within (yields.program a) ts (Ok (a, [])) small))))

@@ -1,22 +1,23 @@
 -- Of the symbols that may begin a type, an expression, a statement or an item, each begins one: here is such a one.
-use Rattle.std.proofs.Common.{◌≡◌, ℕ, suc, ◌≤◌, true, false, List, [], ◌∷◌, ◌++◌, None, is_some, refl, sym, arith, true≢false}
+use Rattle.std.proofs.Common.{◌≡◌, ℕ, suc, ◌≤◌, true, false, List, [], ◌∷◌, ◌++◌, Option, Some, None, is_some, refl, sym, arith, true≢false}
 use Rattle.cyc_syntax.specs.declared.tokens.Keyword.{Keyword}
 use Rattle.cyc_syntax.specs.declared.tokens.Keyword.TheVariants as words
 use Rattle.cyc_syntax.specs.declared.tokens.Sign.{Sign}
 use Rattle.cyc_syntax.specs.declared.tokens.Sign.TheVariants as signs
-use Rattle.cyc_syntax.specs.declared.tree.PrefixOperator.TheVariants as prefixes
+use Rattle.cyc_syntax.specs.declared.tree.PrefixOperator.{PrefixOperator}
 use Rattle.cyc_syntax.specs.Symbols.{Place, Terminal, Identifier, RegionName, Word, Mark, Symbol}
 use Rattle.cyc_syntax.specs.Symbols as terminals
-use Rattle.cyc_syntax.specs.Trees.{Named, Int, Char, Struct, Handle, Key, Expression, Number, Character, Null, HeapRegion, UniqueRegion, Variable, Bracketed, NumberOfElements, LowByteOf, FreeUnique, FreeKey, Call, Chained, Prefixed, New, RegionNew, Binary, Assign, Plain, Array, Statement, Block, Empty, Evaluate, If, While, Return, Break, Continue, Throw, Try, Braces, NoItems, MoreItems, Execute, Local, Region, Alias, Default}
-use Rattle.cyc_syntax.specs.Yields.{Yield}
+use Rattle.cyc_syntax.specs.Trees.{Named, Int, Char, Struct, Handle, Key, Expression, Number, Character, Null, HeapRegion, UniqueRegion, Variable, Bracketed, NumberOfElements, LowByteOf, FreeUnique, FreeKey, Prefixed, New, RegionNew, Binary, Assign, Plain, Array, Statement, Block, Empty, Evaluate, If, While, Return, Break, Continue, Throw, Try, Braces, NoItems, MoreItems, Execute, Local, Region, Alias, Default}
+use Rattle.cyc_syntax.specs.Yields.{Yield, prefix_sign}
 use Rattle.cyc_syntax.specs.Yields as yields
 use Rattle.cyc_syntax.specs.Grammar.{IsExpression, IsInitial, wants_else, IsStatement, AreItems, IsItem}
 use Rattle.cyc_parse.specs.inside.Parsing.{next, starts, begins_region, is_sign}
 use Rattle.cyc_parse.specs.inside.Types.{begins_type}
-use Rattle.cyc_parse.specs.inside.Expressions.{begins_expression, begins_initial}
+use Rattle.cyc_parse.specs.inside.Expressions.{begins_expression, begins_initial, prefix_operator}
 use Rattle.cyc_parse.specs.inside.Statements.{statement_word, statement_sign, begins_statement, item_word, begins_item, is_else}
 use Rattle.cyc_parse.specs.inside.Declarations.{begins_constructor}
 use Rattle.cyc_parse.proofs.Rules.{leaf_of}
+use Rattle.cyc_parse.proofs.OperatorSigns.{is_prefix_sign}
 use Rattle.cyc_parse.proofs.Gives.{Spells, Any, Opened, possibly, opened_at, opened_item, opened_then}
 
 -- a name, and a number
@@ -64,6 +65,13 @@ constructor_opened d (Mark s) p h = absurd (true≢false (sym h))
 
 -- ---- expressions
 
+prefixed_opened : (d : ℕ) (s : Sign) (p : Place) → is_some (prefix_operator s) ≡ true → Opened (Spells (yields.expression d) (λ e _. IsExpression 0 e)) (Mark s) p
+prefixed_opened d s p h = go (prefix_operator s) refl h
+  where
+    go : (o : Option PrefixOperator) → prefix_operator s ≡ o → is_some o ≡ true → Opened (Spells (yields.expression d) (λ e _. IsExpression 0 e)) (Mark s) p
+    go None is h = absurd (true≢false (sym h))
+    go (Some o) is h = rw (is_prefix_sign s o is) (opened_at d (Mark (prefix_sign o)) p (Prefixed p o (zero_at p)) _ (refl, tt))
+
 pub expression_opened : (d : ℕ) (u : Terminal) (p : Place) → begins_expression u ≡ true → Opened (Spells (yields.expression d) (λ e _. IsExpression 0 e)) u p
 expression_opened d (Identifier x) p h = opened_at d (Identifier x) p (Variable (record { name = x; place = p })) _ (refl, tt)
 expression_opened d (RegionName r) p h = absurd (true≢false (sym h))
@@ -80,12 +88,7 @@ expression_opened d (Word words.New) p h = opened_at d (Word words.New) p (New p
 expression_opened d (Word words.RegionNew) p h = opened_at d (Word words.RegionNew) p (RegionNew p (zero_at p) (Plain (zero_at p))) _ (refl, (tt, tt))
 expression_opened d (Word _) p h = absurd (true≢false (sym h))
 expression_opened d (Mark signs.LeftParen) p h = opened_at d (Mark signs.LeftParen) p (Bracketed p (zero_at p)) _ (refl, tt)
-expression_opened d (Mark signs.Minus) p h = opened_at d (Mark signs.Minus) p (Prefixed p prefixes.Negate (zero_at p)) _ (refl, tt)
-expression_opened d (Mark signs.Not) p h = opened_at d (Mark signs.Not) p (Prefixed p prefixes.Not (zero_at p)) _ (refl, tt)
-expression_opened d (Mark signs.Tilde) p h = opened_at d (Mark signs.Tilde) p (Prefixed p prefixes.Complement (zero_at p)) _ (refl, tt)
-expression_opened d (Mark signs.Star) p h = opened_at d (Mark signs.Star) p (Prefixed p prefixes.Dereference (zero_at p)) _ (refl, tt)
-expression_opened d (Mark signs.And) p h = opened_at d (Mark signs.And) p (Prefixed p prefixes.AddressOf (zero_at p)) _ (refl, tt)
-expression_opened d (Mark _) p h = absurd (true≢false (sym h))
+expression_opened d (Mark s) p h = prefixed_opened d s p h
 
 abbrev pub group_yield : ℕ → Expression → Yield
 group_yield d e = leaf_of d (Mark signs.LeftParen) ∷ (yields.expression (suc d) e ++ leaf_of (suc d) (Mark signs.RightParen) ∷ [])
@@ -104,13 +107,7 @@ as_plain o = record { value = Plain o.value; leaf = o.leaf; behind = o.behind; t
 
 pub initial_opened : (d : ℕ) (u : Terminal) (p : Place) → begins_initial u ≡ true → Opened (Spells (yields.initial d) (λ i _. IsInitial i)) u p
 initial_opened d (Mark signs.LeftBrace) p h = opened_item d 0 (Mark signs.LeftBrace) p (Array p (named_at p) (zero_at p) (zero_at p)) _ (refl, (tt, tt))
-initial_opened d (Mark signs.LeftParen) p h = as_plain (expression_opened d (Mark signs.LeftParen) p refl)
-initial_opened d (Mark signs.Minus) p h = as_plain (expression_opened d (Mark signs.Minus) p refl)
-initial_opened d (Mark signs.Not) p h = as_plain (expression_opened d (Mark signs.Not) p refl)
-initial_opened d (Mark signs.Tilde) p h = as_plain (expression_opened d (Mark signs.Tilde) p refl)
-initial_opened d (Mark signs.Star) p h = as_plain (expression_opened d (Mark signs.Star) p refl)
-initial_opened d (Mark signs.And) p h = as_plain (expression_opened d (Mark signs.And) p refl)
-initial_opened d (Mark _) p h = absurd (true≢false (sym h))
+initial_opened d (Mark s) p h = as_plain (expression_opened d (Mark s) p h)
 initial_opened d (Identifier x) p h = as_plain (expression_opened d (Identifier x) p refl)
 initial_opened d (RegionName r) p h = absurd (true≢false (sym h))
 initial_opened d (terminals.Number n) p h = as_plain (expression_opened d (terminals.Number n) p refl)
@@ -127,24 +124,9 @@ abbrev OpenedStatement : ℕ → Terminal → Place → Type 0
 OpenedStatement d u p = Opened (Spells (yields.statement d) IsStatementBefore) u p
 
 pub looser : (j k : ℕ) → j ≤ k → (e : Expression) → IsExpression j e → IsExpression k e
-looser j k le (Number p n) is = tt
-looser j k le (Character p c) is = tt
-looser j k le (Null p) is = tt
-looser j k le (HeapRegion p) is = tt
-looser j k le (UniqueRegion p) is = tt
-looser j k le (Variable x) is = tt
-looser j k le (Call f es) is = is
-looser j k le (Bracketed p e) is = is
-looser j k le (NumberOfElements p e) is = is
-looser j k le (LowByteOf p e) is = is
-looser j k le (FreeUnique p e) is = is
-looser j k le (FreeKey p x) is = tt
-looser j k le (Chained e ps) is = is
-looser j k le (Prefixed p o e) is = is
-looser j k le (New p i) is = is
-looser j k le (RegionNew p h i) is = is
 looser j k le (Binary e os) (below, less, few, parts, some, are) = (below, omega (arith, less, le), few, parts, some, are)
 looser j k le (Assign a b) (high, left, right) = (omega (arith, high, le), left, right)
+looser j k le e is = is
 
 evaluated : {d : ℕ} {u : Terminal} {p : Place} → Opened (Spells (yields.expression d) (λ e _. IsExpression 0 e)) u p → OpenedStatement d u p
 evaluated o = opened_then o (λ e is. possibly (Evaluate e) _ (refl, (looser 0 11 (omega arith) e is, (λ _. refl))))
@@ -157,27 +139,12 @@ statement_word_opened d words.Break p h = opened_at d (Word words.Break) p (Brea
 statement_word_opened d words.Continue p h = opened_at d (Word words.Continue) p (Continue p) _ (refl, (tt, (λ _. refl)))
 statement_word_opened d words.Throw p h = opened_at d (Word words.Throw) p (Throw p (named_at p) None) _ (refl, (tt, (λ _. refl)))
 statement_word_opened d words.Try p h = opened_at d (Word words.Try) p (Try p (Empty p) (Default NoItems)) _ (refl, ((tt, tt, tt), (λ _. refl)))
-statement_word_opened d words.Null p h = evaluated (expression_opened d (Word words.Null) p refl)
-statement_word_opened d words.HeapRegion p h = evaluated (expression_opened d (Word words.HeapRegion) p refl)
-statement_word_opened d words.UniqueRegion p h = evaluated (expression_opened d (Word words.UniqueRegion) p refl)
-statement_word_opened d words.NumberOfElements p h = evaluated (expression_opened d (Word words.NumberOfElements) p refl)
-statement_word_opened d words.Char p h = evaluated (expression_opened d (Word words.Char) p refl)
-statement_word_opened d words.FreeUnique p h = evaluated (expression_opened d (Word words.FreeUnique) p refl)
-statement_word_opened d words.FreeKey p h = evaluated (expression_opened d (Word words.FreeKey) p refl)
-statement_word_opened d words.New p h = evaluated (expression_opened d (Word words.New) p refl)
-statement_word_opened d words.RegionNew p h = evaluated (expression_opened d (Word words.RegionNew) p refl)
-statement_word_opened d _ p h = absurd (true≢false (sym h))
+statement_word_opened d k p h = evaluated (expression_opened d (Word k) p h)
 
 statement_sign_opened : (d : ℕ) (s : Sign) (p : Place) → statement_sign s ≡ true → OpenedStatement d (Mark s) p
 statement_sign_opened d signs.LeftBrace p h = opened_at d (Mark signs.LeftBrace) p (Block (Braces p NoItems p)) _ (refl, (tt, (λ _. refl)))
 statement_sign_opened d signs.Semicolon p h = opened_at d (Mark signs.Semicolon) p (Empty p) _ (refl, (tt, (λ _. refl)))
-statement_sign_opened d signs.LeftParen p h = evaluated (expression_opened d (Mark signs.LeftParen) p refl)
-statement_sign_opened d signs.Minus p h = evaluated (expression_opened d (Mark signs.Minus) p refl)
-statement_sign_opened d signs.Not p h = evaluated (expression_opened d (Mark signs.Not) p refl)
-statement_sign_opened d signs.Tilde p h = evaluated (expression_opened d (Mark signs.Tilde) p refl)
-statement_sign_opened d signs.Star p h = evaluated (expression_opened d (Mark signs.Star) p refl)
-statement_sign_opened d signs.And p h = evaluated (expression_opened d (Mark signs.And) p refl)
-statement_sign_opened d _ p h = absurd (true≢false (sym h))
+statement_sign_opened d s p h = evaluated (expression_opened d (Mark s) p h)
 
 pub statement_opened : (d : ℕ) (u : Terminal) (p : Place) → begins_statement u ≡ true → OpenedStatement d u p
 statement_opened d (Identifier x) p h = evaluated (expression_opened d (Identifier x) p refl)

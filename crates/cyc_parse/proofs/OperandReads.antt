@@ -3,18 +3,18 @@ use Rattle.std.proofs.Common.{◌≡◌, ℕ, zero, suc, ◌≤◌, true, List, 
 use Rattle.cyc_syntax.specs.declared.tokens.Keyword.TheVariants as words
 use Rattle.cyc_syntax.specs.declared.tokens.Sign.TheVariants as signs
 use Rattle.cyc_syntax.specs.declared.tree.PrefixOperator.{PrefixOperator}
-use Rattle.cyc_syntax.specs.declared.tree.PrefixOperator.TheVariants as prefixes
 use Rattle.cyc_syntax.specs.Symbols.{Place, Terminal, Identifier, RegionName, Word, Mark, Symbol}
 use Rattle.cyc_syntax.specs.Symbols as terminals
 use Rattle.cyc_syntax.specs.Trees.{Expression, Prefixed, New, Initial, Postfixes, NoPostfixes}
-use Rattle.cyc_syntax.specs.Yields.{Yield}
+use Rattle.cyc_syntax.specs.Yields.{Yield, prefix_sign}
 use Rattle.cyc_syntax.specs.Yields as yields
 use Rattle.cyc_syntax.specs.Grammar.{is_primary, IsExpression, IsInitial}
 use Rattle.cyc_parse.specs.inside.Parsing.{Parser, pure, sees, is_sign, bind, choose}
 use Rattle.cyc_parse.specs.inside.Expressions.{begins_expression, Nested, nested, primary, chained, with_postfixes, unary, unary_by, climb, assignment}
-use Rattle.cyc_parse.proofs.Rules.{Reads, Fits, starts-next, leaf_of, leaf_at, last_reads, nothing_reads, pure_reads, reads_as, choose_reads, advance_reads_at, unseen_reads, deep_reads, deep_then_reads}
+use Rattle.cyc_parse.proofs.Rules.{Reads, Fits, starts-next, leaf_of, leaf_at, last_reads, nothing_reads, pure_reads, reads_instead, choose_reads, advance_reads_at, unseen_reads, deep_reads, deep_then_reads}
 use Rattle.cyc_parse.proofs.Stops.{Stops, stops-less, no_assign}
 use Rattle.cyc_parse.proofs.Starts.{expression_starts, begins_primary, primary_starts}
+use Rattle.cyc_parse.proofs.OperatorSigns.{at_prefix_sign}
 use Rattle.cyc_parse.proofs.OperatorReads.{climb_all}
 use Rattle.cyc_parse.proofs.ExpressionReads.{deeper, shallow, Parts, PostfixParts, group_reads, primary_reads, with_postfixes_reads}
 
@@ -79,19 +79,15 @@ unary-primary room inner (terminals.Character x) h = refl
 unary-primary room inner (Word words.New) h = absurd (cc)
 unary-primary room inner (Word words.RegionNew) h = absurd (cc)
 unary-primary room inner (Word _) h = refl
-unary-primary room inner (Mark signs.Minus) h = absurd (cc)
-unary-primary room inner (Mark signs.Not) h = absurd (cc)
-unary-primary room inner (Mark signs.Tilde) h = absurd (cc)
-unary-primary room inner (Mark signs.Star) h = absurd (cc)
-unary-primary room inner (Mark signs.And) h = absurd (cc)
-unary-primary room inner (Mark _) h = refl
+unary-primary room inner (Mark signs.LeftParen) h = refl
+unary-primary room inner (Mark _) h = absurd (cc)
 
 module _ (room d : ℕ) (fits : Fits (suc room) d) where
   -- a primary expression and postfixes, or none
   pub chained_reads : (e : Expression) (ps : Postfixes) → is_primary e ≡ true → Parts room d e → PostfixParts room d ps
       → Reads (unary room (nested room)) (chained e ps) (yields.expression d e ++ yields.postfixes d 1 ps) (Stops 0)
   unfolding unary choose
-  chained_reads e ps is parts more = reads_as (with_postfixes room (nested room) (primary room (nested room)))
+  chained_reads e ps is parts more = reads_instead (with_postfixes room (nested room) (primary room (nested room)))
       (λ ts rest front ends. ap (λ (o : Option Terminal). unary_by room (nested room) o ts) (starts-next (primary_starts d e is) (yields.postfixes d 1 ps) ts rest front)
       ∙ ap (λ (p : Parser Expression). p ts) (unary-primary room (nested room) ((primary_starts d e is).first.terminal) ((primary_starts d e is).begin)))
       (with_postfixes_reads room d fits (primary room (nested room)) e (yields.expression d e) ps (primary_reads room d fits e is parts) more)
@@ -101,11 +97,8 @@ module _ (room d : ℕ) (fits : Fits (suc room) d) where
 
   pub prefixed_reads : (p : Place) (o : PrefixOperator) (e : Expression) → Reads (nested room).unary e (yields.expression (suc d) e) (Stops 0) → Reads (unary room (nested room)) (Prefixed p o e) (yields.expression d (Prefixed p o e)) (Stops 0)
   unfolding unary
-  prefixed_reads p prefixes.Negate e h = choose_reads (unary_by room (nested room)) (leaf_at d (Mark signs.Minus) p) _ (advance_reads_at d (Mark signs.Minus) p _ (shallow room d fits) (last_reads (λ (v : Expression). pure (Prefixed p prefixes.Negate v)) (λ ts. refl) h))
-  prefixed_reads p prefixes.Not e h = choose_reads (unary_by room (nested room)) (leaf_at d (Mark signs.Not) p) _ (advance_reads_at d (Mark signs.Not) p _ (shallow room d fits) (last_reads (λ (v : Expression). pure (Prefixed p prefixes.Not v)) (λ ts. refl) h))
-  prefixed_reads p prefixes.Complement e h = choose_reads (unary_by room (nested room)) (leaf_at d (Mark signs.Tilde) p) _ (advance_reads_at d (Mark signs.Tilde) p _ (shallow room d fits) (last_reads (λ (v : Expression). pure (Prefixed p prefixes.Complement v)) (λ ts. refl) h))
-  prefixed_reads p prefixes.Dereference e h = choose_reads (unary_by room (nested room)) (leaf_at d (Mark signs.Star) p) _ (advance_reads_at d (Mark signs.Star) p _ (shallow room d fits) (last_reads (λ (v : Expression). pure (Prefixed p prefixes.Dereference v)) (λ ts. refl) h))
-  prefixed_reads p prefixes.AddressOf e h = choose_reads (unary_by room (nested room)) (leaf_at d (Mark signs.And) p) _ (advance_reads_at d (Mark signs.And) p _ (shallow room d fits) (last_reads (λ (v : Expression). pure (Prefixed p prefixes.AddressOf v)) (λ ts. refl) h))
+  prefixed_reads p o e h = choose_reads (unary_by room (nested room)) (leaf_at d (Mark (prefix_sign o)) p) _
+      (rw (at_prefix_sign o) (advance_reads_at d (Mark (prefix_sign o)) p _ (shallow room d fits) (last_reads (λ (v : Expression). pure (Prefixed p o v)) (λ ts. refl) h)))
 
   pub new_reads : (p : Place) (i : Initial) → Reads (nested room).initial i (yields.initial (suc d) i) (Stops 0) → Reads (unary room (nested room)) (New p i) (yields.expression d (New p i)) (Stops 0)
   unfolding unary

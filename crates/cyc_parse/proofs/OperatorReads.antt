@@ -4,60 +4,20 @@ use Rattle.std.proofs.lemmas.Bool.{eq-eqb}
 use Rattle.cyc_words.proofs.Booleans.{and_false}
 use Rattle.cyc_syntax.specs.declared.tokens.Sign.TheVariants as signs
 use Rattle.cyc_syntax.specs.declared.tree.BinaryOperator.{BinaryOperator}
-use Rattle.cyc_syntax.specs.declared.tree.BinaryOperator.TheVariants as operators
 use Rattle.cyc_syntax.specs.Symbols.{Place, Terminal, Mark, RegionName, Symbol}
 use Rattle.cyc_syntax.specs.Trees.{Expression, Binary, Operations, NoOperations, ThenOperation}
 use Rattle.cyc_syntax.specs.Yields.{Yield, operator_sign}
 use Rattle.cyc_syntax.specs.Yields as yields
 use Rattle.cyc_syntax.specs.Grammar.{max_nesting, max_items, level, IsSomeOperation}
 use Rattle.cyc_parse.specs.inside.Parsing.{Parser, Outcome, and_then, pure, next, starts, begins_region, opens_regions, is_sign, bind}
-use Rattle.cyc_parse.specs.inside.Expressions.{begins_expression, binary_operator, of_level, operator_at, operations, climb, binary_of}
-use Rattle.cyc_parse.proofs.Rules.{Front, Reads, starts-next, then_reads, last_reads, nothing_reads, pure_reads, reads_as, is_reads, isnt_reads, advance_reads_item, long_leaf_reads}
+use Rattle.cyc_parse.specs.inside.Expressions.{begins_expression, of_level, operator_at, operations, climb, binary_of}
+use Rattle.cyc_parse.proofs.Rules.{Front, Reads, starts-next, then_reads, last_reads, nothing_reads, pure_reads, reads_instead, is_reads, isnt_reads, advance_reads_item, long_leaf_reads}
 use Rattle.cyc_parse.proofs.Stops.{Stops, stops-less, binds_terminal, no_operator}
 use Rattle.cyc_parse.proofs.Starts.{expression_starts}
-
-operator-sign : (o : BinaryOperator) → binary_operator (operator_sign o) ≡ Some o
-operator-sign operators.OrElse = refl
-operator-sign operators.AndThen = refl
-operator-sign operators.Or = refl
-operator-sign operators.Xor = refl
-operator-sign operators.And = refl
-operator-sign operators.Equal = refl
-operator-sign operators.NotEqual = refl
-operator-sign operators.Less = refl
-operator-sign operators.LessOrEqual = refl
-operator-sign operators.Greater = refl
-operator-sign operators.GreaterOrEqual = refl
-operator-sign operators.ShiftLeft = refl
-operator-sign operators.ShiftRight = refl
-operator-sign operators.Add = refl
-operator-sign operators.Subtract = refl
-operator-sign operators.Multiply = refl
-operator-sign operators.Divide = refl
-operator-sign operators.Remainder = refl
-
-operator-binds : (o : BinaryOperator) → binds_terminal (Mark (operator_sign o)) ≡ level o
-operator-binds operators.OrElse = refl
-operator-binds operators.AndThen = refl
-operator-binds operators.Or = refl
-operator-binds operators.Xor = refl
-operator-binds operators.And = refl
-operator-binds operators.Equal = refl
-operator-binds operators.NotEqual = refl
-operator-binds operators.Less = refl
-operator-binds operators.LessOrEqual = refl
-operator-binds operators.Greater = refl
-operator-binds operators.GreaterOrEqual = refl
-operator-binds operators.ShiftLeft = refl
-operator-binds operators.ShiftRight = refl
-operator-binds operators.Add = refl
-operator-binds operators.Subtract = refl
-operator-binds operators.Multiply = refl
-operator-binds operators.Divide = refl
-operator-binds operators.Remainder = refl
+use Rattle.cyc_parse.proofs.OperatorSigns.{at_operator_sign, operator_binds}
 
 at_its_level : (o : BinaryOperator) (k : ℕ) → level o ≡ k → operator_at k (Some (Mark (operator_sign o))) ≡ Some o
-at_its_level o k same = ap (of_level k) (operator-sign o) ∙ rw (eq-eqb (level o) k same) refl
+at_its_level o k same = ap (of_level k) (at_operator_sign o) ∙ rw (eq-eqb (level o) k same) refl
 
 -- ---- an operator ends its left operand, which is tighter
 
@@ -70,7 +30,7 @@ pub stops_operator : (k d i : ℕ) (o : BinaryOperator) (p : Place) (e : Express
 stops_operator k d i o p e ys mid rest same (t, more, is, is_leaf, front) =
     subst (λ (ts : List Symbol). Stops k ts) (sym is) (record {
       loose =
-          subst (λ (n : ℕ). k < n) (sym (ap (λ (b : Bool). cond b 0 (binds_terminal t.terminal)) closed ∙ ap binds_terminal (is_leaf.terminal) ∙ operator-binds o ∙ same)) (omega arith);
+          subst (λ (n : ℕ). k < n) (sym (ap (λ (b : Bool). cond b 0 (binds_terminal t.terminal)) closed ∙ ap binds_terminal (is_leaf.terminal) ∙ operator_binds o ∙ same)) (omega arith);
     })
   where
     closed : opens_regions (t ∷ more) ≡ false
@@ -118,7 +78,7 @@ module _ (unary : Parser Expression) where
 
   -- An operand is one of the next level too, if no operator of that level follows.
   pub climb_more : {e : Expression} {xs : Yield} (k : ℕ) → Reads (bind unary (climb unary k)) e xs (Stops k) → Reads (bind unary (climb unary (suc k))) e xs (Stops (suc k))
-  climb_more {e = e} k h = reads_as (bind (bind unary (climb unary k)) (at_level k)) (λ ts rest front ends. climb-suc k ts)
+  climb_more {e = e} k h = reads_instead (bind (bind unary (climb unary k)) (at_level k)) (λ ts rest front ends. climb-suc k ts)
       (nothing_reads (at_level k) h (last_reads (λ (v : Operations). pure (binary_of e v)) (λ ts. refl) (operations_reads (bind unary (climb unary k)) k 0 (omega arith) 64 1 NoOperations refl tt))
       (λ rest ends. stops-less k (suc k) rest (omega arith) ends))
 
@@ -133,6 +93,6 @@ module _ (unary : Parser Expression) where
   -- a chain of this level
   pub chain_reads : (k d : ℕ) → d ≤ max_nesting → (e : Expression) (os : Operations) → IsSomeOperation os → Reads (bind unary (climb unary k)) e (yields.expression d e) (Stops k)
       → OperationParts (bind unary (climb unary k)) k d os → Reads (bind unary (climb unary (suc k))) (Binary e os) (yields.expression d e ++ yields.operations d 1 os) (Stops (suc k))
-  chain_reads k d shallow e os some first parts = reads_as (bind (bind unary (climb unary k)) (at_level k)) (λ ts rest front ends. climb-suc k ts)
+  chain_reads k d shallow e os some first parts = reads_instead (bind (bind unary (climb unary k)) (at_level k)) (λ ts rest front ends. climb-suc k ts)
       (then_reads (at_level k) first (last_reads (λ (v : Operations). pure (binary_of e v)) (λ ts. ap (λ (b : Expression). Ok (b, ts)) (some-binary e os some)) (operations_reads (bind unary (climb unary k)) k d shallow 64 1 os refl parts))
       (λ mid rest front ends. between (bind unary (climb unary k)) k d shallow 1 os mid rest parts front ends))

@@ -15,17 +15,10 @@ use Rattle.cyc_parse.proofs.Rules.{judge}
 use Rattle.cyc_parse.proofs.Soundness.{limit_begun}
 use Rattle.cyc_parse.proofs.Completeness.{program_of-complete}
 use Rattle.cyc_parse.proofs.OneTree.{judge-within}
-use Rattle.cyc_parse.proofs.Locality.{IsSuffix, suffix-length, left_of, IsLess, reads_on, refuses_on, opens, overflows, Agrees, both_read, both_refuse, goes_on, Never}
+use Rattle.cyc_parse.proofs.Locality.{one_refusal, IsSuffix, suffix-length, left_of, IsLess, reads_on, refuses_on, opens, overflows, Agrees, both_read, both_refuse, goes_on, Never}
 use Rattle.cyc_parse.proofs.LocalDeclarations.{program_runs}
 
 -- ---- a refusal looks at no symbol behind it
-
-abbrev refusal_of : {A : Type 0} → Outcome A → Refusal → Refusal
-refusal_of (Ok p) e = e
-refusal_of (Err e) other = e
-
-same_refusal : {A : Type 0} {o : Outcome A} (d e : Refusal) → o ≡ Err d → o ≡ Err e → d ≡ e
-same_refusal d e h k = ap (λ (o : Outcome _). refusal_of o e) (sym h ∙ k)
 
 one_symbol : (t s : Symbol) (f back : List Symbol) → t ∷ (f ++ back) ≡ s ∷ back → f ≡ []
 one_symbol t s [] back e = refl
@@ -42,7 +35,7 @@ refusal_is_local front back more s why h alike =
         ok_err : {y : List Declaration × List Symbol} {r : Refusal} → Ok y ≡ Err r → ⊥
         ok_err q = cc
     go (both_refuse why' t f e e') k =
-        let q = same_refusal _ _ e k in
+        let q = one_refusal _ _ (sym e ∙ k) in
         let lefts : t ∷ (f ++ back) ≡ s ∷ back = ap (λ (r : Refusal). r.left) q in
         let none = one_symbol t s f back lefts in
         let first : t ≡ s = cc in
@@ -51,10 +44,10 @@ refusal_is_local front back more s why h alike =
         same_place : (why' : Reason) (t : Symbol) (f : List Symbol) → why' ≡ why → t ≡ s → f ≡ [] → ◌≡◌ {A = Refusal} (record { reason = why'; left = t ∷ (f ++ more) }) (record { reason = why; left = s ∷ more })
         same_place why' t f a b c = rw (a, b, c) refl
     go (goes_on (reads_on x rest e suffix)) k = absurd (cc (sym e ∙ k))
-    go (goes_on (refuses_on r e suffix)) k = absurd (omega (arith, suffix-length suffix, ap (λ (q : Refusal). length q.left) (same_refusal _ _ e k)))
+    go (goes_on (refuses_on r e suffix)) k = absurd (omega (arith, suffix-length suffix, ap (λ (q : Refusal). length q.left) (one_refusal _ _ (sym e ∙ k))))
     go (goes_on (opens x t e ready less differ)) k = absurd ready
     go (goes_on (overflows t e less differ)) k =
-        let q = same_refusal _ _ e k in
+        let q = one_refusal _ _ (sym e ∙ k) in
         let lefts : t ∷ back ≡ s ∷ back = ap (λ (r : Refusal). r.left) q in
         let first : t ≡ s = cc in
         absurd (differ (sym (alike (sym (ap (λ (r : Refusal). r.reason) q)) (subst IsLess first less))))
@@ -107,8 +100,8 @@ judged_refusal {A} (l ∷ ls) (t ∷ ts) x e (is, more) h = go (nat_lt max_nesti
     go : (b c : Bool) → nat_lt max_nesting l.nesting ≡ b → nat_lt max_items l.item ≡ c
         → cond b (Err (record { reason = TooDeep; left = t ∷ ts })) (cond c (Err (record { reason = TooLong; left = t ∷ ts })) (judge ls ts (Ok x))) ≡ Err e
         → (judge ls ts (Ok x) ≡ Err e → IsBroken ls ts e) → IsBroken (l ∷ ls) (t ∷ ts) e
-    go true c deep few h later = broken_here l ls t ts TooDeep e (ltb-true max_nesting l.nesting deep) (same_refusal _ _ refl h)
-    go false true shallow many h later = broken_here l ls t ts TooLong e (ltb-false max_nesting l.nesting shallow, ltb-true max_items l.item many) (same_refusal _ _ refl h)
+    go true c deep few h later = broken_here l ls t ts TooDeep e (ltb-true max_nesting l.nesting deep) (one_refusal _ _ h)
+    go false true shallow many h later = broken_here l ls t ts TooLong e (ltb-false max_nesting l.nesting shallow, ltb-true max_items l.item many) (one_refusal _ _ h)
     go false false shallow few h later = broken_later l ls t ts e (record { nesting = ltb-false max_nesting l.nesting shallow; item = ltb-false max_items l.item few }) (later h)
 
 -- ---- what a refusal says
@@ -116,17 +109,17 @@ judged_refusal {A} (l ∷ ls) (t ∷ ts) x e (is, more) h = go (nat_lt max_nesti
 front_count : (front : List Symbol) (s : Symbol) (more : List Symbol) (leaves : Yield) (why : Reason) → IsBroken leaves (front ++ s ∷ more) (record { reason = why; left = s ∷ more }) → BreaksFirst why leaves (length front)
 front_count front s more leaves why h = subst (BreaksFirst why leaves) (omega (arith, h.place, length-append front (s ∷ more))) h.first
 
-goes_wrong : (front back more : List Symbol) (s : Symbol) (why : Reason) (tree : List Declaration) → program_of (front ++ s ∷ back) ≡ Err (record { reason = why; left = s ∷ back })
+breaks_where_refused : (front back more : List Symbol) (s : Symbol) (why : Reason) (tree : List Declaration) → program_of (front ++ s ∷ back) ≡ Err (record { reason = why; left = s ∷ back })
     → (why ≡ TooLong → IsAlike s back more) → HasTree (front ++ s ∷ more) tree → BreaksFirst why (yields.program tree) (length front)
-goes_wrong front back more s why tree h alike has =
+breaks_where_refused front back more s why tree h alike has =
     front_count front s more (yields.program tree) why
     (judged_refusal (yields.program tree) (front ++ s ∷ more) (tree, []) (record { reason = why; left = s ∷ more }) has.spelled
     (sym (program_of-complete (front ++ s ∷ more) tree has) ∙ refusal_is_local front back more s why h alike))
 
 holds : (front left : List Symbol) (why : Reason) → program_of (front ++ left) ≡ Err (record { reason = why; left = left }) → Holds why front left
-holds front (s ∷ back) Unexpected h = λ more tree has. (goes_wrong front back more s Unexpected tree h (λ e. absurd (cc)) has).breaks
-holds front (s ∷ back) TooDeep h = (limit_begun front back s TooDeep tt h, (λ more tree has. goes_wrong front back more s TooDeep tree h (λ e. absurd (cc)) has))
-holds front (s ∷ back) TooLong h = (limit_begun front back s TooLong tt h, (λ more tree alike has. goes_wrong front back more s TooLong tree h (λ e. alike) has))
+holds front (s ∷ back) Unexpected h = λ more tree has. (breaks_where_refused front back more s Unexpected tree h (λ e. absurd (cc)) has).breaks
+holds front (s ∷ back) TooDeep h = (limit_begun front back s TooDeep tt h, (λ more tree has. breaks_where_refused front back more s TooDeep tree h (λ e. absurd (cc)) has))
+holds front (s ∷ back) TooLong h = (limit_begun front back s TooLong tt h, (λ more tree alike has. breaks_where_refused front back more s TooLong tree h (λ e. alike) has))
 holds front [] Unexpected h = λ tree has. none tree (judged_refusal (yields.program tree) front (tree, []) (record { reason = Unexpected; left = [] }) has.spelled
     (sym (program_of-complete front tree has) ∙ ap program_of (sym (append-nil front)) ∙ h))
   where
@@ -186,13 +179,13 @@ keeps_no_limit Unexpected leaf good none = none
 broken_not_within : (why : Reason) (leaves : Yield) (count : ℕ) → BreaksFirst why leaves count → AllByRecursion IsWithin leaves → ⊥
 broken_not_within why leaves count h all = keeps_no_limit why h.leaf (all_behind h.before h.leaf h.behind (subst (λ (ys : Yield). AllByRecursion IsWithin ys) h.are all)) h.breaks
 
-none_holds : (why : Reason) (front left : List Symbol) (tree : List Declaration) → Holds why front left → HasTree (front ++ left) tree → IsWithinLimits tree → ⊥
-none_holds Unexpected front [] tree h has small = h tree (subst (λ (ts : List Symbol). HasTree ts tree) (append-nil front) has)
-none_holds Unexpected front (s ∷ back) tree h has small = h back tree has
-none_holds TooDeep front [] tree h has small = h
-none_holds TooDeep front (s ∷ back) tree h has small = broken_not_within TooDeep (yields.program tree) (length front) (h.1 back tree has) small
-none_holds TooLong front [] tree h has small = h
-none_holds TooLong front (s ∷ back) tree h has small = broken_not_within TooLong (yields.program tree) (length front) (h.1 back tree (λ _. refl) has) small
+none_within_limits : (why : Reason) (front left : List Symbol) (tree : List Declaration) → Holds why front left → HasTree (front ++ left) tree → IsWithinLimits tree → ⊥
+none_within_limits Unexpected front [] tree h has small = h tree (subst (λ (ts : List Symbol). HasTree ts tree) (append-nil front) has)
+none_within_limits Unexpected front (s ∷ back) tree h has small = h back tree has
+none_within_limits TooDeep front [] tree h has small = h
+none_within_limits TooDeep front (s ∷ back) tree h has small = broken_not_within TooDeep (yields.program tree) (length front) (h.1 back tree has) small
+none_within_limits TooLong front [] tree h has small = h
+none_within_limits TooLong front (s ∷ back) tree h has small = broken_not_within TooLong (yields.program tree) (length front) (h.1 back tree (λ _. refl) has) small
 
 pub refused_has_none : (ts : List Symbol) (e : Refusal) (tree : List Declaration) → IsRefused ts e → HasTree ts tree → IsWithinLimits tree → ⊥
-refused_has_none ts e tree h has small = none_holds e.reason h.front e.left tree h.holds (subst (λ (ts : List Symbol). HasTree ts tree) h.are has) small
+refused_has_none ts e tree h has small = none_within_limits e.reason h.front e.left tree h.holds (subst (λ (ts : List Symbol). HasTree ts tree) h.are has) small

@@ -17,12 +17,12 @@ region_read room d fits r = record {
   reads = bare_reads (region_reads room d 0 r _ fits (omega arith) (pure_reads r Always));
 }
 
-all_read : (room d : ℕ) → Fits room d → (rs : List Named) → AllByRecursion (IsRead d begins_region (region_name room) (yields.region_name d) Always) rs
-all_read room d fits [] = tt
-all_read room d fits (r ∷ rs) = (region_read room d fits r, all_read room d fits rs)
+regions_read : (room d : ℕ) → Fits room d → (rs : List Named) → AllByRecursion (IsRead d begins_region (region_name room) (yields.region_name d) Always) rs
+regions_read room d fits [] = tt
+regions_read room d fits (r ∷ rs) = (region_read room d fits r, regions_read room d fits rs)
 
 pub regions_reads : (room d : ℕ) → Fits room d → d ≤ max_nesting → (r : Named) (rs : List Named) → Reads (regions room) (r ∷ rs) (yields.regions d (r ∷ rs)) (EndsList Always)
-regions_reads room d fits shallow r rs = separated_reads room d fits shallow begins_region (region_name room) (yields.region_name d) Always (λ ts e. tt) r rs (all_read room d fits (r ∷ rs))
+regions_reads room d fits shallow r rs = separated_reads room d fits shallow begins_region (region_name room) (yields.region_name d) Always (λ ts e. tt) r rs (regions_read room d fits (r ∷ rs))
 
 pub region_list_reads : (room d : ℕ) → Fits room d → d ≤ max_nesting → (r : Named) (rs : List Named) (Ends : List Symbol → Type 0) → Reads (region_list room) (r ∷ rs) (yields.region_list d (r ∷ rs)) Ends
 region_list_reads room d fits shallow r rs Ends = sign_reads room d signs.Less _ fits (λ p. then_reads _ (regions_reads room d fits shallow r rs)

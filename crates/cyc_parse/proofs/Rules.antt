@@ -90,9 +90,9 @@ last_reads f {x = x} {y = y} {xs = xs} is h = record {
 }
 
 -- The parser does there what another does.
-pub reads_as : {A : Type 0} {p : Parser A} (q : Parser A) {x : A} {xs : Yield} {Ends : List Symbol → Type 0}
+pub reads_instead : {A : Type 0} {p : Parser A} (q : Parser A) {x : A} {xs : Yield} {Ends : List Symbol → Type 0}
     → ((ts rest : List Symbol) → Front xs ts rest → Ends rest → p ts ≡ q ts) → Reads q x xs Ends → Reads p x xs Ends
-reads_as q same h = record { reads = λ ts rest front ends. same ts rest front ends ∙ h.reads ts rest front ends }
+reads_instead q same h = record { reads = λ ts rest front ends. same ts rest front ends ∙ h.reads ts rest front ends }
 
 -- what follows may be said to be more
 pub reads_before : {A : Type 0} {p : Parser A} {x : A} {xs : Yield} (Ends : List Symbol → Type 0) {More : List Symbol → Type 0}
@@ -105,9 +105,9 @@ reads_before Ends h weaker = record { reads = λ ts rest front ends. h.reads ts 
 abbrev pub Fits : ℕ → ℕ → Type 0
 Fits room d = room + d ≡ suc max_nesting
 
-pub judge-within : {A : Type 0} (leaf : Leaf) (ys : Yield) (t : Symbol) (more : List Symbol) (outcome : Outcome A) → leaf.nesting ≤ max_nesting → leaf.item ≤ max_items
+pub judge-leaf : {A : Type 0} (leaf : Leaf) (ys : Yield) (t : Symbol) (more : List Symbol) (outcome : Outcome A) → leaf.nesting ≤ max_nesting → leaf.item ≤ max_items
     → judge (leaf ∷ ys) (t ∷ more) outcome ≡ judge ys more outcome
-judge-within leaf ys t more outcome shallow few = rw (le-nat_lt max_nesting leaf.nesting shallow, le-nat_lt max_items leaf.item few) refl
+judge-leaf leaf ys t more outcome shallow few = rw (le-nat_lt max_nesting leaf.nesting shallow, le-nat_lt max_items leaf.item few) refl
 
 pub judge-deep : {A : Type 0} (leaf : Leaf) (ys : Yield) (t : Symbol) (more : List Symbol) (outcome : Outcome A) → max_nesting < leaf.nesting
     → judge (leaf ∷ ys) (t ∷ more) outcome ≡ Err (record { reason = TooDeep; left = t ∷ more })
@@ -117,7 +117,7 @@ accept_reads : {B C : Type 0} (room : ℕ) (b : B) (f : B → Parser C) (leaf : 
     → Fits room leaf.nesting → leaf.item ≤ max_items → f b more ≡ judge ys more outcome
     → and_then (accept room b t more) f ≡ judge (leaf ∷ ys) (t ∷ more) outcome
 accept_reads zero b f leaf ys t more outcome fits few e = sym (judge-deep leaf ys t more outcome (omega arith))
-accept_reads (suc room) b f leaf ys t more outcome fits few e = e ∙ sym (judge-within leaf ys t more outcome (omega arith) few)
+accept_reads (suc room) b f leaf ys t more outcome fits few e = e ∙ sym (judge-leaf leaf ys t more outcome (omega arith) few)
 
 -- a symbol that is read, and then another parser
 pub token_reads : {A B C : Type 0} (room : ℕ) (reads : Terminal → Option A) (give : A → Place → B) (f : B → Parser C) {y : C} {ys : Yield} {Ends : List Symbol → Type 0} (leaf : Leaf) (a : A)
@@ -188,7 +188,7 @@ unfolding bind
 advance_reads f {y = y} {ys = ys} leaf shallow few next = record {
   reads = λ ts rest (t, more, e, is_leaf, front) ends.
       subst (λ (s : List Symbol). and_then (advance s) f ≡ judge (leaf ∷ ys) s (Ok (y, rest))) (sym e)
-      ((next t.place is_leaf.place).reads more rest front ends ∙ sym (judge-within leaf ys t more (Ok (y, rest)) shallow few));
+      ((next t.place is_leaf.place).reads more rest front ends ∙ sym (judge-leaf leaf ys t more (Ok (y, rest)) shallow few));
 }
 
 -- of which the place is kept
@@ -200,37 +200,37 @@ advance_reads_at d t q f {y = y} {ys = ys} {Ends = Ends} shallow next =
 pub choose_reads : {A : Type 0} (f : Option Terminal → Parser A) {x : A} {Ends : List Symbol → Type 0} (leaf : Leaf) (ys : Yield)
     → Reads (f (Some leaf.terminal)) x (leaf ∷ ys) Ends → Reads (choose f) x (leaf ∷ ys) Ends
 unfolding choose
-choose_reads f leaf ys h = reads_as (f (Some leaf.terminal)) (λ ts rest front ends. ap (λ (t : Option Terminal). f t ts) (front-next leaf ys ts rest front)) h
+choose_reads f leaf ys h = reads_instead (f (Some leaf.terminal)) (λ ts rest front ends. ap (λ (t : Option Terminal). f t ts) (front-next leaf ys ts rest front)) h
 
 pub sees_reads : {A : Type 0} (s : Sign) (p q : Parser A) {x : A} {Ends : List Symbol → Type 0} (leaf : Leaf) (ys : Yield) → sees_terminal s (Some leaf.terminal) ≡ true
     → Reads p x (leaf ∷ ys) Ends → Reads (if_sees s p q) x (leaf ∷ ys) Ends
 unfolding if_sees
-sees_reads s p q leaf ys is h = reads_as p (λ ts rest front ends. ap (λ (b : Bool). (cond b p q) ts) (ap (sees_terminal s) (front-next leaf ys ts rest front) ∙ is)) h
+sees_reads s p q leaf ys is h = reads_instead p (λ ts rest front ends. ap (λ (b : Bool). (cond b p q) ts) (ap (sees_terminal s) (front-next leaf ys ts rest front) ∙ is)) h
 
 pub unseen_reads : {A : Type 0} (s : Sign) (p q : Parser A) {x : A} {xs : Yield} {Ends : List Symbol → Type 0} → ((ts rest : List Symbol) → Front xs ts rest → Ends rest → sees s ts ≡ false)
     → Reads q x xs Ends → Reads (if_sees s p q) x xs Ends
 unfolding if_sees
-unseen_reads s p q isnt h = reads_as q (λ ts rest front ends. ap (λ (b : Bool). (cond b p q) ts) (isnt ts rest front ends)) h
+unseen_reads s p q isnt h = reads_instead q (λ ts rest front ends. ap (λ (b : Bool). (cond b p q) ts) (isnt ts rest front ends)) h
 
 pub starts_reads : {A : Type 0} (begins : Terminal → Bool) (p q : Parser A) {x : A} {Ends : List Symbol → Type 0} (leaf : Leaf) (ys : Yield) → begins leaf.terminal ≡ true
     → Reads p x (leaf ∷ ys) Ends → Reads (if_starts begins p q) x (leaf ∷ ys) Ends
 unfolding if_starts
-starts_reads begins p q leaf ys is h = reads_as p (λ ts rest front ends. ap (λ (b : Bool). (cond b p q) ts) (ap (starts begins) (front-next leaf ys ts rest front) ∙ is)) h
+starts_reads begins p q leaf ys is h = reads_instead p (λ ts rest front ends. ap (λ (b : Bool). (cond b p q) ts) (ap (starts begins) (front-next leaf ys ts rest front) ∙ is)) h
 
 pub unstarted_reads : {A : Type 0} (begins : Terminal → Bool) (p q : Parser A) {x : A} {xs : Yield} {Ends : List Symbol → Type 0} → ((ts rest : List Symbol) → Front xs ts rest → Ends rest → starts begins (next ts) ≡ false)
     → Reads q x xs Ends → Reads (if_starts begins p q) x xs Ends
 unfolding if_starts
-unstarted_reads begins p q isnt h = reads_as q (λ ts rest front ends. ap (λ (b : Bool). (cond b p q) ts) (isnt ts rest front ends)) h
+unstarted_reads begins p q isnt h = reads_instead q (λ ts rest front ends. ap (λ (b : Bool). (cond b p q) ts) (isnt ts rest front ends)) h
 
 pub is_reads : {A B : Type 0} (reads : Option Terminal → Option A) (f : A → Parser B) (q : Parser B) (a : A) {x : B} {Ends : List Symbol → Type 0} (leaf : Leaf) (ys : Yield) → reads (Some leaf.terminal) ≡ Some a
     → Reads (f a) x (leaf ∷ ys) Ends → Reads (if_is reads f q) x (leaf ∷ ys) Ends
 unfolding if_is
-is_reads reads f q a leaf ys is h = reads_as (f a) (λ ts rest front ends. ap (λ (o : Option _). on_some o f q ts) (ap reads (front-next leaf ys ts rest front) ∙ is)) h
+is_reads reads f q a leaf ys is h = reads_instead (f a) (λ ts rest front ends. ap (λ (o : Option _). on_some o f q ts) (ap reads (front-next leaf ys ts rest front) ∙ is)) h
 
 pub isnt_reads : {A B : Type 0} (reads : Option Terminal → Option A) (f : A → Parser B) (q : Parser B) {x : B} {xs : Yield} {Ends : List Symbol → Type 0} → ((ts rest : List Symbol) → Front xs ts rest → Ends rest → reads (next ts) ≡ None)
     → Reads q x xs Ends → Reads (if_is reads f q) x xs Ends
 unfolding if_is
-isnt_reads reads f q isnt h = reads_as q (λ ts rest front ends. ap (λ (o : Option _). on_some o f q ts) (isnt ts rest front ends)) h
+isnt_reads reads f q isnt h = reads_instead q (λ ts rest front ends. ap (λ (o : Option _). on_some o f q ts) (isnt ts rest front ends)) h
 
 -- a parser, and one that reads nothing
 pub nothing_reads : {A B : Type 0} {p : Parser A} (f : A → Parser B) {x : A} {y : B} {xs : Yield} {EndsX EndsY : List Symbol → Type 0}
@@ -266,8 +266,8 @@ judge-number : {A : Type 0} (leaf : Leaf) (i : ℕ) (ys : Yield) (t : Symbol) (m
     → judge (leaf ∷ ys) (t ∷ more) outcome ≡ judge (record leaf { item = i } ∷ ys) (t ∷ more) outcome
 judge-number leaf i ys t more outcome few few' = rw (le-nat_lt max_items leaf.item few, le-nat_lt max_items i few') refl
 
-number_first : {A : Type 0} {p : Parser A} {x : A} {Ends : List Symbol → Type 0} (i : ℕ) (leaf : Leaf) (ys : Yield) → leaf.item ≤ max_items → i ≤ max_items → Reads p x (leaf ∷ ys) Ends → Reads p x (record leaf { item = i } ∷ ys) Ends
-number_first {p = p} {x = x} i leaf ys few few' h = record {
+first_in_item : {A : Type 0} {p : Parser A} {x : A} {Ends : List Symbol → Type 0} (i : ℕ) (leaf : Leaf) (ys : Yield) → leaf.item ≤ max_items → i ≤ max_items → Reads p x (leaf ∷ ys) Ends → Reads p x (record leaf { item = i } ∷ ys) Ends
+first_in_item {p = p} {x = x} i leaf ys few few' h = record {
   reads = λ ts rest (t, more, e, is_leaf, front) ends.
       h.reads ts rest (t, more, e, record { terminal = is_leaf.terminal; place = is_leaf.place }, front) ends
       ∙ subst (λ (s : List Symbol). judge (leaf ∷ ys) s (Ok (x, rest)) ≡ judge (record leaf { item = i } ∷ ys) s (Ok (x, rest))) (sym e) (judge-number leaf i ys t more (Ok (x, rest)) few few');
@@ -286,13 +286,13 @@ starts_number i few s = record { first = record (s.first) { item = i }; others =
 -- where no room is left, what would come then does not matter
 pub deep_then_reads : {A B : Type 0} (begins : Terminal → Bool) (d : ℕ) (f : A → Parser B) {x : B} {xs : Yield} {Ends : List Symbol → Type 0} → max_nesting < d → Starts begins d xs
     → Reads (bind (refuse_item begins TooDeep) f) x xs Ends
-deep_then_reads begins d f deep s = reads_as (refuse_item begins TooDeep) (λ ts rest front ends. deep_bind begins f ts) (deep_reads begins d deep s)
+deep_then_reads begins d f deep s = reads_instead (refuse_item begins TooDeep) (λ ts rest front ends. deep_bind begins f ts) (deep_reads begins d deep s)
 
 -- an item of a list, within its limit
 pub number_reads : {A : Type 0} {p : Parser A} {x : A} {xs : Yield} {Ends : List Symbol → Type 0} (begins : Terminal → Bool) (d i : ℕ) → i ≤ max_items → Starts begins d xs
     → Reads p x xs Ends → Reads p x (item_number i xs) Ends
 number_reads {p = p} {x = x} {Ends = Ends} begins d i few s h =
-    subst (λ (ys : Yield). Reads p x (item_number i ys) Ends) (sym s.are) (number_first i s.first s.others (omega arith) few (subst (λ (ys : Yield). Reads p x ys Ends) s.are h))
+    subst (λ (ys : Yield). Reads p x (item_number i ys) Ends) (sym s.are) (first_in_item i s.first s.others (omega arith) few (subst (λ (ys : Yield). Reads p x ys Ends) s.are h))
 
 -- the next symbol of what begins so
 pub starts-next : {begins : Terminal → Bool} {d : ℕ} {xs : Yield} (s : Starts begins d xs) (ys : Yield) (ts rest : List Symbol) → Front (xs ++ ys) ts rest → next ts ≡ Some s.first.terminal
@@ -304,7 +304,7 @@ item-next s i ys ts rest front = front-next (record (s.first) { item = i }) (s.o
 pub seen_reads : {A : Type 0} (s : Sign) (p q : Parser A) {x : A} {xs : Yield} {Ends : List Symbol → Type 0} → ((ts rest : List Symbol) → Front xs ts rest → Ends rest → sees s ts ≡ true)
     → Reads p x xs Ends → Reads (if_sees s p q) x xs Ends
 unfolding if_sees
-seen_reads s p q is h = reads_as p (λ ts rest front ends. ap (λ (b : Bool). (cond b p q) ts) (is ts rest front ends)) h
+seen_reads s p q is h = reads_instead p (λ ts rest front ends. ap (λ (b : Bool). (cond b p q) ts) (is ts rest front ends)) h
 
 -- a sign that is the item of this number of its chain
 pub sign_reads_item : {C : Type 0} (room d i : ℕ) (s : Sign) (f : Place → Parser C) {y : C} {ys : Yield} {Ends : List Symbol → Type 0} → Fits room d → i ≤ max_items

@@ -17,7 +17,7 @@ use Rattle.cyc_parse.proofs.Rules.{Front}
 use Rattle.cyc_parse.proofs.Locality.{left_of}
 use Rattle.cyc_parse.proofs.LocalExpressions.{was_read}
 use Rattle.cyc_parse.proofs.LocalDeclarations.{declaration_runs}
-use Rattle.cyc_parse.proofs.Gives.{Derived, answer_of, front-append, all-append, IsLimit, Gives, Spells, spelled_then, last_then, pure_gives, gives_same, some_place, choose_gives}
+use Rattle.cyc_parse.proofs.Gives.{Derived, answer_of, front-append, within-append, IsLimit, Gives, Spells, spelled_then, last_then, pure_gives, gives_instead, some_place, choose_gives}
 use Rattle.cyc_parse.proofs.GivesDeclarations.{declaration_gives}
 
 -- ---- all symbols are read
@@ -25,15 +25,15 @@ use Rattle.cyc_parse.proofs.GivesDeclarations.{declaration_gives}
 ends_made : {A B : Type 0} (p : Parser A) (make : A → B) (ts rest : List Symbol) (y : B) → ((x : A) (left : List Symbol) → p ts ≡ Ok (x, left) → left ≡ []) → bind p (λ x. pure (make x)) ts ≡ Ok (y, rest) → rest ≡ []
 ends_made p make ts rest y h e = let w = was_read p (λ x. pure (make x)) ts rest y e in sym (ap left_of w.second) ∙ h w.value w.mid w.first
 
-none_left : (turns : ℕ) (ts rest : List Symbol) (ds : List Declaration) → length ts ≤ turns → declarations_in 200 turns ts ≡ Ok (ds, rest) → rest ≡ []
+declarations_leave_none : (turns : ℕ) (ts rest : List Symbol) (ds : List Declaration) → length ts ≤ turns → declarations_in 200 turns ts ≡ Ok (ds, rest) → rest ≡ []
 unfolding declarations_in choose
-none_left zero [] rest ds few h = sym (ap left_of h)
-none_left zero (t ∷ ts) rest ds few h = absurd (omega (arith, few))
-none_left (suc turns) [] rest ds few h = sym (ap left_of h)
-none_left (suc turns) (t ∷ ts) rest ds few h =
+declarations_leave_none zero [] rest ds few h = sym (ap left_of h)
+declarations_leave_none zero (t ∷ ts) rest ds few h = absurd (omega (arith, few))
+declarations_leave_none (suc turns) [] rest ds few h = sym (ap left_of h)
+declarations_leave_none (suc turns) (t ∷ ts) rest ds few h =
     let w = was_read (declaration 200) (λ d. bind (declarations_in 200 turns) (λ ds. pure (d ∷ ds))) (t ∷ ts) rest ds h in
     ends_made (declarations_in 200 turns) (λ ds. w.value ∷ ds) w.mid rest ds
-    (λ ds left e. none_left turns w.mid left ds (omega (arith, few, (declaration_runs 200).shorter refl (t ∷ ts) w.mid w.value w.first)) e) w.second
+    (λ ds left e. declarations_leave_none turns w.mid left ds (omega (arith, few, (declaration_runs 200).shorter refl (t ∷ ts) w.mid w.value w.first)) e) w.second
 
 -- ---- the tree
 
@@ -73,7 +73,7 @@ program_of-sound ts left tree h =
     let v = was_read (λ s. declarations_in 200 (length s) s) (λ ds. pure (w.value ∷ ds)) w.mid left tree w.second in
     let a = (one_gives ts).gives w.mid w.value w.first in
     let b = (declarations_give (length w.mid) w.mid).gives v.mid v.value v.first in
-    let none = none_left (length w.mid) w.mid v.mid v.value (omega arith) v.first in
+    let none = declarations_leave_none (length w.mid) w.mid v.mid v.value (omega arith) v.first in
     assemble ts left tree w.mid v.mid w.value v.value a b none v.second
   where
     assemble : (ts left : List Symbol) (tree : List Declaration) (mid end : List Symbol) (d : Declaration) (ds : List Declaration)
@@ -82,7 +82,7 @@ program_of-sound ts left tree h =
     assemble ts left tree mid end d ds a b none h =
         let value : d ∷ ds ≡ tree = ap (answer_of tree) h in
         let front = front-append a.leaves b.leaves ts mid end a.front b.front in
-        let keeps = all-append a.leaves b.leaves a.within b.within in
+        let keeps = within-append a.leaves b.leaves a.within b.within in
         let whole : Front (yields.program (d ∷ ds)) ts [] = subst (λ (xs : Yield). Front (xs ++ yields.program ds) ts []) a.post.0 (subst (λ (ys : Yield). Front (a.leaves ++ ys) ts []) b.post.0 (subst (λ (s : List Symbol). Front (a.leaves ++ b.leaves) ts s) none front)) in
         let small : IsWithinLimits (d ∷ ds) = subst (λ (xs : Yield). AllByRecursion IsWithin (xs ++ yields.program ds)) a.post.0 (subst (λ (ys : Yield). AllByRecursion IsWithin (a.leaves ++ ys)) b.post.0 keeps) in
         record {
@@ -98,7 +98,7 @@ answered_weight ts left tree h = tree_weight-length ts tree (program_of-sound ts
 -- ---- what is refused for a limit
 
 program_gives : (ts : List Symbol) → Gives (program 200) (Spells yields.program (λ ds _. IsNonempty ds × AreDeclarations ds)) ts
-program_gives ts = spelled_then (one_gives ts) (λ d mid is. last_then (λ ds. d ∷ ds) (gives_same (declarations_in 200 (length mid)) refl (declarations_give (length mid) mid)) (λ ds rest are. (refl, (tt, (is, are)))))
+program_gives ts = spelled_then (one_gives ts) (λ d mid is. last_then (λ ds. d ∷ ds) (gives_instead (declarations_in 200 (length mid)) refl (declarations_give (length mid) mid)) (λ ds rest are. (refl, (tt, (is, are)))))
 
 -- symbols that leaves stand for
 abbrev place_or : Option Place → Place

@@ -13,7 +13,7 @@ use Rattle.cyc_parse.specs.inside.Code.{Stops, view_reason}
 use Rattle.cyc_parse.specs.inside.Parsing.{Parser, Outcome, and_then, bind, pure, next, starts, if_starts, sign, word, identifier}
 use Rattle.cyc_parse.specs.inside.Statements.{Nested, begins_item, is_case, caught, clauses_in, item, items_in}
 use Rattle.cyc_parse.specs.inside.StatementSteps.{one_item, clause_head, with_items, one_clause, then_clause, default_clause}
-use Rattle.cyc_parse.proofs.Loops.{Steps, behind, onto, with_front, lift, by_test}
+use Rattle.cyc_parse.proofs.Loops.{Steps, behind, onto, with_front, lift, then_by_test}
 
 pub onto-items : (xs : List ItemCode) → onto view_item MoreItems xs NoItems ≡ items_of xs
 onto-items [] = refl
@@ -26,7 +26,7 @@ onto-clauses (x ∷ xs) default = ap (then_clause x) (onto-clauses xs default)
 pub items_in_steps : (room : ℕ) (inner : Nested) → Steps MoreItems (pure NoItems) (one_item room inner) (items_in room inner)
 unfolding items_in if_starts bind
 items_in_steps room inner = record {
-  step = λ n ts. by_test _ (starts begins_item (next ts)) _ _ _ _ ts (lift _ (item room inner ts) _ _ (λ i us. refl)) refl;
+  step = λ n ts. then_by_test _ (starts begins_item (next ts)) _ _ _ _ ts (lift _ (item room inner ts) _ _ (λ i us. refl)) refl;
 }
 
 module _ (room : ℕ) (inner : Nested) (ts : List Symbol) where
@@ -46,18 +46,18 @@ module _ (room : ℕ) (inner : Nested) (ts : List Symbol) where
   no_more_of_item (stops.Refused why) begins us stopped = rw begins (rw stopped refl)
 
 -- what is done with the outcome of two parsers, done with the second's
-both : {A B C : Type 0} (o : Outcome A) (f : A → Parser B) (k : B → Parser C) → and_then o (λ a us. and_then (f a us) k) ≡ and_then (and_then o f) k
-both (Ok p) f k = refl
-both (Err e) f k = refl
+then_regrouped : {A B C : Type 0} (o : Outcome A) (f : A → Parser B) (k : B → Parser C) → and_then o (λ a us. and_then (f a us) k) ≡ and_then (and_then o f) k
+then_regrouped (Ok p) f k = refl
+then_regrouped (Err e) f k = refl
 
 pub clauses_in_steps : (room : ℕ) (inner : Nested) → Steps (λ f cs. f cs) (default_clause room inner) (one_clause room inner) (clauses_in room inner)
 unfolding clauses_in if_starts bind
 clauses_in_steps room inner = record {
-  step = λ n ts. by_test (λ head us. and_then (with_items room inner head us) (behind (λ f cs. f cs) (default_clause room inner) (clauses_in room inner n))) (starts is_case (next ts)) _ _ _ _ ts
+  step = λ n ts. then_by_test (λ head us. and_then (with_items room inner head us) (behind (λ f cs. f cs) (default_clause room inner) (clauses_in room inner n))) (starts is_case (next ts)) _ _ _ _ ts
       (lift _ (word room words.Case ts) _ _ (λ _ us. lift _ (sign room signs.And us) _ _ (λ _ vs. lift _ (identifier room vs) _ _ (λ x ws.
       lift _ (caught room inner ws) _ _ (λ v xs. lift _ (sign room signs.Colon xs) _ _ (λ _ ys. lift _ (inner.items ys) _ _ (λ is zs. refl)))))))
       refl
-      ∙ both (clause_head room inner ts) (with_items room inner) (behind (λ f cs. f cs) (default_clause room inner) (clauses_in room inner n));
+      ∙ then_regrouped (clause_head room inner ts) (with_items room inner) (behind (λ f cs. f cs) (default_clause room inner) (clauses_in room inner n));
 }
 
 module _ {X Y B : Type 0} (view : X → Y) (add : Y → B → B) (last : Parser B) (one : Parser (Option Y)) (many : ℕ → Parser B) (steps : Steps add last one many) where

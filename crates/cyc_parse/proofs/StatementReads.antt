@@ -4,20 +4,21 @@ use Rattle.cyc_syntax.specs.declared.tokens.Keyword.TheVariants as words
 use Rattle.cyc_syntax.specs.declared.tokens.Sign.TheVariants as signs
 use Rattle.cyc_syntax.specs.Symbols.{Place, Terminal, Identifier, RegionName, Word, Mark, Symbol}
 use Rattle.cyc_syntax.specs.Symbols as terminals
-use Rattle.cyc_syntax.specs.Trees.{Named, Expression, Number, Character, Null, HeapRegion, UniqueRegion, Variable, Call, Bracketed, NumberOfElements, LowByteOf, FreeUnique, FreeKey, Chained, Prefixed, New, RegionNew, Binary, Assign, Statement, Block, Labelled, Empty, Evaluate, Swap, If, IfElse, While, Return, Break, Continue, Throw, Try, Body, Braces, Items, Clauses}
+use Rattle.cyc_syntax.specs.Trees.{Named, Expression, Number, Character, New, Binary, Assign, Statement, Block, Labelled, Empty, Evaluate, Swap, If, IfElse, While, Return, Break, Continue, Throw, Try, Body, Braces, Items, Clauses}
 use Rattle.cyc_syntax.specs.Yields.{Leaf, Yield}
 use Rattle.cyc_syntax.specs.Yields as yields
 use Rattle.cyc_syntax.specs.Grammar.{IsExpression, IsExpressionOrNone, wants_else}
 use Rattle.cyc_parse.specs.inside.Parsing.{Parser, pure, next, sees, sees_terminal, if_sees, starts, sign, bind, choose}
 use Rattle.cyc_parse.specs.inside.Expressions.{begins_expression, nested, primary, unary}
-use Rattle.cyc_parse.specs.inside.Statements.{begins_item, begins_clause, is_else, is_unary, end_of_swap, nested_statements, body, expression_from, swap, behind, statement_from_name, else_part, return_value, thrown, if_statement, while_statement, throw_statement, try_statement, statement, statement_by, clauses}
+use Rattle.cyc_parse.specs.inside.Statements.{begins_item, begins_clause, is_else, is_unary, end_of_swap, nested_statements, body, swap, behind, return_value, thrown, statement, statement_by, clauses}
 use Rattle.cyc_parse.specs.inside.Statements as statements
-use Rattle.cyc_parse.proofs.Rules.{Front, Reads, Fits, Always, starts-next, leaf_of, leaf_at, front-next, then_reads, last_reads, nothing_reads, pure_reads, reads_as, reads_before, word_reads, sign_reads, sign_reads_at, identifier_reads, choose_reads, advance_reads_at, sees_reads, unseen_reads, seen_reads, starts_reads, unstarted_reads, between_then}
+use Rattle.cyc_parse.proofs.Rules.{Front, Reads, Fits, Always, starts-next, leaf_of, leaf_at, front-next, then_reads, last_reads, nothing_reads, pure_reads, reads_instead, reads_before, word_reads, sign_reads, sign_reads_at, identifier_reads, choose_reads, advance_reads_at, sees_reads, unseen_reads, seen_reads, starts_reads, unstarted_reads, between_then}
 use Rattle.cyc_parse.proofs.Stops.{Stops, stops_leaf, binds_terminal}
-use Rattle.cyc_parse.proofs.Starts.{expression_starts, IsSecond, alone, goes_on, second}
+use Rattle.cyc_parse.proofs.Starts.{expression_starts, IsSecond, alone, goes_on, second_goes_on}
 use Rattle.cyc_parse.proofs.ExpressionReads.{deeper, shallow, NoParen}
 use Rattle.cyc_parse.proofs.OperandReads.{nested_group_reads}
 use Rattle.cyc_parse.proofs.InitialReads.{all_read}
+use Rattle.cyc_parse.proofs.Openings.{looser}
 
 -- no `else` follows a statement that would take it
 pub record EndsStatement (wants : Bool) (ts : List Symbol) : Type 0 where
@@ -45,24 +46,7 @@ expression_at room d fits e is = (all_read e).expression room d fits is
 
 -- an operand is an expression
 pub loosest : (e : Expression) → IsExpression 0 e → IsExpression 11 e
-loosest (Number p n) is = is
-loosest (Character p c) is = is
-loosest (Null p) is = is
-loosest (HeapRegion p) is = is
-loosest (UniqueRegion p) is = is
-loosest (Variable x) is = is
-loosest (Call f es) is = is
-loosest (Bracketed p e) is = is
-loosest (NumberOfElements p e) is = is
-loosest (LowByteOf p e) is = is
-loosest (FreeUnique p e) is = is
-loosest (FreeKey p k) is = is
-loosest (Chained e ps) is = is
-loosest (Prefixed p o e) is = is
-loosest (New p i) is = is
-loosest (RegionNew p h i) is = is
-loosest (Binary e os) (below, less, limit, first, some, are) = absurd (omega arith)
-loosest (Assign a b) (most, is_a, is_b) = absurd (omega arith)
+loosest e is = looser 0 11 (omega arith) e is
 
 pub is-unary : (e : Expression) → IsExpression 0 e → is_unary e ≡ true
 is-unary (Binary e os) (below, less, limit, first, some, are) = absurd (omega arith)
@@ -116,7 +100,7 @@ module _ (room : ℕ) where
         (ap (λ (v : Terminal). statement_by room (nested_statements room) (Some v)) named ∙ not_name u (ap begins_expression (sym same) ∙ (expression_starts d e).begin) other)
 
     by_terminal : (u : Terminal) → (expression_starts d e).first.terminal ≡ u → (t : Symbol) (more rest : List Symbol) → t.terminal ≡ u → Front ((expression_starts d e).others ++ ys) more rest → Goes t more
-    by_terminal (Identifier x) same t more rest named front = on_name x t more named (no_colon ys more rest (second 11 d e x is same) front after)
+    by_terminal (Identifier x) same t more rest named front = on_name x t more named (no_colon ys more rest (second_goes_on 11 d e x is same) front after)
     by_terminal (RegionName x) same t more rest named front = other_terminal (RegionName x) (λ y k. cc) same t more named
     by_terminal (terminals.Number n) same t more rest named front = other_terminal (terminals.Number n) (λ y k. cc) same t more named
     by_terminal (terminals.Character c) same t more rest named front = other_terminal (terminals.Character c) (λ y k. cc) same t more named
@@ -132,7 +116,7 @@ module _ (room : ℕ) where
     -- a statement that begins with an expression
     pub begun_reads : {x : Statement} {Ends : List Symbol → Type 0} → Reads (bind (statements.expression room (nested_statements room)) (behind room (nested_statements room))) x (yields.expression d e ++ ys) Ends
         → Reads (statement room (nested_statements room)) x (yields.expression d e ++ ys) Ends
-    begun_reads h = reads_as (bind (statements.expression room (nested_statements room)) (behind room (nested_statements room)))
+    begun_reads h = reads_instead (bind (statements.expression room (nested_statements room)) (behind room (nested_statements room)))
         (λ ts rest front ends. at_first ts rest (subst (λ (zs : Yield). Front (zs ++ ys) ts rest) (expression_starts d e).are front)) h
 
 -- how blocks and inner statements are read, one level deeper
@@ -167,14 +151,14 @@ module _ (room d : ℕ) (fits : Fits (suc room) d) where
   pub evaluate_reads : (e : Expression) (Ends : List Symbol → Type 0) → IsExpression 11 e → Reads (statement room (nested_statements room)) (Evaluate e) (yields.statement d (Evaluate e)) Ends
   evaluate_reads e Ends is = begun_reads room d e is (leaf_of d (Mark signs.Semicolon) ∷ []) (λ w r front. ap (sees_terminal signs.Colon) (front-next (leaf_of d (Mark signs.Semicolon)) [] w r front))
       (then_reads _ (expression_here e is)
-      (reads_as (bind (sign (suc room) signs.Semicolon) (λ _. pure (Evaluate e)))
+      (reads_instead (bind (sign (suc room) signs.Semicolon) (λ _. pure (Evaluate e)))
       (λ ts rest front ends. ap (λ (b : Bool). (cond (b && is_unary e) (swap room (nested_statements room) e) (bind (sign (suc room) signs.Semicolon) (λ _. pure (Evaluate e)))) ts) (ap (sees_terminal signs.Swap) (front-next (leaf_of d (Mark signs.Semicolon)) [] ts rest front)))
       (sign_reads (suc room) d signs.Semicolon _ fits (λ p. pure_reads (Evaluate e) Ends)))
       (λ mid rest front ends. stops_leaf 11 (leaf_of d (Mark signs.Semicolon)) [] mid rest refl (omega arith) front))
 
   end_of_swap_reads : (b : Expression) (x : Statement) (Ends : List Symbol → Type 0) → Reads (bind (end_of_swap (suc room) b) (λ _. pure x)) x (leaf_of d (Mark signs.Semicolon) ∷ []) Ends
   unfolding bind if_sees
-  end_of_swap_reads b x Ends = reads_as (bind (sign (suc room) signs.Semicolon) (λ _. pure x)) (λ ts rest front ends. seen ts rest front) (sign_reads (suc room) d signs.Semicolon _ fits (λ p. pure_reads x Ends))
+  end_of_swap_reads b x Ends = reads_instead (bind (sign (suc room) signs.Semicolon) (λ _. pure x)) (λ ts rest front ends. seen ts rest front) (sign_reads (suc room) d signs.Semicolon _ fits (λ p. pure_reads x Ends))
     where
       seen : (ts rest : List Symbol) → Front (leaf_of d (Mark signs.Semicolon) ∷ []) ts rest → bind (end_of_swap (suc room) b) (λ _. pure x) ts ≡ bind (sign (suc room) signs.Semicolon) (λ _. pure x) ts
       seen ts rest front = rw (ap (sees_terminal signs.Semicolon) (front-next (leaf_of d (Mark signs.Semicolon)) [] ts rest front)) refl
@@ -182,7 +166,7 @@ module _ (room d : ℕ) (fits : Fits (suc room) d) where
   pub swap_reads : (a b : Expression) (Ends : List Symbol → Type 0) → IsExpression 0 a → IsExpression 0 b → Reads (statement room (nested_statements room)) (Swap a b) (yields.statement d (Swap a b)) Ends
   swap_reads a b Ends is_a is_b = begun_reads room d a (loosest a is_a) (leaf_of d (Mark signs.Swap) ∷ (yields.expression d b ++ leaf_of d (Mark signs.Semicolon) ∷ [])) (λ w r front. ap (sees_terminal signs.Colon) (front-next (leaf_of d (Mark signs.Swap)) _ w r front))
       (then_reads _ (expression_here a (loosest a is_a))
-      (reads_as (swap room (nested_statements room) a)
+      (reads_instead (swap room (nested_statements room) a)
       (λ ts rest front ends. rw (ap (sees_terminal signs.Swap) (front-next (leaf_of d (Mark signs.Swap)) (yields.expression d b ++ leaf_of d (Mark signs.Semicolon) ∷ []) ts rest front), is-unary a is_a) refl)
       (sign_reads (suc room) d signs.Swap _ fits (λ p. then_reads _ ((all_read b).unary (suc room) d fits is_b) (end_of_swap_reads b (Swap a b) Ends)
       (λ mid rest front ends. stops_leaf 0 (leaf_of d (Mark signs.Semicolon)) [] mid rest refl (omega arith) front))))

@@ -115,9 +115,9 @@ pub no_assign : (ts : List Symbol) → Stops 11 ts → sees signs.Assign ts ≡ 
 no_assign [] stops = refl
 no_assign (t ∷ ts) stops = assign_binds t.terminal (loosely 11 (opens_regions (t ∷ ts)) (binds_terminal t.terminal) stops.loose)
 
-above : (o : Option BinaryOperator) (j k : ℕ) → j ≤ k → k < operator_level o → of_level j o ≡ None
-above None j k h l = refl
-above (Some o) j k h l = rw (ne_eqb (level o) j (λ e. omega arith)) refl
+not_of_level : (o : Option BinaryOperator) (j k : ℕ) → j ≤ k → k < operator_level o → of_level j o ≡ None
+not_of_level None j k h l = refl
+not_of_level (Some o) j k h l = rw (ne_eqb (level o) j (λ e. omega arith)) refl
 
 as_operator : (s : Sign) → binds_sign s ≤ operator_level (binary_operator s)
 as_operator signs.LeftParen = omega arith
@@ -128,7 +128,7 @@ as_operator signs.Assign = omega arith
 as_operator _ = omega arith
 
 operator_above : (j k : ℕ) (t : Terminal) → j ≤ k → k < binds_terminal t → operator_at j (Some t) ≡ None
-operator_above j k (Mark s) h l = above (binary_operator s) j k h (omega (arith, as_operator s))
+operator_above j k (Mark s) h l = not_of_level (binary_operator s) j k h (omega (arith, as_operator s))
 operator_above j k _ h l = refl
 
 pub no_operator : (j k : ℕ) (ts : List Symbol) → j ≤ k → Stops k ts → operator_at j (next ts) ≡ None

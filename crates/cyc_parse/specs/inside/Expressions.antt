@@ -4,6 +4,7 @@ use Rattle.cyc_syntax.specs.declared.tokens.Keyword.{Keyword}
 use Rattle.cyc_syntax.specs.declared.tokens.Keyword.TheVariants as words
 use Rattle.cyc_syntax.specs.declared.tokens.Sign.{Sign}
 use Rattle.cyc_syntax.specs.declared.tokens.Sign.TheVariants as signs
+use Rattle.cyc_syntax.specs.declared.tree.PrefixOperator.{PrefixOperator}
 use Rattle.cyc_syntax.specs.declared.tree.PrefixOperator.TheVariants as prefixes
 use Rattle.cyc_syntax.specs.declared.tree.BinaryOperator.{BinaryOperator}
 use Rattle.cyc_syntax.specs.declared.tree.BinaryOperator.TheVariants as operators
@@ -27,14 +28,18 @@ begins_by_word words.New = true
 begins_by_word words.RegionNew = true
 begins_by_word _ = false
 
+-- the operator that a sign is in front of an operand
+abbrev pub prefix_operator : Sign → Option PrefixOperator
+prefix_operator signs.Minus = Some prefixes.Negate
+prefix_operator signs.Not = Some prefixes.Not
+prefix_operator signs.Tilde = Some prefixes.Complement
+prefix_operator signs.Star = Some prefixes.Dereference
+prefix_operator signs.And = Some prefixes.AddressOf
+prefix_operator _ = None
+
 abbrev pub begins_by_sign : Sign → Bool
 begins_by_sign signs.LeftParen = true
-begins_by_sign signs.Minus = true
-begins_by_sign signs.Not = true
-begins_by_sign signs.Tilde = true
-begins_by_sign signs.Star = true
-begins_by_sign signs.And = true
-begins_by_sign _ = false
+begins_by_sign s = is_some (prefix_operator s)
 
 abbrev pub begins_expression : Terminal → Bool
 begins_expression (Identifier x) = true
@@ -166,12 +171,13 @@ module _ (room : ℕ) (inner : Nested) where
   abbrev pub with_postfixes : Parser Expression → Parser Expression
   with_postfixes first = first >>= (λ e. postfixes max_items >>= (λ ps. pure (chained e ps)))
 
+  -- an operand that begins with a sign: with this operator, or with none
+  abbrev pub prefixed_by : Option PrefixOperator → Parser Expression
+  prefixed_by (Some o) = advance >>= (λ p. inner.unary >>= (λ e. pure (Prefixed p o e)))
+  prefixed_by None = with_postfixes primary
+
   abbrev pub unary_by : Option Terminal → Parser Expression
-  unary_by (Some (Mark signs.Minus)) = advance >>= (λ p. inner.unary >>= (λ e. pure (Prefixed p prefixes.Negate e)))
-  unary_by (Some (Mark signs.Not)) = advance >>= (λ p. inner.unary >>= (λ e. pure (Prefixed p prefixes.Not e)))
-  unary_by (Some (Mark signs.Tilde)) = advance >>= (λ p. inner.unary >>= (λ e. pure (Prefixed p prefixes.Complement e)))
-  unary_by (Some (Mark signs.Star)) = advance >>= (λ p. inner.unary >>= (λ e. pure (Prefixed p prefixes.Dereference e)))
-  unary_by (Some (Mark signs.And)) = advance >>= (λ p. inner.unary >>= (λ e. pure (Prefixed p prefixes.AddressOf e)))
+  unary_by (Some (Mark s)) = prefixed_by (prefix_operator s)
   unary_by (Some (Word words.New)) = advance >>= (λ p. inner.initial >>= (λ i. pure (New p i)))
   unary_by (Some (Word words.RegionNew)) = advance >>= (λ p. inner.group >>= (λ h. inner.initial >>= (λ i. pure (RegionNew p h i))))
   unary_by _ = with_postfixes primary

@@ -9,7 +9,7 @@ use Rattle.cyc_parse.specs.inside.Boxes.{view_boxed}
 use Rattle.cyc_parse.specs.inside.Code.{Gives}
 use Rattle.cyc_parse.specs.inside.Parsing.{Outcome, more_items}
 use Rattle.cyc_parse.proofs.Loops.{goes_on, fails, fails_full, ends_as, is_full_as, onto-map, onto-expressions, onto-postfixes, onto-operations, more_items_steps, postfixes_steps, operations_steps, more_values_steps}
-use Rattle.cyc_parse.proofs.LoneOperands.{no_bracket, no_chain}
+use Rattle.cyc_parse.proofs.LoneOperands.{field_is_postfix, no_chain}
 use Rattle.cyc_parse.proofs.cursor.Parser.+expression.Goals as goal
 
 pub parse_argument_list-returns-in_err-argument : goal.parse_argument_list-returns-in_err-argument
@@ -39,7 +39,7 @@ parse_argument_list-returns t c =
 pub parse_postfix-returns-in_default : goal.parse_postfix-returns-in_default
 parse_postfix-returns-in_default t c =
     subst (λ (o : Outcome (Option (Postfixes → Postfixes))). Gives (option_map then_postfix) c.parse_field_postfix.result o c.parse_field_postfix.new.self)
-    (ap (one_field (suc c.args.room)) c.in_default.ensures.left ∙ no_bracket c.args.room c.args.self.now c.in_default.ensures.seen) (c.parse_field_postfix.ensures c.args.room)
+    (ap (one_field (suc c.args.room)) c.in_default.ensures.left ∙ field_is_postfix c.args.room c.args.self.now c.in_default.ensures.seen) (c.parse_field_postfix.ensures c.args.room)
 
 pub parse_postfixes-returns-in_err-postfix : goal.parse_postfixes-returns-in_err-postfix
 parse_postfixes-returns-in_err-postfix t c =

@@ -52,6 +52,12 @@ decreases-parse_postfixes l = 256 * l.room + 2
 abbrev pub decreases-parse_rest_of_operand : goal.decreases-parse_rest_of_operand
 decreases-parse_rest_of_operand l = 256 * l.room + 3
 
+abbrev pub decreases-parse_with_postfixes : goal.decreases-parse_with_postfixes
+decreases-parse_with_postfixes l = 256 * l.room + 6
+
+abbrev pub decreases-parse_prefixed_by : goal.decreases-parse_prefixed_by
+decreases-parse_prefixed_by l = 256 * l.room + 7
+
 abbrev pub decreases-parse_prefixed : goal.decreases-parse_prefixed
 decreases-parse_prefixed l = 256 * l.room + 1
 
@@ -62,7 +68,7 @@ abbrev pub decreases-parse_region_new : goal.decreases-parse_region_new
 decreases-parse_region_new l = 256 * l.room + 1
 
 abbrev pub decreases-parse_unary_here : goal.decreases-parse_unary_here
-decreases-parse_unary_here l = 256 * l.room + 6
+decreases-parse_unary_here l = 256 * l.room + 8
 
 abbrev pub decreases-parse_binary_here : goal.decreases-parse_binary_here
 decreases-parse_binary_here l = 256 * l.room + 250
@@ -86,7 +92,7 @@ abbrev pub decreases-parse_initial_from_name : goal.decreases-parse_initial_from
 decreases-parse_initial_from_name l = 256 * l.room + 5
 
 abbrev pub decreases-parse_initial_here : goal.decreases-parse_initial_here
-decreases-parse_initial_here l = 256 * l.room + 7
+decreases-parse_initial_here l = 256 * l.room + 9
 
 abbrev pub decreases-climb : goal.decreases-climb
 decreases-climb l = 256 * l.room + 24 * l.level + 9

@@ -1,0 +1,289 @@
+//! Operators and their levels, and the parser of chains of binary operators, from the tightest level.
+#![tactic(auto, unfolding(crate::specs::inside::Parsing::bind, crate::specs::inside::Parsing::choose, crate::specs::inside::Parsing::if_sees, crate::specs::inside::Parsing::if_starts, crate::specs::inside::Parsing::if_is, crate::specs::inside::Parsing::refuse_item, crate::specs::inside::Expressions::nested), using(crate::proofs::Levels::levels))]
+
+ghost use Rattle.std.specs.Prelude.{◌≡◌, ◌<◌, ◌≤◌, ◌-◌, suc, ℕ, option_map, Ok, IfSome, IfNone};
+ghost use Rattle.cyc_syntax.specs.inside.TreeView.{place_of_span, view_expression, operations_of};
+ghost use Rattle.cyc_parse.specs.inside.Boxes.{view_boxed};
+ghost use Rattle.cyc_parse.specs.inside.Code.{Gives};
+ghost use Rattle.cyc_parse.specs.inside.Parsing.{next, advance};
+ghost use Rattle.cyc_parse.specs.inside.Steps.{one_operation, then_operation, level_at, behind, is_continued, operand, climb_from, one_level};
+ghost use Rattle.cyc_syntax.specs.Grammar.{level};
+ghost use Rattle.cyc_syntax.specs.Trees.{NoOperations};
+ghost use Rattle.cyc_parse.specs.inside.Expressions.{prefix_operator, binary_operator, binary_of, nested, operator_at, no_more_operations, operations, climb, unary, binary};
+
+use crate::cursor::Parser;
+use crate::growth::append;
+use crate::stop::{Reason, Stop};
+use crate::symbol::Terminal;
+use crate::types::MAX_ITEMS;
+use cyc_syntax::{BinaryOperator, Expr, Ident, Operation, PrefixOperator, Sign};
+use cyc_words::Span;
+
+/// The levels of the binary operators, of which the last is the loosest.
+pub(crate) const LEVELS: u32 = 10;
+
+impl<'a> Parser<'a> {
+    /// A first operand with the operators of one level behind it.
+    fn joined(&self, first: Box<Expr>, rest: Vec<Operation>) -> Result<Box<Expr>, Stop>
+        ensures { Gives view_boxed result (Ok (binary_of (view_boxed first) (operations_of rest.items), self.now)) self.now }
+    {
+        if rest.is_empty() {
+            return Ok(first);
+        }
+        self.node(Expr::Binary { first, rest })
+    }
+
+    /// The next symbol, if it is a binary operator of the level above this one.
+    fn operator(&self, below: u32) -> Option<BinaryOperator>
+        ensures { result ≡ operator_at (suc below) (next self.now) }
+    {
+        let Some(Terminal::Mark(sign)) = self.next() else {
+            return None;
+        };
+        let operator = binary_operator(sign)?;
+        if level(operator) == u64::from(below) + 1 {
+            Some(operator)
+        } else {
+            None
+        }
+    }
+
+    /// The level of the next symbol, if it is a binary operator of one of the levels above one, up to another.
+    fn next_level(&self, below: u32, most: u32) -> Option<u32>
+        ensures value { result ≡ level_at below most (next self.now) }
+        ensures within { IfSome result (λ k. (below < k) × (k ≤ most)) }
+    {
+        let Some(Terminal::Mark(sign)) = self.next() else {
+            return None;
+        };
+        let operator = binary_operator(sign)?;
+        if u64::from(below) < level(operator) && level(operator) <= u64::from(most) {
+            Some(level(operator) as u32)
+        } else {
+            None
+        }
+    }
+
+    /// Whether an operand of the operators of the level above this one goes on behind its first symbol: by arguments, by a
+    /// postfix, or by an operator of a level up to this one.
+    fn is_continued(&self, below: u32) -> bool
+        ensures { result ≡ is_continued below (behind self.now) }
+    {
+        let behind = self.behind();
+        behind.sees(Sign::LeftParen)
+            || behind.begins_postfix()
+            || behind.next_level(0, below).is_some()
+    }
+
+    /// An operand of the operators of the level above this one, if it is one number or one name: most are, and need no box.
+    fn take_lone_operand(&mut self, below: u32) -> Option<Expr>
+        requires { below < 10 }
+        ensures taken { IfSome result (λ e. (room : ℕ) → operand room (nested room) below self.old ≡ Ok (view_expression e, self.new)) }
+        ensures left { IfNone result (self.new ≡ self.old) }
+    {
+        if self.is_continued(below) {
+            return None;
+        }
+        match self.next() {
+            Some(Terminal::Number(value)) => {
+                let span = self.take_next();
+                Some(Expr::Number { span, value })
+            }
+            Some(Terminal::Identifier(name)) => {
+                let span = self.take_next();
+                Some(Expr::Variable {
+                    name: Ident { name, span },
+                })
+            }
+            _ => None,
+        }
+    }
+
+    /// An operand of the operators of the level above this one.
+    #[cycle(expression)]
+    fn parse_operand(&mut self, room: u32, below: u32) -> Result<Expr, Stop>
+        requires { below < 10 }
+        ensures { Gives view_expression result (operand room (nested room) below self.old) self.new }
+    {
+        if let Some(operand) = self.take_lone_operand(below) {
+            return Ok(operand);
+        }
+        let first = self.parse_unary_here(room)?;
+        let operand = self.climb(room, below, first)?;
+        Ok(Box::into_inner(operand))
+    }
+
+    /// Takes the next symbol, if it is a binary operator of the level above this one.
+    #[tactic(auto, unfolding(crate::specs::inside::Parsing::take), using(crate::proofs::Levels::operator_comes))]
+    fn take_operator(&mut self, below: u32) -> Option<(BinaryOperator, Span)>
+        ensures seen { option_map (λ taken. taken.0) result ≡ operator_at (suc below) (next self.old) }
+        ensures taken { IfSome result (λ taken. advance self.old ≡ Ok (place_of_span taken.1, self.new)) }
+        ensures left { IfNone result (self.new ≡ self.old) }
+    {
+        let operator = self.operator(below)?;
+        let span = self.take_next();
+        Some((operator, span))
+    }
+
+    #[cycle(expression)]
+    fn parse_operation(&mut self, room: u32, below: u32) -> Result<Option<Operation>, Stop>
+        requires { below < 10 }
+        ensures { Gives (option_map then_operation) result (one_operation (operand room (nested room) below) (suc below) self.old) self.new }
+    {
+        let Some((operator, span)) = self.take_operator(below) else {
+            return Ok(None);
+        };
+        let operand = self.parse_operand(room, below)?;
+        Ok(Some(Operation {
+            operator,
+            span,
+            operand,
+        }))
+    }
+
+    fn end_operations(&mut self, below: u32) -> Result<(), Stop>
+        ensures { Gives (λ _. NoOperations) result (no_more_operations (suc below) self.old) self.new }
+    {
+        match self.operator(below) {
+            Some(_) => Err(Stop::Refused(Reason::TooLong)),
+            None => Ok(()),
+        }
+    }
+
+    #[cycle(expression)]
+    fn parse_operations(&mut self, room: u32, below: u32) -> Result<Vec<Operation>, Stop>
+        requires { below < 10 }
+        ensures { Gives (λ v. operations_of v.items) result (operations (operand room (nested room) below) (suc below) 64 self.old) self.new }
+    {
+        let mut operations = Vec::with_capacity(self.alloc(), 1)?;
+        for _ in 0..MAX_ITEMS {
+            let Some(operation) = self.parse_operation(room, below)? else {
+                return Ok(operations);
+            };
+            append(&mut operations, operation)?;
+        }
+        self.end_operations(below)?;
+        Ok(operations)
+    }
+
+    /// Goes on from a first operand by the operators of the levels up to this one.
+    #[cycle(expression)]
+    pub(crate) fn climb(
+        &mut self,
+        room: u32,
+        level: u32,
+        first: Box<Expr>,
+    ) -> Result<Box<Expr>, Stop>
+        requires { level ≤ 10 }
+        ensures { Gives view_boxed result (climb (unary room (nested room)) level (view_boxed first) self.old) self.new }
+    {
+        self.climb_above(room, 0, level, first)
+    }
+
+    /// Goes on by the operators of the levels above one, up to another. Levels of which no operator comes next are passed
+    /// over.
+    #[cycle(expression)]
+    fn climb_above(
+        &mut self,
+        room: u32,
+        below: u32,
+        most: u32,
+        first: Box<Expr>,
+    ) -> Result<Box<Expr>, Stop>
+        requires { most ≤ 10 }
+        ensures { Gives view_boxed result (climb_from (unary room (nested room)) below (most - below) (view_boxed first) self.old) self.new }
+    {
+        let Some(level) = self.next_level(below, most) else {
+            return Ok(first);
+        };
+        self.climb_level(room, level - 1, most, first)
+    }
+
+    /// Goes on by the operators of the level above this one, and then of those above it.
+    #[cycle(expression)]
+    fn climb_level(
+        &mut self,
+        room: u32,
+        below: u32,
+        most: u32,
+        first: Box<Expr>,
+    ) -> Result<Box<Expr>, Stop>
+        requires { (below < most) × (most ≤ 10) }
+        ensures { Gives view_boxed result (one_level room (nested room) below most (view_boxed first) self.old) self.new }
+    {
+        let rest = self.parse_operations(room, below)?;
+        let first = self.joined(first, rest)?;
+        self.climb_above(room, below + 1, most, first)
+    }
+
+    #[cycle(expression)]
+    pub(crate) fn parse_binary_here(&mut self, room: u32) -> Result<Box<Expr>, Stop>
+        ensures { Gives view_boxed result (binary room (nested room) self.old) self.new }
+    {
+        let first = self.parse_unary_here(room)?;
+        self.climb(room, LEVELS, first)
+    }
+}
+
+/// The operator that a sign is in front of an operand.
+pub(crate) fn prefix_operator(sign: Sign) -> Option<PrefixOperator>
+    ensures { result ≡ prefix_operator sign }
+{
+    match sign {
+        Sign::Minus => Some(PrefixOperator::Negate),
+        Sign::Not => Some(PrefixOperator::Not),
+        Sign::Tilde => Some(PrefixOperator::Complement),
+        Sign::Star => Some(PrefixOperator::Dereference),
+        Sign::And => Some(PrefixOperator::AddressOf),
+        _ => None,
+    }
+}
+
+/// The operator that a sign is between two operands.
+fn binary_operator(sign: Sign) -> Option<BinaryOperator>
+    ensures { result ≡ binary_operator sign }
+{
+    match sign {
+        Sign::OrOr => Some(BinaryOperator::OrElse),
+        Sign::AndAnd => Some(BinaryOperator::AndThen),
+        Sign::Or => Some(BinaryOperator::Or),
+        Sign::Xor => Some(BinaryOperator::Xor),
+        Sign::And => Some(BinaryOperator::And),
+        Sign::Equal => Some(BinaryOperator::Equal),
+        Sign::NotEqual => Some(BinaryOperator::NotEqual),
+        Sign::Less => Some(BinaryOperator::Less),
+        Sign::LessOrEqual => Some(BinaryOperator::LessOrEqual),
+        Sign::Greater => Some(BinaryOperator::Greater),
+        Sign::GreaterOrEqual => Some(BinaryOperator::GreaterOrEqual),
+        Sign::ShiftLeft => Some(BinaryOperator::ShiftLeft),
+        Sign::ShiftRight => Some(BinaryOperator::ShiftRight),
+        Sign::Plus => Some(BinaryOperator::Add),
+        Sign::Minus => Some(BinaryOperator::Subtract),
+        Sign::Star => Some(BinaryOperator::Multiply),
+        Sign::Slash => Some(BinaryOperator::Divide),
+        Sign::Percent => Some(BinaryOperator::Remainder),
+        _ => None,
+    }
+}
+
+/// The level of an operator, from the tightest.
+fn level(operator: BinaryOperator) -> u64
+    ensures value { result ≡ level operator }
+    ensures some { 0 < result }
+{
+    match operator {
+        BinaryOperator::Multiply | BinaryOperator::Divide | BinaryOperator::Remainder => 1,
+        BinaryOperator::Add | BinaryOperator::Subtract => 2,
+        BinaryOperator::ShiftLeft | BinaryOperator::ShiftRight => 3,
+        BinaryOperator::Less
+        | BinaryOperator::LessOrEqual
+        | BinaryOperator::Greater
+        | BinaryOperator::GreaterOrEqual => 4,
+        BinaryOperator::Equal | BinaryOperator::NotEqual => 5,
+        BinaryOperator::And => 6,
+        BinaryOperator::Xor => 7,
+        BinaryOperator::Or => 8,
+        BinaryOperator::AndThen => 9,
+        BinaryOperator::OrElse => 10,
+    }
+}
