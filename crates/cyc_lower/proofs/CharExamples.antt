@@ -83,14 +83,14 @@ char_without_value : function_code [] [] None (function [] (Char ∷ []) (MoreIt
 char_without_value = refl
 
 -- its address is that of the last byte of its word
-address_of_local : function_code [] [] None (function [] (Pointer Fat Int Heap ∷ Char ∷ star ∷ []) (MoreItems (Declare 2 star (Some (address (Local nowhere 1)))) NoItems)) ≡
+address_of_char_local : function_code [] [] None (function [] (Pointer Fat Int Heap ∷ Char ∷ star ∷ []) (MoreItems (Declare 2 star (Some (address (Local nowhere 1)))) NoItems)) ≡
     instructions.AddressOf 4 3 1 ∷ instructions.Binary plain_binary.Add 4 (Slot 4) (Constant 3)
     ∷ instructions.Finish 5 ∷ []
-address_of_local = refl
+address_of_char_local = refl
 
-address_of_global : function_code [] (starts_from 0 (global_types (fat_global ∷ char_global ∷ []))) None (function [] (star ∷ []) (MoreItems (Declare 0 star (Some (address (Global 1)))) NoItems)) ≡
+address_of_char_global : function_code [] (starts_from 0 (global_types (fat_global ∷ char_global ∷ []))) None (function [] (star ∷ []) (MoreItems (Declare 0 star (Some (address (Global 1)))) NoItems)) ≡
     Move 0 (Constant 0x1000000f) ∷ instructions.Finish 1 ∷ []
-address_of_global = refl
+address_of_char_global = refl
 
 word_of_global : lower_globals (char_global ∷ []) ≡ 200 ∷ []
 word_of_global = refl
@@ -105,25 +105,25 @@ int_keeps_its_word : ends 20 (program [] (Int ∷ Char ∷ []) (
 int_keeps_its_word = refl
 
 -- int x = -1; char c = 1; char *p = &c; *p = x; x = c; return x;
-variable_is_stored_to : ends 40 (program [] (Int ∷ Char ∷ star ∷ []) (
+char_is_stored_to : ends 40 (program [] (Int ∷ Char ∷ star ∷ []) (
     MoreItems (Declare 0 Int (Some (int (Unary unary.Negate (Number 1)))))
     (MoreItems (Declare 1 Char (Some (low (Number 1))))
     (MoreItems (Declare 2 star (Some (address (Local nowhere 1))))
     (all (puts 2 (local 0) ∷ Evaluate (Assign (Local nowhere 0) (Convert kinds.Char kinds.Int (char 1)) (Value Int)) ∷ returns (local 0) ∷ []))))) []) [] ≡ Ended (Returned (pos 255))
-variable_is_stored_to = refl
+char_is_stored_to = refl
 
 -- int f(char *p) { *p = 300; return 1; } int main() { char c; f(&c); return c + 1; }
-variable_waits : ends 60 (program [] (Char ∷ []) (
+char_waits : ends 60 (program [] (Char ∷ []) (
     MoreItems (Declare 0 Char None)
     (all (Evaluate (Call (Calls 1) (MoreArguments (address (Local nowhere 0)) NoArguments) (Value Int)) ∷ returns (sum (wide (char 0)) (Number 1)) ∷ [])))
     (function (star ∷ []) [] (all (puts 0 (Number 300) ∷ returns (Number 1) ∷ [])) ∷ [])) [] ≡ Ended (Returned (pos 45))
-variable_waits = refl
+char_waits = refl
 
 -- char g = 200; int main() { char *p = &g; *p = *p + 1; return g; }
-global_is_stored_to : ends 40 (program [] (star ∷ []) (
+char_global_is_stored_to : ends 40 (program [] (star ∷ []) (
     MoreItems (Declare 0 star (Some (address (Global 0))))
     (all (puts 0 (sum (wide (Load (Target kinds.Nullable (Copy (Local nowhere 0) star) Char))) (Number 1)) ∷ returns (wide (Copy (Global 0) Char)) ∷ []))) []) [] ≡ Ended (Returned (pos 201))
-global_is_stored_to = refl
+char_global_is_stored_to = refl
 
 -- struct S { char a; int b; char c; char d; }; struct S @s = new S{1, 2, 300, 4}; s->a = 9; s->c :=: s->d; return s->a * 1000 + s->c * 100 + s->d;
 -- its block is at the store's first address

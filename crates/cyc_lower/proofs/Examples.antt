@@ -119,9 +119,9 @@ sum = refl
 groups_to_the_left : gives 6 (two (Number 9) (ThenCompute Subtract (Number 4) (ThenCompute Subtract (Number 2) NoOperations))) ≡ Ended (Returned (pos 3))
 groups_to_the_left = refl
 
-quotient : gives 5 (two (Number 9) (ThenCompute Divide (Number 2) NoOperations)) ≡ Ended (Returned (pos 4))
+divides_numbers : gives 5 (two (Number 9) (ThenCompute Divide (Number 2) NoOperations)) ≡ Ended (Returned (pos 4))
 unfolding div_of
-quotient = refl
+divides_numbers = refl
 
 division_by_zero : gives 4 (two (Number 9) (ThenCompute Remainder (Number 0) NoOperations)) ≡ Ended (Uncaught 4 (pos 0))
 division_by_zero = refl
@@ -177,8 +177,8 @@ counts : ends 120 (program counting []) [] ≡ Ended (Returned (pos 8))
 unfolding slt_of
 counts = refl
 
-loops_for_ever : ends 100 (program (all (While nowhere (Number 1) Empty ∷ [])) []) [] ≡ simulation.Running
-loops_for_ever = refl
+while_one_runs_on : ends 100 (program (all (While nowhere (Number 1) Empty ∷ [])) []) [] ≡ simulation.Running
+while_one_runs_on = refl
 
 other_branch : ends 9 (program (all (If (Number 0) (returns (Number 1)) (returns (Number 2)) ∷ [])) []) [] ≡ Ended (Returned (pos 2))
 other_branch = refl
@@ -289,8 +289,8 @@ source_leaves = refl
 division_is_caught : ends 20 (program (all (Try (returns (two (Number 9) (ThenCompute Divide (local 0) NoOperations))) (Case 4 None 1 (all (returns (Number 65) ∷ [])) NoClauses) ∷ [])) []) [] ≡ Ended (Returned (pos 65))
 division_is_caught = refl
 
-goes_on : ends 20 (program (all (Try (Throw 5 (Some (Number 8))) (Case 6 None 1 NoItems NoClauses) ∷ [])) []) [] ≡ Ended (Uncaught 5 (pos 8))
-goes_on = refl
+uncaught_goes_on : ends 20 (program (all (Try (Throw 5 (Some (Number 8))) (Case 6 None 1 NoItems NoClauses) ∷ [])) []) [] ≡ Ended (Uncaught 5 (pos 8))
+uncaught_goes_on = refl
 
 source_goes_on : source_ends 20 (program (all (Try (Throw 5 (Some (Number 8))) (Case 6 None 1 NoItems NoClauses) ∷ [])) []) [] ≡ Ended (Uncaught 5 (pos 8))
 source_goes_on = refl
@@ -539,9 +539,9 @@ unfolding slt_of
 source_stores_to_variable = refl
 
 -- a local keeps its slots, and the address of a global is a number
-address_of_local : function_code [] [] None (function [] (Pointer Fat Int Heap ∷ Int ∷ star ∷ []) (MoreItems (Declare 2 star (Some (address (Local nowhere 1)))) NoItems)) ≡
+address_of_int_local : function_code [] [] None (function [] (Pointer Fat Int Heap ∷ Int ∷ star ∷ []) (MoreItems (Declare 2 star (Some (address (Local nowhere 1)))) NoItems)) ≡
     instructions.AddressOf 4 3 1 ∷ instructions.Finish 5 ∷ []
-address_of_local = refl
+address_of_int_local = refl
 
 address_of_global : function_code [] (starts_from 0 (global_types (fat_global ∷ int_global ∷ []))) None (function [] (star ∷ []) (MoreItems (Declare 0 star (Some (address (Global 1)))) NoItems)) ≡
     Move 0 (Constant 0x1000000c) ∷ instructions.Finish 1 ∷ []

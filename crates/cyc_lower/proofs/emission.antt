@@ -1,5 +1,6 @@
 -- the code that emits, and that counts
 pub mod Emitting
+pub mod ExpressionEmitting
 pub mod CellCode
 pub mod Branching
 pub mod Loops

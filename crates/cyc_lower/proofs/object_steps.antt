@@ -3,5 +3,6 @@ pub mod Handles
 pub mod Asking
 pub mod Allocations
 pub mod ArrayWords
+pub mod ArrayBlocks
 pub mod Arrays
 pub mod UniqueBlocks

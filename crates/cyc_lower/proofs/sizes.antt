@@ -4,7 +4,11 @@ pub mod ValueRanges
 pub mod ExpressionRanges
 pub mod StatementRanges
 pub mod WellFormed
+pub mod PieceWords
+pub mod ExpressionWords
 pub mod WordLemmas
+pub mod PieceSizes
+pub mod ExpressionSizes
 pub mod Sizes
 pub mod NeedBounds
 pub mod Routines

@@ -1,8 +1,11 @@
 -- the steps that begin an expression, and that hand a value on
 pub mod Assignments
+pub mod Beginnings
+pub mod Conversions
 pub mod Decided
 pub mod Evaluations
 pub mod GlobalSteps
+pub mod Landings
 pub mod Operators
 pub mod ValueWords
 pub mod Values

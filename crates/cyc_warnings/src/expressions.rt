@@ -150,7 +150,7 @@ fn use_of_prefix(operator: PrefixOperator) -> Use {
     match operator {
         PrefixOperator::Dereference | PrefixOperator::Not => Use::Looked,
         PrefixOperator::AddressOf => Use::Taken,
-        PrefixOperator::Negate | PrefixOperator::Complement => Use::Value,
+        _ => Use::Value,
     }
 }
 
@@ -218,9 +218,10 @@ impl<'t> Finder<'t> {
                 None => None,
             },
             Expr::Prefixed {
-                operator: PrefixOperator::Negate | PrefixOperator::Complement | PrefixOperator::Not,
+                operator: PrefixOperator::AddressOf,
                 ..
-            } => Some(INT),
+            } => None,
+            Expr::Prefixed { .. } => Some(INT),
             Expr::Binary { first, rest } => shape_of_result(self.shape_of(first), rest),
             Expr::Number { .. } | Expr::Character { .. } | Expr::NumberOfElements { .. } => Some(
                 INT,

@@ -69,18 +69,18 @@ abbrev IsByteOrNone : Option ℕ → Type 0
 IsByteOrNone None = Unit {0}
 IsByteOrNone (Some c) = c < 256
 
-either : (b : Bool) (x y : Option ℕ) → IsByteOrNone x → IsByteOrNone y → IsByteOrNone (if b then x else y)
-either true x y h k = h
-either false x y h k = k
+byte_either : (b : Bool) (x y : Option ℕ) → IsByteOrNone x → IsByteOrNone y → IsByteOrNone (if b then x else y)
+byte_either true x y h k = h
+byte_either false x y h k = k
 
 escaped_byte : (b : ℕ) → IsByteOrNone (escaped b)
 escaped_byte b =
-    either (b == 110) (Some 10) _ (omega arith)
-    (either (b == 116) (Some 9) _ (omega arith)
-    (either (b == 114) (Some 13) _ (omega arith)
-    (either (b == 48) (Some 0) _ (omega arith)
-    (either (b == 92) (Some 92) _ (omega arith)
-    (either (b == 39) (Some 39) None (omega arith) tt)))))
+    byte_either (b == 110) (Some 10) _ (omega arith)
+    (byte_either (b == 116) (Some 9) _ (omega arith)
+    (byte_either (b == 114) (Some 13) _ (omega arith)
+    (byte_either (b == 48) (Some 0) _ (omega arith)
+    (byte_either (b == 92) (Some 92) _ (omega arith)
+    (byte_either (b == 39) (Some 39) None (omega arith) tt)))))
 
 plain_byte : (c : ℕ) → IsTrue (is_plain c) → c < 256
 plain_byte c h =

@@ -25,10 +25,10 @@ all_few (MoreArguments (Convert from to a) cs) =
 
 -- ---- pointers
 
-pub thin_kind : (k : Kind) (m : PointerKind) → k ≡ kind_of_mark m → is_thin_mark m ≡ true → is_thin k ≡ true
-thin_kind k marks.Nullable eq thin = ap is_thin eq
-thin_kind k marks.NonNull eq thin = ap is_thin eq
-thin_kind k marks.Fat eq thin = absurd (cc)
+pub thin_by_mark : (k : Kind) (m : PointerKind) → k ≡ kind_of_mark m → is_thin_mark m ≡ true → is_thin k ≡ true
+thin_by_mark k marks.Nullable eq thin = ap is_thin eq
+thin_by_mark k marks.NonNull eq thin = ap is_thin eq
+thin_by_mark k marks.Fat eq thin = absurd (cc)
 
 pointers_converted : (m l : PointerKind) → is_converted (kind_of_mark m) (kind_of_mark l) ≡ true
 pointers_converted marks.Nullable marks.Nullable = refl

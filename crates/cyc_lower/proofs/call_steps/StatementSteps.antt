@@ -42,7 +42,9 @@ use Rattle.cyc_objects.proofs.Values.{Grows-row, Grows-handle}
 use Rattle.cyc_lower.proofs.relation.contents.Sharing.{shared_declared, row_declared, shared_opened, shared_closed}
 use Rattle.cyc_lower.proofs.relation.contents.HeldValues.{kept, Holds, held, callers, homes, behind_records, row_of, IsLocalRow}
 use Rattle.cyc_lower.proofs.relation.simulation.Relation.{shared_seen, CountsBy, opened_by, types_on, starts_on, types_at, starts_at, returned_at, Shared, DataAt, SharedAt, in_temporary, in_local, ValueStack, AheadStack, StatementStack, LandsStack, LoopAt, Related, EvaluatingAt, as_operand, for_effect, as_condition, in_operand, ahead, behind_statement, behind_call, behind_wrong, Below, IsLast, Arrives, in_place, by_jump, code_of, bounds_in, bounds_at, top, by_jumps, HandlersStand, DataIn, Matches, floor, call_slots}
-use Rattle.cyc_lower.proofs.relation.contents.Data.{height-least, Holds-same, Holds-above, data_declared, data_returned, data_grows, held_by_caller, floor-least, handlers_same, calls_counted, handlers_beside}
+use Rattle.cyc_lower.proofs.relation.contents.Data.{height-least, Holds-same, Holds-above, data_declared, data_returned, held_by_caller}
+use Rattle.cyc_lower.proofs.relation.contents.HandlerData.{floor-least, handlers_same, calls_counted, handlers_beside}
+use Rattle.cyc_lower.proofs.relation.contents.GrowingData.{data_grows}
 use Rattle.cyc_lower.proofs.value_steps.ValueWords.{int_at}
 use Rattle.cyc_lower.proofs.relation.simulation.Accesses.{IsWell, is_declared, is_closed, home_there}
 use Rattle.cyc_lower.proofs.place_steps.SwapSteps.{begins_swap}
@@ -52,7 +54,8 @@ use Rattle.cyc_lower.proofs.handler_steps.Handling.{leaving, shared_leaving, rec
 use Rattle.cyc_lower.proofs.region_steps.WaysOut.{leaves_region}
 use Rattle.cyc_lower.proofs.relation.simulation.Matched.{IsMatched, silently, by_one, by_two}
 use Rattle.cyc_lower.proofs.handler_steps.ExceptionSteps.{begins, ends, throws_none, throws_some}
-use Rattle.cyc_lower.proofs.value_steps.Evaluations.{IsStep, sources, brings, brings_ahead}
+use Rattle.cyc_lower.proofs.value_steps.Landings.{IsStep, brings, brings_ahead}
+use Rattle.cyc_lower.proofs.value_steps.Beginnings.{sources}
 use Rattle.cyc_lower.proofs.region_steps.RegionSteps.{local_there, opens_region, opens_by, aliases_local, declares_key, closes_region, ends_loan}
 use Rattle.cyc_lower.proofs.relation.places.Rows.{row-fits, row-variable, char_row}
 use Rattle.cyc_types.specs.declared.typed.Kind.TheVariants as kinds

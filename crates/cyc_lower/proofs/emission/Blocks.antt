@@ -11,13 +11,13 @@ use Rattle.cyc_lower.specs.inside.Lowering.{target_of, farthest, with_blocks, fi
 
 -- ---- as they are made
 
-taken : (n : ℕ) → take (min n 4) blocks ≡ take n blocks
-taken zero = refl
-taken (suc zero) = refl
-taken (suc (suc zero)) = refl
-taken (suc (suc (suc zero))) = refl
-taken (suc (suc (suc (suc zero)))) = refl
-taken (suc (suc (suc (suc (suc n))))) = ap (λ (m : ℕ). take m blocks) (let e : min (suc (suc (suc (suc (suc n))))) 4 ≡ 4 = omega arith in e)
+blocks_taken : (n : ℕ) → take (min n 4) blocks ≡ take n blocks
+blocks_taken zero = refl
+blocks_taken (suc zero) = refl
+blocks_taken (suc (suc zero)) = refl
+blocks_taken (suc (suc (suc zero))) = refl
+blocks_taken (suc (suc (suc (suc zero)))) = refl
+blocks_taken (suc (suc (suc (suc (suc n))))) = ap (λ (m : ℕ). take m blocks) (let e : min (suc (suc (suc (suc (suc n))))) 4 ≡ 4 = omega arith in e)
 
 taken_behind : (old more : List Instruction) (n : ℕ) → take (length old + n) (old ++ more) ≡ old ++ take n more
 taken_behind [] more n = ap (λ (m : ℕ). take m more) (let e : 0 + n ≡ n = omega arith in e)
@@ -32,7 +32,7 @@ some_blocks body ended all code value count kept end ended_is all_is kept_is end
     ∙ ap (λ (n : ℕ). take n all) (end_is ∙ ap (λ (n : ℕ). length ended + n) kept_is)
     ∙ ap (λ (l : List Instruction). take (length ended + min count 4) l) all_is
     ∙ taken_behind ended blocks (min count 4)
-    ∙ ap (λ (l : List Instruction). ended ++ l) (taken count)
+    ∙ ap (λ (l : List Instruction). ended ++ l) (blocks_taken count)
     ∙ ap (λ (l : List Instruction). l ++ take count blocks) ended_is
     ∙ append_assoc body (instructions.Finish value ∷ []) (take count blocks)
 

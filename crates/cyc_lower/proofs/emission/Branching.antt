@@ -56,20 +56,20 @@ behind_one starts j js p exits t rest =
     let one = item_code starts j p exits t in
     ap (λ (l : List Instruction). one ++ l) rest ∙ sym (append_assoc one (opened_items starts js (p + length one) (exits, t)) (closed_items (regions_in js) t))
 
-items_opened : (starts : Starts) (js : List ItemCode) (p : ℕ) (exits : Exits) (t : ℕ) → items_code starts (items_of js) p exits t ≡ opened_items starts js p (exits, t) ++ closed_items (regions_in js) t
-items_opened starts [] p exits t = refl
-items_opened starts (item.Region w r n ∷ js) p exits t =
+items_open_and_close : (starts : Starts) (js : List ItemCode) (p : ℕ) (exits : Exits) (t : ℕ) → items_code starts (items_of js) p exits t ≡ opened_items starts js p (exits, t) ++ closed_items (regions_in js) t
+items_open_and_close starts [] p exits t = refl
+items_open_and_close starts (item.Region w r n ∷ js) p exits t =
     let first = opened_code starts n t in
     let front = opened_items starts js (p + length first) (inside_region exits t, t + 1) in
     let back = closed_items (regions_in js) (t + 1) in
-    ap (λ (l : List Instruction). first ++ (l ++ closed_code t)) (items_opened starts js (p + length first) (inside_region exits t) (t + 1))
+    ap (λ (l : List Instruction). first ++ (l ++ closed_code t)) (items_open_and_close starts js (p + length first) (inside_region exits t) (t + 1))
     ∙ ap (λ (l : List Instruction). first ++ l) (append_assoc front back (closed_code t))
     ∙ sym (append_assoc first front (back ++ closed_code t))
-items_opened starts (item.Execute s ∷ js) p exits t = behind_one starts (item.Execute s) js p exits t (items_opened starts js _ exits t)
-items_opened starts (item.Local w n ty v ∷ js) p exits t = behind_one starts (item.Local w n ty v) js p exits t (items_opened starts js _ exits t)
-items_opened starts (item.Open r n w k ∷ js) p exits t = behind_one starts (item.Open r n w k) js p exits t (items_opened starts js _ exits t)
-items_opened starts (item.Alias r n ty w s ∷ js) p exits t = behind_one starts (item.Alias r n ty w s) js p exits t (items_opened starts js _ exits t)
-items_opened starts (item.DynamicRegion w r n ∷ js) p exits t = behind_one starts (item.DynamicRegion w r n) js p exits t (items_opened starts js _ exits t)
+items_open_and_close starts (item.Execute s ∷ js) p exits t = behind_one starts (item.Execute s) js p exits t (items_open_and_close starts js _ exits t)
+items_open_and_close starts (item.Local w n ty v ∷ js) p exits t = behind_one starts (item.Local w n ty v) js p exits t (items_open_and_close starts js _ exits t)
+items_open_and_close starts (item.Open r n w k ∷ js) p exits t = behind_one starts (item.Open r n w k) js p exits t (items_open_and_close starts js _ exits t)
+items_open_and_close starts (item.Alias r n ty w s ∷ js) p exits t = behind_one starts (item.Alias r n ty w s) js p exits t (items_open_and_close starts js _ exits t)
+items_open_and_close starts (item.DynamicRegion w r n ∷ js) p exits t = behind_one starts (item.DynamicRegion w r n) js p exits t (items_open_and_close starts js _ exits t)
 
 -- the newest region is the first that is closed
 closed_first : (many t : ℕ) → closed_items (suc many) t ≡ closed_code (t + many) ++ closed_items many t
@@ -146,7 +146,7 @@ closes_begin starts old js first free i code inside behind done (made, regions, 
       let e = ap regions_in none in omega (arith, regions, e),
       ap (λ (l : List Instruction). l ++ closed_items (regions_in js) free) whole
           ∙ append_assoc old front (closed_items (regions_in js) free)
-          ∙ ap (λ (l : List Instruction). old ++ l) (sym (items_opened starts js (length old) first free)),
+          ∙ ap (λ (l : List Instruction). old ++ l) (sym (items_open_and_close starts js (length old) first free)),
     )
 
 pub closes_next : (whole code new : List Instruction) (free behind next : ℕ) → free < behind → next ≡ behind - 1 → new ≡ code ++ closed_code next → ClosesLeft whole code free behind → ClosesLeft whole new free next

@@ -26,7 +26,7 @@ use Rattle.cyc_lower.specs.inside.ControlCode.{Compared, with_zero, compared_or,
 use Rattle.cyc_lower.specs.inside.ExpressionCode.{left_of, left_slot, value_operand}
 use Rattle.cyc_lower.specs.inside.Lowering.{first_operand, first_code, second_code, pair_code, condition_code, condition_of, others_code, last_condition, tests_code, behind_tests, choice_code, choice_of, branch_code, branch_of, compares_light, is_light_comparison}
 use Rattle.cyc_lower.specs.inside.Emission.{most_locals, is_test, failed, AreBefore, early_jumps, Aims, IsTested, IsEarly, IsBranch, IsSettled, other_code, other_condition, value_code, left_code, zero_condition, null_condition, null_operation}
-use Rattle.cyc_lower.proofs.emission.Emitting.{joined, Lowers, Remains, goes_on, all_made, no_shorter_than}
+use Rattle.cyc_lower.proofs.emission.Emitting.{emitted_joined, Lowers, Remains, goes_on, all_made, no_shorter_than}
 
 -- ---- chains that are tested whole
 
@@ -124,7 +124,7 @@ module _ (starts : Starts) where
         ap (λ (x : Operand). let k : Condition = record { failing = failing; left = x; right = r } in k) left
             ∙ ap (λ (x : Operand). let k : Condition = record { failing = failing; left = first_operand starts first b t; right = x } in k) right
             ∙ sym (ap (λ (x : Compared). operands_of x t) compared),
-        joined old front (λ p. second_code starts b p t) m1 m2 made_left made_right
+        emitted_joined old front (λ p. second_code starts b p t) m1 m2 made_left made_right
             ∙ sym (ap (λ (x : Compared). old ++ pair_code starts x.left x.right (length old) t) compared),
       )
 

@@ -20,7 +20,7 @@ use Rattle.cyc_lower.specs.inside.Slots.{Starts}
 use Rattle.cyc_lower.specs.inside.ControlCode.{other_jump, inside_try, behind_record, behind_record_in, kept_code, restored_code}
 use Rattle.cyc_lower.specs.inside.Lowering.{statement_code, clauses_code, caught_code, items_code}
 use Rattle.cyc_lower.specs.inside.Emission.{case_code, caught_items_code, BeginClauses}
-use Rattle.cyc_lower.proofs.emission.Emitting.{Remains, goes_on_by, joined, written_back}
+use Rattle.cyc_lower.proofs.emission.Emitting.{Remains, goes_on_by, emitted_joined, written_back}
 use Rattle.cyc_lower.proofs.emission.Branching.{branched}
 
 -- ---- what is kept
@@ -96,7 +96,7 @@ module _ (starts : Starts) (s : Statement) (cs : Clauses) (exits : Exits) (t : �
       let l0 : length m0 ≡ length old + length kept = ap length e0 ∙ length-append old kept in
       let l1 : length m1 ≡ p = ap length e1 ∙ length-append m0 (x ∷ []) ∙ ap (λ (n : ℕ). n + 1) l0 in
       let there : out ≡ p + length (first p) = h2 ∙ ap length made ∙ length-append m1 (first (length m1)) ∙ ap (λ (n : ℕ). n + length (first n)) l1 in
-      let behind : m7 ≡ m5 ++ second (length m5) = joined m5 restored (λ (n : ℕ). clauses_code starts cs n out exits t) m6 m7 e6 e7 in
+      let behind : m7 ≡ m5 ++ second (length m5) = emitted_joined m5 restored (λ (n : ℕ). clauses_code starts cs n out exits t) m6 m7 e6 e7 in
       branched old (λ _. kept) (λ _ code. code) (λ rest target. refl) (λ target. refl) x y first second (λ (n : ℕ). instructions.Try t n) (λ (n : ℕ). instructions.Jump n) m0 m1 m3 m4 m5 m7 m8
       e0 e1 made e4 (e5 ∙ ap (λ (n : ℕ). set m4 n (instructions.Try t (length m4))) h1) behind (e8 ∙ ap (λ (n : ℕ). set m7 n (instructions.Jump (length m7))) h2)
       p refl q refl

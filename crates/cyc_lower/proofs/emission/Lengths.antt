@@ -32,14 +32,14 @@ use Rattle.cyc_meaning.specs.Values.{is_thin, kind_of, words_of_kind}
 
 -- ---- lists
 
-joined : (a b x y : List Instruction) → length a ≡ length x → length b ≡ length y → length (a ++ b) ≡ length (x ++ y)
-joined a b x y first second = omega (arith, length-append a b, length-append x y, first, second)
+lengths_joined : (a b x y : List Instruction) → length a ≡ length x → length b ≡ length y → length (a ++ b) ≡ length (x ++ y)
+lengths_joined a b x y first second = omega (arith, length-append a b, length-append x y, first, second)
 
 -- an element of an array is written
 filled_long : (kind : Kind) (h i t : ℕ) → length (filled_code kind h t) ≡ length (filled_code kind i t)
 filled_long kind h i t =
     let stores = stores_code kind (words_of_kind kind) (t + 3 + words_of_kind kind) 0 (t + 3) in
-    ap (λ n. suc (suc n)) (joined stores (_ ∷ _ ∷ []) stores (_ ∷ _ ∷ []) refl refl)
+    ap (λ n. suc (suc n)) (lengths_joined stores (_ ∷ _ ∷ []) stores (_ ∷ _ ∷ []) refl refl)
 
 unless_long : (known same : Option Operand) (a x : List Instruction) → known ≡ same → length a ≡ length x → length (code_unless known a) ≡ length (code_unless same x)
 unless_long (Some o) same a x is long = ap (λ z. length (code_unless z x)) is
@@ -75,10 +75,10 @@ if_long : (last : Bool) (a x : ℕ → List Instruction) (b c y z : List Instruc
 if_long last a x b c y z jump same p q first second third =
     let m = other_place last (a 0) b p in
     let n = other_place last (x 0) y q in
-    joined (a m ++ _ ∷ b) (over_code last _ ++ c) (x n ++ _ ∷ y) (over_code last _ ++ z) (joined (a m) (_ ∷ b) (x n) (_ ∷ y) (first m n) (ap suc second)) (joined (over_code last _) c (over_code last _) z (over_long last _ _) third)
+    lengths_joined (a m ++ _ ∷ b) (over_code last _ ++ c) (x n ++ _ ∷ y) (over_code last _ ++ z) (lengths_joined (a m) (_ ∷ b) (x n) (_ ∷ y) (first m n) (ap suc second)) (lengths_joined (over_code last _) c (over_code last _) z (over_long last _ _) third)
 
 entries_long : (guarded same : Bool) (a x : List Instruction) (jump other : ℕ → Instruction) (test aim p q : ℕ) → guarded ≡ same → length a ≡ length x → length (entry_code guarded a jump test p) ≡ length (entry_code same x other aim q)
-entries_long true same a x jump other test aim p q is long = joined a (_ ∷ []) x (_ ∷ []) long refl ∙ ap (λ z. length (entry_code z x other aim q)) is
+entries_long true same a x jump other test aim p q is long = lengths_joined a (_ ∷ []) x (_ ∷ []) long refl ∙ ap (λ z. length (entry_code z x other aim q)) is
 entries_long false same a x jump other test aim p q is long = ap (λ z. length (entry_code z x other aim q)) is
 
 entered_long : (guarded same : Bool) (condition others : ℕ → List Instruction) (body inner : List Instruction) (jump other : ℕ → Instruction) (p q leaving out : ℕ) → guarded ≡ same → ((m n : ℕ) → length (condition m) ≡ length (others n)) → length body ≡ length inner
@@ -86,15 +86,15 @@ entered_long : (guarded same : Bool) (condition others : ℕ → List Instructio
 entered_long guarded same condition others body inner jump other p q leaving out is long first =
     let r = body_target leaving + length body in
     let s = body_target out + length inner in
-    joined (entry_code guarded (condition p) jump r p) (_ ∷ ((body ++ condition r) ++ _ ∷ [])) (entry_code same (others q) other s q) (_ ∷ ((inner ++ others s) ++ _ ∷ []))
+    lengths_joined (entry_code guarded (condition p) jump r p) (_ ∷ ((body ++ condition r) ++ _ ∷ [])) (entry_code same (others q) other s q) (_ ∷ ((inner ++ others s) ++ _ ∷ []))
     (entries_long guarded same (condition p) (others q) jump other r s p q is (long p q))
-    (ap suc (joined (body ++ condition r) (_ ∷ []) (inner ++ others s) (_ ∷ []) (joined body (condition r) inner (others s) first (long r s)) refl))
+    (ap suc (lengths_joined (body ++ condition r) (_ ∷ []) (inner ++ others s) (_ ∷ []) (lengths_joined body (condition r) inner (others s) first (long r s)) refl))
 
 try_long : (a b x y : List Instruction) (t p q : ℕ) → length a ≡ length x → length b ≡ length y → length (try_code t a b p) ≡ length (try_code t x y q)
-try_long a b x y t p q first second = ap suc (joined a (_ ∷ b) x (_ ∷ y) first (ap suc second))
+try_long a b x y t p q first second = ap suc (lengths_joined a (_ ∷ b) x (_ ∷ y) first (ap suc second))
 
 clause_long : (a x : List Instruction) (tag t p q out aim : ℕ) → length a ≡ length x → length (clause_code tag t a p out) ≡ length (clause_code tag t x q aim)
-clause_long a x tag t p q out aim same = ap suc (joined a (_ ∷ []) x (_ ∷ []) same refl)
+clause_long a x tag t p q out aim same = ap suc (lengths_joined a (_ ∷ []) x (_ ∷ []) same refl)
 
 -- ---- code that begins at any two places, with the blocks at any two
 
@@ -212,7 +212,7 @@ module _ (starts : Starts) (raises : ℕ) where
   divisor_long (operands.Slot n) r same = ap (λ x. length (divisor_code other x)) same
 
   checked_long : (o : Operator) (l m r s : Operand) (d e : ℕ) → l ≡ m → r ≡ s → length (checked_code starts o l r d) ≡ length (checked_code other o m s e)
-  checked_long o l m r s d e left right = joined _ _ _ _ (divisor_long r s right) refl
+  checked_long o l m r s d e left right = lengths_joined _ _ _ _ (divisor_long r s right) refl
 
   operator_long : (o : Operator) (l m r s : Operand) (d e : ℕ) → l ≡ m → r ≡ s → length (operator_code starts o l r d) ≡ length (operator_code other o m s e)
   operator_long operators.Divide l m r s d e left right = checked_long operators.Divide l m r s d e left right
@@ -221,7 +221,7 @@ module _ (starts : Starts) (raises : ℕ) where
 
   converted_by_long : (known same : Option Operand) (a x : List Instruction) (from to : Kind) (span : Option ℕ) (o r : Operand) (p q : ℕ) → known ≡ same → length a ≡ length x → o ≡ r
       → length (converted_by starts known a from to span o p) ≡ length (converted_by other same x from to span r q)
-  converted_by_long known same a x from to span o r p q is long there = joined _ _ _ _ (unless_long known same a x is long) (conversion_long from to span o r _ _ there)
+  converted_by_long known same a x from to span o r p q is long there = lengths_joined _ _ _ _ (unless_long known same a x is long) (conversion_long from to span o r _ _ there)
 
   -- an expression that is an operand
   operand_by : (a : Expression) (p q t : ℕ) → length (expression_code starts a p (value_slot starts a t) t) ≡ length (expression_code other a q (value_slot other a t) t)
@@ -231,7 +231,7 @@ module _ (starts : Starts) (raises : ℕ) where
   -- a value that is to be converted
   brought_long : (from to : Kind) (a : Expression) (p q d e t : ℕ) → length (expression_code starts a p (value_slot starts a t) t) ≡ length (expression_code other a q (value_slot other a t) t)
       → length (expression_code starts a p d t) ≡ length (expression_code other a q e t) → length (brought_code starts (Convert from to a) p d t) ≡ length (brought_code other (Convert from to a) q e t)
-  brought_long from to a p q d e t operand at_once = either_long (masks from to) _ _ _ _ (joined _ _ _ _ (operand_by a p q t operand) refl) at_once
+  brought_long from to a p q d e t operand at_once = either_long (masks from to) _ _ _ _ (lengths_joined _ _ _ _ (operand_by a p q t operand) refl) at_once
 
 module _ (raises : ℕ) where
   mutual
@@ -239,52 +239,52 @@ module _ (raises : ℕ) where
     expression_long starts (Copy l ty) p q d e t same = load_long starts raises (words_of ty) l d e
     expression_long starts (Move w n ty) p q d e t same = refl
     expression_long starts (Peek w n ty) p q d e t same = refl
-    expression_long starts (Call callees.Putchar cs ty) p q d e t same = joined _ _ _ _ (printed_long starts cs p q t) refl
-    expression_long starts (Call callees.Getchar cs ty) p q d e t same = joined _ _ _ _ (arguments_long starts cs p q t) refl
-    expression_long starts (Call (callees.Function n) cs ty) p q d e t same = joined _ _ _ _ (arguments_long starts cs p q t) refl
-    expression_long starts (NumberOfElements a) p q d e t same = joined _ _ _ _ (operand_by starts raises a p q t (expression_long starts a p q _ _ t (same_slot starts raises a t))) (counted_long starts raises _ _ _ _ d e (same_value starts raises a t))
+    expression_long starts (Call callees.Putchar cs ty) p q d e t same = lengths_joined _ _ _ _ (printed_long starts cs p q t) refl
+    expression_long starts (Call callees.Getchar cs ty) p q d e t same = lengths_joined _ _ _ _ (arguments_long starts cs p q t) refl
+    expression_long starts (Call (callees.Function n) cs ty) p q d e t same = lengths_joined _ _ _ _ (arguments_long starts cs p q t) refl
+    expression_long starts (NumberOfElements a) p q d e t same = lengths_joined _ _ _ _ (operand_by starts raises a p q t (expression_long starts a p q _ _ t (same_slot starts raises a t))) (counted_long starts raises _ _ _ _ d e (same_value starts raises a t))
     expression_long starts (Unary unary.Widen a) p q d e t same = expression_long starts a p q d e t same
-    expression_long starts (Unary o a) p q d e t same = joined _ _ _ _ (operand_by starts raises a p q t (expression_long starts a p q _ _ t (same_slot starts raises a t))) refl
+    expression_long starts (Unary o a) p q d e t same = lengths_joined _ _ _ _ (operand_by starts raises a p q t (expression_long starts a p q _ _ t (same_slot starts raises a t))) refl
     expression_long starts (Binary a os ty) p q d e t same =
-        joined _ _ _ _ (unless_long _ _ _ _ (same_left starts raises a os) (expression_long starts a p q _ _ t (same_left_slot starts raises a os d e t same)))
+        lengths_joined _ _ _ _ (unless_long _ _ _ _ (same_left starts raises a os) (expression_long starts a p q _ _ t (same_left_slot starts raises a os d e t same)))
         (operations_long starts os _ _ _ _ d e t (λ i. operand_or (same_left starts raises a os i) (same_left_slot starts raises a os d e t same i)) same)
     expression_long starts (Assign (Local w n) c ty) p q d e t same =
-        joined _ _ _ _ (initial_long starts c p q (slot_of starts n) (slot_of starts n) t refl) (λ i. length (copy_code (passed_words c) (operands.Slot (slot_of starts n)) (same i)))
+        lengths_joined _ _ _ _ (initial_long starts c p q (slot_of starts n) (slot_of starts n) t refl) (λ i. length (copy_code (passed_words c) (operands.Slot (slot_of starts n)) (same i)))
     expression_long starts (Assign (Global n) c ty) p q d e t same =
-        joined _ _ _ _ (joined _ _ _ _ (converted_operand_long starts c p q t) (λ i. length (global_code (passed_words c) (global_of starts n) (same_converted starts raises c t i)))) (λ i. length (copy_code (passed_words c) (same_converted starts raises c t i) (same i)))
-    expression_long starts (Load x) p q d e t same = joined _ _ _ _ (place_long starts x p q t) (λ i. length (loaded_code (kind_of (type_of_place x)) (same_place starts raises x t i) (same_offset starts raises x i) (same i) t))
+        lengths_joined _ _ _ _ (lengths_joined _ _ _ _ (converted_operand_long starts c p q t) (λ i. length (global_code (passed_words c) (global_of starts n) (same_converted starts raises c t i)))) (λ i. length (copy_code (passed_words c) (same_converted starts raises c t i) (same i)))
+    expression_long starts (Load x) p q d e t same = lengths_joined _ _ _ _ (place_long starts x p q t) (λ i. length (loaded_code (kind_of (type_of_place x)) (same_place starts raises x t i) (same_offset starts raises x i) (same i) t))
     expression_long starts (AddressOf (Local w n) ty) p q d e t same = λ i. suc (length (last_byte_code (kind_behind ty) (same i)))
     expression_long starts (AddressOf (Global n) ty) p q d e t same = refl
-    expression_long starts (AddressOfCell x ty) p q d e t same = joined _ _ _ _ (place_long starts x p q t) (λ i. length (address_code (same_place starts raises x t i) (same_offset starts raises x i) (same i)))
+    expression_long starts (AddressOfCell x ty) p q d e t same = lengths_joined _ _ _ _ (place_long starts x p q t) (λ i. length (address_code (same_place starts raises x t i) (same_offset starts raises x i) (same i)))
     expression_long starts (Store x c ty) p q d e t same =
-        joined _ _ _ _
-        (joined _ _ _ _ (joined _ _ _ _ (place_long starts x p q t) (λ i. length (address_code (same_place starts raises x t i) (same_offset starts raises x i) t))) (joined _ _ _ _ (converted_operand_long starts c _ _ (t + 1)) (λ i. length (saved_code (kind_passed c) t (same_converted starts raises c (t + 1) i)))))
+        lengths_joined _ _ _ _
+        (lengths_joined _ _ _ _ (lengths_joined _ _ _ _ (place_long starts x p q t) (λ i. length (address_code (same_place starts raises x t i) (same_offset starts raises x i) t))) (lengths_joined _ _ _ _ (converted_operand_long starts c _ _ (t + 1)) (λ i. length (saved_code (kind_passed c) t (same_converted starts raises c (t + 1) i)))))
         (λ i. length (copy_code (passed_words c) (same_converted starts raises c (t + 1) i) (same i)))
     expression_long starts (New OnHeap x ty) p q d e t same = made_long starts x (operands.Word HEAP) p q d e t same
     expression_long starts (New AsUnique x ty) p q d e t same = made_long starts x (operands.Word UNIQUE) p q d e t same
     expression_long starts (New (ByHandle a) x ty) p q d e t same =
-        joined (expression_code starts a p t t) (made_code starts x (operands.Slot t) (p + length (expression_code starts a p t t)) d (t + 1)) (expression_code (other starts raises) a q t t) (made_code (other starts raises) x (operands.Slot t) (q + length (expression_code (other starts raises) a q t t)) e (t + 1))
+        lengths_joined (expression_code starts a p t t) (made_code starts x (operands.Slot t) (p + length (expression_code starts a p t t)) d (t + 1)) (expression_code (other starts raises) a q t t) (made_code (other starts raises) x (operands.Slot t) (q + length (expression_code (other starts raises) a q t t)) e (t + 1))
         (expression_long starts a p q t t t refl) (made_long starts x (operands.Slot t) _ _ d e (t + 1) same)
-    expression_long starts (FreeKey a) p q d e t same = joined _ _ _ _ (operand_by starts raises a p q t (expression_long starts a p q _ _ t (same_slot starts raises a t))) refl
-    expression_long starts (FreeUnique a) p q d e t same = joined _ _ _ _ (operand_by starts raises a p q t (expression_long starts a p q _ _ t (same_slot starts raises a t))) refl
+    expression_long starts (FreeKey a) p q d e t same = lengths_joined _ _ _ _ (operand_by starts raises a p q t (expression_long starts a p q _ _ t (same_slot starts raises a t))) refl
+    expression_long starts (FreeUnique a) p q d e t same = lengths_joined _ _ _ _ (operand_by starts raises a p q t (expression_long starts a p q _ _ t (same_slot starts raises a t))) refl
     expression_long starts a p q d e t same = refl
 
     place_long : (starts : Starts) → (x : Dereference) (p q t : ℕ) → length (place_code starts x p t) ≡ length (place_code (other starts raises) x q t)
     place_long starts (Target k a ty) p q t =
-        joined _ _ _ _ (operand_by starts raises a p q t (expression_long starts a p q _ _ t (same_slot starts raises a t))) (followed_long starts raises (is_thin k) (span_in ty) (value_operand starts a t) (value_operand (other starts raises) a t) t _ _ (same_value starts raises a t))
-    place_long starts (Member k a s f ty) p q t = joined _ _ _ _ (operand_by starts raises a p q t (expression_long starts a p q _ _ t (same_slot starts raises a t))) refl
+        lengths_joined _ _ _ _ (operand_by starts raises a p q t (expression_long starts a p q _ _ t (same_slot starts raises a t))) (followed_long starts raises (is_thin k) (span_in ty) (value_operand starts a t) (value_operand (other starts raises) a t) t _ _ (same_value starts raises a t))
+    place_long starts (Member k a s f ty) p q t = lengths_joined _ _ _ _ (operand_by starts raises a p q t (expression_long starts a p q _ _ t (same_slot starts raises a t))) refl
     place_long starts (Element a x ty) p q t =
         let front = code_unless_slot (pointer_of (other starts raises) a x) (expression_code (other starts raises) a q t t) in
         let m = q + length front in
         let operand = code_unless (operand_of (other starts raises) x) (expression_code (other starts raises) x m (value_slot (other starts raises) x (t + 3)) (t + 3)) in
         let place = m + length operand + 1 in
-        joined _ _ _ _ (unless_slot_long _ _ _ _ (same_pointer starts raises a x) (expression_long starts a p q t t t refl))
-        (joined _ _ _ _ (operand_by starts raises x _ _ (t + 3) (expression_long starts x _ _ _ _ (t + 3) (same_slot starts raises x (t + 3))))
+        lengths_joined _ _ _ _ (unless_slot_long _ _ _ _ (same_pointer starts raises a x) (expression_long starts a p q t t t refl))
+        (lengths_joined _ _ _ _ (operand_by starts raises x _ _ (t + 3) (expression_long starts x _ _ _ _ (t + 3) (same_slot starts raises x (t + 3))))
         (ap suc (reached_long starts raises (span_in ty) (slot_or (pointer_of starts a x) t) (t + 2) t _ _ ∙ (λ i. length (reached_code (other starts raises) (span_in ty) (slot_or (same_pointer starts raises a x i) t) (t + 2) t place)))))
 
     made_long : (starts : Starts) → (x : Initial) (handle : Operand) (p q d e t : ℕ) → d ≡ e → length (made_code starts x handle p d t) ≡ length (made_code (other starts raises) x handle q e t)
-    made_long starts (Plain kind a) handle p q d e t same = joined _ _ _ _ (expression_long starts a p q t t t refl) (λ i. length (object_code handle (kind ∷ []) (same i) t))
-    made_long starts (Fields cs) handle p q d e t same = joined _ _ _ _ (arguments_long starts cs p q t) (λ i. length (object_code handle (kinds_passed cs) (same i) t))
+    made_long starts (Plain kind a) handle p q d e t same = lengths_joined _ _ _ _ (expression_long starts a p q t t t refl) (λ i. length (object_code handle (kind ∷ []) (same i) t))
+    made_long starts (Fields cs) handle p q d e t same = lengths_joined _ _ _ _ (arguments_long starts cs p q t) (λ i. length (object_code handle (kinds_passed cs) (same i) t))
     made_long starts (Array w level n kind a) handle p q d e t same =
         let first = expression_code starts n p t t in
         let second = expression_code (other starts raises) n q t t in
@@ -292,19 +292,19 @@ module _ (raises : ℕ) where
         let i = q + length second + length (begun_code (other starts raises) handle kind t) in
         let inner = expression_code (with_counter starts (t + 2)) a (h + 1) (t + 3) (t + 3) in
         let alike = expression_code (with_counter (other starts raises) (t + 2)) a (i + 1) (t + 3) (t + 3) in
-        joined first (begun_code starts handle kind t ++ elements_code kind inner h d t) second (begun_code (other starts raises) handle kind t ++ elements_code kind alike i e t) (expression_long starts n p q t t t refl)
-        (joined (begun_code starts handle kind t) (elements_code kind inner h d t) (begun_code (other starts raises) handle kind t) (elements_code kind alike i e t) refl
+        lengths_joined first (begun_code starts handle kind t ++ elements_code kind inner h d t) second (begun_code (other starts raises) handle kind t ++ elements_code kind alike i e t) (expression_long starts n p q t t t refl)
+        (lengths_joined (begun_code starts handle kind t) (elements_code kind inner h d t) (begun_code (other starts raises) handle kind t) (elements_code kind alike i e t) refl
         (ap suc
-        (joined (inner ++ filled_code kind h t) (ended_code d t) (alike ++ filled_code kind i t) (ended_code e t)
-        (joined inner (filled_code kind h t) alike (filled_code kind i t) (expression_long (with_counter starts (t + 2)) a (h + 1) (i + 1) (t + 3) (t + 3) (t + 3) refl) (filled_long kind h i t))
+        (lengths_joined (inner ++ filled_code kind h t) (ended_code d t) (alike ++ filled_code kind i t) (ended_code e t)
+        (lengths_joined inner (filled_code kind h t) alike (filled_code kind i t) (expression_long (with_counter starts (t + 2)) a (h + 1) (i + 1) (t + 3) (t + 3) (t + 3) refl) (filled_long kind h i t))
         (λ z. length (ended_code (same z) t)))))
 
     arguments_long : (starts : Starts) → (cs : Arguments) (p q t : ℕ) → length (arguments_code starts cs p t) ≡ length (arguments_code (other starts raises) cs q t)
     arguments_long starts NoArguments p q t = refl
-    arguments_long starts (MoreArguments c cs) p q t = joined _ _ _ _ (converted_long starts c p q t) (arguments_long starts cs _ _ (t + passed_words c))
+    arguments_long starts (MoreArguments c cs) p q t = lengths_joined _ _ _ _ (converted_long starts c p q t) (arguments_long starts cs _ _ (t + passed_words c))
 
     converted_long : (starts : Starts) → (c : Converted) (p q t : ℕ) → length (converted_code starts c p t) ≡ length (converted_code (other starts raises) c q t)
-    converted_long starts (Convert from to a) p q t = joined _ _ _ _ (brought_long starts raises from to a p q t t t (expression_long starts a p q _ _ t (same_slot starts raises a t)) (expression_long starts a p q t t t refl)) (conversion_long starts raises from to (span_of a) (operands.Slot t) (operands.Slot t) _ _ refl)
+    converted_long starts (Convert from to a) p q t = lengths_joined _ _ _ _ (brought_long starts raises from to a p q t t t (expression_long starts a p q _ _ t (same_slot starts raises a t)) (expression_long starts a p q t t t refl)) (conversion_long starts raises from to (span_of a) (operands.Slot t) (operands.Slot t) _ _ refl)
 
     converted_operand_long : (starts : Starts) → (c : Converted) (p q t : ℕ) → length (converted_operand_code starts c p t) ≡ length (converted_operand_code (other starts raises) c q t)
     converted_operand_long starts (Convert from to a) p q t =
@@ -312,45 +312,45 @@ module _ (raises : ℕ) where
 
     printed_long : (starts : Starts) → (cs : Arguments) (p q t : ℕ) → length (printed_code starts cs p t) ≡ length (printed_code (other starts raises) cs q t)
     printed_long starts NoArguments p q t = refl
-    printed_long starts (MoreArguments c cs) p q t = joined _ _ _ _ (converted_operand_long starts c p q t) (printed_long starts cs _ _ t)
+    printed_long starts (MoreArguments c cs) p q t = lengths_joined _ _ _ _ (converted_operand_long starts c p q t) (printed_long starts cs _ _ t)
 
     initial_long : (starts : Starts) → (c : Converted) (p q d e t : ℕ) → d ≡ e → length (initial_code starts c p d t) ≡ length (initial_code (other starts raises) c q e t)
     initial_long starts (Convert from to a) p q d e t same =
         either_long (converts_there from to) _ _ _ _ (brought_long starts raises from to a p q d e t (expression_long starts a p q _ _ t (same_slot starts raises a t)) (expression_long starts a p q d e t same))
-        (joined _ _ _ _
+        (lengths_joined _ _ _ _
         (converted_by_long starts raises _ _ _ _ from to (span_of a) _ _ p q (same_source starts raises (Convert from to a)) (brought_long starts raises from to a p q _ _ t (expression_long starts a p q _ _ t (same_slot starts raises a t)) (expression_long starts a p q _ _ t (same_source_slot starts raises (Convert from to a) t))) (same_converted starts raises (Convert from to a) t)) refl)
 
     operations_long : (starts : Starts) → (os : Operations) (p q : ℕ) (l m : Operand) (d e t : ℕ) → l ≡ m → d ≡ e → length (operations_code starts os p l d t) ≡ length (operations_code (other starts raises) os q m e t)
     operations_long starts NoOperations p q l m d e t left same = refl
     operations_long starts (ThenCompute o a os) p q l m d e t left same =
-        joined _ _ _ _ (joined _ _ _ _ (operand_by starts raises a p q (suc t) (expression_long starts a p q _ _ (suc t) (same_slot starts raises a (suc t)))) (operator_long starts raises o l m _ _ _ _ left (same_value starts raises a (suc t))))
+        lengths_joined _ _ _ _ (lengths_joined _ _ _ _ (operand_by starts raises a p q (suc t) (expression_long starts a p q _ _ (suc t) (same_slot starts raises a (suc t)))) (operator_long starts raises o l m _ _ _ _ left (same_value starts raises a (suc t))))
         (operations_long starts os _ _ _ _ d e t (λ i. operands.Slot (next_slot os (same i) t)) same)
     operations_long starts (ThenTest o a os) p q l m d e t left same =
         ap suc
-        (joined _ _ _ _ (joined _ _ _ _ (expression_long starts a (p + 1) (q + 1) t t t refl) refl)
+        (lengths_joined _ _ _ _ (lengths_joined _ _ _ _ (expression_long starts a (p + 1) (q + 1) t t t refl) refl)
         (operations_long starts os _ _ _ _ d e t (λ i. operands.Slot (next_slot os (same i) t)) same))
     operations_long starts (ThenPointer o a os) p q l m d e t left same =
-        joined _ _ _ _ (joined _ _ _ _ (operand_by starts raises a p q (behind_left o t) (expression_long starts a p q _ _ (behind_left o t) (same_slot starts raises a (behind_left o t)))) (pointer_long o l m _ _ _ _ left (λ i. next_slot os (same i) t)))
+        lengths_joined _ _ _ _ (lengths_joined _ _ _ _ (operand_by starts raises a p q (behind_left o t) (expression_long starts a p q _ _ (behind_left o t) (same_slot starts raises a (behind_left o t)))) (pointer_long o l m _ _ _ _ left (λ i. next_slot os (same i) t)))
         (operations_long starts os _ _ _ _ d e t (λ i. operands.Slot (next_slot os (same i) t)) same)
     operations_long starts (ThenPointerPeek n o a os) p q l m d e t left same =
-        joined _ _ _ _ (joined _ _ _ _ (operand_by starts raises a p q (behind_left o t) (expression_long starts a p q _ _ (behind_left o t) (same_slot starts raises a (behind_left o t)))) (pointer_long o l m _ _ _ _ left (λ i. next_slot os (same i) t)))
+        lengths_joined _ _ _ _ (lengths_joined _ _ _ _ (operand_by starts raises a p q (behind_left o t) (expression_long starts a p q _ _ (behind_left o t) (same_slot starts raises a (behind_left o t)))) (pointer_long o l m _ _ _ _ left (λ i. next_slot os (same i) t)))
         (operations_long starts os _ _ _ _ d e t (λ i. operands.Slot (next_slot os (same i) t)) same)
 
 module _ (starts : Starts) (raises : ℕ) where
   assignment_long : (l : Lvalue) (c : Converted) (p q t : ℕ) → length (assignment_code starts l c p t) ≡ length (assignment_code (other starts raises) l c q t)
   assignment_long (Local w n) c p q t = initial_long raises starts c p q (slot_of starts n) (slot_of starts n) t refl
-  assignment_long (Global n) c p q t = joined _ _ _ _ (converted_operand_long raises starts c p q t) (λ i. length (global_code (passed_words c) (global_of starts n) (same_converted starts raises c t i)))
+  assignment_long (Global n) c p q t = lengths_joined _ _ _ _ (converted_operand_long raises starts c p q t) (λ i. length (global_code (passed_words c) (global_of starts n) (same_converted starts raises c t i)))
 
   discarded_long : (a : Expression) (p q t : ℕ) → length (discarded_code starts a p t) ≡ length (discarded_code (other starts raises) a q t)
-  discarded_long (Call callees.Putchar cs ty) p q t = joined _ _ _ _ (printed_long raises starts cs p q t) refl
+  discarded_long (Call callees.Putchar cs ty) p q t = lengths_joined _ _ _ _ (printed_long raises starts cs p q t) refl
   discarded_long (Assign l c ty) p q t = assignment_long l c p q t
   discarded_long (Store x c ty) p q t =
-      joined _ _ _ _ (joined _ _ _ _ (place_long raises starts x p q t) (λ i. length (address_code (same_place starts raises x t i) (same_offset starts raises x i) t))) (joined _ _ _ _ (converted_operand_long raises starts c _ _ (t + 1)) (λ i. length (saved_code (kind_passed c) t (same_converted starts raises c (t + 1) i))))
+      lengths_joined _ _ _ _ (lengths_joined _ _ _ _ (place_long raises starts x p q t) (λ i. length (address_code (same_place starts raises x t i) (same_offset starts raises x i) t))) (lengths_joined _ _ _ _ (converted_operand_long raises starts c _ _ (t + 1)) (λ i. length (saved_code (kind_passed c) t (same_converted starts raises c (t + 1) i))))
   discarded_long a p q t = unless_long (operand_of starts a) (operand_of (other starts raises) a) (expression_code starts a p t t) (expression_code (other starts raises) a q t t) (same_operand starts raises a) (expression_long raises starts a p q t t t refl)
 
   condition_long : (a b : Expression) (p q t : ℕ) → length (pair_code starts a b p t) ≡ length (pair_code (other starts raises) a b q t)
   condition_long a b p q t =
-      joined _ _ _ _
+      lengths_joined _ _ _ _
       (unless_long _ _ _ _ (λ i. left_with (same_simple starts raises b i) (same_operand starts raises a i)) (expression_long raises starts a p q _ _ t (same_with starts raises (is_simple starts b) (is_simple (other starts raises) b) a t (same_simple starts raises b))))
       (operand_by starts raises b _ _ (suc t) (expression_long raises starts b _ _ _ _ (suc t) (same_slot starts raises b (suc t))))
 
@@ -358,7 +358,7 @@ module _ (starts : Starts) (raises : ℕ) where
   others_long : (u : LogicalOperator) (os : Operations) (c d : Condition) (x y p q t : ℕ) → length (others_code starts u os c x p t) ≡ length (others_code (other starts raises) u os d y q t)
   others_long u NoOperations c d x y p q t = refl
   others_long u (ThenTest o b os) c d x y p q t =
-      joined (deciding_jump u c x ∷ condition_code starts b (p + 1) t) _ (deciding_jump u d y ∷ condition_code (other starts raises) b (q + 1) t) _
+      lengths_joined (deciding_jump u c x ∷ condition_code starts b (p + 1) t) _ (deciding_jump u d y ∷ condition_code (other starts raises) b (q + 1) t) _
       (ap suc (condition_long (compared_of b).left (compared_of b).right (p + 1) (q + 1) t)) (others_long u os _ _ x y _ _ t)
   others_long u (ThenCompute o b os) c d x y p q t = others_long u os c d x y p q t
   others_long u (ThenPointer o b os) c d x y p q t = others_long u os c d x y p q t
@@ -369,7 +369,7 @@ module _ (starts : Starts) (raises : ℕ) where
     where
       by : (tests : Bool) → length (if tests then tests_code starts u a os (behind_tests starts u a os p t) p t else condition_code starts (Binary a os ty) p t)
           ≡ length (if tests then tests_code (other starts raises) u a os (behind_tests (other starts raises) u a os q t) q t else condition_code (other starts raises) (Binary a os ty) q t)
-      by true = joined _ _ _ _ (condition_long (compared_of a).left (compared_of a).right p q t) (others_long u os _ _ _ _ _ _ t)
+      by true = lengths_joined _ _ _ _ (condition_long (compared_of a).left (compared_of a).right p q t) (others_long u os _ _ _ _ _ _ t)
       by false = condition_long (compared_of (Binary a os ty)).left (compared_of (Binary a os ty)).right p q t
   choice_long u a p q t = condition_long (compared_of a).left (compared_of a).right p q t
 
@@ -378,14 +378,14 @@ module _ (starts : Starts) (raises : ℕ) where
     where
       by : (tests : Bool) → length (if tests then tests_code starts logical.AndThen a os x p t else choice_code starts logical.OrElse (Binary a os ty) p t)
           ≡ length (if tests then tests_code (other starts raises) logical.AndThen a os y q t else choice_code (other starts raises) logical.OrElse (Binary a os ty) q t)
-      by true = joined _ _ _ _ (condition_long (compared_of a).left (compared_of a).right p q t) (others_long logical.AndThen os _ _ _ _ _ _ t)
+      by true = lengths_joined _ _ _ _ (condition_long (compared_of a).left (compared_of a).right p q t) (others_long logical.AndThen os _ _ _ _ _ _ t)
       by false = choice_long logical.OrElse (Binary a os ty) p q t
   branch_long a p q t x y = choice_long logical.OrElse a p q t
 
   return_long : (v : Option Converted) (p q head leaving : ℕ) (exits : Exits) (t : ℕ) → length (return_code starts v p exits t) ≡ length (return_code (other starts raises) v q (record exits { head = head; leaving = leaving }) t)
   return_long None p q head leaving exits t = refl
   return_long (Some (Convert from to a)) p q head leaving exits t =
-      joined _ _ _ _ (joined _ _ _ _ (joined _ _ _ _ (unless_slot_long _ _ _ _ (same_source starts raises (Convert from to a)) (brought_long starts raises from to a p q t t t (expression_long raises starts a p q _ _ t (same_slot starts raises a t)) (expression_long raises starts a p q t t t refl))) (conversion_long starts raises from to (span_of a) _ _ _ _ (λ i. operands.Slot (slot_or (same_source starts raises (Convert from to a) i) t)))) refl) refl
+      lengths_joined _ _ _ _ (lengths_joined _ _ _ _ (lengths_joined _ _ _ _ (unless_slot_long _ _ _ _ (same_source starts raises (Convert from to a)) (brought_long starts raises from to a p q t t t (expression_long raises starts a p q _ _ t (same_slot starts raises a t)) (expression_long raises starts a p q t t t refl))) (conversion_long starts raises from to (span_of a) _ _ _ _ (λ i. operands.Slot (slot_or (same_source starts raises (Convert from to a) i) t)))) refl) refl
 
   declaration_long : (n : ℕ) (ty : Ty) (v : Option Converted) (p q t : ℕ) → length (declaration_code starts n ty v p t) ≡ length (declaration_code (other starts raises) n ty v q t)
   declaration_long n ty None p q t = refl
@@ -393,7 +393,7 @@ module _ (starts : Starts) (raises : ℕ) where
 
   side_long : (x : Side) (p q t : ℕ) → length (side_code starts x p t) ≡ length (side_code (other starts raises) x q t)
   side_long (VariableSide l ty) p q t = refl
-  side_long (CellSide x) p q t = joined _ _ _ _ (place_long raises starts x p q t) (λ i. length (address_code (same_place starts raises x t i) (same_offset starts raises x i) t))
+  side_long (CellSide x) p q t = lengths_joined _ _ _ _ (place_long raises starts x p q t) (λ i. length (address_code (same_place starts raises x t i) (same_offset starts raises x i) t))
 
   read_long : (x : Side) (kind : Kind) (s d : ℕ) → length (read_side starts x kind s d) ≡ length (read_side (other starts raises) x kind s d)
   read_long (VariableSide (Local w n) ty) kind s d = refl
@@ -408,11 +408,11 @@ module _ (starts : Starts) (raises : ℕ) where
   exchange_long : (kind : Kind) (x y : Side) (t : ℕ) → length (exchange_code starts kind x y t) ≡ length (exchange_code (other starts raises) kind x y t)
   exchange_long kind x y t =
       let words = words_of_kind kind in
-      joined _ _ _ _ (read_long x kind t (t + 2))
-      (joined _ _ _ _ (read_long y kind (right_slot x t) (t + 2 + words)) (joined _ _ _ _ (write_long x kind t (t + 2 + words)) (write_long y kind (right_slot x t) (t + 2))))
+      lengths_joined _ _ _ _ (read_long x kind t (t + 2))
+      (lengths_joined _ _ _ _ (read_long y kind (right_slot x t) (t + 2 + words)) (lengths_joined _ _ _ _ (write_long x kind t (t + 2 + words)) (write_long y kind (right_slot x t) (t + 2))))
 
   swap_long : (x y : Side) (p q t : ℕ) → length (swap_code starts x y p t) ≡ length (swap_code (other starts raises) x y q t)
-  swap_long x y p q t = joined _ _ _ _ (side_long x p q t) (joined _ _ _ _ (side_long y _ _ (right_slot x t)) (exchange_long (kind_of (type_of_side x)) x y t))
+  swap_long x y p q t = lengths_joined _ _ _ _ (side_long x p q t) (lengths_joined _ _ _ _ (side_long y _ _ (right_slot x t)) (exchange_long (kind_of (type_of_side x)) x y t))
 
   thrown_long : (v : Option Expression) (p q t : ℕ) → length (thrown_code starts v p t) ≡ length (thrown_code (other starts raises) v q t)
   thrown_long None p q t = refl
@@ -464,10 +464,10 @@ module _ (starts : Starts) (raises : ℕ) where
         (λ i j. choice_long logical.AndThen a i j t) (statement_long s (body_target l) (body_target m) q m around t)
     statement_long (Return v) p q head leaving exits t = return_long v p q head leaving exits t
     statement_long Break p q head leaving exits t =
-        joined (leave_code exits.in_loop) (instructions.Jump (break_target exits) ∷ []) (leave_code exits.in_loop) (instructions.Jump (break_target (record exits { head = head; leaving = leaving })) ∷ []) refl refl
+        lengths_joined (leave_code exits.in_loop) (instructions.Jump (break_target exits) ∷ []) (leave_code exits.in_loop) (instructions.Jump (break_target (record exits { head = head; leaving = leaving })) ∷ []) refl refl
     statement_long Continue p q head leaving exits t =
-        joined (leave_code exits.in_loop) (instructions.Jump (continue_target exits) ∷ []) (leave_code exits.in_loop) (instructions.Jump (continue_target (record exits { head = head; leaving = leaving })) ∷ []) refl refl
-    statement_long (Throw tag v) p q head leaving exits t = joined _ _ _ _ (thrown_long v p q t) refl
+        lengths_joined (leave_code exits.in_loop) (instructions.Jump (continue_target exits) ∷ []) (leave_code exits.in_loop) (instructions.Jump (continue_target (record exits { head = head; leaving = leaving })) ∷ []) refl refl
+    statement_long (Throw tag v) p q head leaving exits t = lengths_joined _ _ _ _ (thrown_long v p q t) refl
     statement_long (Try s cs) p q head leaving exits t =
         let close = instructions.Leave t ∷ [] in
         let kept = kept_code starts t in
@@ -481,23 +481,23 @@ module _ (starts : Starts) (raises : ℕ) where
         let aim = n + 1 + length (x ++ close) in
         let first = clauses_code starts cs (out + 1 + length restored) out exits t in
         let second = clauses_code (other starts raises) cs (aim + 1 + length restored) aim (record exits { head = head; leaving = leaving }) t in
-        joined kept (try_code t (a ++ close) (restored ++ first) m) kept (try_code t (x ++ close) (restored ++ second) n) refl
+        lengths_joined kept (try_code t (a ++ close) (restored ++ first) m) kept (try_code t (x ++ close) (restored ++ second) n) refl
         (try_long (a ++ close) (restored ++ first) (x ++ close) (restored ++ second) t m n
-        (joined a close x close (statement_long s (m + 1) (n + 1) head leaving within (behind_record starts t)) refl)
-        (joined restored first restored second refl (clauses_long cs (out + 1 + length restored) (aim + 1 + length restored) out aim head leaving exits t)))
+        (lengths_joined a close x close (statement_long s (m + 1) (n + 1) head leaving within (behind_record starts t)) refl)
+        (lengths_joined restored first restored second refl (clauses_long cs (out + 1 + length restored) (aim + 1 + length restored) out aim head leaving exits t)))
     statement_long (Swap x y) p q head leaving exits t = swap_long x y p q t
 
     items_long : (js : Items) (p q head leaving : ℕ) (exits : Exits) (t : ℕ) → length (items_code starts js p exits t) ≡ length (items_code (other starts raises) js q (record exits { head = head; leaving = leaving }) t)
     items_long NoItems p q head leaving exits t = refl
-    items_long (MoreItems (Execute s) js) p q head leaving exits t = joined _ _ _ _ (statement_long s p q head leaving exits t) (items_long js _ _ head leaving exits t)
-    items_long (MoreItems (Declare n ty v) js) p q head leaving exits t = joined _ _ _ _ (declaration_long n ty v p q t) (items_long js _ _ head leaving exits t)
+    items_long (MoreItems (Execute s) js) p q head leaving exits t = lengths_joined _ _ _ _ (statement_long s p q head leaving exits t) (items_long js _ _ head leaving exits t)
+    items_long (MoreItems (Declare n ty v) js) p q head leaving exits t = lengths_joined _ _ _ _ (declaration_long n ty v p q t) (items_long js _ _ head leaving exits t)
     items_long (MoreItems (DeclareRegion r n) js) p q head leaving exits t =
         let opened = opened_code starts n t in
         let closed = closed_code t in
         let within = inside_region exits t in
         let first = items_code starts js (p + length opened) within (t + 1) in
         let second = items_code (other starts raises) js (q + length opened) (record within { head = head; leaving = leaving }) (t + 1) in
-        joined opened (first ++ closed) opened (second ++ closed) refl (joined first closed second closed (items_long js (p + length opened) (q + length opened) head leaving within (t + 1)) refl)
+        lengths_joined opened (first ++ closed) opened (second ++ closed) refl (lengths_joined first closed second closed (items_long js (p + length opened) (q + length opened) head leaving within (t + 1)) refl)
     items_long (MoreItems (OpenRegion r n w k) js) p q head leaving exits t = ap suc (items_long js (p + 1) (q + 1) head leaving exits t)
     items_long (MoreItems (DeclareAlias r n ty w s) js) p q head leaving exits t = ap suc (items_long js (p + 1) (q + 1) head leaving exits t)
     items_long (MoreItems (DeclareKey r n) js) p q head leaving exits t = ap (λ m. suc (suc m)) (items_long js (p + 2) (q + 2) head leaving exits t)
@@ -511,9 +511,9 @@ module _ (starts : Starts) (raises : ℕ) where
         let b = caught_code (other starts raises) x t ++ items_code (other starts raises) js (q + 1 + length (caught_code (other starts raises) x t)) others t in
         let m = p + length (clause_code tag t a p out) in
         let n = q + length (clause_code tag t b q aim) in
-        joined (clause_code tag t a p out) (clauses_code starts cs m out exits t) (clause_code tag t b q aim) (clauses_code (other starts raises) cs n aim others t)
+        lengths_joined (clause_code tag t a p out) (clauses_code starts cs m out exits t) (clause_code tag t b q aim) (clauses_code (other starts raises) cs n aim others t)
         (clause_long a b tag t p q out aim
-        (joined (caught_code starts x t) (items_code starts js (p + 1 + length (caught_code starts x t)) exits t) (caught_code (other starts raises) x t) (items_code (other starts raises) js (q + 1 + length (caught_code (other starts raises) x t)) others t)
+        (lengths_joined (caught_code starts x t) (items_code starts js (p + 1 + length (caught_code starts x t)) exits t) (caught_code (other starts raises) x t) (items_code (other starts raises) js (q + 1 + length (caught_code (other starts raises) x t)) others t)
         (caught_long x t) (items_long js (p + 1 + length (caught_code starts x t)) (q + 1 + length (caught_code (other starts raises) x t)) head leaving exits t)))
         (clauses_long cs m n out aim head leaving exits t)
 

@@ -19,9 +19,9 @@ pub entry_long : (guarded : Bool) (condition : List Instruction) (jump : ℕ →
 entry_long true condition jump test p = length-append condition (jump (p + length condition + 1 + 1) ∷ [])
 entry_long false condition jump test p = refl
 
-pub over_long : (last : Bool) (target : ℕ) → length (over_code last target) ≡ over_length last
-over_long true target = refl
-over_long false target = refl
+pub over_length_is : (last : Bool) (target : ℕ) → length (over_code last target) ≡ over_length last
+over_length_is true target = refl
+over_length_is false target = refl
 
 -- the code is as long once a loop knows where its condition is
 pub entering_keeps : (starts : Starts) (a : Expression) (code : List Instruction) (head : ℕ) (new : List Instruction) → new ≡ entered_loop starts a code head → length new ≡ length code

@@ -34,7 +34,7 @@ use Rattle.cyc_lower.proofs.relation.code.Fitting.{FitsPlace, Fits, FitOperation
 use Rattle.cyc_lower.proofs.place_steps.Sources.{stored_apart}
 use Rattle.cyc_lower.proofs.relation.code.Tested.{compared_whole}
 use Rattle.cyc_lower.proofs.emission.Conditions.{tests_same, branch_same}
-use Rattle.cyc_lower.proofs.emission.Loops.{entry_long, over_long}
+use Rattle.cyc_lower.proofs.emission.Loops.{entry_long, over_length_is}
 use Rattle.cyc_lower.proofs.emission.Blocks.{BlocksStand}
 use Rattle.cyc_lower.proofs.emission.OperandBridge.{cut, operand_by, returned_by, right_by, left_first, returned_brought, conversion_stands, each_stands, global_stands, load_stands, stores_stand, saved_stands, address_stands, blank_stands}
 use Rattle.cyc_lower.proofs.emission.ExpressionBridge.{expression_stands, place_stands, initial_stands, converted_operand_stands, printed_stands, brought_stands}
@@ -517,8 +517,8 @@ module _ (code : List Instruction) (b : Numbering) (types : Types) (raised : Blo
         let behind : p + length condition ≡ m = omega (arith, same) in
         let (jump, has_first) = subst (λ x. HasAt code x jump_first) behind (has_back code p condition jump_first (has_front code p front (over ++ second) has)) in
         let has_rest = subst (λ x. HasAt code x (over ++ second)) (let e : p + length front ≡ r = omega (arith, long, same) in e) (has_back code p front (over ++ second) has) in
-        let has_second = subst (λ x. HasAt code x second) (ap (λ n. r + n) (over_long last (other + length second))) (has_back code r over second has_rest) in
-        let end_is : other + length second ≡ q = omega (arith, cut p q front (over ++ second) end, length-append over second, over_long last (other + length second), long, same) in (
+        let has_second = subst (λ x. HasAt code x second) (ap (λ n. r + n) (over_length_is last (other + length second))) (has_back code r over second has_rest) in
+        let end_is : other + length second ≡ q = omega (arith, cut p q front (over ++ second) end, length-append over second, over_length_is last (other + length second), long, same) in (
           other,
           m + 1,
           r,

@@ -47,14 +47,16 @@ use Rattle.cyc_lower.proofs.relation.code.Stands.{CaughtAt, ItemsAt, ClausesAt, 
 use Rattle.cyc_lower.proofs.relation.contents.Sharing.{shared_less, shared_declared, row_declared, shared_opened, shared_closed, shared_left}
 use Rattle.cyc_lower.proofs.relation.contents.HeldValues.{behind_records, scopes_in, MayBeOpen, IsKept, IsIntact, held, callers, row_of}
 use Rattle.cyc_lower.proofs.relation.simulation.Relation.{seen_in, shared_seen, HasScopes, SharedBy, HandlersStand, DataIn, types_at, starts_at, SharedAt, StatementStack, Matches, as_operand, behind_statement, in_place, by_jumps, code_of, bounds_at, floor, Arrives, DataAt, call_slots}
-use Rattle.cyc_lower.proofs.relation.contents.Data.{handlers_beside, data_written, data_declared, data_returned, data_grows}
+use Rattle.cyc_lower.proofs.relation.contents.HandlerData.{handlers_beside, data_written}
+use Rattle.cyc_lower.proofs.relation.contents.Data.{data_declared, data_returned}
+use Rattle.cyc_lower.proofs.relation.contents.GrowingData.{data_grows}
 use Rattle.cyc_lower.proofs.relation.simulation.Accesses.{is_declared, is_closed, home_there}
 use Rattle.cyc_lower.proofs.relation.simulation.Matched.{Inside, inside_by, inside_within, IsMatched, Executes, executes, by_places, known, elsewhere, seen_way, silently, by_one, by_one_seen, by_two, place_in}
 use Rattle.cyc_lower.proofs.region_steps.Closings.{closing_apart, closing_executes, shared_behind, settled}
 use Rattle.cyc_lower.proofs.region_steps.Scoped.{scopes_word}
 use Rattle.cyc_lower.proofs.handler_steps.Handling.{intact, closes_here, newest_open, caught_by, raised}
-use Rattle.cyc_lower.proofs.value_steps.Evaluations.{IsStep}
-use Rattle.cyc_lower.proofs.value_steps.Operators.{taken, not_taken}
+use Rattle.cyc_lower.proofs.value_steps.Landings.{IsStep}
+use Rattle.cyc_lower.proofs.value_steps.Conversions.{taken, not_taken}
 use Rattle.cyc_lower.proofs.relation.places.Rows.{row-fits, row-variable, declared_low}
 
 module _ (source : Program) (pages calls : ℕ) where

@@ -22,7 +22,7 @@ use Rattle.cyc_lower.proofs.relation.code.Stands.{HandlersAt, MarksAt}
 use Rattle.cyc_lower.proofs.relation.contents.HeldValues.{IsIntact, left_by, scopes_in, MayBeOpen, Newest}
 use Rattle.cyc_lower.proofs.relation.simulation.Relation.{HandlersStand, SharedAt, SharedBy, StatementStack, Related, Matches, code_of, bounds_at, types_at, floor, IsMark, HasScopes, opened_by, CaughtBy, DataIn}
 use Rattle.cyc_lower.proofs.relation.contents.Sharing.{shared_ahead}
-use Rattle.cyc_lower.proofs.relation.contents.Data.{calls_counted, record_below}
+use Rattle.cyc_lower.proofs.relation.contents.HandlerData.{calls_counted, record_below}
 use Rattle.cyc_lower.proofs.relation.simulation.Matched.{IsMatched, silently, by_one}
 
 pub intact : (slots : Words) (first : ℕ) (contents : Words) → IsIntact slots first contents → is_intact slots first contents ≡ true

@@ -44,14 +44,16 @@ use Rattle.cyc_lower.proofs.relation.code.Stands.{StoresAt, CellsAt, ObjectAt}
 use Rattle.cyc_lower.proofs.relation.contents.HeldValues.{IsWord, IsIn, IsObject, words_held, Holds, HoldsFrom, held, callers, homes, IsHandleOf, HasHandle, contents}
 use Rattle.cyc_lower.proofs.relation.simulation.Relation.{types_on, silent, DataIn, SharedAt, LandsMade, ValueStack, Matches, code_of, bounds_at, top, floor, base_of}
 use Rattle.cyc_lower.proofs.object_steps.Handles.{has_handle}
-use Rattle.cyc_lower.proofs.relation.contents.Data.{Is-same, height-least, one_word, Holds-same, Holds-rest, Holds-grows, HoldsFrom-grows, in_order, data_grows, variables_grow, contents_made, data_written, floor-least, Holds-above}
+use Rattle.cyc_lower.proofs.relation.contents.Data.{Is-same, height-least, one_word, Holds-same, Holds-rest, in_order, contents_made, Holds-above}
+use Rattle.cyc_lower.proofs.relation.contents.HandlerData.{data_written, floor-least}
+use Rattle.cyc_lower.proofs.relation.contents.GrowingData.{Holds-grows, HoldsFrom-grows, data_grows, variables_grow}
 use Rattle.cyc_lower.proofs.relation.simulation.Accesses.{IsWell, is_fitting}
 use Rattle.cyc_lower.proofs.relation.simulation.Paths.{by_path}
 use Rattle.cyc_lower.proofs.object_steps.Asking.{past_pages, by_asking, by_full}
 use Rattle.cyc_lower.proofs.place_steps.WideCells.{store_links, store_path, store_last, shared_stored, data_stored, stored as stored_there, above_stored, frames_stored}
 use Rattle.cyc_lower.proofs.place_steps.CellWrites.{SameVariables, data_beside, cell_is_there, saves_there, shared_saved, data_saved, with_word, above_there, frames_there}
 use Rattle.cyc_lower.proofs.relation.simulation.Matched.{IsMatched, below, silently, by_one, shared_within}
-use Rattle.cyc_lower.proofs.value_steps.Evaluations.{IsStep, made_moved, brings}
+use Rattle.cyc_lower.proofs.value_steps.Landings.{IsStep, made_moved, brings}
 use Rattle.cyc_lower.proofs.relation.places.Known.{row-made_there}
 use Rattle.cyc_lower.proofs.relation.places.Leads.{AreNamed}
 use Rattle.cyc_lower.proofs.relation.code.Moving.{made_moves}
@@ -83,15 +85,15 @@ some_held : (vs : List Kinded) → 0 < length (kinds_of (blanks_of vs)) → 1 �
 some_held [] some = absurd (omega (arith, some))
 some_held (v ∷ vs) some = omega (arith, kind_positive v.kind)
 
-kinds_joined : (us vs : List Kinded) → kinds_of (blanks_of (us ++ vs)) ≡ kinds_of (blanks_of us) ++ kinds_of (blanks_of vs)
-kinds_joined [] vs = refl
-kinds_joined (u ∷ us) vs = ap (λ (ks : List Kind). u.kind ∷ ks) (kinds_joined us vs)
+kinds-append : (us vs : List Kinded) → kinds_of (blanks_of (us ++ vs)) ≡ kinds_of (blanks_of us) ++ kinds_of (blanks_of vs)
+kinds-append [] vs = refl
+kinds-append (u ∷ us) vs = ap (λ (ks : List Kind). u.kind ∷ ks) (kinds-append us vs)
 
 -- those of values in their order, of which the last comes first
 kinds_reversed : (v : Kinded) (vs : List Kinded) (ks : List Kind) → kinds_of (blanks_of (reverse (v ∷ vs))) ++ ks ≡ kinds_of (blanks_of (reverse vs)) ++ v.kind ∷ ks
 kinds_reversed v vs ks =
     ap (λ (us : List Kinded). kinds_of (blanks_of us) ++ ks) (reverse-append (v ∷ []) vs)
-    ∙ ap (λ (ls : List Kind). ls ++ ks) (kinds_joined (reverse vs) (v ∷ []))
+    ∙ ap (λ (ls : List Kind). ls ++ ks) (kinds-append (reverse vs) (v ∷ []))
     ∙ append_assoc (kinds_of (blanks_of (reverse vs))) (v.kind ∷ []) ks
 
 HoldsFrom-same : (t : Tables) (slots other : Words) (first : ℕ) (vs : List Kinded) → ((n : ℕ) → n < first + words_held vs → other n ≡ slots n) → HoldsFrom t slots first vs → HoldsFrom t other first vs
@@ -113,8 +115,8 @@ at_most : (n most : ℕ) → 1 ≤ most → n ≤ most → max 1 n ≤ most
 at_most zero most some few = omega (arith, some)
 at_most (suc n) most some few = omega (arith, few)
 
-size_fits : (vs : List Kinded) → words_held vs ≤ MOST_BLOCK_WORDS → block_size (blanks_of vs) ≤ MOST_BLOCK_WORDS
-size_fits vs few =
+block_size_fits : (vs : List Kinded) → words_held vs ≤ MOST_BLOCK_WORDS → block_size (blanks_of vs) ≤ MOST_BLOCK_WORDS
+block_size_fits vs few =
     let ks : List Kind = kinds_of (blanks_of vs) in
     let enough : bytes_of_kinds ks ≤ 4 * (0 + slots_of_kinds ks) = bytes_within ks 0 0 (omega arith) in
     at_most (words_for (bytes_of_kinds ks)) MOST_BLOCK_WORDS (omega arith) (omega (arith, enough, slots_held vs, few))
@@ -269,7 +271,7 @@ module _ (source : Program) (pages calls : ℕ) where
         subst (λ a. IsObject grown (length w.objects) a (kinds_of cells)) (sym (put-same c.active.slots (t + words_held vs) choice.address))
         (record {
           row = row-made shared.related (Placed choice.address (kinds_of cells));
-          range = placed-range c.store.pages (services.block_of handle (block_size cells) choice) (kinds_of cells) served.allowed.may.0 shared.related.few (room-fits handle cells (omega (arith, size_fits vs few)));
+          range = placed-range c.store.pages (services.block_of handle (block_size cells) choice) (kinds_of cells) served.allowed.may.0 shared.related.few (room-fits handle cells (omega (arith, block_size_fits vs few)));
           some = some_cells vs some;
         })
       where
@@ -296,7 +298,7 @@ module _ (source : Program) (pages calls : ℕ) where
       let has = has_handle shared.tables c.active.slots (floor source c.active.function k) owner handle k shared.related.heap owned holds in
       let cells = blanks_of vs in
       let (made, creates) = object_made (created w owner cells) (length w.objects) vs k e w well in
-      let (new, makes) = made_for shared.related cells (operands-blank vs) (size_fits vs few) owner word made has creates in
+      let (new, makes) = made_for shared.related cells (operands-blank vs) (block_size_fits vs few) owner word made has creates in
       let pointer : Kinded = record { kind = kinds.NonNull; value = Thin (length w.objects) 0 } in
       let next = Running (Writing (writes_from (length w.objects) 0 vs) (Some pointer)) k e new in
       let is_next : step source (Running focus k₀ e w) ≡ next = does ∙ ap (λ a. filled a (length w.objects) vs k e w) makes.creates in

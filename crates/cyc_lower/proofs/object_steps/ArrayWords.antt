@@ -25,14 +25,14 @@ elements_few kinds.Fat n few = omega (arith, few)
 elements_few kinds.Handle n few = omega (arith, few)
 elements_few kinds.Key n few = omega (arith, few)
 
-pub words_few : (kind : Kind) (n : ℕ) → n ≤ most_elements (bytes_of_kind kind) → words_for (n * bytes_of_kind kind) ≤ MOST_BLOCK_WORDS
-words_few kinds.Int n few = omega (arith, few)
-words_few kinds.Char n few = omega (arith, few)
-words_few kinds.Nullable n few = omega (arith, few)
-words_few kinds.NonNull n few = omega (arith, few)
-words_few kinds.Fat n few = omega (arith, few)
-words_few kinds.Handle n few = omega (arith, few)
-words_few kinds.Key n few = omega (arith, few)
+pub array_words_few : (kind : Kind) (n : ℕ) → n ≤ most_elements (bytes_of_kind kind) → words_for (n * bytes_of_kind kind) ≤ MOST_BLOCK_WORDS
+array_words_few kinds.Int n few = omega (arith, few)
+array_words_few kinds.Char n few = omega (arith, few)
+array_words_few kinds.Nullable n few = omega (arith, few)
+array_words_few kinds.NonNull n few = omega (arith, few)
+array_words_few kinds.Fat n few = omega (arith, few)
+array_words_few kinds.Handle n few = omega (arith, few)
+array_words_few kinds.Key n few = omega (arith, few)
 
 pub most_is : (kind : Kind) → most_elements (bytes_of_kind kind) ≤ 4 * MOST_BLOCK_WORDS
 most_is kinds.Int = omega arith

@@ -33,7 +33,8 @@ use Rattle.cyc_objects.proofs.Services.{refusal-free, freed-unique}
 use Rattle.cyc_lower.specs.inside.Lowering.{lower_program}
 use Rattle.cyc_lower.proofs.relation.contents.HeldValues.{IsIn, content_of, callers}
 use Rattle.cyc_lower.proofs.relation.simulation.Relation.{in_temporary, in_local, behind_call, behind_wrong, ProceedingAt, DataIn, SharedAt, LandsStack, ValueStack, Matches, code_of}
-use Rattle.cyc_lower.proofs.relation.contents.Data.{calls_counted, in_words, get_set_other, null_is, points_in}
+use Rattle.cyc_lower.proofs.relation.contents.HandlerData.{calls_counted}
+use Rattle.cyc_lower.proofs.relation.contents.Data.{in_words, get_set_other, null_is, points_in}
 use Rattle.cyc_lower.proofs.relation.simulation.Accesses.{IsWell, is_fitting}
 use Rattle.cyc_lower.proofs.place_steps.CellWrites.{SameVariables, data_beside}
 use Rattle.cyc_lower.proofs.relation.simulation.Matched.{IsMatched, by_places, by_one, executes, shared_way, shared_within, place_in, known, apart, Executes}
@@ -54,14 +55,14 @@ pub record IsFreed (t : Tables) (word : ℕ) (s : State) (k : List Entry) (e : E
   pub row : slice_get t.rows number ≡ Some (Placed word kinds)
   pub gives : s ≡ Running Proceeding k e (freed w number object)
 
-no_region : (a : Access Region) (w : World) → IsWell (frees_in_region a w) → ⊥
-no_region (Found r) w well = well refl
-no_region Closed w well = well refl
-no_region Missing w well = well refl
+not_freed_in_region : (a : Access Region) (w : World) → IsWell (frees_in_region a w) → ⊥
+not_freed_in_region (Found r) w well = well refl
+not_freed_in_region Closed w well = well refl
+not_freed_in_region Missing w well = well refl
 
 owner_there : (o : Owner) (number : ℕ) (x : Object) (k : List Entry) (e : Environment) (w : World) → IsWell (frees_owned o number x k e w)
     → (o ≡ Unique true) × (frees_owned o number x k e w ≡ Running Proceeding k e (freed w number x))
-owner_there (InRegion region) number x k e w well = absurd (no_region (region_at w region) w well)
+owner_there (InRegion region) number x k e w well = absurd (not_freed_in_region (region_at w region) w well)
 owner_there (Unique true) number x k e w well = (refl, refl)
 owner_there (Unique false) number x k e w well = absurd (well refl)
 

@@ -25,7 +25,7 @@ use Rattle.cyc_objects.proofs.Values.{Is-same, Holds-words}
 use Rattle.cyc_lower.specs.inside.Slots.{slot_of, global_types}
 use Rattle.cyc_lower.specs.inside.Lowering.{lower_program}
 use Rattle.cyc_lower.proofs.slots.Widths.{HasRoom}
-use Rattle.cyc_lower.proofs.slots.Slots.{slot-room, global-room, globals_counted}
+use Rattle.cyc_lower.proofs.slots.Slots.{slot-room, global-room, global_words_counted}
 use Rattle.cyc_lower.proofs.relation.places.Known.{global-first, global_kind, first_word}
 use Rattle.cyc_lower.proofs.relation.contents.HeldValues.{Waiting, contents, content_of, content_of_cell, with_kind}
 use Rattle.cyc_lower.proofs.relation.simulation.Relation.{DataAt, silent, types_at, starts_at, base_of}
@@ -51,7 +51,7 @@ held_there w object at kind v found same has =
 -- the words of globals are there
 pub globals_long : (source : Program) (number : ℕ) → number < words_of_all (global_types source.globals) → number < length (lower_program source).globals
 globals_long source number few =
-    omega (arith, few, globals_counted source.globals)
+    omega (arith, few, global_words_counted source.globals)
 
 -- slots that are equal where a local has its words
 abbrev pub AreSame : (here : Option ℕ) → (words : ℕ) → (old new : Words) → Type 0

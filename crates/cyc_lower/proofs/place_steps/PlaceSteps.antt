@@ -25,7 +25,8 @@ use Rattle.cyc_lower.proofs.slots.Widths.{kind_positive, same_kind, wide_kind, O
 use Rattle.cyc_lower.proofs.relation.contents.Moves.{put_elsewhere}
 use Rattle.cyc_lower.proofs.relation.contents.HeldValues.{held, Holds, callers}
 use Rattle.cyc_lower.proofs.relation.simulation.Relation.{types_on, starts_on, Matches, DataIn, SharedAt, in_temporary, in_local, LandsStack, HandsOnStack, Related, code_of, bounds_at, top, floor, AheadStack, types_at, starts_at}
-use Rattle.cyc_lower.proofs.relation.contents.Data.{height-least, floor-least, Holds-same, data_written}
+use Rattle.cyc_lower.proofs.relation.contents.Data.{height-least, Holds-same}
+use Rattle.cyc_lower.proofs.relation.contents.HandlerData.{floor-least, data_written}
 use Rattle.cyc_lower.proofs.relation.code.Stands.{OperandBy, ConvertedOperandAt, LoadedBy, SavedAt, BroughtAt}
 use Rattle.cyc_lower.proofs.place_steps.CellReads.{cell_reads, read_there, one_there, one_is, IsRead as IsCellRead, IsOwn, AreSame}
 use Rattle.cyc_lower.proofs.place_steps.AddressSteps.{Brought, in_slot, by_word, brought}
@@ -34,7 +35,8 @@ use Rattle.cyc_lower.proofs.place_steps.WideCells.{all_in, load_links, load_path
 use Rattle.cyc_lower.proofs.relation.simulation.Accesses.{IsWell}
 use Rattle.cyc_lower.proofs.relation.simulation.Matched.{IsMatched, silently, by_one}
 use Rattle.cyc_lower.proofs.relation.simulation.Paths.{is_quiet, by_path}
-use Rattle.cyc_lower.proofs.value_steps.Evaluations.{IsStep, sources, landed}
+use Rattle.cyc_lower.proofs.value_steps.Landings.{IsStep, landed}
+use Rattle.cyc_lower.proofs.value_steps.Beginnings.{sources}
 use Rattle.cyc_lower.proofs.value_steps.ValueWords.{of_kind}
 use Rattle.cyc_lower.proofs.value_steps.Assignments.{landed_there}
 use Rattle.cyc_plain.specs.inside.Memory.{memory_at}
@@ -55,10 +57,10 @@ pub record IsRead (kind : Kind) (found : Access Located) (k : List Entry) (e : E
   pub has : at.cell.content ≡ Some value
   pub gives : loaded kind found k e w ≡ Running (Given (record { kind = kind; value = value })) k e w
 
-pub is_read : (kind : Kind) (found : Access Located) (k : List Entry) (e : Environment) (w : World) → IsWell (loaded kind found k e w) → IsRead kind found k e w
-is_read kind Closed k e w well = absurd (well refl)
-is_read kind Missing k e w well = absurd (well refl)
-is_read kind (Found at) k e w well =
+pub loaded_is_read : (kind : Kind) (found : Access Located) (k : List Entry) (e : Environment) (w : World) → IsWell (loaded kind found k e w) → IsRead kind found k e w
+loaded_is_read kind Closed k e w well = absurd (well refl)
+loaded_is_read kind Missing k e w well = absurd (well refl)
+loaded_is_read kind (Found at) k e w well =
     let (same, v, has, gives) = by (is_kind at.cell.kind kind) at.cell.content refl well in
     record { at = at; there = refl; same = same; value = v; has = has; gives = gives }
   where
@@ -186,7 +188,7 @@ module _ (source : Program) (pages calls : ℕ) where
       let g = c.active.function in
       let t = top source g k in
       let apart = lands_apart g e.locals kind d q c.frames k fat lands in
-      let found = is_read kind (cell_at w object offset) k e w well in
+      let found = loaded_is_read kind (cell_at w object offset) k e w well in
       let v : Kinded = record { kind = kind; value = found.value } in
       let wide = found.same ∙ fat in
       let reads = cell_reads source c shared.related names facts.0 object offset (c.active.slots t) found.at found.there points in
@@ -214,7 +216,7 @@ module _ (source : Program) (pages calls : ℕ) where
       let brings = put c.active.slots t word in
       let b : Configuration = advanced (with_slots c brings) in
       let facts_there : DataIn source shared.tables b.active.slots k e w b = data_written source shared.tables g c.active.base w.objects e.locals k c.active.slots brings c.active.handlers c.globals c.frames t 1 (height-least base (held k)) (λ m out. put_elsewhere c.active.slots t word 1 m (omega arith) out) facts in
-      let found = is_read kind (cell_at w object offset) k e w well in
+      let found = loaded_is_read kind (cell_at w object offset) k e w well in
       let v : Kinded = record { kind = kind; value = found.value } in
       let wide = found.same ∙ fat in
       let points_there = subst (Points shared.tables object offset) (sym (put-same c.active.slots t word)) points in
@@ -251,7 +253,7 @@ module _ (source : Program) (pages calls : ℕ) where
       → LoadedBy (code_of source c.active.function) narrow kind o more d (top source c.active.function k) c.active.next q → LandsStack source c.active.function e.locals kind d q c.frames k
       → IsMatched source pages calls (Running (GivenPlace (Thin object offset)) (NeedsPlace (LoadFrom kind) ∷ k) e w) (plain.Running c)
   loads_cell true object offset more o d q kind k e w c names narrow well shared facts holds small points (load, end) lands =
-      let found = is_read kind (cell_at w object offset) k e w well in
+      let found = loaded_is_read kind (cell_at w object offset) k e w well in
       let v : Kinded = record { kind = kind; value = found.value } in
       let word = add_of (operand_word c.active.slots o) more in
       let reads = cell_reads source c shared.related names facts.0 object offset word found.at found.there points in

@@ -181,9 +181,9 @@ three_written t v m w a b c is = Is-same t kinds.Fat v (λ j. if j == 0 then a e
     each (suc (suc (suc j))) below = absurd (omega (arith, below))
 
 -- the words of a fat value, one by one
-pub three_of : (t : Tables) (v : Value) (words : ℕ → ℕ) (p : ℕ) → Is t kinds.Fat v words p
+pub three_words_of : (t : Tables) (v : Value) (words : ℕ → ℕ) (p : ℕ) → Is t kinds.Fat v words p
     → Is t kinds.Fat v (λ j. if j == 0 then words p else if j == 1 then words (p + 1) else words (p + 2)) 0
-three_of t v words p is = Is-same t kinds.Fat v words (λ j. if j == 0 then words p else if j == 1 then words (p + 1) else words (p + 2)) p 0 each is
+three_words_of t v words p is = Is-same t kinds.Fat v words (λ j. if j == 0 then words p else if j == 1 then words (p + 1) else words (p + 2)) p 0 each is
   where
     each : (j : ℕ) → j < 3 → (if 0 + j == 0 then words p else if 0 + j == 1 then words (p + 1) else words (p + 2)) ≡ words (p + j)
     each zero below = ap words (sym (add-zero p))

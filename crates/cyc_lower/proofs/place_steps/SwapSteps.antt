@@ -30,7 +30,8 @@ use Rattle.cyc_lower.proofs.relation.simulation.Weights.{focus_weight, stack_wei
 use Rattle.cyc_lower.proofs.relation.code.Stands.{EachAt, StoresAt, HasSide, SideAt, ReadAt, WriteAt, ExchangeAt, PlaceAt}
 use Rattle.cyc_lower.proofs.relation.contents.HeldValues.{IsWord, Holds, held, contents, callers, IsCharAt}
 use Rattle.cyc_lower.proofs.relation.simulation.Relation.{base_of, floor, behind_statement, IsSideAt, IsLeft, WritesAt, StatementStack, DataIn, SharedAt, Matches, code_of, bounds_at, types_at, starts_at, base_of}
-use Rattle.cyc_lower.proofs.relation.contents.Data.{Is-same, one_word, data_written, data_assigned, data_assigned_global, handlers_beside, floor-least}
+use Rattle.cyc_lower.proofs.relation.contents.Data.{Is-same, one_word, data_assigned, data_assigned_global}
+use Rattle.cyc_lower.proofs.relation.contents.HandlerData.{data_written, handlers_beside, floor-least}
 use Rattle.cyc_lower.proofs.relation.contents.Sharing.{shared_written, shared_beside}
 use Rattle.cyc_lower.proofs.relation.simulation.Accesses.{IsWell, is_stored, written_here, written_elsewhere, written_length}
 use Rattle.cyc_lower.proofs.place_steps.CellWrites.{cell_is_there, saves_there, shared_saved, data_saved, with_word, above_there, frames_there}
@@ -41,7 +42,7 @@ use Rattle.cyc_lower.proofs.place_steps.CellLoads.{word_links, word_end, word_pa
 use Rattle.cyc_lower.proofs.place_steps.WideCells.{all_links, all_path, shared_stored, data_stored, stored, above_stored, frames_stored}
 use Rattle.cyc_lower.proofs.place_steps.AddressSteps.{Brought, in_slot, by_word}
 use Rattle.cyc_lower.proofs.relation.simulation.Matched.{IsMatched, silently, by_one}
-use Rattle.cyc_lower.proofs.value_steps.Evaluations.{IsStep, object_of_same}
+use Rattle.cyc_lower.proofs.value_steps.Landings.{IsStep, object_of_same}
 use Rattle.cyc_lower.proofs.place_steps.CellReads.{held_there, cell_reads, read_there, low_same}
 use Rattle.cyc_lower.proofs.relation.places.Known.{IsGlobalRow}
 use Rattle.cyc_lower.proofs.relation.places.Rows.{local-row, char_cell}

@@ -31,10 +31,11 @@ use Rattle.cyc_lower.proofs.slots.Widths.{Outside, HasGlobal, words_in, HasRoom}
 use Rattle.cyc_lower.proofs.slots.Slots.{global-room, slot-room, slot-apart}
 use Rattle.cyc_lower.proofs.relation.contents.Moves.{put_elsewhere}
 use Rattle.cyc_lower.proofs.relation.places.Known.{row-away, global-first, global_kind, first_word, IsVariableRow}
-use Rattle.cyc_lower.proofs.place_steps.PlaceWords.{stored_still, three_put, three_words, three_elsewhere, three_written, three_of, cell_kind}
+use Rattle.cyc_lower.proofs.place_steps.PlaceWords.{stored_still, three_put, three_words, three_elsewhere, three_written, three_words_of, cell_kind}
 use Rattle.cyc_lower.proofs.relation.contents.HeldValues.{content_of, callers, Waiting, contents, IsCharAt}
 use Rattle.cyc_lower.proofs.relation.simulation.Relation.{SharedAt, DataAt, DataIn, silent, code_of, types_at, base_of, starts_at}
-use Rattle.cyc_lower.proofs.relation.contents.Data.{Is-same, get_set_other, data_assigned_global, data_assigned, handlers_same}
+use Rattle.cyc_lower.proofs.relation.contents.Data.{Is-same, get_set_other, data_assigned_global, data_assigned}
+use Rattle.cyc_lower.proofs.relation.contents.HandlerData.{handlers_same}
 use Rattle.cyc_lower.proofs.relation.simulation.Accesses.{written_here, written_elsewhere, written_length}
 use Rattle.cyc_lower.proofs.place_steps.CellReads.{globals_long, IsOwn, AreSame}
 use Rattle.cyc_lower.proofs.place_steps.CellWrites.{data_beside}
@@ -44,7 +45,7 @@ use Rattle.cyc_plain.proofs.MemoryLaws.{store_word, stored-word, memory-active, 
 use Rattle.cyc_plain.specs.inside.Memory.{memory_at, is_pinned}
 use Rattle.cyc_lower.proofs.place_steps.StoredWords.{cell-stored, saves-stored, saves-global}
 use Rattle.cyc_lower.proofs.relation.places.Leads.{AreNamed, Leads, leads, to_store, to_variable, is_global, is_local, is_waiting}
-use Rattle.cyc_lower.proofs.relation.contents.WaitingData.{with_slots_of, callers_least, frame_at, data_assigned_waiting, below_set, set_at, set_again}
+use Rattle.cyc_lower.proofs.relation.contents.WaitingData.{with_slots_of, callers_least, frame_at, data_assigned_waiting, below_set, frame_set_at, set_again}
 use Rattle.cyc_lower.proofs.relation.code.Moving.{Like, like_same, like_slots, like_long, handlers_move}
 use Rattle.cyc_lower.proofs.relation.places.Rows.{local-row, local-pointer, local-kind, char_cell}
 use Rattle.cyc_types.specs.Types.{Ty}
@@ -378,7 +379,7 @@ module _ (source : Program) (pages calls : ℕ) (k : List Entry) (e : Environmen
       let d = stage c (written_in now) q in
       let fd = with_slots_of f now in
       let lie = below_set lowered g c.active.base c.frames i f now frame.at names.lie in
-      let at_d = set_at c.frames i f fd frame.at in
+      let at_d = frame_set_at c.frames i f fd frame.at in
       let pinned = subst (λ z. is_pinned (code_of source h) z ≡ true) y_is (names.whole h number j inside (omega (arith, room, below)) place.pinned) in
       ap (λ z. saves lowered d z (slots from) (memory_at lowered d z)) (same ∙ (let z : address + 4 * j ≡ f.caller.base + 4 * y = omega (arith, place.at, whole, y_is) in z))
       ∙ (ap (saves lowered d (f.caller.base + 4 * y) (slots from)) (memory-waiting lowered names.well d lie i fd at_d y pinned)
@@ -612,7 +613,7 @@ module _ (source : Program) (t : Tables) (c : Configuration) (d s : ℕ) (apart 
   load_last choice = loads_word two_in (c.active.next + 1 + 1) d 0 0 choice two_mixed (omega arith) two_stay refl
 
   pub loaded_is : Is t kinds.Fat v all_in d
-  loaded_is = Is-put_three t v c.active.slots d (word 0) (word 1) (word 2) (three_of t v word 0 is)
+  loaded_is = Is-put_three t v c.active.slots d (word 0) (word 1) (word 2) (three_words_of t v word 0 is)
 
   pub loaded_elsewhere : (m : ℕ) → Outside d 3 m → all_in m ≡ c.active.slots m
   loaded_elsewhere m out =

@@ -41,14 +41,15 @@ use Rattle.cyc_lower.proofs.relation.contents.Moves.{put_elsewhere}
 use Rattle.cyc_lower.proofs.relation.code.Stands.{InsideAt, SteppedAt, ReachedBy, ReachedAt, FollowedAt, ValueAt}
 use Rattle.cyc_lower.proofs.relation.contents.HeldValues.{IsIn, IsLow, Holds, held, IsParts}
 use Rattle.cyc_lower.proofs.relation.simulation.Relation.{types_at, types_on, floor, as_operand, DataIn, SharedAt, ValueStack, PlaceStack, Matches, code_of, bounds_at, top, ReadyAt, as_right, in_parts}
-use Rattle.cyc_lower.proofs.relation.contents.Data.{Is-same, height-least, Holds-same, data_written, in_words}
+use Rattle.cyc_lower.proofs.relation.contents.Data.{Is-same, height-least, Holds-same, in_words}
+use Rattle.cyc_lower.proofs.relation.contents.HandlerData.{data_written}
 use Rattle.cyc_lower.proofs.relation.simulation.Accesses.{IsWell, is_fitting}
 use Rattle.cyc_lower.proofs.place_steps.PlaceWords.{narrow_element, byte_element, wide_element, stays}
 use Rattle.cyc_lower.proofs.relation.simulation.Matched.{IsMatched, silently, by_one}
 use Rattle.cyc_lower.proofs.handler_steps.Handling.{raised}
 use Rattle.cyc_lower.proofs.pointer_steps.PointerSteps.{int_word, is_moved, outside_index}
 use Rattle.cyc_lower.proofs.relation.simulation.Paths.{Link, IsPath, end_of, end_joined, path_joined, is_quiet, by_path}
-use Rattle.cyc_lower.proofs.value_steps.ValueWords.{goes_wrong, taken, passed}
+use Rattle.cyc_lower.proofs.value_steps.ValueWords.{goes_wrong, branch_taken, branch_passed}
 
 -- ---- the words of an access
 
@@ -155,7 +156,7 @@ module _ (source : Program) (pages calls : ℕ) where
     leaves_null next is_zero does goes =
         let (block, jump, leads, end) = test in
         by_one source pages calls does shared jump
-        (λ choice. subst (Matches source pages calls next) (sym (taken c (c.active.slots n == 0) block (eq-eqb (c.active.slots n) 0 is_zero))) (goes block leads))
+        (λ choice. subst (Matches source pages calls next) (sym (branch_taken c (c.active.slots n == 0) block (eq-eqb (c.active.slots n) 0 is_zero))) (goes block leads))
 
     -- where it raises an exception
     pub raises_null : (shared_behind : SharedAt source pages calls k e w c) → DataIn source shared_behind.tables c.active.slots k e w c → c.active.slots n ≡ 0 → step source (Running focus k₀ e w) ≡ Running (Throwing null_exception 0) k e w
@@ -171,7 +172,7 @@ module _ (source : Program) (pages calls : ℕ) where
     past_null_path : c.active.slots n ≢ 0 → (links : List Link) → IsPath source (at c r) links → IsPath source c (past_null ∷ links)
     past_null_path some links path =
         let (block, jump, leads, end) = test in
-        (jump, (λ choice. passed c (c.active.slots n == 0) block (ne_eqb (c.active.slots n) 0 some) ∙ ap (λ i. plain.Running (at c i)) end), omega (arith, end), is_quiet c (at c r).active, path)
+        (jump, (λ choice. branch_passed c (c.active.slots n == 0) block (ne_eqb (c.active.slots n) 0 some) ∙ ap (λ i. plain.Running (at c i)) end), omega (arith, end), is_quiet c (at c r).active, path)
 
   -- ---- an index that is compared before it is scaled
 
@@ -197,7 +198,7 @@ module _ (source : Program) (pages calls : ℕ) where
 
     in_bounds_leads : nat_lt (slots m) (slots (n + 1)) ≡ true → (choice : Choice) → performed (lower_program source) choice (at c r) in_bounds.instruction ≡ plain.Running (at c s)
     in_bounds_leads less choice =
-        passed (at c r) (nat_le (slots (n + 1)) (slots m)) here.3.0 (lt-leb (slots (n + 1)) (slots m) (ltb-true (slots m) (slots (n + 1)) less)) ∙ ap (λ i. plain.Running (at c i)) here.3.3
+        branch_passed (at c r) (nat_le (slots (n + 1)) (slots m)) here.3.0 (lt-leb (slots (n + 1)) (slots m) (ltb-true (slots m) (slots (n + 1)) less)) ∙ ap (λ i. plain.Running (at c i)) here.3.3
 
     -- and so does an index that is not below the length
     pub raises_bounds : (shared_behind : SharedAt source pages calls k e w c) → DataIn source shared_behind.tables c.active.slots k e w c → slots n ≢ 0 → nat_lt (slots m) (slots (n + 1)) ≡ false
@@ -205,7 +206,7 @@ module _ (source : Program) (pages calls : ℕ) where
     raises_bounds shared_behind facts some least does =
         let (other, branch, raise, behind) = here.3 in
         by_path source pages calls focus k₀ e w c (Running (Throwing array_bounds 0) k e w) (not_null ∷ []) in_bounds.instruction does shared (not_null_path some [] tt) branch
-        (λ choice. subst (Matches source pages calls (Running (Throwing array_bounds 0) k e w)) (sym (taken (at c r) (nat_le (slots (n + 1)) (slots m)) other (le-leb (slots (n + 1)) (slots m) (ltb-false (slots m) (slots (n + 1)) least))))
+        (λ choice. subst (Matches source pages calls (Running (Throwing array_bounds 0) k e w)) (sym (branch_taken (at c r) (nat_le (slots (n + 1)) (slots m)) other (le-leb (slots (n + 1)) (slots m) (ltb-false (slots m) (slots (n + 1)) least))))
         (raised source pages calls array_bounds 0 k e w (at c other) (operands.Word array_bounds) (operands.Word 0) (omega arith) shared_behind facts raise refl refl))
 
     -- the first cell is reached
@@ -268,13 +269,13 @@ module _ (source : Program) (pages calls : ℕ) where
 
     outside_path : nat_lt (b.active.slots m) (b.active.slots (n + 1)) ≡ false → (rest : List Link) → IsPath source (at b (b.active.next + 1)) rest → IsPath source b (outside ∷ rest)
     outside_path least rest behind =
-        (here.0, (λ choice. passed b (nat_lt (b.active.slots m) (b.active.slots (n + 1))) u least), omega arith, is_quiet b (at b (b.active.next + 1)).active, behind)
+        (here.0, (λ choice. branch_passed b (nat_lt (b.active.slots m) (b.active.slots (n + 1))) u least), omega arith, is_quiet b (at b (b.active.next + 1)).active, behind)
 
     abbrev within : Link
     within = record { instruction = comparison; behind = at b u }
 
     within_path : nat_lt (b.active.slots m) (b.active.slots (n + 1)) ≡ true → IsPath source b (within ∷ [])
-    within_path less = (here.0, (λ choice. taken b (nat_lt (b.active.slots m) (b.active.slots (n + 1))) u less), omega (arith, here.3), is_quiet b (at b u).active, tt)
+    within_path less = (here.0, (λ choice. branch_taken b (nat_lt (b.active.slots m) (b.active.slots (n + 1))) u less), omega (arith, here.3), is_quiet b (at b u).active, tt)
 
     -- null raises its exception
     stops_null : (shared_behind : SharedAt source pages calls k e w b) → DataIn source shared_behind.tables b.active.slots k e w b → b.active.slots n ≡ 0 → nat_lt (b.active.slots m) (b.active.slots (n + 1)) ≡ false
@@ -282,7 +283,7 @@ module _ (source : Program) (pages calls : ℕ) where
     stops_null shared_behind facts is_zero least does =
         let (block, question, raise) = here.1 in
         by_path_from focus k₀ e w c b (Running (Throwing null_exception 0) k e w) first (outside ∷ []) (instructions.Branch comparisons.Equal (operands.Slot n) (operands.Word 0) block) does shared path ends (outside_path least [] tt) question
-        (λ choice. subst (Matches source pages calls (Running (Throwing null_exception 0) k e w)) (sym (taken (at b (b.active.next + 1)) (b.active.slots n == 0) block (eq-eqb (b.active.slots n) 0 is_zero)))
+        (λ choice. subst (Matches source pages calls (Running (Throwing null_exception 0) k e w)) (sym (branch_taken (at b (b.active.next + 1)) (b.active.slots n == 0) block (eq-eqb (b.active.slots n) 0 is_zero)))
         (raised source pages calls null_exception 0 k e w (at b block) (operands.Word null_exception) (operands.Word 0) (omega arith) shared_behind facts raise refl refl))
 
     -- and an index past the length of any other pointer the other one
@@ -295,7 +296,7 @@ module _ (source : Program) (pages calls : ℕ) where
         by_path_from focus k₀ e w c b (Running (Throwing array_bounds 0) k e w) first (outside ∷ asked ∷ []) (instructions.Jump other) does shared path ends
         (outside_path least (asked ∷ []) (
           question,
-          (λ choice. passed (at b (b.active.next + 1)) (b.active.slots n == 0) block (ne_eqb (b.active.slots n) 0 some) ∙ ap (λ i. plain.Running (at b i)) (let two : b.active.next + 1 + 1 ≡ b.active.next + 2 = omega arith in two)),
+          (λ choice. branch_passed (at b (b.active.next + 1)) (b.active.slots n == 0) block (ne_eqb (b.active.slots n) 0 some) ∙ ap (λ i. plain.Running (at b i)) (let two : b.active.next + 1 + 1 ≡ b.active.next + 2 = omega arith in two)),
           omega arith,
           is_quiet (at b (b.active.next + 1)) (at b (b.active.next + 2)).active,
           tt,
@@ -307,7 +308,7 @@ module _ (source : Program) (pages calls : ℕ) where
         → IsMatched source pages calls (Running focus k₀ e w) (plain.Running c)
     goes_on next less does goes =
         by_path_from focus k₀ e w c b next first [] comparison does shared path ends tt here.0
-        (λ choice. subst (Matches source pages calls next) (sym (taken b (nat_lt (b.active.slots m) (b.active.slots (n + 1))) u less)) goes)
+        (λ choice. subst (Matches source pages calls next) (sym (branch_taken b (nat_lt (b.active.slots m) (b.active.slots (n + 1))) u less)) goes)
 
     goes_on_by : (next : State) (i : Instruction) → nat_lt (b.active.slots m) (b.active.slots (n + 1)) ≡ true → step source (Running focus k₀ e w) ≡ next → At (code_of source b.active.function) u i
         → ((choice : Choice) → Matches source pages calls next (performed (lower_program source) choice (at b u) i)) → IsMatched source pages calls (Running focus k₀ e w) (plain.Running c)

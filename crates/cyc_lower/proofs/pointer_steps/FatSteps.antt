@@ -32,12 +32,13 @@ use Rattle.cyc_lower.proofs.relation.code.Stands.{CountAt, WidenedAt}
 use Rattle.cyc_lower.proofs.object_steps.Handles.{kept_holds}
 use Rattle.cyc_lower.proofs.relation.contents.HeldValues.{IsIn, Holds, held}
 use Rattle.cyc_lower.proofs.relation.simulation.Relation.{floor, types_at, in_operand, DataIn, SharedAt, ValueStack, LandsStack, Matches, code_of, bounds_at, top}
-use Rattle.cyc_lower.proofs.relation.contents.Data.{height-least, Holds-same, data_written}
+use Rattle.cyc_lower.proofs.relation.contents.Data.{height-least, Holds-same}
+use Rattle.cyc_lower.proofs.relation.contents.HandlerData.{data_written}
 use Rattle.cyc_lower.proofs.relation.simulation.Accesses.{IsWell}
 use Rattle.cyc_lower.proofs.relation.simulation.Matched.{IsMatched, by_one}
 use Rattle.cyc_lower.proofs.relation.simulation.Paths.{Link, is_quiet, by_path}
-use Rattle.cyc_lower.proofs.value_steps.Evaluations.{landed_word}
-use Rattle.cyc_lower.proofs.value_steps.ValueWords.{taken, passed}
+use Rattle.cyc_lower.proofs.value_steps.Landings.{landed_word}
+use Rattle.cyc_lower.proofs.value_steps.ValueWords.{branch_taken, branch_passed}
 
 -- ---- the words of a fat pointer
 
@@ -96,7 +97,7 @@ module _ (source : Program) (pages calls : ℕ) where
     counts_null zero does =
         let (null, past, subtract, jump, move, end) = here in
         by_path source pages calls (Given v) (Needs CountElements ∷ k) e w c (Running (Given (record { kind = kinds.Int; value = Int 0 })) k e w) (to_null ∷ []) (instructions.Move d (operands.Word 0)) does shared
-        (null, (λ choice. taken c (slots n == 0) (p + 4) (eq-eqb (slots n) 0 zero)), omega arith, is_quiet c (at c (p + 4)).active, tt)
+        (null, (λ choice. branch_taken c (slots n == 0) (p + 4) (eq-eqb (slots n) 0 zero)), omega arith, is_quiet c (at c (p + 4)).active, tt)
         move none_counted
 
     counts_past : slots n ≢ 0 → nat_lt (slots (n + 1)) (slots (n + 2)) ≡ true → Counted 0 → IsMatched source pages calls (Running (Given v) (Needs CountElements ∷ k) e w) (plain.Running c)
@@ -104,10 +105,10 @@ module _ (source : Program) (pages calls : ℕ) where
         let (null, past, subtract, jump, move, end) = here in
         by_path source pages calls (Given v) (Needs CountElements ∷ k) e w c (Running (Given (record { kind = kinds.Int; value = Int 0 })) k e w) (past_null ∷ in_bounds (at c (p + 4)) ∷ []) (instructions.Move d (operands.Word 0)) does shared (
           null,
-          (λ choice. passed c (slots n == 0) (p + 4) (ne_eqb (slots n) 0 some)),
+          (λ choice. branch_passed c (slots n == 0) (p + 4) (ne_eqb (slots n) 0 some)),
           omega arith,
           is_quiet c (at c (p + 1)).active,
-          (past, (λ choice. taken (at c (p + 1)) (nat_lt (slots (n + 1)) (slots (n + 2))) (p + 4) less), omega arith, is_quiet (at c (p + 1)) (at c (p + 4)).active, tt),
+          (past, (λ choice. branch_taken (at c (p + 1)) (nat_lt (slots (n + 1)) (slots (n + 2))) (p + 4) less), omega arith, is_quiet (at c (p + 1)) (at c (p + 4)).active, tt),
         )
         move none_counted
 
@@ -122,12 +123,12 @@ module _ (source : Program) (pages calls : ℕ) where
         (past_null ∷ in_bounds (at c (p + 2)) ∷ record { instruction = instructions.Binary plain_binary.Subtract d (operands.Slot (n + 1)) (operands.Slot (n + 2)); behind = computed_at } ∷ [])
         (instructions.Jump q) does shared (
           null,
-          (λ choice. passed c (slots n == 0) (p + 4) (ne_eqb (slots n) 0 some)),
+          (λ choice. branch_passed c (slots n == 0) (p + 4) (ne_eqb (slots n) 0 some)),
           omega arith,
           is_quiet c (at c (p + 1)).active,
           (
             past,
-            (λ choice. passed (at c (p + 1)) (nat_lt (slots (n + 1)) (slots (n + 2))) (p + 4) least ∙ ap (λ i. plain.Running (at c i)) (let two : p + 1 + 1 ≡ p + 2 = omega arith in two)),
+            (λ choice. branch_passed (at c (p + 1)) (nat_lt (slots (n + 1)) (slots (n + 2))) (p + 4) least ∙ ap (λ i. plain.Running (at c i)) (let two : p + 1 + 1 ≡ p + 2 = omega arith in two)),
             omega arith,
             is_quiet (at c (p + 1)) (at c (p + 2)).active,
             (subtract, (λ choice. ap (λ i. plain.Running (at (with_slots c (put slots d many)) i)) third), omega arith, is_quiet (at c (p + 2)) computed_at.active, tt),

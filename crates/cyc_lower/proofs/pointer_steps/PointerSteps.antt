@@ -41,10 +41,11 @@ use Rattle.cyc_lower.proofs.relation.contents.Moves.{copied_elsewhere}
 use Rattle.cyc_lower.proofs.relation.code.Stands.{FirstTwoAt, IndexAt, PointerAt, ValueAt}
 use Rattle.cyc_lower.proofs.relation.contents.HeldValues.{IsIn, Holds, held, callers}
 use Rattle.cyc_lower.proofs.relation.simulation.Relation.{types_on, silent, DataIn, SharedAt, ConditionStack, LandsStack, in_temporary, in_local, EvaluatingAt, as_operand, Matches, code_of, bounds_at, top, floor}
-use Rattle.cyc_lower.proofs.relation.contents.Data.{height-least, in_words, floor-least}
+use Rattle.cyc_lower.proofs.relation.contents.Data.{height-least, in_words}
+use Rattle.cyc_lower.proofs.relation.contents.HandlerData.{floor-least}
 use Rattle.cyc_lower.proofs.relation.simulation.Accesses.{IsWell}
 use Rattle.cyc_lower.proofs.relation.simulation.Matched.{IsMatched, silently, by_one, by_two}
-use Rattle.cyc_lower.proofs.value_steps.Evaluations.{landed, landed_word}
+use Rattle.cyc_lower.proofs.value_steps.Landings.{landed, landed_word}
 use Rattle.cyc_objects.specs.inside.Related.{AreApart}
 use Rattle.cyc_lower.proofs.value_steps.Decided.{given_compared}
 use Rattle.cyc_lower.proofs.value_steps.ValueWords.{fails_by}
@@ -59,17 +60,17 @@ kind_of_one kinds.NonNull thin = refl
 kind_of_one kind thin = absurd (let f : false ≡ true = thin in cc)
 
 -- a left operand that its operator takes has as many as the code counts
-pub taken_words : (u : PointerOperator) (kind : Kind) → takes_kind u kind ≡ true → words_of_kind kind ≡ words_of_kind (left_kind u)
-taken_words pointers.AddFat kind takes = ap words_of_kind (same_kind kind kinds.Fat takes)
-taken_words pointers.SubtractFat kind takes = ap words_of_kind (same_kind kind kinds.Fat takes)
-taken_words pointers.FatIsNull kind takes = ap words_of_kind (same_kind kind kinds.Fat takes)
-taken_words pointers.FatIsNotNull kind takes = ap words_of_kind (same_kind kind kinds.Fat takes)
-taken_words pointers.ThinIsNull kind takes = kind_of_one kind takes
-taken_words pointers.ThinIsNotNull kind takes = kind_of_one kind takes
-taken_words pointers.NullIs kind takes = kind_of_one kind takes
-taken_words pointers.NullIsNot kind takes = kind_of_one kind takes
-taken_words pointers.EqualThin kind takes = kind_of_one kind takes
-taken_words pointers.NotEqualThin kind takes = kind_of_one kind takes
+pub left_words : (u : PointerOperator) (kind : Kind) → takes_kind u kind ≡ true → words_of_kind kind ≡ words_of_kind (left_kind u)
+left_words pointers.AddFat kind takes = ap words_of_kind (same_kind kind kinds.Fat takes)
+left_words pointers.SubtractFat kind takes = ap words_of_kind (same_kind kind kinds.Fat takes)
+left_words pointers.FatIsNull kind takes = ap words_of_kind (same_kind kind kinds.Fat takes)
+left_words pointers.FatIsNotNull kind takes = ap words_of_kind (same_kind kind kinds.Fat takes)
+left_words pointers.ThinIsNull kind takes = kind_of_one kind takes
+left_words pointers.ThinIsNotNull kind takes = kind_of_one kind takes
+left_words pointers.NullIs kind takes = kind_of_one kind takes
+left_words pointers.NullIsNot kind takes = kind_of_one kind takes
+left_words pointers.EqualThin kind takes = kind_of_one kind takes
+left_words pointers.NotEqualThin kind takes = kind_of_one kind takes
 
 -- ---- what a comparison tells
 
@@ -98,16 +99,16 @@ IsPointer (Handle region) = ⊥
 IsPointer (Key region) = ⊥
 IsPointer v = Unit {0}
 
-has_word : (t : Tables) (kind : Kind) (v : Value) (words : Words) (p : ℕ) → Is t kind v words p → IsPointer v → HasWord (words p) v
-has_word t kinds.Nullable Null words p is pointer = null_word is
-has_word t kinds.Nullable (Thin object offset) words p is pointer = thin_word object offset (not-null is)
-has_word t kinds.NonNull (Thin object offset) words p is pointer = thin_word object offset (not-null is)
-has_word t kinds.Fat Null words p is pointer = null_word is.0
-has_word t kinds.Fat (Fat object start many index) words p is pointer = fat_word object start many index (part-not-null is.0)
-has_word t kind (Int a) words p is pointer = absurd pointer
-has_word t kind (Handle region) words p is pointer = absurd pointer
-has_word t kind (Key region) words p is pointer = absurd pointer
-has_word t kind v words p is pointer = absurd is
+pointer_has_word : (t : Tables) (kind : Kind) (v : Value) (words : Words) (p : ℕ) → Is t kind v words p → IsPointer v → HasWord (words p) v
+pointer_has_word t kinds.Nullable Null words p is pointer = null_word is
+pointer_has_word t kinds.Nullable (Thin object offset) words p is pointer = thin_word object offset (not-null is)
+pointer_has_word t kinds.NonNull (Thin object offset) words p is pointer = thin_word object offset (not-null is)
+pointer_has_word t kinds.Fat Null words p is pointer = null_word is.0
+pointer_has_word t kinds.Fat (Fat object start many index) words p is pointer = fat_word object start many index (part-not-null is.0)
+pointer_has_word t kind (Int a) words p is pointer = absurd pointer
+pointer_has_word t kind (Handle region) words p is pointer = absurd pointer
+pointer_has_word t kind (Key region) words p is pointer = absurd pointer
+pointer_has_word t kind v words p is pointer = absurd is
 
 -- a pointer beside null, whose word is 0
 null_on_right : (negated : Bool) (v : Value) (a b : ℕ) → HasWord a v → b ≡ 0 → null_test negated v ≡ Gives (Int (told negated a b))
@@ -204,7 +205,7 @@ module _ (k : List Entry) (e : Environment) (w : World) where
   null_told : (t : Tables) (negated : Bool) (i : Kind) (left : Value) (words : Words) (p : ℕ) → Is t i left words p → IsWell (computed kinds.Int (null_test negated left) k e w)
       → computed kinds.Int (null_test negated left) k e w ≡ gives_told negated (words p) 0
   null_told t negated i left words p is well =
-      ap (λ (r : Result). computed kinds.Int r k e w) (null_on_right negated left (words p) 0 (has_word t i left words p is (is_pointer negated left well)) refl)
+      ap (λ (r : Result). computed kinds.Int r k e w) (null_on_right negated left (words p) 0 (pointer_has_word t i left words p is (is_pointer negated left well)) refl)
 
   -- a pointer beside null gives what the comparison of its first word with 0 tells
   abbrev Tells : PointerOperator → (failing : Comparison) → (left v : Value) → (word : ℕ) → Type 0
@@ -237,24 +238,24 @@ module _ (k : List Entry) (e : Environment) (w : World) where
     tests_left : (negated : Bool) (i : Kind) (left : Value) (words : Words) (p b : ℕ) → Is t i left words p → b ≡ 0 → IsWell (computed kinds.Int (null_test negated left) k e w)
         → computed kinds.Int (null_test negated left) k e w ≡ gives_told negated (words p) b
     tests_left negated i left words p b is zero well =
-        ap (λ (r : Result). computed kinds.Int r k e w) (null_on_right negated left (words p) b (has_word t i left words p is (is_pointer negated left well)) zero)
+        ap (λ (r : Result). computed kinds.Int r k e w) (null_on_right negated left (words p) b (pointer_has_word t i left words p is (is_pointer negated left well)) zero)
 
     tests_right : (negated : Bool) (j : Kind) (v : Value) (others : Words) (a q : ℕ) → Is t j v others q → a ≡ 0 → IsWell (computed kinds.Int (null_test negated v) k e w)
         → computed kinds.Int (null_test negated v) k e w ≡ gives_told negated a (others q)
     tests_right negated j v others a q is zero well =
-        ap (λ (r : Result). computed kinds.Int r k e w) (null_on_left negated v a (others q) (has_word t j v others q is (is_pointer negated v well)) zero)
+        ap (λ (r : Result). computed kinds.Int r k e w) (null_on_left negated v a (others q) (pointer_has_word t j v others q is (is_pointer negated v well)) zero)
 
     -- each compares the first words of both operands
     pub applies_told : (u : PointerOperator) (i j : Kind) (left v : Value) (words others : Words) (p q : ℕ) → is_comparison u ≡ true → Is t i left words p → Is t j v others q
         → IsWell (applies_pointer u left v k e w) → applies_pointer u left v k e w ≡ gives_told (is_negated u) (words p) (others q)
     applies_told pointers.EqualThin i j left v words others p q test is_left is well = compares_thin false i j left v words others p q is_left is well
     applies_told pointers.NotEqualThin i j left v words others p q test is_left is well = compares_thin true i j left v words others p q is_left is well
-    applies_told pointers.ThinIsNull i j left Null words others p q test is_left is well = tests_left false i left words p (others q) is_left (zero_word (others q) (has_word t j Null others q is tt)) well
-    applies_told pointers.ThinIsNotNull i j left Null words others p q test is_left is well = tests_left true i left words p (others q) is_left (zero_word (others q) (has_word t j Null others q is tt)) well
-    applies_told pointers.FatIsNull i j left Null words others p q test is_left is well = tests_left false i left words p (others q) is_left (zero_word (others q) (has_word t j Null others q is tt)) well
-    applies_told pointers.FatIsNotNull i j left Null words others p q test is_left is well = tests_left true i left words p (others q) is_left (zero_word (others q) (has_word t j Null others q is tt)) well
-    applies_told pointers.NullIs i j Null v words others p q test is_left is well = tests_right false j v others (words p) q is (zero_word (words p) (has_word t i Null words p is_left tt)) well
-    applies_told pointers.NullIsNot i j Null v words others p q test is_left is well = tests_right true j v others (words p) q is (zero_word (words p) (has_word t i Null words p is_left tt)) well
+    applies_told pointers.ThinIsNull i j left Null words others p q test is_left is well = tests_left false i left words p (others q) is_left (zero_word (others q) (pointer_has_word t j Null others q is tt)) well
+    applies_told pointers.ThinIsNotNull i j left Null words others p q test is_left is well = tests_left true i left words p (others q) is_left (zero_word (others q) (pointer_has_word t j Null others q is tt)) well
+    applies_told pointers.FatIsNull i j left Null words others p q test is_left is well = tests_left false i left words p (others q) is_left (zero_word (others q) (pointer_has_word t j Null others q is tt)) well
+    applies_told pointers.FatIsNotNull i j left Null words others p q test is_left is well = tests_left true i left words p (others q) is_left (zero_word (others q) (pointer_has_word t j Null others q is tt)) well
+    applies_told pointers.NullIs i j Null v words others p q test is_left is well = tests_right false j v others (words p) q is (zero_word (words p) (pointer_has_word t i Null words p is_left tt)) well
+    applies_told pointers.NullIsNot i j Null v words others p q test is_left is well = tests_right true j v others (words p) q is (zero_word (words p) (pointer_has_word t i Null words p is_left tt)) well
     applies_told pointers.AddFat i j left v words others p q test is_left is well = absurd (let f : false ≡ true = test in cc)
     applies_told pointers.SubtractFat i j left v words others p q test is_left is well = absurd (let f : false ≡ true = test in cc)
     applies_told u i j left v words others p q test is_left is well = absurd (well refl)
@@ -460,5 +461,5 @@ module _ (source : Program) (pages calls : ℕ) where
   right_follows peek u b os v k e w c r m d q takes t is holds at_b here lands =
       let g = c.active.function in
       as_operand r m
-      (subst (λ n. ValueAt (code_of source g) (bounds_at source g) (types_on source g k) b n r c.active.next m) (ap (λ n. top source g k + n) (sym (taken_words u v.kind takes))) at_b)
+      (subst (λ n. ValueAt (code_of source g) (bounds_at source g) (types_on source g k) b n r c.active.next m) (ap (λ n. top source g k + n) (sym (left_words u v.kind takes))) at_b)
       (is, holds) (d, q, (takes, here), lands)

@@ -25,7 +25,8 @@ use Rattle.cyc_lower.proofs.relation.code.Stands.{ReachedBy, ThinnedAt}
 use Rattle.cyc_lower.proofs.object_steps.Handles.{kept_holds}
 use Rattle.cyc_lower.proofs.relation.contents.HeldValues.{IsIn, Holds, held}
 use Rattle.cyc_lower.proofs.relation.simulation.Relation.{types_at, floor, in_operand, DataIn, SharedAt, ValueStack, Matches, code_of, bounds_at, top}
-use Rattle.cyc_lower.proofs.relation.contents.Data.{height-least, Holds-same, data_written}
+use Rattle.cyc_lower.proofs.relation.contents.Data.{height-least, Holds-same}
+use Rattle.cyc_lower.proofs.relation.contents.HandlerData.{data_written}
 use Rattle.cyc_lower.proofs.relation.simulation.Matched.{IsMatched}
 use Rattle.cyc_lower.proofs.pointer_steps.Elements.{scaled, first_is, cell_is, elsewhere, leaves_null, raises_null, raises_bounds, reaches_first, reaches_cell, RaisesNull}
 

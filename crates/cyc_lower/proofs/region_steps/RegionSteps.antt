@@ -34,7 +34,8 @@ use Rattle.cyc_lower.proofs.slots.Widths.{Outside}
 use Rattle.cyc_lower.proofs.relation.code.Stands.{NamedAt, ClosedAt, ItemsAt}
 use Rattle.cyc_lower.proofs.relation.contents.HeldValues.{homes, callers, scopes_in, MayBeOpen, IsIn, contents}
 use Rattle.cyc_lower.proofs.relation.simulation.Relation.{shared_seen, HasScopes, SharedAt, StatementStack, Matches, DataIn, code_of, bounds_in, bounds_at, types_in, types_at, floor, behind_statement, starts_at, in_operand, ValueStack}
-use Rattle.cyc_lower.proofs.relation.contents.Data.{data_written, data_grows, variables_grow}
+use Rattle.cyc_lower.proofs.relation.contents.HandlerData.{data_written}
+use Rattle.cyc_lower.proofs.relation.contents.GrowingData.{data_grows, variables_grow}
 use Rattle.cyc_lower.proofs.relation.simulation.Matched.{IsMatched, silently, shared_within, known, inside_by}
 use Rattle.cyc_lower.proofs.relation.simulation.Paths.{runs}
 use Rattle.cyc_lower.proofs.object_steps.Asking.{past_pages, asks_then, by_full}

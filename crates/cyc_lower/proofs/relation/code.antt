@@ -2,5 +2,6 @@
 pub mod Stands
 pub mod Tested
 pub mod Fitting
+pub mod Fitted
 pub mod Moving
 pub mod Levels

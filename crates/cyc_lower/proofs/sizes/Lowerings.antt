@@ -18,10 +18,10 @@ use Rattle.cyc_lower.specs.inside.Lowering.{lower_function, lower_program, globa
 use Rattle.cyc_meaning.specs.Sizes.{max_functions, size_per_weight, HasTooMany}
 use Rattle.cyc_lower.specs.inside.Lowered.{AreLoweredFunctions, CanBeLowered, IsAccepted, IsLowered}
 use Rattle.cyc_lower.proofs.sizes.Routines.{one_too_many}
-use Rattle.cyc_lower.proofs.relation.code.Fitting.{is_fitting_program}
+use Rattle.cyc_lower.proofs.relation.code.Fitted.{is_fitting_program}
 use Rattle.cyc_lower.proofs.sizes.Sizes.{function_size}
 use Rattle.cyc_lower.proofs.sizes.WellFormed.{well_formed}
-use Rattle.cyc_lower.proofs.slots.Slots.{globals_counted}
+use Rattle.cyc_lower.proofs.slots.Slots.{global_words_counted}
 use Rattle.cyc_lower.proofs.sizes.WordLemmas.{has_words}
 use Rattle.cyc_lower.proofs.relation.simulation.Whole.{follows}
 use Rattle.cyc_meaning.proofs.Rising.{functions_rise}
@@ -35,7 +35,7 @@ is_lowered source well fit = record {
   well_formed = well_formed source (is_fitting_program source fit.of_words.functions well) fit.of_words fit.few_globals;
   words = has_words source fit.of_words;
   functions = functions_lowered source.structs (globals_of source) (scopes_of source) source.functions;
-  globals = sym (globals_counted source.globals);
+  globals = sym (global_words_counted source.globals);
   follows = λ pages calls base store input new some_page few_pages some_call bytes below.
       follows source (is_fitting_program source fit.of_words.functions well) fit.of_words (functions_rise source well) fit.few_globals (has_words source fit.of_words) pages calls base store input new some_page few_pages some_call bytes below;
 }
@@ -54,13 +54,13 @@ is_plain source well fit light = record {
 }
 
 -- too many functions are more than there may be
-pub too_many : (source : Program) (fault : Fault) → HasTooMany source fault → max_functions < length source.functions
-too_many source fault (h, there, is) = slice_get_within source.functions max_functions h there
+pub too_many_functions : (source : Program) (fault : Fault) → HasTooMany source fault → max_functions < length source.functions
+too_many_functions source fault (h, there, is) = slice_get_within source.functions max_functions h there
 
 -- ---- answers
 
-is_decided : (source : Program) → IsDecided (IsAccepted source) (HasTooMany source) (HasTooMany source)
-is_decided source =
+lowering_is_decided : (source : Program) → IsDecided (IsAccepted source) (HasTooMany source) (HasTooMany source)
+lowering_is_decided source =
     record {
       one = λ a b first second. first.0 ∙ sym second.0;
       same = one_too_many source;
@@ -69,18 +69,18 @@ is_decided source =
     }
   where
     never : (a : Program) (f : Fault) → IsAccepted source a → HasTooMany source f → ⊥
-    never a f (same, few) many = absurd (omega (arith, ap (λ (p : Program). length p.functions) same, few, too_many source f many))
+    never a f (same, few) many = absurd (omega (arith, ap (λ (p : Program). length p.functions) same, few, too_many_functions source f many))
 
 abbrev Answers : Program → Result PlainProgram Fault → Type 0
 Answers source result = Decides (IsAccepted source) IsLowered (HasTooMany source) (HasTooMany source) result
 
-pub refused : (source : Program) (fault : Fault) → (fault ≡ memory_fault) ⊎ HasTooMany source fault → Answers source (Err fault)
-refused source fault why =
-    decides (IsAccepted source) IsLowered (HasTooMany source) (HasTooMany source) (is_decided source) (Err fault) tt why
+pub lowering_refused : (source : Program) (fault : Fault) → (fault ≡ memory_fault) ⊎ HasTooMany source fault → Answers source (Err fault)
+lowering_refused source fault why =
+    decides (IsAccepted source) IsLowered (HasTooMany source) (HasTooMany source) (lowering_is_decided source) (Err fault) tt why
 
 pub lowered : (source : Program) (plain : PlainProgram) → IsWellTypedProgram source → CanBeLowered source → length source.functions ≤ max_functions
     → plain ≡ lower_program source → Answers source (Ok plain)
 lowered source plain well fit few is =
-    decides (IsAccepted source) IsLowered (HasTooMany source) (HasTooMany source) (is_decided source) (Ok plain)
+    decides (IsAccepted source) IsLowered (HasTooMany source) (HasTooMany source) (lowering_is_decided source) (Ok plain)
     (source, (refl, few), subst (IsLowered source) (sym is) (is_lowered source well fit))
     tt

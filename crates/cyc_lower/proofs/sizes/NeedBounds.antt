@@ -12,6 +12,7 @@ use Rattle.cyc_types.proofs.typing.WeightLemmas.{function_outweighs}
 use Rattle.cyc_meaning.specs.FrameCount.{result_words, operand_words, converted_words, argument_words, handle_words, expression_need, dereference_need, handle_need, initial_value_need, converted_need, arguments_need, operations_need, side_need, statement_need, items_need, clauses_need, kept_by, kept_by_items, kept_by_clauses, words_of_all}
 use Rattle.cyc_lower.specs.inside.Emission.{HaveFewWords}
 use Rattle.cyc_lower.proofs.slots.Widths.{kind_few}
+use Rattle.cyc_lower.proofs.sizes.RangeLemmas.{converted_few}
 
 -- ---- values
 
@@ -35,42 +36,39 @@ operand_few Void = omega arith
 operand_few Null = omega arith
 operand_few (Value t) = (words_few t).1
 
-converted_few : (c : Converted) → converted_words c ≤ 3
-converted_few (Convert from to a) = let f = kind_few from in let t = kind_few to in omega (arith, f, t)
-
 -- ---- expressions
 
 converted_token : (c : Converted) → 1 ≤ converted_weight c
 converted_token (Convert from to a) = some_token a
 
-more_words : (cs : Arguments) → argument_words cs ≤ 3 * more_arguments_weight cs
-more_words NoArguments = omega arith
-more_words (MoreArguments c cs) = omega (arith, converted_few c, more_words cs)
+more_arguments_few : (cs : Arguments) → argument_words cs ≤ 3 * more_arguments_weight cs
+more_arguments_few NoArguments = omega arith
+more_arguments_few (MoreArguments c cs) = omega (arith, converted_few c, more_arguments_few cs)
 
-arguments_words : (cs : Arguments) → argument_words cs ≤ 3 * arguments_weight cs
-arguments_words NoArguments = omega arith
-arguments_words (MoreArguments c cs) = omega (arith, converted_few c, converted_token c, more_words cs)
+arguments_words_few : (cs : Arguments) → argument_words cs ≤ 3 * arguments_weight cs
+arguments_words_few NoArguments = omega arith
+arguments_words_few (MoreArguments c cs) = omega (arith, converted_few c, converted_token c, more_arguments_few cs)
 
 -- where others stand before the first, there is a comma more at most
-one_more : (cs : Arguments) → more_arguments_weight cs ≤ 1 + arguments_weight cs
-one_more NoArguments = omega arith
-one_more (MoreArguments c cs) = omega arith
+more_arguments_weight_few : (cs : Arguments) → more_arguments_weight cs ≤ 1 + arguments_weight cs
+more_arguments_weight_few NoArguments = omega arith
+more_arguments_weight_few (MoreArguments c cs) = omega arith
 
 handle_few : (w : Placement) → handle_words w ≤ 3
 handle_few OnHeap = omega arith
 handle_few AsUnique = omega arith
 handle_few (ByHandle a) = operand_few (type_of a)
 
-place_token : (w : Placement) → 1 ≤ placement_weight w
-place_token OnHeap = omega arith
-place_token AsUnique = omega arith
-place_token (ByHandle a) = omega arith
+placement_token : (w : Placement) → 1 ≤ placement_weight w
+placement_token OnHeap = omega arith
+placement_token AsUnique = omega arith
+placement_token (ByHandle a) = omega arith
 
 mutual
   expression_light : (a : Expression) → expression_need a ≤ 6 * expression_weight a
   expression_light (Number n) = omega arith
   expression_light (Copy l t) = omega (arith, (words_few t).1)
-  expression_light (Call f cs t) = omega (arith, arguments_words cs, result_few t, arguments_light cs)
+  expression_light (Call f cs t) = omega (arith, arguments_words_few cs, result_few t, arguments_light cs)
   expression_light (Unary unary.Widen a) = omega (arith, expression_light a)
   expression_light (Unary o a) = omega (arith, operand_few (type_of a), some_token a, expression_light a)
   expression_light (Binary a os t) = omega (arith, expression_light a, operations_light os t (operand_words (type_of a)) (operand_few (type_of a)))
@@ -87,7 +85,7 @@ mutual
   expression_light (FreeUnique a) = omega (arith, operand_few (type_of a), expression_light a)
   expression_light (FreeKey a) = omega (arith, operand_few (type_of a), expression_light a)
   expression_light (Store d c t) = omega (arith, converted_few c, result_few t, converted_token c, converted_light c, dereference_light d 3 (omega arith))
-  expression_light (New w i t) = omega (arith, handle_light w, place_token w, initial_light i (handle_words w) (words_of t) (handle_few w) (words_few t).1)
+  expression_light (New w i t) = omega (arith, handle_light w, placement_token w, initial_light i (handle_words w) (words_of t) (handle_few w) (words_few t).1)
 
   dereference_light : (d : Dereference) (own : ℕ) → own ≤ 3 → dereference_need d own ≤ 6 * dereference_weight d
   dereference_light (Target k a t) own few = omega (arith, few, operand_few (type_of a), expression_light a)
@@ -101,7 +99,7 @@ mutual
 
   initial_light : (i : Initial) (handle own : ℕ) → handle ≤ 3 → own ≤ 3 → initial_value_need i handle own ≤ 6 + 6 * initial_weight i
   initial_light (Plain k a) handle own small few = omega (arith, small, few, kind_few k, some_token a, expression_light a)
-  initial_light (Fields cs) handle own small few = omega (arith, small, few, arguments_words cs, one_more cs, more_light cs handle)
+  initial_light (Fields cs) handle own small few = omega (arith, small, few, arguments_words_few cs, more_arguments_weight_few cs, more_light cs handle)
   initial_light (Array p l n k a) handle own small few = omega (arith, small, few, kind_few k, expression_light n, expression_light a)
 
   converted_light : (c : Converted) → converted_need c ≤ 6 * converted_weight c

@@ -95,9 +95,9 @@ abbrev pub IsIn : PlainProgram → Routine → (locals : List Ty) → Instructio
 IsIn program r locals (instructions.AddressOf d first count) = (d < r.slots) × (first + count ≤ r.slots) × TakesLocal locals (instructions.AddressOf d first count)
 IsIn program r locals i = IsInRange program r i
 
-pub in_range : (program : PlainProgram) (r : Routine) (locals : List Ty) (code : List Instruction) → AllByRecursion (IsIn program r locals) code → AllByRecursion (IsInRange program r) code
-in_range program r locals [] inside = tt
-in_range program r locals (i ∷ code) (first, rest) = (by i first, in_range program r locals code rest)
+pub code_in_range : (program : PlainProgram) (r : Routine) (locals : List Ty) (code : List Instruction) → AllByRecursion (IsIn program r locals) code → AllByRecursion (IsInRange program r) code
+code_in_range program r locals [] inside = tt
+code_in_range program r locals (i ∷ code) (first, rest) = (by i first, code_in_range program r locals code rest)
   where
     by : (i : Instruction) → IsIn program r locals i → IsInRange program r i
     by (instructions.AddressOf d slot count) (there, few, (n, t, at, first, count_is)) = (there, omega (arith, count_is, words_positive t), few)

@@ -51,15 +51,15 @@ map_snoc : {A B : Type 0} (f : A → B) (xs : List A) (x : A) → map f (xs ++ x
 map_snoc f [] x = refl
 map_snoc f (y ∷ xs) x = ap (λ l. f y ∷ l) (map_snoc f xs x)
 
-taken : {A : Type 0} (xs : List A) (i : ℕ) (x : A) → i < length xs → x ≡ get_or xs i x → take (suc i) xs ≡ take i xs ++ x ∷ []
-taken [] i x inside at = absurd (omega (arith, inside))
-taken (y ∷ xs) zero x inside at = ap (λ z. z ∷ []) (sym at)
-taken (y ∷ xs) (suc i) x inside at = ap (λ l. y ∷ l) (taken xs i x (omega (arith, inside)) at)
+one_more_taken : {A : Type 0} (xs : List A) (i : ℕ) (x : A) → i < length xs → x ≡ get_or xs i x → take (suc i) xs ≡ take i xs ++ x ∷ []
+one_more_taken [] i x inside at = absurd (omega (arith, inside))
+one_more_taken (y ∷ xs) zero x inside at = ap (λ z. z ∷ []) (sym at)
+one_more_taken (y ∷ xs) (suc i) x inside at = ap (λ l. y ∷ l) (one_more_taken xs i x (omega (arith, inside)) at)
 
 -- what is made of one element more
-pub one_more : {A B C D : Type 0} (f : A → D) (g : C → D) (view : B → C) (made new : List A) (xs : List B) (i : ℕ) (a : A) (x : B) → i < length xs → x ≡ get_or xs i x → new ≡ made ++ a ∷ []
+pub one_more_mapped : {A B C D : Type 0} (f : A → D) (g : C → D) (view : B → C) (made new : List A) (xs : List B) (i : ℕ) (a : A) (x : B) → i < length xs → x ≡ get_or xs i x → new ≡ made ++ a ∷ []
     → f a ≡ g (view x) → map f made ≡ map g (map view (take i xs)) → map f new ≡ map g (map view (take (i + 1) xs))
-one_more {A} {B} {C} {D} f g view made new xs i a x inside at is one made_is =
+one_more_mapped {A} {B} {C} {D} f g view made new xs i a x inside at is one made_is =
     let next : suc i ≡ i + 1 = omega arith in
     ap (λ (l : List A). map f l) is
     ∙ map_snoc f made a
@@ -67,7 +67,7 @@ one_more {A} {B} {C} {D} f g view made new xs i a x inside at is one made_is =
     ∙ ap (λ (d : D). map g (map view (take i xs)) ++ d ∷ []) one
     ∙ sym (map_snoc g (map view (take i xs)) (view x))
     ∙ ap (λ (l : List C). map g l) (sym (map_snoc view (take i xs) x))
-    ∙ ap (λ (l : List B). map g (map view l)) (sym (taken xs i x inside at))
+    ∙ ap (λ (l : List B). map g (map view l)) (sym (one_more_taken xs i x inside at))
     ∙ ap (λ (n : ℕ). map g (map view (take n xs))) next
 
 -- ---- more functions than there may be
@@ -78,9 +78,9 @@ fault_is f c l k a b d =
     ∙ ap (λ (x : ℕ). record { code = c; line = x; column = f.column }) b
     ∙ ap (λ (x : ℕ). record { code = c; line = l; column = x }) d
 
-pub too_many : (t : TypedTree) (x : FunctionCode) (f : Fault) → max_functions < length t.functions.items → x ≡ get_or t.functions.items max_functions x
+pub too_many_told : (t : TypedTree) (x : FunctionCode) (f : Fault) → max_functions < length t.functions.items → x ≡ get_or t.functions.items max_functions x
     → f.code ≡ TooManyFunctions → f.line ≡ x.span.line → f.column ≡ x.span.column → HasTooMany (view_program t) f
-too_many t x f more at a b d = (view_function x, numbered_at view_function t.functions.items max_functions x more at, fault_is f TooManyFunctions x.span.line x.span.column a b d)
+too_many_told t x f more at a b d = (view_function x, numbered_at view_function t.functions.items max_functions x more at, fault_is f TooManyFunctions x.span.line x.span.column a b d)
 
 pub one_too_many : (p : Program) (f g : Fault) → HasTooMany p f → HasTooMany p g → f ≡ g
 one_too_many p f g (h, e, a) (k, d, b) =

@@ -33,7 +33,7 @@ use Rattle.cyc_lower.proofs.relation.code.Fitting.{FitsPlace, Fits, FitOperation
 use Rattle.cyc_types.specs.typing.Expressions.{type_of_side}
 use Rattle.cyc_lower.proofs.slots.Slots.{words_positive, global-room, global-inside}
 use Rattle.cyc_lower.specs.declared.statements.Opened.{Opened}
-use Rattle.cyc_lower.proofs.emission.Loops.{entry_long, over_long}
+use Rattle.cyc_lower.proofs.emission.Loops.{entry_long, over_length_is}
 use Rattle.cyc_lower.proofs.sizes.RangeLemmas.{operand_positive, converted_few, results_few, IsKnown, AreGlobals}
 use Rattle.cyc_lower.proofs.sizes.ValueRanges.{AreIn, append, unless_in, unless_slot_in, kind_at, HasOperand, slot_fits, value_room, value_in, converted_room, printed_value_in, move_in, slot_with_in, left_with_in, conversion_in, loads_in, global_in, assigned_in, stores_in, addressed_in, stored_in, load_of_in, blank_in}
 use Rattle.cyc_lower.proofs.emission.Conditions.{tests_same, branch_same}
@@ -440,7 +440,7 @@ module _ (program : PlainProgram) (r : Routine) (b : Numbering) (types : Types) 
         let long = length-append (condition ++ jump_first) (over ++ second) in
         let long_front = length-append condition jump_first in
         let long_back = length-append over second in
-        let long_over = over_long last (q + length second) in
+        let long_over = over_length_is last (q + length second) in
         let (left, right) = branched_in a t numbered_a (omega (arith, few)) in
         let inside : q < length r.code = omega (arith, short, long, long_front, long_back, long_over, same) in
         append program r b types locals levels globals called results behind (condition ++ jump_first) (over ++ second)

@@ -37,7 +37,7 @@ use Rattle.cyc_lower.specs.inside.ObjectCode.{stores_code, cells_code, slots_of_
 use Rattle.cyc_lower.specs.inside.ControlCode.{counter_operand}
 use Rattle.cyc_lower.specs.inside.ExpressionCode.{source_of, source_slot, operand_of, left_of, value_slot, slot_with, left_slot, value_operand, converted_operand, printed_operand, load_code, expression_code, brought_code, converted_operand_code, place_operand, place_offset, place_code, pointer_slot, is_simple}
 use Rattle.cyc_lower.specs.inside.Lowering.{results_of, store_address_code, store_code}
-use Rattle.cyc_lower.proofs.slots.Widths.{kind_positive, kind_few, type_words, result_kind, given, words_in, chain_kind, wide_kind, same_kind, more_words, HasGlobal, keeps_wide, changes_words, passed_is, unary_word}
+use Rattle.cyc_lower.proofs.slots.Widths.{kind_positive, kind_few, type_words, result_kind, given, words_in, chain_kind, wide_kind, same_kind, more_words, HasGlobal, keeps_wide, changes_words, passed_is, unary_one_word}
 use Rattle.cyc_lower.proofs.relation.code.Fitting.{FitsPlace, FitsCell, Fits, FitsConverted, FitArguments, FitOperations}
 use Rattle.cyc_lower.specs.inside.Lowerable.{is_converted, is_pointer}
 use Rattle.cyc_lower.proofs.emission.Lengths.{past_long}
@@ -116,7 +116,7 @@ module _ (program : PlainProgram) (r : Routine) (b : Numbering) (types : Types) 
   given_needs (Call (callees.Function n) cs t) (s, signature, many, passed, result, numbered) =
       omega (arith, ap (λ (o : Option Signature). words_of_kind (result_kind o)) signature, (result_least s.result).1, result)
   given_needs (NumberOfElements a) numbered = omega arith
-  given_needs (Unary o a) numbered = omega (arith, unary_word o)
+  given_needs (Unary o a) numbered = omega (arith, unary_one_word o)
   given_needs (Binary a os t) (numbered, rest) = omega (arith, given_needs a numbered, chain_needs os (kind_at a) t (operand_words (type_of a)) rest)
   given_needs (Assign l (Convert from to a) t) numbered = omega arith
   given_needs (Load (Target k a t)) numbered = omega (arith, type_words t)
@@ -394,11 +394,8 @@ module _ (program : PlainProgram) (r : Routine) (b : Numbering) (types : Types) 
   operator_in o l m d few left right = ((few, left, right), tt)
 
   pub unary_in : (o : UnaryOperator) (d : ℕ) (m : Operand) → d < r.slots → IsOperand r m → IsIn program r types.locals (unary_instruction o d m)
-  unary_in unary.Negate d m few inside = (few, inside)
-  unary_in unary.Not d m few inside = (few, inside)
-  unary_in unary.Complement d m few inside = (few, inside)
-  unary_in unary.Widen d m few inside = (few, inside)
   unary_in unary.LowByte d m few inside = (few, inside, tt)
+  unary_in o d m few inside = (few, inside)
 
   pub last_byte_in : (kind : Kind) (d : ℕ) → d < r.slots → AreIn (last_byte_code kind d)
   last_byte_in kinds.Char d few = ((few, few, tt), tt)

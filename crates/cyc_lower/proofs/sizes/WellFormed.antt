@@ -18,10 +18,10 @@ use Rattle.cyc_lower.specs.inside.ControlCode.{outside_loops}
 use Rattle.cyc_lower.specs.inside.Lowering.{types_of, items_code, results_of, lower_function, lower_program, globals_of, scopes_of, function_code, farthest, with_blocks}
 use Rattle.cyc_lower.proofs.relation.code.Fitting.{FitItems, AreFitting, IsFitting}
 use Rattle.cyc_lower.specs.inside.Words.{AreOfWordsItems, AreOfWordsFunctions, IsOfWordsProgram}
-use Rattle.cyc_lower.proofs.sizes.WordLemmas.{no_return}
+use Rattle.cyc_lower.proofs.sizes.WordLemmas.{body_has_no_return}
 use Rattle.cyc_lower.proofs.emission.Lengths.{body_long}
-use Rattle.cyc_lower.proofs.slots.Slots.{slot-room, slot_types-many, slots-few, globals_counted}
-use Rattle.cyc_lower.proofs.sizes.RangeLemmas.{results_few, IsKnown, AreGlobals, TakesLocal, IsIn, in_range, takes_locals, all_cut, blocks_in, blocks_many, end_leaves}
+use Rattle.cyc_lower.proofs.slots.Slots.{slot-room, slot_types-many, slots-few, global_words_counted}
+use Rattle.cyc_lower.proofs.sizes.RangeLemmas.{results_few, IsKnown, AreGlobals, TakesLocal, IsIn, code_in_range, takes_locals, all_cut, blocks_in, blocks_many, end_leaves}
 use Rattle.cyc_lower.proofs.sizes.StatementRanges.{items_in}
 
 -- ---- functions
@@ -45,7 +45,7 @@ module _ (source : Program) (is_fitting : IsFitting source) where
 
   known_globals : AreGlobals (lower_program source) (global_types source.globals)
   known_globals = record {
-    room = omega (arith, globals_counted source.globals);
+    room = omega (arith, global_words_counted source.globals);
   }
 
   -- all instructions of a function's code
@@ -65,11 +65,11 @@ module _ (source : Program) (is_fitting : IsFitting source) where
       let placed = body_long source.structs (globals_of source) scopes h in
       let long = length-append body (instructions.Finish d ∷ blocks) in
       let short = length-append body end in
-      let inside = items_in (lower_program source) whole b types (λ n within. omega (arith, slot-room types n (omega (arith, within, slot_types-many h)))) (λ l slot there. absurd (none-some slot there)) known_globals known_functions refl (omega (arith, long, placed)) (no_return source.structs (globals_of source) scopes h 4 words)
+      let inside = items_in (lower_program source) whole b types (λ n within. omega (arith, slot-room types n (omega (arith, within, slot_types-many h)))) (λ l slot there. absurd (none-some slot there)) known_globals known_functions refl (omega (arith, long, placed)) (body_has_no_return source.structs (globals_of source) scopes h 4 words)
       h.body false 0 outside_loops d numbered_body (λ inside. absurd (let f : false ≡ true = inside in cc)) ((tt, tt), (tt, tt)) (omega arith) (omega (arith, long)) in
       let reaches : (t : ℕ) → t ≤ farthest body → t < length all → t < length r.code = λ t least within. omega (arith, least, within, long, short, placed, blocks_many count) in
       all_append (IsIn (lower_program source) r (slot_types h)) body end
-      (all_cut (lower_program source) r all (slot_types h) (farthest body) reaches (no_return source.structs (globals_of source) scopes h count words) body (omega arith) inside)
+      (all_cut (lower_program source) r all (slot_types h) (farthest body) reaches (body_has_no_return source.structs (globals_of source) scopes h count words) body (omega arith) inside)
       (omega (arith, results_few h.result), blocks_in (lower_program source) r (slot_types h) count)
 
   function_well : (h : Function) → AreOfWordsItems h.body → FitItems (numbering_of (length source.globals) (signatures_of source.functions) h) (types_of source.structs (global_types source.globals) (scopes_of source) h) false h.body → IsRoutine (lower_program source) (lower_function source.structs (globals_of source) (scopes_of source) h)
@@ -82,7 +82,7 @@ module _ (source : Program) (is_fitting : IsFitting source) where
         parameters = omega (arith, slots-few h);
         results = omega (arith, results_few h.result);
         frame = omega (arith, slots-few h);
-        instructions = All-from_recursion (IsInRange (lower_program source) r) code (in_range (lower_program source) r (slot_types h) code (code_in h words numbered_body));
+        instructions = All-from_recursion (IsInRange (lower_program source) r) code (code_in_range (lower_program source) r (slot_types h) code (code_in h words numbered_body));
         last = end_leaves body (first_temporary h) (farthest body - types.raises);
       }
 
@@ -104,5 +104,5 @@ module _ (source : Program) (is_fitting : IsFitting source) where
         main = main.there;
         main_parameters = main.parameters;
         main_results = main.results;
-        globals = omega (arith, few, globals_counted source.globals);
+        globals = omega (arith, few, global_words_counted source.globals);
       }

@@ -17,8 +17,8 @@ behind gs i = map view_global (drop i gs)
 next_behind : (gs : List Global) (i : ℕ) (x : Global) → i < length gs → x ≡ get_or gs i x → behind gs i ≡ view_global x ∷ behind gs (i + 1)
 next_behind gs i x inside at = ap (map view_global) (drop_more gs i x inside ∙ ap (λ (y : Global). y ∷ drop (i + 1) gs) (sym at))
 
-none_behind : (gs : List Global) (i : ℕ) → length gs ≤ i → behind gs i ≡ []
-none_behind gs i done = ap (map view_global) (drop_all i gs done)
+no_globals_behind : (gs : List Global) (i : ℕ) → length gs ≤ i → behind gs i ≡ []
+no_globals_behind gs i done = ap (map view_global) (drop_all i gs done)
 
 -- ---- where they begin
 
@@ -45,7 +45,7 @@ starts_more gs i first starts new x inside at is (words, made) =
 
 pub starts_end : (gs : List Global) (i first : ℕ) (starts : List ℕ) → length gs ≤ i → StartsLeft gs i first starts → starts ≡ starts_from 0 (global_types (map view_global gs))
 starts_end gs i first starts done (words, made) =
-    sym (append-nil starts) ∙ ap (λ (l : List GlobalVariable). starts ++ starts_from first (global_types l)) (sym (none_behind gs i done)) ∙ made
+    sym (append-nil starts) ∙ ap (λ (l : List GlobalVariable). starts ++ starts_from first (global_types l)) (sym (no_globals_behind gs i done)) ∙ made
 
 -- ---- what they hold
 
@@ -85,4 +85,4 @@ words_more gs i words new x inside at is made =
     ∙ made
 
 pub words_end : (gs : List Global) (i : ℕ) (words : List ℕ) → length gs ≤ i → WordsLeft gs i words → words ≡ lower_globals (map view_global gs)
-words_end gs i words done made = sym (append-nil words) ∙ ap (λ (l : List GlobalVariable). words ++ lower_globals l) (sym (none_behind gs i done)) ∙ made
+words_end gs i words done made = sym (append-nil words) ∙ ap (λ (l : List GlobalVariable). words ++ lower_globals l) (sym (no_globals_behind gs i done)) ∙ made

@@ -40,12 +40,12 @@ slot-below [] n t at = absurd (none-some t at)
 slot-below (u ∷ ts) zero t at = omega (arith, ap words_of (same_Some u t at))
 slot-below (u ∷ ts) (suc n) t at = omega (arith, slot-below ts n t at)
 
-pub slots-apart : (ts : List Ty) (n m : ℕ) (t u : Ty) → n < m → slice_get ts n ≡ Some t → slice_get ts m ≡ Some u → slot_in ts n + words_of t ≤ slot_in ts m
-slots-apart [] n m t u less at there = absurd (none-some t at)
-slots-apart (x ∷ ts) zero zero t u less at there = absurd (omega (arith, less))
-slots-apart (x ∷ ts) (suc n) zero t u less at there = absurd (omega (arith, less))
-slots-apart (x ∷ ts) zero (suc m) t u less at there = omega (arith, ap words_of (same_Some x t at))
-slots-apart (x ∷ ts) (suc n) (suc m) t u less at there = omega (arith, slots-apart ts n m t u (omega (arith, less)) at there)
+pub locals-apart : (ts : List Ty) (n m : ℕ) (t u : Ty) → n < m → slice_get ts n ≡ Some t → slice_get ts m ≡ Some u → slot_in ts n + words_of t ≤ slot_in ts m
+locals-apart [] n m t u less at there = absurd (none-some t at)
+locals-apart (x ∷ ts) zero zero t u less at there = absurd (omega (arith, less))
+locals-apart (x ∷ ts) (suc n) zero t u less at there = absurd (omega (arith, less))
+locals-apart (x ∷ ts) zero (suc m) t u less at there = omega (arith, ap words_of (same_Some x t at))
+locals-apart (x ∷ ts) (suc n) (suc m) t u less at there = omega (arith, locals-apart ts n m t u (omega (arith, less)) at there)
 
 -- behind the last local comes what is kept for temporaries
 pub slot-behind : (ts : List Ty) → slot_in ts (length ts) ≡ words_of_all ts
@@ -100,7 +100,7 @@ slot-before : (ts : Types) (n m : ℕ) → n < m → m < length ts.locals → sl
 slot-before ts n m less inside =
     let (t, at) = type-there ts.locals n (omega (arith, less, inside)) in
     let (u, there) = type-there ts.locals m inside in
-    omega (arith, starts-are ts n (omega (arith, less, inside)), starts-are ts m inside, slots-apart ts.locals n m t u less at there, words_positive t)
+    omega (arith, starts-are ts n (omega (arith, less, inside)), starts-are ts m inside, locals-apart ts.locals n m t u less at there, words_positive t)
 
 -- two locals have two slots
 pub slot-other : (ts : Types) (n m : ℕ) → n < length ts.locals → m < length ts.locals → n ≢ m → slot_of (starts_of ts) n ≢ slot_of (starts_of ts) m
@@ -132,7 +132,7 @@ slot-behind-other : (ts : Types) (n m : ℕ) → n < m → m < length ts.locals 
 slot-behind-other ts n m less inside =
     let (t, at) = type-there ts.locals n (omega (arith, less, inside)) in
     let (u, there) = type-there ts.locals m inside in
-    omega (arith, starts-are ts n (omega (arith, less, inside)), starts-are ts m inside, slots-apart ts.locals n m t u less at there, words-there ts.locals n t at)
+    omega (arith, starts-are ts n (omega (arith, less, inside)), starts-are ts m inside, locals-apart ts.locals n m t u less at there, words-there ts.locals n t at)
 
 pub slot-apart : (ts : Types) (n m : ℕ) → n < length ts.locals → m < length ts.locals → n ≢ m
     → (slot_of (starts_of ts) n + words_in ts.locals n ≤ slot_of (starts_of ts) m) ⊎ (slot_of (starts_of ts) m + words_in ts.locals m ≤ slot_of (starts_of ts) n)
@@ -173,9 +173,9 @@ pub global-inside : (ts : Types) (n : ℕ) (kind : Kind) → HasGlobal ts n kind
 global-inside ts n kind room = room-inside (as_locals ts) n kind room
 
 -- so many words are all globals
-pub globals_counted : (gs : List GlobalVariable) → words_of_all (global_types gs) ≡ length (lower_globals gs)
-globals_counted [] = refl
-globals_counted (g ∷ gs) = omega (arith, length-append (lower_global g) (lower_globals gs), length-replicate {A = ℕ} (words_of g.of_type - 1) 0, words_positive g.of_type, globals_counted gs)
+pub global_words_counted : (gs : List GlobalVariable) → words_of_all (global_types gs) ≡ length (lower_globals gs)
+global_words_counted [] = refl
+global_words_counted (g ∷ gs) = omega (arith, length-append (lower_global g) (lower_globals gs), length-replicate {A = ℕ} (words_of g.of_type - 1) 0, words_positive g.of_type, global_words_counted gs)
 
 -- ---- parameters
 

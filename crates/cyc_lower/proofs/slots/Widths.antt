@@ -68,18 +68,18 @@ more_words from to apart = elim (one_or_three from) [
   | inr three ↦ omega (arith, three)
 ]
 
-both : (a b : Bool) → (a && b) ≡ true → (a ≡ true) × (b ≡ true)
-both true b is = (refl, is)
-both false b is = absurd (let f : false ≡ true = is in cc)
+both_true : (a b : Bool) → (a && b) ≡ true → (a ≡ true) × (b ≡ true)
+both_true true b is = (refl, is)
+both_true false b is = absurd (let f : false ≡ true = is in cc)
 
 -- what keeps its words has as many of them
 pub keeps_wide : (from to : Kind) → keeps_words from to ≡ true → words_of_kind from ≡ words_of_kind to
-keeps_wide from to keeps = eqb-true (words_of_kind from) (words_of_kind to) (both (are_as_wide from to) (not (masks from to)) keeps).0
+keeps_wide from to keeps = eqb-true (words_of_kind from) (words_of_kind to) (both_true (are_as_wide from to) (not (masks from to)) keeps).0
 
 -- and masks nothing
 pub keeps_whole : (from to : Kind) → keeps_words from to ≡ true → masks from to ≡ false
 keeps_whole from to keeps = elim (cases_Bool (masks from to)) [
-  | inl masked ↦ absurd (let f : false ≡ true = sym (ap (λ (b : Bool). not b) masked) ∙ (both (are_as_wide from to) (not (masks from to)) keeps).1 in cc)
+  | inl masked ↦ absurd (let f : false ≡ true = sym (ap (λ (b : Bool). not b) masked) ∙ (both_true (are_as_wide from to) (not (masks from to)) keeps).1 in cc)
   | inr whole ↦ whole
 ]
 
@@ -239,12 +239,9 @@ abbrev pub Outside : (first many n : ℕ) → Type 0
 Outside first many n = (n < first) ⊎ (first + many ≤ n)
 
 -- what an operator of one operand gives is one word
-pub unary_word : (o : UnaryOperator) → words_of_kind (unary_kind o) ≡ 1
-unary_word unary.Negate = refl
-unary_word unary.Not = refl
-unary_word unary.Complement = refl
-unary_word unary.Widen = refl
-unary_word unary.LowByte = refl
+pub unary_one_word : (o : UnaryOperator) → words_of_kind (unary_kind o) ≡ 1
+unary_one_word unary.LowByte = refl
+unary_one_word o = refl
 
 -- a value is passed with the words of the kind that it is converted to
 pub passed_is : (c : Converted) → passed_words c ≡ words_of_kind (kind_passed c)

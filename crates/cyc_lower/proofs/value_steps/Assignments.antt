@@ -35,7 +35,8 @@ use Rattle.cyc_lower.proofs.relation.contents.Sharing.{shared_written, shared_be
 use Rattle.cyc_lower.proofs.relation.contents.HeldValues.{IsWord, IsIn, Holds, held, contents, callers, IsCharAt}
 use Rattle.cyc_lower.proofs.relation.simulation.Relation.{seen_in, shared_seen, types_on, starts_on, types_at, starts_at, in_temporary, in_local, drops, leaves, copies, DataIn, SharedAt, StoreAt, ValueStack, DroppedStack, AheadStack, LandsStack, HandsOnStack, in_operand, nowhere, ahead, Related, Matches, code_of, bounds_at, top, floor, base_of}
 use Rattle.cyc_lower.proofs.object_steps.Handles.{kept_holds}
-use Rattle.cyc_lower.proofs.relation.contents.Data.{IsWord-is, one_word, height-least, Holds-above, data_assigned, data_assigned_global, floor-least, handlers_beside, Is-same}
+use Rattle.cyc_lower.proofs.relation.contents.Data.{IsWord-is, one_word, height-least, Holds-above, data_assigned, data_assigned_global, Is-same}
+use Rattle.cyc_lower.proofs.relation.contents.HandlerData.{floor-least, handlers_beside}
 use Rattle.cyc_lower.proofs.relation.simulation.Accesses.{IsWell, is_stored, written_here, written_elsewhere, written_length}
 use Rattle.cyc_lower.proofs.place_steps.PlaceWords.{stays, cell_kind, word_is}
 use Rattle.cyc_lower.proofs.place_steps.CellWrites.{cell_is_there, with_word, saves_there, shared_saved, data_saved, above_there, frames_there, word_stays}
@@ -43,14 +44,14 @@ use Rattle.cyc_lower.proofs.relation.simulation.Weights.{weight}
 use Rattle.cyc_lower.proofs.relation.simulation.Matched.{IsMatched, silently, by_one, by_two, shared_within, by_two_known, seen_way}
 use Rattle.cyc_lower.proofs.relation.simulation.Paths.{Link, IsPath, end_of, by_path}
 use Rattle.cyc_lower.proofs.place_steps.WideCells.{store_links, stored, store_path, all_path, store_last, shared_stored, data_stored, IsStanding, above_stored, frames_stored, value_stays}
-use Rattle.cyc_lower.proofs.value_steps.Evaluations.{landed_moved, object_of_same}
+use Rattle.cyc_lower.proofs.value_steps.Landings.{landed_moved, object_of_same}
 use Rattle.cyc_lower.proofs.value_steps.GlobalSteps.{stored_globals, stored_elsewhere, stored_is, global_links, is_stored_by, by_links}
 use Rattle.cyc_lower.proofs.relation.places.Known.{IsGlobalRow}
 use Rattle.cyc_lower.proofs.relation.places.Rows.{local-row, char_cell}
 use Rattle.cyc_lower.proofs.relation.places.Leads.{AreNamed}
 use Rattle.cyc_lower.proofs.relation.code.Moving.{hands_moves}
 use Rattle.cyc_lower.proofs.place_steps.KindWords.{saved_at, saves_by}
-use Rattle.cyc_lower.proofs.value_steps.Operators.{Stands, GoesBehind}
+use Rattle.cyc_lower.proofs.value_steps.Conversions.{Stands, GoesBehind}
 
 module _ (source : Program) (pages calls : ℕ) where
   -- ---- assignments

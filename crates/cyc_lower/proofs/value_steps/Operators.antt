@@ -1,10 +1,8 @@
--- The steps that hand a value on to a conversion or an operator, and checks that raise an exception.
+-- The steps that hand a value on to an operator.
 use Rattle.std.proofs.Common.{◌≡◌, ◌≢◌, ℕ, zero, suc, ◌+◌, ◌<◌, Bool, true, false, not, List, ◌∷◌, Option, None, Some, refl, sym, ap, subst, ◌∙◌, arith, inl, inr, bit_and}
-use Rattle.std.specs.Prelude.{◌==◌, ◌&&◌, if◌then◌else◌, ◌%◌, option_map, is_some}
-use Rattle.std.proofs.lemmas.Bool.{eqb-true, false_from_ne_true, eqb-false, and_parts}
+use Rattle.std.specs.Prelude.{◌==◌, if◌then◌else◌, ◌%◌, is_some}
+use Rattle.std.proofs.lemmas.Bool.{eqb-true, false_from_ne_true}
 use Rattle.std.proofs.lemmas.Option.{none-some}
-use Rattle.cyc_words.specs.Word.{IsWord as IsMachineWord}
-use Rattle.cyc_words.proofs.Booleans.{and_left}
 use Rattle.cyc_types.specs.declared.typed.Kind.{Kind}
 use Rattle.cyc_types.specs.declared.typed.Kind.TheVariants as kinds
 use Rattle.cyc_types.specs.declared.typed.UnaryOperator.{UnaryOperator}
@@ -29,233 +27,42 @@ use Rattle.cyc_plain.specs.inside.Step.{Choice, operand_word, with_slots, at, ad
 use Rattle.cyc_plain.specs.inside.Step as plain_step
 use Rattle.cyc_plain.proofs.SlotLaws.{put-same}
 use Rattle.cyc_plain.specs.inside.Straight.{At}
-use Rattle.cyc_meaning.specs.Values.{Value, Int, Null, Thin, Fat, Handle, Key, Operand as Kinded, is_kind, words_of_kind, bytes_of_kind}
-use Rattle.cyc_meaning.specs.Operators.{Gives, Raises, has_no_result, binary_word, unary_result, truth_result, truth_of, division_by_zero, null_exception, unary_kind}
-use Rattle.cyc_meaning.specs.Pointers.{takes_kind, followed, result_kind as operator_kind}
-use Rattle.cyc_meaning.specs.Conversion.{conversion}
-use Rattle.cyc_meaning.specs.State.{World, Environment, Awaiting, ConvertTo, Operate, Chain, Apply, ApplyPointer, Decide, Entry, Needs, Focus, Evaluating, Given, Throwing, State, Running, Advance, status_of}
-use Rattle.cyc_meaning.specs.Step.{leads_to, wrong, computed, passes, tested, awaits_right, step}
+use Rattle.cyc_meaning.specs.Values.{Value, Int, Operand as Kinded, is_kind, words_of_kind}
+use Rattle.cyc_meaning.specs.Operators.{Gives, Raises, has_no_result, binary_word, unary_result, truth_result, truth_of, division_by_zero, unary_kind}
+use Rattle.cyc_meaning.specs.Pointers.{takes_kind, result_kind as operator_kind}
+use Rattle.cyc_meaning.specs.State.{World, Environment, Awaiting, Operate, Chain, Apply, ApplyPointer, Decide, Entry, Needs, Evaluating, Given, Running, Advance, status_of}
+use Rattle.cyc_meaning.specs.Step.{computed, tested, awaits_right, step}
 use Rattle.cyc_meaning.specs.SourceMachine.{status_in}
 use Rattle.cyc_lower.specs.inside.Slots.{Types, Starts}
-use Rattle.cyc_lower.proofs.slots.Widths.{same_kind, Outside, chain_kind, wide_kind, keeps_wide, changes_wide, unary_word}
+use Rattle.cyc_lower.proofs.slots.Widths.{same_kind, Outside, chain_kind, unary_one_word}
 use Rattle.cyc_lower.proofs.relation.contents.Moves.{put_elsewhere}
-use Rattle.cyc_lower.specs.inside.ValueCode.{binary_operator, failing_comparison, next_slot, jump_if_zero, jump_if_nonzero, converts_there, unary_instruction, keeps_words, masks, low_byte}
+use Rattle.cyc_lower.specs.inside.ValueCode.{binary_operator, failing_comparison, next_slot, jump_if_zero, jump_if_nonzero, unary_instruction}
 use Rattle.cyc_lower.specs.inside.ExpressionCode.{operand_of, value_slot, is_simple}
 use Rattle.cyc_lower.specs.inside.Lowering.{lower_program}
 use Rattle.cyc_types.specs.declared.typed.PointerOperator.{PointerOperator}
 use Rattle.cyc_lower.specs.inside.ControlCode.{null_failing, null_compared}
-use Rattle.cyc_lower.proofs.relation.code.Stands.{OperandBy, CheckAt, CheckedAt, OperatorAt, TruthAt, ExpressionAt, OperationsAt, GuardAt, TestedAt, ConversionBy, LeftBy}
+use Rattle.cyc_lower.proofs.relation.code.Stands.{OperandBy, CheckAt, CheckedAt, OperatorAt, TruthAt, ExpressionAt, OperationsAt, LeftBy}
 use Rattle.cyc_objects.specs.inside.Tables.{Tables}
 use Rattle.cyc_objects.specs.inside.Words.{Is}
 use Rattle.cyc_lower.proofs.relation.contents.HeldValues.{IsIn, Holds, held, IsLow}
-use Rattle.cyc_lower.proofs.relation.simulation.Relation.{types_on, starts_on, types_at, in_temporary, DataIn, SharedAt, to_slot, to_jump, ValueStack, ConditionStack, LandsStack, AppliedStack, ReadyAt, as_operand, into_slot, as_right, in_operand, with_left, Related, Matches, code_of, bounds_at, top, floor, BesideAt, EvaluatingAt}
+use Rattle.cyc_lower.proofs.relation.simulation.Relation.{types_on, starts_on, in_temporary, DataIn, SharedAt, to_slot, to_jump, ValueStack, ConditionStack, LandsStack, AppliedStack, ReadyAt, as_operand, into_slot, as_right, in_operand, with_left, Related, Matches, code_of, bounds_at, top, floor, BesideAt, EvaluatingAt}
 use Rattle.cyc_lower.proofs.object_steps.Handles.{kept_holds}
-use Rattle.cyc_lower.proofs.relation.contents.Data.{in_words, height-least, Holds-same, null_is, data_written, Is-same}
-use Rattle.cyc_lower.proofs.relation.simulation.Accesses.{IsWell, is_fitting}
-use Rattle.cyc_lower.proofs.relation.simulation.Matched.{IsMatched, silently, by_one, by_two, by_three, shared_way, shared_within}
+use Rattle.cyc_lower.proofs.relation.contents.Data.{height-least, Holds-same, Is-same}
+use Rattle.cyc_lower.proofs.relation.contents.HandlerData.{data_written}
+use Rattle.cyc_lower.proofs.relation.simulation.Accesses.{IsWell}
+use Rattle.cyc_lower.proofs.relation.simulation.Matched.{silently, by_one, by_two, by_three, shared_way, shared_within}
 use Rattle.cyc_lower.proofs.handler_steps.Handling.{raised}
 use Rattle.cyc_lower.proofs.pointer_steps.PointerSteps.{right_follows}
-use Rattle.cyc_lower.proofs.pointer_steps.FatSteps.{widens}
-use Rattle.cyc_lower.proofs.pointer_steps.ThinSteps.{narrows}
-use Rattle.cyc_lower.proofs.value_steps.Evaluations.{only_computed, known_simple, landed, landed_word, lands_at, landed_char}
+use Rattle.cyc_lower.proofs.value_steps.Beginnings.{only_computed}
+use Rattle.cyc_lower.proofs.value_steps.Evaluations.{known_simple}
+use Rattle.cyc_lower.proofs.value_steps.Landings.{landed, landed_word, lands_at}
 use Rattle.cyc_lower.proofs.value_steps.Decided.{given_compared, tested_given}
-use Rattle.cyc_lower.proofs.value_steps.ValueWords.{of_kind, int_of, as_wide, fails_by, other_place, zero_is, int_is, not_zero, not_widened, not_narrowed, kept_at, kept_in, char_low, low_byte_of, int_in}
+use Rattle.cyc_lower.proofs.value_steps.ValueWords.{of_kind, int_of, fails_by, other_place, zero_is, int_is, low_byte_of, int_in}
 use Rattle.cyc_plain.specs.declared.instruction.UnaryOperator.{UnaryOperator as PlainUnary}
 use Rattle.cyc_types.specs.Numbered.{Numbering}
+use Rattle.cyc_lower.proofs.value_steps.Conversions.{not_taken, guard_fails, Stands, GoesBehind}
 
 module _ (source : Program) (pages calls : ℕ) where
-  -- a branch that is taken, and one that is not
-  pub taken : (s : State) (c : Configuration) (b : Bool) (target : ℕ) → b ≡ true → Matches source pages calls s (plain.Running (at c target)) → Matches source pages calls s (plain_step.branches c b target)
-  taken s c b target is m = subst (λ (x : Bool). Matches source pages calls s (plain_step.branches c x target)) (sym is) m
-
-  pub not_taken : (s : State) (c : Configuration) (b : Bool) (target : ℕ) → b ≡ false → Matches source pages calls s (plain.Running (at c (c.active.next + 1))) → Matches source pages calls s (plain_step.branches c b target)
-  not_taken s c b target is m = subst (λ (x : Bool). Matches source pages calls s (plain_step.branches c x target)) (sym is) m
-
-  -- where a check fails, its exception is raised
-  pub guard_fails : {focus : Focus} {l : List Entry} (tag : ℕ) (failing : Comparison) (x y : Operand) (k : List Entry) (e : Environment) (w : World) (c : Configuration) (q : ℕ)
-      → step source (Running focus l e w) ≡ Running (Throwing tag 0) k e w → SharedAt source pages calls l e w c → (shared : SharedAt source pages calls k e w c) → IsMachineWord tag → DataIn source shared.tables c.active.slots k e w c
-      → GuardAt (code_of source c.active.function) (bounds_at source c.active.function) (types_on source c.active.function k) tag failing x y c.active.next q
-      → compares failing (operand_word c.active.slots x) (operand_word c.active.slots y) ≡ true → IsMatched source pages calls (Running focus l e w) (plain.Running c)
-  guard_fails tag failing x y k e w c q does shared shared_there word facts (s, jump, raising_it, end) fails =
-      by_one source pages calls does shared jump
-      (λ choice. taken (Running (Throwing tag 0) k e w) c (compares failing (operand_word c.active.slots x) (operand_word c.active.slots y)) s fails
-      (raised source pages calls tag 0 k e w (at c s) (operands.Word tag) (operands.Word 0) word shared_there facts raising_it refl refl))
-
-  -- where it does not fail, the run goes on behind it
-  pub guard_passes : {focus : Focus} {l : List Entry} (next : State) (tag : ℕ) (failing : Comparison) (x y : Operand) (e : Environment) (w : World) (c : Configuration) (q : ℕ)
-      → step source (Running focus l e w) ≡ next → SharedAt source pages calls l e w c
-      → GuardAt (code_of source c.active.function) (bounds_at source c.active.function) (types_at source c.active.function) tag failing x y c.active.next q
-      → compares failing (operand_word c.active.slots x) (operand_word c.active.slots y) ≡ false → Matches source pages calls next (plain.Running (at c q))
-      → IsMatched source pages calls (Running focus l e w) (plain.Running c)
-  guard_passes next tag failing x y e w c q does shared (s, jump, raised, end) passes goes =
-      by_one source pages calls does shared jump
-      (λ choice. not_taken next c (compares failing (operand_word c.active.slots x) (operand_word c.active.slots y)) s passes
-      (subst (λ n. Matches source pages calls next (plain.Running (at c n))) (sym end) goes))
-
-  -- what is known of a value that stands in an operand
-  abbrev pub Stands : Kinded → Operand → List Entry → Environment → World → Configuration → Type 0
-  Stands v o k e w c = (shared : SharedAt source pages calls k e w c) × DataIn source shared.tables c.active.slots k e w c × IsIn shared.tables v c.active.slots o
-      × Holds shared.tables c.active.slots (floor source c.active.function k) (held k)
-
-  abbrev pub GoesBehind : Kinded → List Entry → Environment → World → Configuration → Type 0
-  GoesBehind v k e w c = IsMatched source pages calls (Running (Given v) k e w) (plain.Running c)
-
-  -- ---- conversions
-
-  -- the same value goes on, and nothing is executed
-  kept_value : (from to : Kind) (target : Option Kind) (i : Kind) (v : Value) (o : Operand) (k : List Entry) (e : Environment) (w : World) (c : Configuration) (q : ℕ)
-      → words_of_kind i ≡ words_of_kind to → conversion to v ≡ Gives v
-      → step source (Running (Given (of_kind i v)) (Needs (ConvertTo from to target) ∷ k) e w) ≡ Running (Given (of_kind to v)) k e w → Stands (of_kind i v) o k e w c
-      → c.active.next ≡ q → ValueStack source c.active.function e.locals to o q c.frames k → GoesBehind (of_kind i v) (Needs (ConvertTo from to target) ∷ k) e w c
-  kept_value from to target i v o k e w c q wide gives does (shared, facts, is, holds) end stack =
-      silently source pages calls (Running (Given (of_kind i v)) (Needs (ConvertTo from to target) ∷ k) e w) (Running (Given (of_kind to v)) k e w) (plain.Running c) does
-      (shared, in_operand o facts (kept_in shared.tables i to v c.active.slots o wide gives is) (kept_holds _ _ _ k holds) (subst (λ r. ValueStack source c.active.function e.locals to o r c.frames k) (sym end) stack))
-      (omega arith)
-
-  -- a value is converted from its own kind
-  converts_kind : (from to : Kind) (target : Option Kind) (v : Kinded) (k : List Entry) (e : Environment) (w : World) → IsWell (step source (Running (Given v) (Needs (ConvertTo from to target) ∷ k) e w))
-      → step source (Running (Given v) (Needs (ConvertTo from to target) ∷ k) e w) ≡ computed to (conversion to v.value) k e w
-  converts_kind from to target v k e w well =
-      ap (λ (b : Bool). if b then computed to (conversion to v.value) k e w else wrong w) (is_fitting (is_kind v.kind from && leads_to w target (followed v.value)) (computed to (conversion to v.value) k e w) w well)
-
-  -- its kind is that one
-  converted_from : (from to : Kind) (target : Option Kind) (v : Kinded) (k : List Entry) (e : Environment) (w : World) → IsWell (step source (Running (Given v) (Needs (ConvertTo from to target) ∷ k) e w)) → v.kind ≡ from
-  converted_from from to target v k e w well =
-      same_kind v.kind from
-      (and_left (is_kind v.kind from) (leads_to w target (followed v.value)) (is_fitting (is_kind v.kind from && leads_to w target (followed v.value)) (computed to (conversion to v.value) k e w) w well))
-
-  -- a char stays a char
-  kept_char : (from : Kind) (target : Option Kind) (a : ℕ) (o : Operand) (k : List Entry) (e : Environment) (w : World) (c : Configuration)
-      → step source (Running (Given (of_kind kinds.Char (Int a))) (Needs (ConvertTo from kinds.Char target) ∷ k) e w) ≡ Running (Given (of_kind kinds.Char (Int (a % 256)))) k e w
-      → Stands (of_kind kinds.Char (Int a)) o k e w c
-      → (q : ℕ) × (c.active.next ≡ q) × ValueStack source c.active.function e.locals kinds.Char o q c.frames k → GoesBehind (of_kind kinds.Char (Int a)) (Needs (ConvertTo from kinds.Char target) ∷ k) e w c
-  kept_char from target a o k e w c does (shared, facts, is, holds) (q, end, stack) =
-      let low = char_low shared.tables a c.active.slots o is in
-      kept_value from kinds.Char target kinds.Char (Int a) o k e w c q refl (ap (λ n. Gives (Int n)) low) (does ∙ ap (λ n. Running (Given (of_kind kinds.Char (Int n))) k e w) low) (shared, facts, is, holds) end stack
-
-  converted : (from to : Kind) (target : Option Kind) (i : Kind) (v : Value) (o : Operand) (k : List Entry) (e : Environment) (w : World) (c : Configuration) → IsWell (computed to (conversion to v) k e w)
-      → step source (Running (Given (of_kind i v)) (Needs (ConvertTo from to target) ∷ k) e w) ≡ computed to (conversion to v) k e w → masks i to ≡ false → words_of_kind i ≡ words_of_kind to → Stands (of_kind i v) o k e w c
-      → (q : ℕ) × TestedAt (code_of source c.active.function) (bounds_at source c.active.function) (types_on source c.active.function k) to o c.active.next q × ValueStack source c.active.function e.locals to o q c.frames k → GoesBehind (of_kind i v) (Needs (ConvertTo from to target) ∷ k) e w c
-  converted from kinds.Char target kinds.Char (Int a) o k e w c well does whole wide stands stack = kept_char from target a o k e w c does stands stack
-  converted from kinds.Char target kinds.Int (Int a) o k e w c well does whole wide stands stack = absurd (let f : true ≡ false = whole in cc)
-  converted from kinds.Char target i (Int a) o k e w c well does whole wide (shared, facts, is, holds) stack =
-      let (words, p, same, is_it) = in_words shared.tables (of_kind i (Int a)) c.active.slots o is in
-      absurd is_it
-  converted from kinds.Int target i (Int a) o k e w c well does whole wide stands (q, end, stack) = kept_value from kinds.Int target i (Int a) o k e w c q wide refl does stands end stack
-  converted from kinds.Nullable target i Null o k e w c well does whole wide stands (q, end, stack) = kept_value from kinds.Nullable target i Null o k e w c q wide refl does stands end stack
-  converted from kinds.Fat target i Null o k e w c well does whole wide stands (q, end, stack) = kept_value from kinds.Fat target i Null o k e w c q wide refl does stands end stack
-  converted from kinds.NonNull target i Null o k e w c well does whole wide (shared, facts, is, holds) (q, check, stack) =
-      guard_fails null_exception comparisons.Equal o (operands.Word 0) k e w c q does shared shared
-      (omega arith) facts check
-      (ap (λ x. x == 0) (null_is shared.tables i c.active.slots o is))
-  converted from kinds.Nullable target i (Thin object offset) o k e w c well does whole wide stands (q, end, stack) = kept_value from kinds.Nullable target i (Thin object offset) o k e w c q wide refl does stands end stack
-  converted from kinds.NonNull target i (Thin object offset) o k e w c well does whole wide (shared, facts, is, holds) (q, check, stack) =
-      guard_passes (Running (Given (of_kind kinds.NonNull (Thin object offset))) k e w) null_exception comparisons.Equal o (operands.Word 0) e w c q does shared check
-      (not_zero shared.tables i object offset c.active.slots o is)
-      (shared, in_operand o facts (kept_in shared.tables i kinds.NonNull (Thin object offset) c.active.slots o wide refl is) (kept_holds _ _ _ k holds) stack)
-  converted from kinds.Fat target i (Thin object offset) o k e w c well does whole wide (shared, facts, is, holds) stack =
-      let (words, p, same, is_it) = in_words shared.tables (of_kind i (Thin object offset)) c.active.slots o is in
-      absurd (not_widened shared.tables i object offset words p is_it wide)
-  converted from kinds.Fat target i (Fat object start many index) o k e w c well does whole wide stands (q, end, stack) =
-      kept_value from kinds.Fat target i (Fat object start many index) o k e w c q wide refl does stands end stack
-  converted from kinds.Nullable target i (Fat object start many index) o k e w c well does whole wide (shared, facts, is, holds) stack =
-      let (words, p, same, is_it) = in_words shared.tables (of_kind i (Fat object start many index)) c.active.slots o is in
-      absurd (not_narrowed shared.tables i object start many index words p is_it wide)
-  converted from kinds.NonNull target i (Fat object start many index) o k e w c well does whole wide (shared, facts, is, holds) stack =
-      let (words, p, same, is_it) = in_words shared.tables (of_kind i (Fat object start many index)) c.active.slots o is in
-      absurd (not_narrowed shared.tables i object start many index words p is_it wide)
-  converted from kinds.Handle target i (Handle region) o k e w c well does whole wide stands (q, end, stack) = kept_value from kinds.Handle target i (Handle region) o k e w c q wide refl does stands end stack
-  converted from kinds.Key target i (Key region) o k e w c well does whole wide stands (q, end, stack) = kept_value from kinds.Key target i (Key region) o k e w c q wide refl does stands end stack
-  converted from to target i v o k e w c well does whole wide stands stack = absurd (well refl)
-
-  converted_leads : (from to : Kind) (target : Option Kind) (v : Kinded) (k : List Entry) (e : Environment) (w : World) → IsWell (step source (Running (Given v) (Needs (ConvertTo from to target) ∷ k) e w)) → leads_to w target (followed v.value) ≡ true
-  converted_leads from to target v k e w well =
-      (and_parts (is_kind v.kind from) (leads_to w target (followed v.value)) (is_fitting (is_kind v.kind from && leads_to w target (followed v.value)) (computed to (conversion to v.value) k e w) w well)).1
-
-  -- an int that becomes a char keeps its low byte, which comes to a slot
-  masked : (from : Kind) (target : Option Kind) (i : Kind) (v : Value) (o : Operand) (d : ℕ) (k : List Entry) (e : Environment) (w : World) (c : Configuration)
-      → step source (Running (Given (of_kind i v)) (Needs (ConvertTo from kinds.Char target) ∷ k) e w) ≡ computed kinds.Char (conversion kinds.Char v) k e w → IsWell (computed kinds.Char (conversion kinds.Char v) k e w)
-      → Stands (of_kind i v) o k e w c → At (code_of source c.active.function) c.active.next (low_byte o d)
-      → LandsStack source c.active.function e.locals kinds.Char d (c.active.next + 1) c.frames k → GoesBehind (of_kind i v) (Needs (ConvertTo from kinds.Char target) ∷ k) e w c
-  masked from target i (Int a) o d k e w c does well (shared, facts, is, holds) here lands =
-      let word = bit_and (operand_word c.active.slots o) 255 in
-      let same : word ≡ a % 256 = low_byte_of (operand_word c.active.slots o) ∙ ap (λ x. x % 256) (int_is shared.tables i a c.active.slots o is) in
-      by_one source pages calls does shared here
-      (λ choice. landed_char source pages calls (a % 256) word d k e w c (c.active.next + 1) same (omega arith) shared facts holds refl lands)
-  masked from target i v o d k e w c does well stands here lands = absurd (well refl)
-
-  -- nothing else becomes one and changes its words
-  never_char : (t : Tables) (i : Kind) (v : Value) (slots : Words) (o : Operand) (k : List Entry) (e : Environment) (w : World)
-      → keeps_words i kinds.Char ≡ false → masks i kinds.Char ≡ false → IsWell (computed kinds.Char (conversion kinds.Char v) k e w) → IsIn t (of_kind i v) slots o → ⊥
-  never_char t kinds.Int (Int a) slots o k e w changes whole well is = let f : true ≡ false = whole in cc
-  never_char t kinds.Char (Int a) slots o k e w changes whole well is = let f : true ≡ false = changes in cc
-  never_char t i (Int a) slots o k e w changes whole well is = let (words, p, same, is_it) = in_words t (of_kind i (Int a)) slots o is in is_it
-  never_char t i v slots o k e w changes whole well is = well refl
-
-  -- where it keeps its words, or gets more, or fewer
-  converts_by : (same : Bool) (from to : Kind) (target : Option Kind) (v : Kinded) (o : Operand) (q : ℕ) (k : List Entry) (e : Environment) (w : World) (c : Configuration) → keeps_words from to ≡ same → masks from to ≡ false
-      → step source (Running (Given v) (Needs (ConvertTo from to target) ∷ k) e w) ≡ computed to (conversion to v.value) k e w → leads_to w target (followed v.value) ≡ true → v.kind ≡ from → IsWell (computed to (conversion to v.value) k e w)
-      → Stands v o k e w c
-      → ConversionBy (code_of source c.active.function) (bounds_at source c.active.function) (types_on source c.active.function k) same to (option_map bytes_of_kind target) o (top source c.active.function k) c.active.next q
-      → ValueStack source c.active.function e.locals to o q c.frames k → GoesBehind v (Needs (ConvertTo from to target) ∷ k) e w c
-  converts_by true from to target v o q k e w c keeps whole does leads kind well stands at stack =
-      converted from to target v.kind v.value o k e w c well does (ap (λ i. masks i to) kind ∙ whole) (ap words_of_kind kind ∙ keeps_wide from to keeps) stands (q, at, stack)
-  converts_by false from kinds.Fat target v o q k e w c changes whole does leads kind well (shared, facts, is, holds) at stack =
-      let narrow = changes_wide from kinds.Fat refl changes in
-      widens source pages calls from target v o q k e w c does well (λ three. eqb-false (words_of_kind from) 3 narrow (ap words_of_kind (sym kind) ∙ three)) shared facts is holds at stack
-  converts_by false from kinds.Char target v o q k e w c changes whole does leads kind well (shared, facts, is, holds) at stack =
-      absurd (never_char shared.tables v.kind v.value c.active.slots o k e w (ap (λ i. keeps_words i kinds.Char) kind ∙ changes) (ap (λ i. masks i kinds.Char) kind ∙ whole) well is)
-  converts_by false from kinds.NonNull target v o q k e w c changes whole does leads kind well (shared, facts, is, holds) at stack =
-      narrows source pages calls from kinds.NonNull target v o q k e w c does leads (kind ∙ wide_kind from (changes_wide from kinds.NonNull refl changes)) shared facts is holds at stack
-  converts_by false from kinds.Nullable target v o q k e w c changes whole does leads kind well (shared, facts, is, holds) at stack =
-      narrows source pages calls from kinds.Nullable target v o q k e w c does leads (kind ∙ wide_kind from (changes_wide from kinds.Nullable refl changes)) shared facts is holds at stack
-  converts_by false from to target v o q k e w c changes whole does leads kind well stands at stack = absurd at
-
-  pub converts : (from to : Kind) (target : Option Kind) (v : Kinded) (o : Operand) (k : List Entry) (e : Environment) (w : World) (c : Configuration)
-      → IsWell (step source (Running (Given v) (Needs (ConvertTo from to target) ∷ k) e w)) → Stands v o k e w c
-      → ValueStack source c.active.function e.locals v.kind o c.active.next c.frames (Needs (ConvertTo from to target) ∷ k) → GoesBehind v (Needs (ConvertTo from to target) ∷ k) e w c
-  converts from to target v o k e w c well stands (inl (d, is, here, lands)) =
-      let well_char = subst (λ x. IsWell (step source (Running (Given v) (Needs (ConvertTo from x target) ∷ k) e w))) is well in
-      let does = converts_kind from kinds.Char target v k e w well_char in
-      subst (λ x. GoesBehind v (Needs (ConvertTo from x target) ∷ k) e w c) (sym is)
-      (masked from target v.kind v.value o d k e w c does (subst IsWell does well_char) stands here lands)
-  converts from to target v o k e w c well stands (inr (q, whole, at, stack)) =
-      converts_by (keeps_words from to) from to target v o q k e w c refl whole (converts_kind from to target v k e w well) (converted_leads from to target v k e w well) (converted_from from to target v k e w well)
-      (subst IsWell (converts_kind from to target v k e w well) well) stands at stack
-
-  -- a conversion that raises nothing, of a value in the slots of a local that is about to get it
-  converted_ahead : (t : Tables) (from to i : Kind) (v : Value) (words : Words) (n : ℕ) (k : List Entry) (e : Environment) (w : World)
-      → IsWell (computed to (conversion to v) k e w) → converts_there from to ≡ true → masks i to ≡ false → words_of_kind i ≡ words_of_kind to → Is t i v words n
-      → (computed to (conversion to v) k e w ≡ Running (Given (of_kind to v)) k e w) × Is t to v words n
-  converted_ahead t from kinds.Char kinds.Char (Int a) words n k e w well quiet whole wide is =
-      let low : a % 256 ≡ a = omega (arith, is.1) in
-      (ap (λ x. Running (Given (of_kind kinds.Char (Int x))) k e w) low, is)
-  converted_ahead t from kinds.Char kinds.Int (Int a) words n k e w well quiet whole wide is = absurd (let f : true ≡ false = whole in cc)
-  converted_ahead t from kinds.Char i (Int a) words n k e w well quiet whole wide is = absurd is
-  converted_ahead t from kinds.NonNull i v words n k e w well quiet whole wide is = absurd (let f : false ≡ true = quiet in cc)
-  converted_ahead t from kinds.Int i (Int a) words n k e w well quiet whole wide is = (refl, kept_at t i kinds.Int (Int a) words n wide refl is)
-  converted_ahead t from kinds.Nullable i Null words n k e w well quiet whole wide is = (refl, kept_at t i kinds.Nullable Null words n wide refl is)
-  converted_ahead t from kinds.Fat i Null words n k e w well quiet whole wide is = (refl, kept_at t i kinds.Fat Null words n wide refl is)
-  converted_ahead t from kinds.Nullable i (Thin object offset) words n k e w well quiet whole wide is = (refl, kept_at t i kinds.Nullable (Thin object offset) words n wide refl is)
-  converted_ahead t from kinds.Fat i (Thin object offset) words n k e w well quiet whole wide is = absurd (not_widened t i object offset words n is wide)
-  converted_ahead t from kinds.Nullable i (Fat object start many index) words n k e w well quiet whole wide is = absurd (not_narrowed t i object start many index words n is wide)
-  converted_ahead t from kinds.Fat i (Fat object start many index) words n k e w well quiet whole wide is = (refl, kept_at t i kinds.Fat (Fat object start many index) words n wide refl is)
-  converted_ahead t from kinds.Handle i (Handle region) words n k e w well quiet whole wide is = (refl, kept_at t i kinds.Handle (Handle region) words n wide refl is)
-  converted_ahead t from kinds.Key i (Key region) words n k e w well quiet whole wide is = (refl, kept_at t i kinds.Key (Key region) words n wide refl is)
-  converted_ahead t from to i v words n k e w well quiet whole wide is = absurd (well refl)
-
-  -- its kind is the one that it is converted from, and it has as many words behind
-  pub converts_ahead : (t : Tables) (from to : Kind) (target : Option Kind) (v : Kinded) (n : ℕ) (k : List Entry) (e : Environment) (w : World) (c : Configuration)
-      → IsWell (step source (Running (Given v) (Needs (ConvertTo from to target) ∷ k) e w)) → converts_there from to ≡ true → masks from to ≡ false → Is t v.kind v.value c.active.slots n
-      → (step source (Running (Given v) (Needs (ConvertTo from to target) ∷ k) e w) ≡ Running (Given (of_kind to v.value)) k e w) × Is t to v.value c.active.slots n
-      × (words_of_kind v.kind ≡ words_of_kind to)
-  converts_ahead t from to target v n k e w c well quiet whole is =
-      let does = converts_kind from to target v k e w well in
-      let kind = converted_from from to target v k e w well in
-      let wide = ap words_of_kind kind ∙ as_wide from to quiet in
-      let (goes, now) = converted_ahead t from to v.kind v.value c.active.slots n k e w (subst IsWell does well) quiet (ap (λ i. masks i to) kind ∙ whole) wide is in
-      (does ∙ goes, now, wide)
-
   -- ---- operators
 
   -- a word has come to a slot, where it is a value of a kind
@@ -266,7 +73,7 @@ module _ (source : Program) (pages calls : ℕ) where
   operates_word : (u : UnaryOperator) (operator : PlainUnary) (i : Kind) (a : ℕ) (o : Operand) (d : ℕ) (k : List Entry) (e : Environment) (w : World) (c : Configuration)
       → unary_kind u ≡ kinds.Int → unary_result u (Int a) ≡ Gives (Int (plain_operators.unary_result operator a)) → (shared : SharedAt source pages calls k e w c) → IsIn shared.tables (of_kind i (Int a)) c.active.slots o
       → At (code_of source c.active.function) c.active.next (instructions.Unary operator d o) → IsLanded shared.tables kinds.Int d k e w c
-      → GoesBehind (of_kind i (Int a)) (Needs (Operate u) ∷ k) e w c
+      → GoesBehind source pages calls (of_kind i (Int a)) (Needs (Operate u) ∷ k) e w c
   operates_word u operator i a o d k e w c int result shared is here goes =
       let x = plain_operators.unary_result operator (operand_word c.active.slots o) in
       by_one source pages calls (ap (λ r. computed (unary_kind u) r k e w) result ∙ ap (λ j. Running (Given (of_kind j (Int (plain_operators.unary_result operator a)))) k e w) int) shared here
@@ -274,7 +81,7 @@ module _ (source : Program) (pages calls : ℕ) where
 
   pub operates_value : (u : UnaryOperator) (i : Kind) (v : Value) (o : Operand) (d : ℕ) (k : List Entry) (e : Environment) (w : World) (c : Configuration)
       → IsWell (step source (Running (Given (of_kind i v)) (Needs (Operate u) ∷ k) e w)) → (shared : SharedAt source pages calls k e w c) → IsIn shared.tables (of_kind i v) c.active.slots o
-      → At (code_of source c.active.function) c.active.next (unary_instruction u d o) → IsLanded shared.tables (unary_kind u) d k e w c → GoesBehind (of_kind i v) (Needs (Operate u) ∷ k) e w c
+      → At (code_of source c.active.function) c.active.next (unary_instruction u d o) → IsLanded shared.tables (unary_kind u) d k e w c → GoesBehind source pages calls (of_kind i v) (Needs (Operate u) ∷ k) e w c
   operates_value unary.Not i v o d k e w c well shared is here goes =
       let x = truth (operand_word c.active.slots o == 0) in
       by_one source pages calls
@@ -300,7 +107,7 @@ module _ (source : Program) (pages calls : ℕ) where
 
   -- a char that serves as an int stays where it is
   widened : (i : Kind) (v : Value) (o : Operand) (k : List Entry) (e : Environment) (w : World) (c : Configuration) → IsWell (step source (Running (Given (of_kind i v)) (Needs (Operate unary.Widen) ∷ k) e w))
-      → Stands (of_kind i v) o k e w c → ValueStack source c.active.function e.locals kinds.Int o c.active.next c.frames k → GoesBehind (of_kind i v) (Needs (Operate unary.Widen) ∷ k) e w c
+      → Stands source pages calls (of_kind i v) o k e w c → ValueStack source c.active.function e.locals kinds.Int o c.active.next c.frames k → GoesBehind source pages calls (of_kind i v) (Needs (Operate unary.Widen) ∷ k) e w c
   widened i (Int a) o k e w c well (shared, facts, is, holds) stack =
       silently source pages calls (Running (Given (of_kind i (Int a))) (Needs (Operate unary.Widen) ∷ k) e w) (Running (Given (int_of a)) k e w) (plain.Running c) refl
       (shared, in_operand o facts (int_in shared.tables i a c.active.slots o is) (kept_holds _ _ _ k holds) stack)
@@ -308,16 +115,14 @@ module _ (source : Program) (pages calls : ℕ) where
   widened i v o k e w c well stands stack = absurd (well refl)
 
   pub operates : (u : UnaryOperator) (v : Kinded) (o : Operand) (k : List Entry) (e : Environment) (w : World) (c : Configuration)
-      → IsWell (step source (Running (Given v) (Needs (Operate u) ∷ k) e w)) → Stands v o k e w c
-      → ValueStack source c.active.function e.locals v.kind o c.active.next c.frames (Needs (Operate u) ∷ k) → GoesBehind v (Needs (Operate u) ∷ k) e w c
+      → IsWell (step source (Running (Given v) (Needs (Operate u) ∷ k) e w)) → Stands source pages calls v o k e w c
+      → ValueStack source c.active.function e.locals v.kind o c.active.next c.frames (Needs (Operate u) ∷ k) → GoesBehind source pages calls v (Needs (Operate u) ∷ k) e w c
   operates unary.Widen v o k e w c well stands stack = widened v.kind v.value o k e w c well stands stack
   operates u v o k e w c well (shared, facts, is, holds) (to_slot (d, here, lands)) =
-      operates_value u v.kind v.value o d k e w c well shared is here (lands_word (unary_kind u) d k e w c (unary_word u) shared facts holds lands)
+      operates_value u v.kind v.value o d k e w c well shared is here (lands_word (unary_kind u) d k e w c (unary_one_word u) shared facts holds lands)
   operates unary.Not v o k e w c well (shared, facts, is, holds) (to_jump (same, stack)) =
       tested_given source pages calls v o (Needs (Operate unary.Not) ∷ k) e w c (λ none. well (ap (λ z. status_in (status_of (computed kinds.Int (truth_result z) k e w))) none)) shared facts is holds stack
-  operates unary.Negate v o k e w c well stands (to_jump (same, stack)) = absurd (let f : unary.Negate ≡ unary.Not = same in cc)
-  operates unary.Complement v o k e w c well stands (to_jump (same, stack)) = absurd (let f : unary.Complement ≡ unary.Not = same in cc)
-  operates unary.LowByte v o k e w c well stands (to_jump (same, stack)) = absurd (let f : unary.LowByte ≡ unary.Not = same in cc)
+  operates u v o k e w c well stands (to_jump (same, stack)) = absurd (let f : u ≡ unary.Not = same in cc)
 
   -- ---- divisions
 
@@ -346,9 +151,9 @@ module _ (source : Program) (pages calls : ℕ) where
       → operand_word c.active.slots l ≡ a → operand_word c.active.slots r ≡ b
       → CheckAt (code_of source c.active.function) (bounds_at source c.active.function) (types_on source c.active.function k) division_by_zero r c.active.next m
       → At (code_of source c.active.function) m (instructions.Binary (binary_operator u) d l r) → m + 1 ≡ q
-      → IsComputed u a b d q k e w c → GoesBehind (of_kind j (Int b)) (Needs (Apply u (of_kind i (Int a))) ∷ k) e w c
+      → IsComputed u a b d q k e w c → GoesBehind source pages calls (of_kind j (Int b)) (Needs (Apply u (of_kind i (Int a))) ∷ k) e w c
   tested_divides u i j a b true l r d k e w c m q plain_test test same zero_b shared facts is_left is check here end goes =
-      guard_fails division_by_zero comparisons.Equal r (operands.Word 0) k e w c m
+      guard_fails source pages calls division_by_zero comparisons.Equal r (operands.Word 0) k e w c m
       (ap (λ x. computed kinds.Int (if x then Raises 4 else Gives (Int (binary_word u a b))) k e w) (test b ∙ zero_b)) shared shared
       (omega arith) facts check (ap (λ x. x == 0) is ∙ zero_b)
   tested_divides u i j a b false l r d k e w c m q plain_test test same zero_b shared facts is_left is (s, jump, raised, behind) here end goes =
@@ -366,7 +171,7 @@ module _ (source : Program) (pages calls : ℕ) where
       → (shared : SharedAt source pages calls k e w c) → DataIn source shared.tables c.active.slots k e w c
       → operand_word c.active.slots l ≡ a → operand_word c.active.slots r ≡ b
       → CheckedAt (code_of source c.active.function) (bounds_at source c.active.function) (types_on source c.active.function k) u d l r c.active.next q
-      → IsComputed u a b d q k e w c → GoesBehind (of_kind j (Int b)) (Needs (Apply u (of_kind i (Int a))) ∷ k) e w c
+      → IsComputed u a b d q k e w c → GoesBehind source pages calls (of_kind j (Int b)) (Needs (Apply u (of_kind i (Int a))) ∷ k) e w c
   divides u i j a b l (operands.Word (suc n)) d k e w c q plain_test test same shared facts is_left is (m, begin, here, end) goes =
       let nonzero : (b == 0) ≡ false = ap (λ x. x == 0) (sym is) ∙ false_from_ne_true (suc n == 0) (λ h. absurd (let z : suc n ≡ 0 = eqb-true (suc n) 0 h in omega (arith, z))) in
       by_one source pages calls (ap (λ x. computed kinds.Int (if x then Raises 4 else Gives (Int (binary_word u a b))) k e w) (test b ∙ nonzero)) shared
@@ -381,7 +186,7 @@ module _ (source : Program) (pages calls : ℕ) where
       → (shared : SharedAt source pages calls k e w c) → DataIn source shared.tables c.active.slots k e w c
       → operand_word c.active.slots l ≡ a → operand_word c.active.slots r ≡ b
       → OperatorAt (code_of source c.active.function) (bounds_at source c.active.function) (types_on source c.active.function k) u d l r c.active.next q
-      → IsComputed u a b d q k e w c → GoesBehind (of_kind j (Int b)) (Needs (Apply u (of_kind i (Int a))) ∷ k) e w c
+      → IsComputed u a b d q k e w c → GoesBehind source pages calls (of_kind j (Int b)) (Needs (Apply u (of_kind i (Int a))) ∷ k) e w c
   computes operators.Divide i j a b l r d k e w c q shared facts is_left is here goes =
       divides operators.Divide i j a b l r d k e w c q (λ x. refl) (λ x. refl) (λ x y. refl) shared facts is_left is here goes
   computes operators.Remainder i j a b l r d k e w c q shared facts is_left is here goes =
@@ -441,7 +246,7 @@ module _ (source : Program) (pages calls : ℕ) where
   compares_words : (u : Operator) (i j : Kind) (failing : Comparison) (a b : ℕ) (l r : Operand) (k : List Entry) (e : Environment) (w : World) (c : Configuration) → failing_comparison u ≡ Some failing
       → step source (Running (Given (of_kind j (Int b))) (Needs (Apply u (of_kind i (Int a))) ∷ k) e w) ≡ Running (Given (int_of (binary_word u a b))) k e w
       → (shared : SharedAt source pages calls k e w c) → DataIn source shared.tables c.active.slots k e w c → Holds shared.tables c.active.slots (floor source c.active.function k) (held k) → operand_word c.active.slots l ≡ a → operand_word c.active.slots r ≡ b
-      → ConditionStack source c.active.function failing l r c.active.next c.frames k → GoesBehind (of_kind j (Int b)) (Needs (Apply u (of_kind i (Int a))) ∷ k) e w c
+      → ConditionStack source c.active.function failing l r c.active.next c.frames k → GoesBehind source pages calls (of_kind j (Int b)) (Needs (Apply u (of_kind i (Int a))) ∷ k) e w c
   compares_words u i j failing a b l r k e w c is does shared facts holds is_left is_right stack =
       let x = operand_word c.active.slots l in
       let fails = fails_by u failing a b is ∙ ap (λ y. compares failing y b) (sym is_left) ∙ ap (compares failing x) (sym is_right) in
@@ -451,7 +256,7 @@ module _ (source : Program) (pages calls : ℕ) where
 
   compares_both : (u : Operator) (i j : Kind) (failing : Comparison) (a b : ℕ) (l r : Operand) (k : List Entry) (e : Environment) (w : World) (c : Configuration) → failing_comparison u ≡ Some failing
       → (shared : SharedAt source pages calls k e w c) → DataIn source shared.tables c.active.slots k e w c → Holds shared.tables c.active.slots (floor source c.active.function k) (held k) → operand_word c.active.slots l ≡ a → operand_word c.active.slots r ≡ b
-      → ConditionStack source c.active.function failing l r c.active.next c.frames k → GoesBehind (of_kind j (Int b)) (Needs (Apply u (of_kind i (Int a))) ∷ k) e w c
+      → ConditionStack source c.active.function failing l r c.active.next c.frames k → GoesBehind source pages calls (of_kind j (Int b)) (Needs (Apply u (of_kind i (Int a))) ∷ k) e w c
   compares_both operators.Divide i j failing a b l r k e w c is shared facts holds is_left is_right stack = absurd (none-some failing is)
   compares_both operators.Remainder i j failing a b l r k e w c is shared facts holds is_left is_right stack = absurd (none-some failing is)
   compares_both u i j failing a b l r k e w c is shared facts holds is_left is_right stack =
@@ -461,7 +266,7 @@ module _ (source : Program) (pages calls : ℕ) where
   applies_values : (u : Operator) (i j : Kind) (left v : Value) (k : List Entry) (e : Environment) (w : World) (c : Configuration)
       → IsWell (step source (Running (Given (of_kind j v)) (Needs (Apply u (of_kind i left)) ∷ k) e w)) → (shared : SharedAt source pages calls k e w c) → DataIn source shared.tables c.active.slots k e w c
       → ReadyAt source shared.tables (of_kind j v) e.locals c.active.function c.active.next c.active.slots c.frames (Needs (Apply u (of_kind i left)) ∷ k)
-      → GoesBehind (of_kind j v) (Needs (Apply u (of_kind i left)) ∷ k) e w c
+      → GoesBehind source pages calls (of_kind j v) (Needs (Apply u (of_kind i left)) ∷ k) e w c
   applies_values u i j (Int a) (Int b) k e w c well shared facts (r, is, (l, is_left, low, inl (holds, to_slot (d, q, here, lands)))) =
       computes u i j a b l r d k e w c q shared facts (int_is shared.tables i a c.active.slots l is_left) (int_is shared.tables j b c.active.slots r is) here
       (λ m x end x_is. landed_word source pages calls (binary_word u a b) x d k e w (at c m) q x_is shared facts holds end lands)
@@ -475,7 +280,7 @@ module _ (source : Program) (pages calls : ℕ) where
 
   pub applies : (u : Operator) (left v : Kinded) (k : List Entry) (e : Environment) (w : World) (c : Configuration)
       → IsWell (step source (Running (Given v) (Needs (Apply u left) ∷ k) e w)) → (shared : SharedAt source pages calls k e w c) → DataIn source shared.tables c.active.slots k e w c
-      → ReadyAt source shared.tables v e.locals c.active.function c.active.next c.active.slots c.frames (Needs (Apply u left) ∷ k) → GoesBehind v (Needs (Apply u left) ∷ k) e w c
+      → ReadyAt source shared.tables v e.locals c.active.function c.active.next c.active.slots c.frames (Needs (Apply u left) ∷ k) → GoesBehind source pages calls v (Needs (Apply u left) ∷ k) e w c
   applies u left v k e w c well shared facts ready = applies_values u left.kind v.kind left.value v.value k e w c well shared facts ready
 
   -- ---- truth values
@@ -503,8 +308,8 @@ module _ (source : Program) (pages calls : ℕ) where
       shared (data_written source shared.tables c.active.function c.active.base w.objects e.locals k c.active.slots slots c.active.handlers c.globals c.frames free 1 (height-least base (held k)) (λ m out. put_elsewhere c.active.slots free x 1 m (omega arith) out) facts)
       (Holds-same shared.tables c.active.slots slots base (held k) (λ m below. put_elsewhere c.active.slots free x 1 m (omega arith) (inl below)) holds) end lands
 
-  pub decides_truth : (v : Kinded) (o : Operand) (k : List Entry) (e : Environment) (w : World) (c : Configuration) → IsWell (step source (Running (Given v) (Needs Decide ∷ k) e w)) → Stands v o k e w c
-      → ValueStack source c.active.function e.locals v.kind o c.active.next c.frames (Needs Decide ∷ k) → GoesBehind v (Needs Decide ∷ k) e w c
+  pub decides_truth : (v : Kinded) (o : Operand) (k : List Entry) (e : Environment) (w : World) (c : Configuration) → IsWell (step source (Running (Given v) (Needs Decide ∷ k) e w)) → Stands source pages calls v o k e w c
+      → ValueStack source c.active.function e.locals v.kind o c.active.next c.frames (Needs Decide ∷ k) → GoesBehind source pages calls v (Needs Decide ∷ k) e w c
   decides_truth v o k e w c well (shared, facts, is, holds) (to_jump stack) =
       tested_given source pages calls v o (Needs Decide ∷ k) e w c (λ none. well (ap (λ z. status_in (status_of (computed kinds.Int (truth_of z) k e w))) none)) shared facts is holds stack
   decides_truth v o k e w c well (shared, facts, is, holds) (to_slot (d, q, there, (first, second, end), lands)) =
@@ -536,7 +341,7 @@ module _ (source : Program) (pages calls : ℕ) where
       → Holds shared.tables c.active.slots (floor source c.active.function k) (held k)
       → TruthAt (code_of source c.active.function) (bounds_at source c.active.function) (types_on source c.active.function k) (top source c.active.function k) d m r
       → LandsStack source c.active.function e.locals kinds.Int d r c.frames (Needs (Chain os) ∷ k)
-      → GoesBehind v (Needs (Chain (ThenTest u b os)) ∷ k) e w c
+      → GoesBehind source pages calls v (Needs (Chain (ThenTest u b os)) ∷ k) e w c
   decided_at_once u b os v f k e w c i d m r does here jumps other told shared facts holds (first, second, end) lands =
       let code = code_of source c.active.function in
       let free = top source c.active.function k in
@@ -556,9 +361,9 @@ module _ (source : Program) (pages calls : ℕ) where
   -- in a place with a test, both ways
   tests : (u : LogicalOperator) (b : Expression) (os : Operations) (v : Kinded) (f : Bool) (k : List Entry) (e : Environment) (w : World) (c : Configuration) (d q : ℕ)
       → IsWell (step source (Running (Given v) (Needs (Chain (ThenTest u b os)) ∷ k) e w))
-      → (c.active.slots (top source c.active.function k) == 0) ≡ f → Stands v (operands.Slot (top source c.active.function k)) k e w c
+      → (c.active.slots (top source c.active.function k) == 0) ≡ f → Stands source pages calls v (operands.Slot (top source c.active.function k)) k e w c
       → OperationsAt (code_of source c.active.function) (bounds_at source c.active.function) (types_on source c.active.function k) (ThenTest u b os) (operands.Slot (top source c.active.function k)) d (top source c.active.function k) c.active.next q
-      → LandsStack source c.active.function e.locals (chain_kind kinds.Int os) d q c.frames k → GoesBehind v (Needs (Chain (ThenTest u b os)) ∷ k) e w c
+      → LandsStack source c.active.function e.locals (chain_kind kinds.Int os) d q c.frames k → GoesBehind source pages calls v (Needs (Chain (ThenTest u b os)) ∷ k) e w c
   tests logical.AndThen b os v true k e w c d q well told (shared, facts, is, holds) (m, r, there, jump, at_b, truths, ops) lands =
       let does = ap (λ (x : Option Bool). tested x logical.AndThen b os k e w) (zero_is shared.tables v c.active.slots (operands.Slot (top source c.active.function k)) (λ none. well (ap (λ x. status_in (status_of (tested x logical.AndThen b os k e w))) none)) is ∙ ap Some told) in
       decided_at_once logical.AndThen b os v true k e w c _ (next_slot os d (top source c.active.function k)) m r does jump (λ choice. ap (λ x. plain_step.branches c x m) told)
@@ -568,13 +373,13 @@ module _ (source : Program) (pages calls : ℕ) where
       let free = top source c.active.function k in
       let does = ap (λ (x : Option Bool). tested x logical.AndThen b os k e w) (zero_is shared.tables v c.active.slots (operands.Slot (top source c.active.function k)) (λ none. well (ap (λ x. status_in (status_of (tested x logical.AndThen b os k e w))) none)) is ∙ ap Some told) in
       by_one source pages calls does shared jump
-      (λ choice. not_taken (Running (Evaluating b) (Needs Decide ∷ Needs (Chain os) ∷ k) e w) c _ m told
+      (λ choice. not_taken source pages calls (Running (Evaluating b) (Needs Decide ∷ Needs (Chain os) ∷ k) e w) c _ m told
       (shared, facts, into_slot free m at_b holds (in_temporary (omega arith) (to_slot (next_slot os d free, r, refl, truths, chain_lands os kinds.Int c.active.function e.locals d r q c.frames k ops lands)))))
   tests logical.OrElse b os v true k e w c d q well told (shared, facts, is, holds) (m, r, there, jump, at_b, truths, ops) lands =
       let free = top source c.active.function k in
       let does = ap (λ (x : Option Bool). tested x logical.OrElse b os k e w) (zero_is shared.tables v c.active.slots (operands.Slot (top source c.active.function k)) (λ none. well (ap (λ x. status_in (status_of (tested x logical.OrElse b os k e w))) none)) is ∙ ap Some told) in
       by_one source pages calls does shared jump
-      (λ choice. not_taken (Running (Evaluating b) (Needs Decide ∷ Needs (Chain os) ∷ k) e w) c _ m (ap not told)
+      (λ choice. not_taken source pages calls (Running (Evaluating b) (Needs Decide ∷ Needs (Chain os) ∷ k) e w) c _ m (ap not told)
       (shared, facts, into_slot free m at_b holds (in_temporary (omega arith) (to_slot (next_slot os d free, r, refl, truths, chain_lands os kinds.Int c.active.function e.locals d r q c.frames k ops lands)))))
   tests logical.OrElse b os v false k e w c d q well told (shared, facts, is, holds) (m, r, there, jump, at_b, truths, ops) lands =
       let does = ap (λ (x : Option Bool). tested x logical.OrElse b os k e w) (zero_is shared.tables v c.active.slots (operands.Slot (top source c.active.function k)) (λ none. well (ap (λ x. status_in (status_of (tested x logical.OrElse b os k e w))) none)) is ∙ ap Some told) in
@@ -607,13 +412,13 @@ module _ (source : Program) (pages calls : ℕ) where
 
   -- an operator: the left operand stays where the right one is simple, and the right one comes behind it
   chain_goes_on : (simple : Bool) (u : Operator) (b : Expression) (os : Operations) (v : Kinded) (l : Operand) (k : List Entry) (e : Environment) (w : World) (c : Configuration) (r : Operand) (m : ℕ)
-      → IsWell (step source (Running (Given v) (Needs (Chain (ThenCompute u b os)) ∷ k) e w)) → is_simple (starts_on source c.active.function k) b ≡ simple → IsLow l (top source c.active.function k) → Stands v l k e w c
+      → IsWell (step source (Running (Given v) (Needs (Chain (ThenCompute u b os)) ∷ k) e w)) → is_simple (starts_on source c.active.function k) b ≡ simple → IsLow l (top source c.active.function k) → Stands source pages calls v l k e w c
       → OperandBy (code_of source c.active.function) (bounds_at source c.active.function) (types_on source c.active.function k) (operand_of (starts_on source c.active.function k) b)
       (LeftBy (code_of source c.active.function) (bounds_at source c.active.function) (types_on source c.active.function k) simple (l ≡ operands.Slot (top source c.active.function k))
       × ExpressionAt (code_of source c.active.function) (bounds_at source c.active.function) (types_on source c.active.function k) b (value_slot (starts_on source c.active.function k) b (suc (top source c.active.function k))) (suc (top source c.active.function k)) c.active.next m)
       (value_slot (starts_on source c.active.function k) b (suc (top source c.active.function k))) r c.active.next m
       → AppliedStack source c.active.function e.locals u l r m c.frames (Needs (Chain os) ∷ k)
-      → GoesBehind v (Needs (Chain (ThenCompute u b os)) ∷ k) e w c
+      → GoesBehind source pages calls v (Needs (Chain (ThenCompute u b os)) ∷ k) e w c
   chain_goes_on simple u b os v l k e w c r m well is_it low (shared, facts, is, holds) at applied =
       silently source pages calls (Running (Given v) (Needs (Chain (ThenCompute u b os)) ∷ k) e w) (Running (Evaluating b) (Needs (Apply u v) ∷ Needs (Chain os) ∷ k) e w) (plain.Running c) (awaited (is_kind v.kind kinds.Int) (Apply u v) b os k e w well)
       (shared, facts, by simple is_it at)
@@ -661,8 +466,8 @@ module _ (source : Program) (pages calls : ℕ) where
       )
 
   null_goes_on : (u : PointerOperator) (b : Expression) (v : Kinded) (o r : Operand) (failing : Comparison) (q : ℕ) (k : List Entry) (e : Environment) (w : World) (c : Configuration) → IsWell (step source (Running (Given v) (Needs (Chain (ThenPointer u b NoOperations)) ∷ k) e w))
-      → Stands v o k e w c → IsLow o (top source c.active.function k) → null_compared u b ≡ Some failing → r ≡ operands.Word 0 → c.active.next ≡ q → ConditionStack source c.active.function failing o r q c.frames k
-      → GoesBehind v (Needs (Chain (ThenPointer u b NoOperations)) ∷ k) e w c
+      → Stands source pages calls v o k e w c → IsLow o (top source c.active.function k) → null_compared u b ≡ Some failing → r ≡ operands.Word 0 → c.active.next ≡ q → ConditionStack source c.active.function failing o r q c.frames k
+      → GoesBehind source pages calls v (Needs (Chain (ThenPointer u b NoOperations)) ∷ k) e w c
   null_goes_on u NullPointer v o r failing q k e w c well (shared, facts, is, holds) low fails same end stack =
       silently source pages calls (Running (Given v) (Needs (Chain (ThenPointer u NullPointer NoOperations)) ∷ k) e w) (Running (Evaluating NullPointer) (Needs (ApplyPointer None u v) ∷ Needs (Chain NoOperations) ∷ k) e w) (plain.Running c)
       (awaited (takes_kind u v.kind) (ApplyPointer None u v) NullPointer NoOperations k e w well)
@@ -671,8 +476,8 @@ module _ (source : Program) (pages calls : ℕ) where
   null_goes_on u b v o r failing q k e w c well stands low fails same end stack = absurd (none-some failing fails)
 
   peek_goes_on : (n : ℕ) (u : PointerOperator) (b : Expression) (v : Kinded) (o r : Operand) (failing : Comparison) (q : ℕ) (k : List Entry) (e : Environment) (w : World) (c : Configuration) → IsWell (step source (Running (Given v) (Needs (Chain (ThenPointerPeek n u b NoOperations)) ∷ k) e w))
-      → Stands v o k e w c → IsLow o (top source c.active.function k) → null_compared u b ≡ Some failing → r ≡ operands.Word 0 → c.active.next ≡ q → ConditionStack source c.active.function failing o r q c.frames k
-      → GoesBehind v (Needs (Chain (ThenPointerPeek n u b NoOperations)) ∷ k) e w c
+      → Stands source pages calls v o k e w c → IsLow o (top source c.active.function k) → null_compared u b ≡ Some failing → r ≡ operands.Word 0 → c.active.next ≡ q → ConditionStack source c.active.function failing o r q c.frames k
+      → GoesBehind source pages calls v (Needs (Chain (ThenPointerPeek n u b NoOperations)) ∷ k) e w c
   peek_goes_on n u NullPointer v o r failing q k e w c well (shared, facts, is, holds) low fails same end stack =
       silently source pages calls (Running (Given v) (Needs (Chain (ThenPointerPeek n u NullPointer NoOperations)) ∷ k) e w) (Running (Evaluating NullPointer) (Needs (ApplyPointer (Some n) u v) ∷ Needs (Chain NoOperations) ∷ k) e w) (plain.Running c)
       (awaited (takes_kind u v.kind) (ApplyPointer (Some n) u v) NullPointer NoOperations k e w well)
@@ -681,8 +486,8 @@ module _ (source : Program) (pages calls : ℕ) where
   peek_goes_on n u b v o r failing q k e w c well stands low fails same end stack = absurd (none-some failing fails)
 
   pub chains : (os : Operations) (v : Kinded) (o : Operand) (k : List Entry) (e : Environment) (w : World) (c : Configuration)
-      → IsWell (step source (Running (Given v) (Needs (Chain os) ∷ k) e w)) → Stands v o k e w c
-      → ValueStack source c.active.function e.locals v.kind o c.active.next c.frames (Needs (Chain os) ∷ k) → GoesBehind v (Needs (Chain os) ∷ k) e w c
+      → IsWell (step source (Running (Given v) (Needs (Chain os) ∷ k) e w)) → Stands source pages calls v o k e w c
+      → ValueStack source c.active.function e.locals v.kind o c.active.next c.frames (Needs (Chain os) ∷ k) → GoesBehind source pages calls v (Needs (Chain os) ∷ k) e w c
   chains NoOperations v o k e w c well (shared, facts, is, holds) stack =
       silently source pages calls (Running (Given v) (Needs (Chain NoOperations) ∷ k) e w) (Running (Given v) k e w) (plain.Running c) refl
       (shared, in_operand o facts is (kept_holds _ _ _ k holds) stack)

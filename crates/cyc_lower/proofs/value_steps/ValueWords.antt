@@ -264,8 +264,8 @@ pub other_place : (code : List Instruction) (p q : ℕ) (i j : Instruction) → 
 other_place code p q i j at_p at_q other same = other (same_Some i j (sym at_p ∙ ap (slice_get code) same ∙ at_q))
 
 -- a branch that is taken, and one that is not
-pub taken : (c : Configuration) (b : Bool) (target : ℕ) → b ≡ true → branches c b target ≡ plain.Running (at c target)
-taken c b target is = ap (λ (x : Bool). branches c x target) is
+pub branch_taken : (c : Configuration) (b : Bool) (target : ℕ) → b ≡ true → branches c b target ≡ plain.Running (at c target)
+branch_taken c b target is = ap (λ (x : Bool). branches c x target) is
 
-pub passed : (c : Configuration) (b : Bool) (target : ℕ) → b ≡ false → branches c b target ≡ plain.Running (at c (c.active.next + 1))
-passed c b target is = ap (λ (x : Bool). branches c x target) is
+pub branch_passed : (c : Configuration) (b : Bool) (target : ℕ) → b ≡ false → branches c b target ≡ plain.Running (at c (c.active.next + 1))
+branch_passed c b target is = ap (λ (x : Bool). branches c x target) is

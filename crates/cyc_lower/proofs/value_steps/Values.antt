@@ -43,7 +43,9 @@ use Rattle.cyc_lower.proofs.relation.contents.Sharing.{shared_declared, row_decl
 use Rattle.cyc_lower.proofs.relation.contents.HeldValues.{IsIn, with_kind, Holds, kept, callers, row_of, IsLow}
 use Rattle.cyc_lower.proofs.relation.simulation.Relation.{types_on, starts_on, types_at, starts_at, DataIn, SharedAt, ValueStack, DroppedStack, AheadStack, HandsOnStack, ReadyAt, as_right, in_operand, nowhere, ahead, decided, with_left, behind_statement, Matches, code_of, bounds_at, top, floor, PlaceStack, call_slots, BesideAt, PartsAt, in_parts, StatementStack}
 use Rattle.cyc_lower.proofs.object_steps.Handles.{kept_holds}
-use Rattle.cyc_lower.proofs.relation.contents.Data.{in_words, data_declared, data_grows, null_is, points_in, handlers_beside}
+use Rattle.cyc_lower.proofs.relation.contents.Data.{in_words, data_declared, null_is, points_in}
+use Rattle.cyc_lower.proofs.relation.contents.HandlerData.{handlers_beside}
+use Rattle.cyc_lower.proofs.relation.contents.GrowingData.{data_grows}
 use Rattle.cyc_lower.proofs.relation.simulation.Accesses.{IsWell, is_fitting, is_declared, home_there, is_member}
 use Rattle.cyc_lower.proofs.place_steps.PlaceWords.{stays, member_there}
 use Rattle.cyc_lower.proofs.relation.simulation.Matched.{silently, by_one}
@@ -54,14 +56,18 @@ use Rattle.cyc_lower.proofs.region_steps.Keys.{closes_by_key}
 use Rattle.cyc_lower.proofs.pointer_steps.FatSteps.{counts}
 use Rattle.cyc_lower.proofs.pointer_steps.Elements.{follows_parts, follows_fat, indexes_pointer, advances_pointer}
 use Rattle.cyc_lower.proofs.object_steps.Allocations.{plain_made, fields_made}
-use Rattle.cyc_lower.proofs.object_steps.Arrays.{array_sized, array_filled}
-use Rattle.cyc_lower.proofs.value_steps.Evaluations.{known_simple, IsStep, passes_related, passes_weight, made_of, lands_made, known_operand_is}
+use Rattle.cyc_lower.proofs.object_steps.ArrayBlocks.{array_sized}
+use Rattle.cyc_lower.proofs.object_steps.Arrays.{array_filled}
+use Rattle.cyc_lower.proofs.value_steps.Evaluations.{known_simple, known_operand_is}
+use Rattle.cyc_lower.proofs.value_steps.Beginnings.{made_of}
+use Rattle.cyc_lower.proofs.value_steps.Landings.{IsStep, passes_related, passes_weight, lands_made}
 use Rattle.cyc_lower.proofs.region_steps.RegionSteps.{opened_given, aliased_given}
 use Rattle.cyc_lower.proofs.relation.places.Rows.{row-fits, row-variable, declared_low}
 use Rattle.cyc_lower.proofs.relation.places.Leads.{AreNamed}
 use Rattle.cyc_lower.proofs.value_steps.Decided.{decided_given, tested_given}
 use Rattle.cyc_lower.proofs.value_steps.ValueWords.{of_kind, int_of, goes_wrong, int_is, not_zero, not_fat, int_at, int_in}
-use Rattle.cyc_lower.proofs.value_steps.Operators.{guard_fails, guard_passes, Stands, GoesBehind, converts, converts_ahead, operates_value, operates, stays_beside, applies, decides_truth, awaited, chains}
+use Rattle.cyc_lower.proofs.value_steps.Conversions.{guard_fails, guard_passes, Stands, GoesBehind, converts, converts_ahead}
+use Rattle.cyc_lower.proofs.value_steps.Operators.{operates_value, operates, stays_beside, applies, decides_truth, awaited, chains}
 use Rattle.cyc_lower.proofs.value_steps.Assignments.{stores_at, stores_cell, catches_up}
 
 module _ (source : Program) (pages calls : ℕ) where

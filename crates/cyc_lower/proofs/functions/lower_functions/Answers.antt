@@ -2,7 +2,7 @@ use Rattle.std.specs.Prelude.{map}
 use Rattle.cyc_types.specs.TypedTreeView.{view_struct, view_function}
 use Rattle.cyc_plain.specs.inside.Program.{routine_of}
 use Rattle.cyc_lower.specs.inside.Lowering.{lower_function}
-use Rattle.cyc_lower.proofs.sizes.Routines.{numbered_at, one_more}
+use Rattle.cyc_lower.proofs.sizes.Routines.{numbered_at, one_more_mapped}
 use Rattle.cyc_lower.proofs.functions.lower_functions.Goals as goal
 
 pub lower_function-requires : goal.lower_function-requires
@@ -12,5 +12,5 @@ lower_function-requires c =
 
 pub loop-function-preserved : goal.loop-function-preserved
 loop-function-preserved c =
-    one_more routine_of (lower_function (map view_struct c.args.structs.now) c.args.globals.now c.args.scopes) view_function c.loop-function.lowered.items c.push.new.self.items c.args.functions.now c.loop-function.function-index c.in_ok-lower_function.field-0 c.function-item.result
+    one_more_mapped routine_of (lower_function (map view_struct c.args.structs.now) c.args.globals.now c.args.scopes) view_function c.loop-function.lowered.items c.push.new.self.items c.args.functions.now c.loop-function.function-index c.in_ok-lower_function.field-0 c.function-item.result
     c.loop-function-test.true c.function-item.is c.in_ok-push.ensures.items c.in_ok-lower_function.ensures c.loop-function.invariant

@@ -1,12 +1,12 @@
 -- Slots of locals.
-use Rattle.cyc_lower.proofs.slots.Slots.{slot-below, slots-apart, slot-behind, slot-append, slot-number}
+use Rattle.cyc_lower.proofs.slots.Slots.{slot-below, locals-apart, slot-behind, slot-append, slot-number}
 use Rattle.cyc_lower.proofs.laws.slots_are_apart.Goals as goal
 
 pub returns-clause-below : goal.returns-clause-below
 returns-clause-below c = slot-below
 
 pub returns-clause-apart : goal.returns-clause-apart
-returns-clause-apart c = slots-apart
+returns-clause-apart c = locals-apart
 
 pub returns-clause-all : goal.returns-clause-all
 returns-clause-all c = slot-behind

@@ -1,36 +1,31 @@
 -- What stays of the data in slots, variables and globals while a step changes some of it.
-use Rattle.std.proofs.Common.{◌≡◌, ◌≢◌, ℕ, zero, suc, ◌+◌, ◌≤◌, ◌<◌, Bool, true, false, List, [], ◌∷◌, ◌++◌, length, reverse, set, Option, None, Some, slice_get, refl, sym, ap, subst, ◌∙◌, arith, inl, inr, length-append, ◌*◌}
+use Rattle.std.proofs.Common.{◌≡◌, ◌≢◌, ℕ, zero, suc, ◌+◌, ◌≤◌, ◌<◌, Bool, List, [], ◌∷◌, ◌++◌, length, reverse, set, Option, None, Some, slice_get, refl, sym, ap, subst, ◌∙◌, arith, inl, inr, length-append}
 use Rattle.std.specs.Prelude.{◌==◌, if◌then◌else◌}
 use Rattle.std.proofs.lemmas.Bool.{cases_eq, eq-eqb, eqb-true, false_from_ne_true}
 use Rattle.std.proofs.lemmas.List.{reverse-append}
 use Rattle.std.proofs.lemmas.Option.{same_Some, none-some}
 use Rattle.cyc_words.proofs.Lists.{slice_get_last, slice_get_before}
 use Rattle.cyc_types.specs.TypedTrees.{Program}
-use Rattle.cyc_plain.specs.inside.State as plain
 use Rattle.cyc_plain.specs.inside.State.{Words, copied, Frame}
 use Rattle.cyc_plain.specs.inside.Step.{operand_word}
-use Rattle.cyc_plain.specs.declared.limits.TheConstants.{RECORD_WORDS, GLOBALS_BASE}
 use Rattle.cyc_plain.proofs.SlotLaws.{copied-inside}
 use Rattle.cyc_types.specs.declared.typed.Kind.{Kind}
 use Rattle.cyc_types.specs.declared.typed.Kind.TheVariants as kinds
 use Rattle.cyc_meaning.specs.Values.{Value, Int, Null, Thin, Handle, Key, Operand, words_of_kind}
-use Rattle.cyc_meaning.specs.State.{Object, Environment, with_local, Entry, Handler, Caller, Main, calls_in, CloseLexical, Loop}
+use Rattle.cyc_meaning.specs.State.{Object, Environment, with_local}
 use Rattle.cyc_meaning.specs.FrameCount.{words_of_all}
 use Rattle.cyc_lower.specs.inside.Slots.{starts_of, slot_of, global_of, global_types, Types}
-use Rattle.cyc_lower.specs.inside.ControlCode.{behind_record_in}
 use Rattle.cyc_lower.specs.inside.Lowering.{scopes_of}
 use Rattle.cyc_lower.proofs.slots.Widths.{words_in, HasRoom, HasGlobal, Outside, kind_positive}
 use Rattle.cyc_lower.proofs.slots.Slots.{slot-room, slot-apart, global-room, global-apart, global-inside}
 use Rattle.cyc_plain.specs.declared.instruction.Operand.{Operand as Place}
 use Rattle.cyc_plain.specs.declared.instruction.Operand.TheVariants as operands
-use Rattle.cyc_objects.specs.inside.Tables.{Tables, Grows, Row, Placed}
+use Rattle.cyc_objects.specs.inside.Tables.{Tables}
 use Rattle.cyc_objects.specs.inside.Words.{Points, Is}
-use Rattle.cyc_objects.proofs.Values.{Is-grows, Is-same as words_same}
-use Rattle.cyc_lower.proofs.relation.places.Known.{global-row_grows, first_word}
-use Rattle.cyc_lower.proofs.relation.contents.HeldValues.{CallSlots, row_of, IsLocalRow, behind_records, scopes_in, IsKept, callers, IsWord, IsIn, Waiting, words_held, height, Holds, HoldsFrom, content_of, contents, LocalsHold, GlobalsHold, left_by, IsCharAt}
-use Rattle.cyc_lower.proofs.relation.simulation.Relation.{call_slots, floor, HandlersStand, AreOfVariables, FramesHold, DataAt, types_at, starts_at, base_of}
+use Rattle.cyc_objects.proofs.Values.{Is-same as words_same}
+use Rattle.cyc_lower.proofs.relation.contents.HeldValues.{CallSlots, IsLocalRow, IsWord, IsIn, Waiting, words_held, height, Holds, HoldsFrom, content_of, contents, LocalsHold, GlobalsHold, IsCharAt}
+use Rattle.cyc_lower.proofs.relation.simulation.Relation.{call_slots, FramesHold, DataAt, types_at, starts_at, base_of}
 use Rattle.cyc_objects.proofs.Chars.{char-small}
-use Rattle.cyc_lower.specs.inside.ValueCode.{variable_bytes}
 
 -- ---- values in slots
 
@@ -45,13 +40,13 @@ pub height-append : (base : ℕ) (vs rest : List Operand) → height base (vs ++
 height-append base [] rest = omega arith
 height-append base (v ∷ vs) rest = omega (arith, height-append base vs rest)
 
-words-append : (vs us : List Operand) → words_held (vs ++ us) ≡ words_held vs + words_held us
-words-append [] us = omega arith
-words-append (v ∷ vs) us = omega (arith, words-append vs us)
+words_held-append : (vs us : List Operand) → words_held (vs ++ us) ≡ words_held vs + words_held us
+words_held-append [] us = omega arith
+words_held-append (v ∷ vs) us = omega (arith, words_held-append vs us)
 
 pub words-reverse : (vs : List Operand) → words_held (reverse vs) ≡ words_held vs
 words-reverse [] = refl
-words-reverse (v ∷ vs) = omega (arith, ap words_held (reverse-append (v ∷ []) vs), words-append (reverse vs) (v ∷ []), words-reverse vs)
+words-reverse (v ∷ vs) = omega (arith, ap words_held (reverse-append (v ∷ []) vs), words_held-append (reverse vs) (v ∷ []), words-reverse vs)
 
 -- ---- objects
 
@@ -91,8 +86,8 @@ other_outside types n number many m inside there other few from to = elim (slot-
 pub newest_there : (given : ℕ → Option ℕ) (number new : ℕ) → (if number == number then Some new else given number) ≡ Some new
 newest_there given number new = ap (λ (b : Bool). if b then Some new else given number) (eq-eqb number number refl)
 
-local_other : (locals : ℕ → Option ℕ) (number other object : ℕ) → other ≢ number → (if other == number then Some object else locals other) ≡ locals other
-local_other locals number other object apart =
+other_local : (locals : ℕ → Option ℕ) (number other object : ℕ) → other ≢ number → (if other == number then Some object else locals other) ≡ locals other
+other_local locals number other object apart =
     ap (λ (b : Bool). if b then Some object else locals other) (false_from_ne_true (other == number) (λ h. apart (eqb-true other number h)))
 
 -- ---- the calls that wait, and the globals
@@ -302,7 +297,7 @@ module _ (t : Tables) where
               let o_is : length objects ≡ o = same_Some (length objects) o (sym (newest_there locals number (length objects)) ∙ ap (with_local e number (length objects)).locals (sym equal) ∙ at) in
               (omega (arith, equal, below), omega (arith, o_is, low_is), omega (arith, o_is, long))
           | inr apart ↦
-              let old = hold.within n o (sym (local_other locals number n (length objects) apart) ∙ at) in
+              let old = hold.within n o (sym (other_local locals number n (length objects) apart) ∙ at) in
               (old.0, old.1, omega (arith, old.2, long))
         ];
         apart = λ n m o at_n at_m. elim (cases_eq n number) [
@@ -310,29 +305,29 @@ module _ (t : Tables) where
             | inl m_is ↦ n_is ∙ sym m_is
             | inr m_not ↦
                 let o_is : length objects ≡ o = same_Some (length objects) o (sym (newest_there locals number (length objects)) ∙ ap (with_local e number (length objects)).locals (sym n_is) ∙ at_n) in
-                let old = hold.within m o (sym (local_other locals number m (length objects) m_not) ∙ at_m) in
+                let old = hold.within m o (sym (other_local locals number m (length objects) m_not) ∙ at_m) in
                 absurd (omega (arith, o_is, old.2))
           ]
           | inr n_not ↦ elim (cases_eq m number) [
             | inl m_is ↦
                 let o_is : length objects ≡ o = same_Some (length objects) o (sym (newest_there locals number (length objects)) ∙ ap (with_local e number (length objects)).locals (sym m_is) ∙ at_m) in
-                let old = hold.within n o (sym (local_other locals number n (length objects) n_not) ∙ at_n) in
+                let old = hold.within n o (sym (other_local locals number n (length objects) n_not) ∙ at_n) in
                 absurd (omega (arith, o_is, old.2))
-            | inr m_not ↦ hold.apart n m o (sym (local_other locals number n (length objects) n_not) ∙ at_n) (sym (local_other locals number m (length objects) m_not) ∙ at_m)
+            | inr m_not ↦ hold.apart n m o (sym (other_local locals number n (length objects) n_not) ∙ at_n) (sym (other_local locals number m (length objects) m_not) ∙ at_m)
           ]
         ];
         rows = λ n o at. elim (cases_eq n number) [
           | inl equal ↦
               let o_is : length objects ≡ o = same_Some (length objects) o (sym (newest_there locals number (length objects)) ∙ ap (with_local e number (length objects)).locals (sym equal) ∙ at) in
               subst (λ m. IsLocalRow t types s m o) (sym equal) (subst (IsLocalRow t types s number) o_is row)
-          | inr apart ↦ hold.rows n o (sym (local_other locals number n (length objects) apart) ∙ at)
+          | inr apart ↦ hold.rows n o (sym (other_local locals number n (length objects) apart) ∙ at)
         ];
         holds = λ n o v at has. elim (cases_eq n number) [
           | inl equal ↦
               let o_is : length objects ≡ o = same_Some (length objects) o (sym (newest_there locals number (length objects)) ∙ ap (with_local e number (length objects)).locals (sym equal) ∙ at) in
               subst (λ m. Is t v.kind v.value other (slot_of (starts_of types) m) × HasRoom types m v.kind) (sym equal) (is v (sym (contents_new objects x) ∙ ap (contents (objects ++ x ∷ [])) o_is ∙ has))
           | inr apart ↦
-              let at_old = sym (local_other locals number n (length objects) apart) ∙ at in
+              let at_old = sym (other_local locals number n (length objects) apart) ∙ at in
               let old = hold.within n o at_old in
               let (is_v, room) = hold.holds n o v at_old (sym (contents_made objects x o old.2) ∙ has) in
               (local_same types slots other n v old.0 room (λ m from to. same m (other_outside types n number many m old.0 below apart few from to)) is_v, room)
@@ -342,7 +337,7 @@ module _ (t : Tables) where
               let o_is : length objects ≡ o = same_Some (length objects) o (sym (newest_there locals number (length objects)) ∙ ap (with_local e number (length objects)).locals (sym equal) ∙ at) in
               subst (λ m. other (slot_of (starts_of types) m) < 256) (sym equal) (low_word (subst (IsCharAt t) (sym o_is) is_char))
           | inr apart ↦
-              let at_old = sym (local_other locals number n (length objects) apart) ∙ at in
+              let at_old = sym (other_local locals number n (length objects) apart) ∙ at in
               let old = hold.within n o at_old in
               let r = hold.rows n o at_old in
               small_same types slots other n r.kind r.room (λ m from to. same m (other_outside types n number many m old.0 below apart few from to)) (hold.small n o at_old is_char)
@@ -562,172 +557,3 @@ module _ (t : Tables) where
     pub held_by_caller : (g base : ℕ) (objects : List Object) (locals : ℕ → Option ℕ) (e : Waiting) (outer : List Waiting) (slots globals : Words) (f : Frame) (frames : List Frame)
         → DataAt source t g base objects locals (e ∷ outer) slots globals (f ∷ frames) → Holds t f.caller.slots (e.temporaries (scopes_of source) (base_of source f.caller.function)) e.values
     held_by_caller g base objects locals e outer slots globals f frames (low, below, hold, (under, less, (waits, values), waiting), words) = values
-
--- ---- records of handlers
-
-record-least : (scopes : Option ℕ) (slot : ℕ) → slot + RECORD_WORDS ≤ behind_record_in scopes slot
-record-least None slot = omega arith
-record-least (Some place) slot = omega arith
-
--- temporaries begin behind the locals
-pub behind-least : (k : List Entry) (scopes : Option ℕ) (slot : ℕ) → slot ≤ behind_records k scopes slot
-behind-least [] scopes slot = omega arith
-behind-least (Handler handler ∷ k) scopes slot = omega (arith, behind-least k scopes slot, record-least scopes (behind_records k scopes slot))
-behind-least (CloseLexical region ∷ k) scopes slot = omega (arith, behind-least k scopes slot)
-behind-least (Caller e ∷ k) scopes slot = omega arith
-behind-least (Main ∷ k) scopes slot = omega arith
-behind-least (entry ∷ k) scopes slot = behind-least k scopes slot
-
-pub floor-least : (source : Program) (g : ℕ) (k : List Entry) → base_of source g ≤ floor source g k
-floor-least source g k = behind-least k (scopes_of source) (base_of source g)
-
--- the record of a handler ends before the temporaries, with what is kept behind it
-pub record_below : (source : Program) (g : ℕ) (k : List Entry) → floor source g k + RECORD_WORDS ≤ behind_record_in (scopes_of source) (floor source g k)
-record_below source g k = record-least (scopes_of source) (floor source g k)
-
-kept_same : (scopes : Option ℕ) (slots other : Words) (slot many : ℕ) → (slot + RECORD_WORDS < behind_record_in scopes slot → other (slot + RECORD_WORDS) ≡ slots (slot + RECORD_WORDS))
-    → IsKept scopes slots (slot + RECORD_WORDS) many → IsKept scopes other (slot + RECORD_WORDS) many
-kept_same None slots other slot many same kept = tt
-kept_same (Some place) slots other slot many same kept = same (omega arith) ∙ kept
-
-module _ (source : Program) where
-  -- slots that are equal between the locals and the temporaries have the same records
-  pub handlers_same : (g : ℕ) (slots other : Words) (handlers : List plain.Handler) (frames : List Frame) (k : List Entry)
-      → ((n : ℕ) → base_of source g ≤ n → n < floor source g k → other n ≡ slots n) → HandlersStand source g slots handlers frames k → HandlersStand source g other handlers frames k
-  handlers_same g slots other handlers frames [] same stand = absurd stand
-  handlers_same g slots other [] frames (Handler handler ∷ k) same stand = absurd stand
-  handlers_same g slots other (plain.Caught ∷ handlers) frames (Handler handler ∷ k) same stand = absurd stand
-  handlers_same g slots other (plain.Open index first contents ∷ handlers) frames (Handler handler ∷ k) same (is, (zeroth, second, third, fourth), kept, catches, rest) =
-      let least = floor-least source g k in
-      let inside = record_below source g k in (
-        is,
-        (
-          same first (omega (arith, is, least)) (omega (arith, is, inside)) ∙ zeroth,
-          same (first + 1) (omega (arith, is, least)) (omega (arith, is, inside)) ∙ second,
-          same (first + 2) (omega (arith, is, least)) (omega (arith, is, inside)) ∙ third,
-          same (first + 3) (omega (arith, is, least)) (omega (arith, is, inside)) ∙ fourth,
-        ),
-        kept_same (scopes_of source) slots other (floor source g k) (scopes_in k) (λ inside. same (floor source g k + RECORD_WORDS) (omega (arith, least)) inside) kept,
-        catches,
-        handlers_same g slots other handlers frames k (λ n from to. same n from (omega (arith, to, inside))) rest,
-      )
-  handlers_same g slots other handlers frames (Caller e ∷ k) same stand = stand
-  handlers_same g slots other handlers frames (Main ∷ k) same stand = stand
-  handlers_same g slots other handlers frames (CloseLexical region ∷ k) same (marked, stand) =
-      (same (floor source g k) (floor-least source g k) (omega arith) ∙ marked, handlers_same g slots other handlers frames k (λ n from to. same n from (omega (arith, to))) stand)
-  handlers_same g slots other handlers frames (entry ∷ k) same stand = handlers_same g slots other handlers frames k same stand
-
-  -- a local is written
-  pub handlers_beside : (g : ℕ) (slots after : Words) (handlers : List plain.Handler) (frames : List Frame) (k : List Entry) (n many : ℕ) → n + many ≤ base_of source g
-      → ((m : ℕ) → Outside n many m → after m ≡ slots m) → HandlersStand source g slots handlers frames k → HandlersStand source g after handlers frames k
-  handlers_beside g slots after handlers frames k n many below same stand =
-      handlers_same g slots after handlers frames k (λ m from to. same m (inr (omega (arith, below, from)))) stand
-
-  -- words are written behind the records
-  pub data_written : (t : Tables) (g base : ℕ) (objects : List Object) (locals : ℕ → Option ℕ) (k : List Entry) (slots after : Words) (handlers : List plain.Handler) (globals : Words) (frames : List Frame) (n many : ℕ)
-      → floor source g k ≤ n → ((m : ℕ) → Outside n many m → after m ≡ slots m)
-      → DataAt source t g base objects locals (callers k) slots globals frames × HandlersStand source g slots handlers frames k
-      → DataAt source t g base objects locals (callers k) after globals frames × HandlersStand source g after handlers frames k
-  data_written t g base objects locals k slots after handlers globals frames n many above same (facts, stand) = (
-    data_above t source g base objects locals (callers k) slots after globals frames n many (omega (arith, above, floor-least source g k)) same facts,
-    handlers_same g slots after handlers frames k (λ m from to. same m (inl (omega (arith, to, above)))) stand,
-  )
-
-  -- each frame is a call, and the running one is one more
-  pub calls_counted : (g : ℕ) (slots : Words) (handlers : List plain.Handler) (frames : List Frame) (k : List Entry) → HandlersStand source g slots handlers frames k → calls_in k ≡ suc (length frames)
-  calls_counted g slots handlers frames [] stand = absurd stand
-  calls_counted g slots [] frames (Handler handler ∷ k) stand = absurd stand
-  calls_counted g slots (plain.Caught ∷ handlers) frames (Handler handler ∷ k) stand = absurd stand
-  calls_counted g slots (plain.Open index first contents ∷ handlers) frames (Handler handler ∷ k) (is, intact, kept, catches, rest) = calls_counted g slots handlers frames k rest
-  calls_counted g slots handlers [] (Caller e ∷ k) (none, rest) = absurd rest
-  calls_counted g slots handlers (f ∷ frames) (Caller e ∷ k) (none, rest) = ap suc (calls_counted f.caller.function f.caller.slots f.caller.handlers frames k rest)
-  calls_counted g slots handlers [] (Main ∷ []) (none, last) = refl
-  calls_counted g slots handlers [] (Main ∷ entry ∷ k) (none, last) = absurd last
-  calls_counted g slots handlers (f ∷ frames) (Main ∷ k) (none, last) = absurd last
-  calls_counted g slots handlers frames (CloseLexical region ∷ k) (marked, stand) = calls_counted g slots handlers frames k stand
-  calls_counted g slots handlers frames (entry ∷ k) stand = calls_counted g slots handlers frames k stand
-
--- as many calls are under way where entries of one are left
-pub calls_left : (loop : Bool) (k : List Entry) → calls_in (left_by loop k) ≡ calls_in k
-calls_left loop [] = refl
-calls_left true (Loop condition body ∷ k) = refl
-calls_left false (Loop condition body ∷ k) = calls_left false k
-calls_left loop (Caller e ∷ k) = refl
-calls_left loop (Main ∷ k) = refl
-calls_left loop (entry ∷ k) = calls_left loop k
-
--- ---- tables that grow
-
-module _ (t u : Tables) (grows : Grows t u) where
-  pub IsWord-grows : (kind : Kind) (v : Value) (word : ℕ) → IsWord t kind v word → IsWord u kind v word
-  IsWord-grows kinds.Char v word is = Is-grows grows kinds.Char v (λ (i : ℕ). word) 0 is
-  IsWord-grows kinds.Int v word is = Is-grows grows kinds.Int v (λ (i : ℕ). word) 0 is
-  IsWord-grows kinds.Nullable v word is = Is-grows grows kinds.Nullable v (λ (i : ℕ). word) 0 is
-  IsWord-grows kinds.NonNull v word is = Is-grows grows kinds.NonNull v (λ (i : ℕ). word) 0 is
-  IsWord-grows kinds.Handle v word is = Is-grows grows kinds.Handle v (λ (i : ℕ). word) 0 is
-  IsWord-grows kinds.Key v word is = Is-grows grows kinds.Key v (λ (i : ℕ). word) 0 is
-  IsWord-grows kind v word is = absurd is
-
-  pub IsIn-grows : (v : Operand) (slots : Words) (o : Place) → IsIn t v slots o → IsIn u v slots o
-  IsIn-grows v slots (operands.Slot n) is = Is-grows grows v.kind v.value slots n is
-  IsIn-grows v slots (operands.Word w) is = IsWord-grows v.kind v.value w is
-
-  pub Holds-grows : (slots : Words) (base : ℕ) (vs : List Operand) → Holds t slots base vs → Holds u slots base vs
-  Holds-grows slots base [] holds = tt
-  Holds-grows slots base (v ∷ vs) (is, holds) = (Is-grows grows v.kind v.value slots (height base vs) is, Holds-grows slots base vs holds)
-
-  pub HoldsFrom-grows : (slots : Words) (first : ℕ) (vs : List Operand) → HoldsFrom t slots first vs → HoldsFrom u slots first vs
-  HoldsFrom-grows slots first [] holds = tt
-  HoldsFrom-grows slots first (v ∷ vs) (is, holds) = (Is-grows grows v.kind v.value slots first is, HoldsFrom-grows slots (first + words_of_kind v.kind) vs holds)
-
-  -- what had a row has that one
-  char_before : (object : ℕ) (row : Row) → slice_get t.rows object ≡ Some row → IsCharAt u object → IsCharAt t object
-  char_before object row there (address, is) = (address, there ∙ (sym (grows.rows object row there) ∙ is))
-
-  locals_grow : (types : Types) (s : CallSlots) (objects : List Object) (locals : ℕ → Option ℕ) (low high : ℕ) (slots : Words) → LocalsHold t types s objects locals low high slots
-      → LocalsHold u types s objects locals low high slots
-  locals_grow types s objects locals low high slots hold = record {
-    within = hold.within;
-    apart = hold.apart;
-    rows = λ number object at.
-        let r = hold.rows number object at in
-        record { kind = r.kind; room = r.room; of_type = r.of_type; row = grows.rows object (row_of s (slot_of (starts_of types) number) r.kind) r.row };
-    holds = λ number object v at has. let (is, room) = hold.holds number object v at has in (Is-grows grows v.kind v.value slots (slot_of (starts_of types) number) is, room);
-    small = λ number object at is_char.
-        let r = hold.rows number object at in
-        hold.small number object at (char_before object (row_of s (slot_of (starts_of types) number) r.kind) r.row is_char);
-  }
-
-  frames_grow : (source : Program) (objects : List Object) (high : ℕ) (frames : List Frame) (outer : List Waiting) → FramesHold source t objects high frames outer → FramesHold source u objects high frames outer
-  frames_grow source objects high [] [] hold = hold
-  frames_grow source objects high [] (x ∷ outer) hold = absurd hold
-  frames_grow source objects high (f ∷ frames) [] hold = absurd hold
-  frames_grow source objects high (f ∷ frames) (x ∷ outer) (low, below, (hold, values), rest) = (
-    low,
-    below,
-    (
-      locals_grow (types_at source f.caller.function) (call_slots source f.caller.function f.caller.base) objects x.locals low high f.caller.slots hold,
-      Holds-grows f.caller.slots (x.temporaries (scopes_of source) (base_of source f.caller.function)) x.values values,
-    ),
-    frames_grow source objects low frames outer rest,
-  )
-
-  -- all data stay
-  pub data_grows : (source : Program) (g base : ℕ) (objects : List Object) (locals : ℕ → Option ℕ) (outer : List Waiting) (slots globals : Words) (frames : List Frame)
-      → DataAt source t g base objects locals outer slots globals frames → DataAt source u g base objects locals outer slots globals frames
-  data_grows source g base objects locals outer slots globals frames (low, below, hold, waiting, words) = (
-    low,
-    below,
-    locals_grow (types_at source g) (call_slots source g base) objects locals low (length objects) slots hold,
-    frames_grow source objects low frames outer waiting,
-    λ number few.
-        let (row, holds, small) = words number few in (
-          global-row_grows t u grows (global_types source.globals) number row,
-          (λ v has. let (is, room) = holds v has in (Is-grows grows v.kind v.value globals (global_of (starts_at source g) number) is, room)),
-          λ is_char. small (char_before number (Placed (GLOBALS_BASE + 4 * first_word (global_types source.globals) number + variable_bytes row.kind) (row.kind ∷ [])) row.row is_char),
-        ),
-  )
-
-  pub variables_grow : (regions : List ℕ) → AreOfVariables t regions → AreOfVariables u regions
-  variables_grow [] are = tt
-  variables_grow (region ∷ regions) (one, all) = (grows.handles region None one, variables_grow regions all)

@@ -20,7 +20,7 @@ use Rattle.cyc_lower.proofs.relation.contents.HeldValues.{homes, scopes_in}
 use Rattle.cyc_lower.proofs.relation.simulation.Relation.{HasScopes, SharedAt, SharedBy, ScopesBy, store_by, silent}
 use Rattle.cyc_lower.specs.inside.Lowering.{scopes_of}
 use Rattle.cyc_lower.proofs.relation.contents.Counters.{counted_less}
-use Rattle.cyc_lower.proofs.relation.contents.Data.{variables_grow}
+use Rattle.cyc_lower.proofs.relation.contents.GrowingData.{variables_grow}
 use Rattle.cyc_lower.proofs.relation.places.Known.{IsVariableRow, row-away}
 use Rattle.cyc_lower.specs.inside.Slots.{global_types}
 

@@ -14,7 +14,8 @@ use Rattle.cyc_lower.proofs.slots.Widths.{HasRoom, Outside}
 use Rattle.cyc_lower.proofs.slots.Slots.{slot-room}
 use Rattle.cyc_lower.proofs.relation.contents.HeldValues.{Waiting, LocalsHold, Holds, contents, callers, IsCharAt}
 use Rattle.cyc_lower.proofs.relation.simulation.Relation.{FramesHold, DataAt, call_slots, types_at, starts_at, base_of}
-use Rattle.cyc_lower.proofs.relation.contents.Data.{locals_assigned, locals_kept, frames_kept, globals_kept, globals_below, Holds-above, behind-least}
+use Rattle.cyc_lower.proofs.relation.contents.Data.{locals_assigned, locals_kept, frames_kept, globals_kept, globals_below, Holds-above}
+use Rattle.cyc_lower.proofs.relation.contents.HandlerData.{behind-least}
 use Rattle.cyc_plain.specs.inside.Memory.{IsBelow, AreBelow}
 use Rattle.cyc_types.specs.declared.typed.Kind.TheVariants as kinds
 
@@ -40,10 +41,10 @@ below_set program function base (h ∷ frames) zero f slots at (first, rest) =
     )
 below_set program function base (h ∷ frames) (suc i) f slots at (first, rest) = (first, below_set program h.caller.function h.caller.base frames i f slots at rest)
 
-pub set_at : (frames : List Frame) (i : ℕ) (f h : Frame) → slice_get frames i ≡ Some f → slice_get (set frames i h) i ≡ Some h
-set_at [] i f h at = absurd (none-some f at)
-set_at (x ∷ frames) zero f h at = refl
-set_at (x ∷ frames) (suc i) f h at = set_at frames i f h at
+pub frame_set_at : (frames : List Frame) (i : ℕ) (f h : Frame) → slice_get frames i ≡ Some f → slice_get (set frames i h) i ≡ Some h
+frame_set_at [] i f h at = absurd (none-some f at)
+frame_set_at (x ∷ frames) zero f h at = refl
+frame_set_at (x ∷ frames) (suc i) f h at = frame_set_at frames i f h at
 
 pub set_again : (frames : List Frame) (i : ℕ) (f h : Frame) → set (set frames i f) i h ≡ set frames i h
 set_again [] i f h = refl

@@ -17,7 +17,7 @@ use Rattle.cyc_lower.specs.inside.Words.{AreOfWordsFunctions, IsOfWordsProgram}
 use Rattle.cyc_lower.specs.inside.Lowering.{globals_of, lower_function, scopes_of}
 use Rattle.cyc_lower.proofs.relation.code.Fitting.{AreFitting, IsFitting}
 use Rattle.cyc_lower.proofs.relation.simulation.Relation.{code_of, local_types, types_at}
-use Rattle.cyc_lower.proofs.slots.Slots.{slot-below, slots-apart}
+use Rattle.cyc_lower.proofs.slots.Slots.{slot-below, locals-apart}
 use Rattle.cyc_lower.proofs.sizes.RangeLemmas.{TakesLocal}
 use Rattle.cyc_lower.proofs.sizes.WellFormed.{function_takes}
 
@@ -65,9 +65,9 @@ module _ (locals : List Ty) where
   same_local : (n m : ℕ) (t u : Ty) (slot : ℕ) → slice_get locals n ≡ Some t → slice_get locals m ≡ Some u → slot_in locals n ≤ slot → slot < slot_in locals n + words_of t
       → slot_in locals m ≤ slot → slot < slot_in locals m + words_of u → m ≡ n
   same_local n m t u slot at there from below from_other below_other = elim (cases_lt n m) [
-    | inl less ↦ absurd (omega (arith, slots-apart locals n m t u less at there, below, from_other))
+    | inl less ↦ absurd (omega (arith, locals-apart locals n m t u less at there, below, from_other))
     | inr most ↦ elim (cases_lt m n) [
-      | inl less ↦ absurd (omega (arith, slots-apart locals m n u t less there at, below_other, from))
+      | inl less ↦ absurd (omega (arith, locals-apart locals m n u t less there at, below_other, from))
       | inr least ↦ omega (arith, most, least)
     ]
   ]

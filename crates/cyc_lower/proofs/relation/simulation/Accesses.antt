@@ -156,15 +156,15 @@ pub record IsClosed (focus : Focus) (number home : ℕ) (stack : List Entry) (e 
   pub there : slice_get w.regions number ≡ Some region
   pub gives : closing (region_at w number) focus number home stack e w ≡ Running focus stack (record e { home = home }) (closed w number region)
 
-closes : (a : Access Region) (focus : Focus) (number home : ℕ) (stack : List Entry) (e : Environment) (w : World) → IsWell (closing a focus number home stack e w)
+closes_found : (a : Access Region) (focus : Focus) (number home : ℕ) (stack : List Entry) (e : Environment) (w : World) → IsWell (closing a focus number home stack e w)
     → (r : Region) × (a ≡ Found r) × (closing a focus number home stack e w ≡ Running focus stack (record e { home = home }) (closed w number r))
-closes (Found r) focus number home stack e w well = (r, refl, refl)
-closes Closed focus number home stack e w well = absurd (well refl)
-closes Missing focus number home stack e w well = absurd (well refl)
+closes_found (Found r) focus number home stack e w well = (r, refl, refl)
+closes_found Closed focus number home stack e w well = absurd (well refl)
+closes_found Missing focus number home stack e w well = absurd (well refl)
 
 pub is_closed : (focus : Focus) (number home : ℕ) (stack : List Entry) (e : Environment) (w : World) → IsWell (closing (region_at w number) focus number home stack e w) → IsClosed focus number home stack e w
 is_closed focus number home stack e w well =
-    let (r, is, gives) = closes (region_at w number) focus number home stack e w well in
+    let (r, is, gives) = closes_found (region_at w number) focus number home stack e w well in
     record { region = r; there = region_is (slice_get w.regions number) r is; gives = gives }
 
 -- a variable is declared in a region that is there

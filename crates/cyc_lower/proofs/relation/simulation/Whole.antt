@@ -56,7 +56,8 @@ use Rattle.cyc_lower.proofs.relation.simulation.Matched.{IsMatched, above, below
 use Rattle.cyc_lower.proofs.value_steps.Evaluations.{evaluating, locating}
 use Rattle.cyc_lower.proofs.relation.simulation.Keeping.{keeping, stepped_keeping, keeping_above, stepped_above}
 use Rattle.cyc_lower.proofs.object_steps.Allocations.{writing}
-use Rattle.cyc_lower.proofs.object_steps.Arrays.{beginning, repeating}
+use Rattle.cyc_lower.proofs.object_steps.ArrayBlocks.{beginning}
+use Rattle.cyc_lower.proofs.object_steps.Arrays.{repeating}
 use Rattle.cyc_lower.proofs.value_steps.Values.{given}
 use Rattle.cyc_lower.proofs.place_steps.SwapSteps.{swapping, writing_sides}
 use Rattle.cyc_lower.proofs.place_steps.PlaceSteps.{given_place}

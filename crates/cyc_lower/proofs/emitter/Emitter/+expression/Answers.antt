@@ -13,7 +13,8 @@ use Rattle.cyc_plain.specs.declared.instruction.Instruction.{Instruction}
 use Rattle.cyc_lower.specs.inside.ValueCode.{copy_code, conversion_code, test_jump, next_slot, span_of, all_passed, kinds_passed}
 use Rattle.cyc_lower.specs.inside.ExpressionCode.{value_operand, brought_code}
 use Rattle.cyc_lower.specs.inside.Emission.{Gives, left_code, operation_code, view_starts}
-use Rattle.cyc_lower.proofs.emission.Emitting.{Remains, all_arguments, one_argument, next_argument, arguments_lower, all_operations, one_operation, next_operation, operations_lower, goes_on, joined, passed_on, made_putchar, made_call, made_called, made_fields, made_binary, room_behind, made_left_alone, made_left_first, made_compute, made_test, room_after, slot_by_count, made_print, made_assigned, room_for_right, made_stored, made_elements, made_left_operand}
+use Rattle.cyc_lower.proofs.emission.Emitting.{Remains, goes_on, emitted_joined, passed_on, slot_by_count, made_elements}
+use Rattle.cyc_lower.proofs.emission.ExpressionEmitting.{all_arguments, one_argument, next_argument, arguments_lower, all_operations, one_operation, next_operation, operations_lower, made_putchar, made_call, made_called, made_fields, made_binary, room_behind, made_left_alone, made_left_first, made_compute, made_test, room_after, made_print, made_assigned, room_for_right, made_stored, made_left_operand}
 use Rattle.cyc_lower.proofs.emitter.Emitter.+expression.Goals.{lower_left-then-is_empty, lower_left-else-is_empty, lower_operations-then-behind-eq0, lower_operations-else-behind-eq0}
 use Rattle.cyc_lower.proofs.slots.CellBytes.{passed_slots}
 use Rattle.cyc_lower.proofs.emitter.Emitter.+expression.Goals as goal
@@ -29,7 +30,7 @@ lower_arguments-loop-argument-preserved t c =
     let i = c.loop-argument.argument-index in
     let x = c.argument-item.result in
     let words = passed_on c.args.arguments.now i slot c.args.first x c.loop-argument-test.true c.argument-item.is c.loop-argument.invariant.2 in
-    let added = joined code (brought_code (view_starts c.args.starts.now) (view_converted x) (length code) slot slot) (λ (p : ℕ). conversion_code (view_starts c.args.starts.now) x.from x.to (span_of (view_expression x.value)) (operands.Slot slot) p) made new c.in_ok-bring.ensures c.in_ok-convert.ensures in
+    let added = emitted_joined code (brought_code (view_starts c.args.starts.now) (view_converted x) (length code) slot slot) (λ (p : ℕ). conversion_code (view_starts c.args.starts.now) x.from x.to (span_of (view_expression x.value)) (operands.Slot slot) p) made new c.in_ok-bring.ensures c.in_ok-convert.ensures in
     let next = c.in_ok-slot.ensures in (
       subst (λ (n : ℕ). Remains (all_arguments (view_starts c.args.starts.now)) old c.args.arguments.now c.args.first (i + 1) new n) (sym next.0)
           (goes_on (all_arguments (view_starts c.args.starts.now)) (one_argument (view_starts c.args.starts.now)) (next_argument (view_starts c.args.starts.now)) (arguments_lower (view_starts c.args.starts.now)) old c.args.arguments.now c.args.first i code new slot x c.loop-argument-test.true c.argument-item.is added c.loop-argument.invariant.0),

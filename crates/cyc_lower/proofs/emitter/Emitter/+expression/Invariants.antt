@@ -3,7 +3,8 @@ use Rattle.cyc_types.specs.TypedTreeView.{arguments_of}
 use Rattle.cyc_plain.specs.declared.instruction.Operand.TheVariants as operands
 use Rattle.cyc_lower.specs.inside.ValueCode.{all_passed}
 use Rattle.cyc_lower.specs.inside.Emission.{most_locals, view_starts}
-use Rattle.cyc_lower.proofs.emission.Emitting.{Remains, all_arguments, all_printed, all_operations, PrintedLeft}
+use Rattle.cyc_lower.proofs.emission.Emitting.{Remains}
+use Rattle.cyc_lower.proofs.emission.ExpressionEmitting.{all_arguments, all_printed, all_operations, PrintedLeft}
 use Rattle.cyc_lower.proofs.emitter.Emitter.+expression.Given as goal
 
 abbrev pub invariant-lower_arguments-loop-argument : goal.invariant-lower_arguments-loop-argument

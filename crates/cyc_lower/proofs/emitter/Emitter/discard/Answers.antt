@@ -1,7 +1,7 @@
 use Rattle.std.proofs.lemmas.Result.{on_ok_weaker}
 use Rattle.cyc_types.specs.TypedTreeView.{view_dereference}
 use Rattle.cyc_lower.specs.inside.Emission.{view_starts}
-use Rattle.cyc_lower.proofs.emission.Emitting.{made_discarded, made_stored_only, room_for_right}
+use Rattle.cyc_lower.proofs.emission.ExpressionEmitting.{made_discarded, made_stored_only, room_for_right}
 use Rattle.cyc_lower.proofs.emitter.Emitter.discard.Goals as goal
 
 pub returns-in-Call : goal.returns-in-Call

@@ -1,5 +1,5 @@
 use Rattle.cyc_lower.specs.inside.ValueCode.{load_word}
-use Rattle.cyc_lower.proofs.emission.Emitting.{words_begin, words_next, words_end}
+use Rattle.cyc_lower.proofs.emission.Emitting.{words_begin, words_next, word_code_ends}
 use Rattle.cyc_lower.proofs.emitter.Emitter.load_global.Goals as goal
 
 pub loop-index-init : goal.loop-index-init
@@ -10,4 +10,4 @@ loop-index-preserved c =
     words_next load_word c.args.self.now.code.items c.loop-index.self.code.items c.emit.new.self.code.items c.args.words c.args.first c.args.slot c.loop-index.index c.loop-index-test.true c.in_ok-emit.ensures c.loop-index.invariant
 
 pub returns : goal.returns
-returns c = words_end load_word c.args.self.now.code.items c.loop-index.self.code.items c.args.words c.args.first c.args.slot c.loop-index.index c.loop-index-test.false c.loop-index.invariant
+returns c = word_code_ends load_word c.args.self.now.code.items c.loop-index.self.code.items c.args.words c.args.first c.args.slot c.loop-index.index c.loop-index-test.false c.loop-index.invariant

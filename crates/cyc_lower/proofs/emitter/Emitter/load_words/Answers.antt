@@ -2,7 +2,7 @@ use Rattle.std.proofs.Common.{◌≡◌, ℕ, ◌+◌, [], ◌∷◌, ◌++◌, 
 use Rattle.cyc_meaning.specs.Values.{words_of_kind}
 use Rattle.cyc_plain.specs.declared.instruction.Instruction.{Instruction}
 use Rattle.cyc_lower.specs.inside.ObjectCode.{load_at}
-use Rattle.cyc_lower.proofs.emission.Emitting.{words_begin, words_next, words_end}
+use Rattle.cyc_lower.proofs.emission.Emitting.{words_begin, words_next, word_code_ends}
 use Rattle.cyc_lower.proofs.emitter.Emitter.load_words.Goals as goal
 
 pub loop-index-init : goal.loop-index-init
@@ -20,5 +20,5 @@ loop-index-preserved c =
 
 pub returns : goal.returns
 returns c =
-    words_end (load_at c.args.kind c.args.address) c.args.self.now.code.items c.loop-index.self.code.items (words_of_kind c.args.kind) 0 c.args.slot c.loop-index.index
+    word_code_ends (load_at c.args.kind c.args.address) c.args.self.now.code.items c.loop-index.self.code.items (words_of_kind c.args.kind) 0 c.args.slot c.loop-index.index
     (omega (arith, c.loop-index-test.false, c.words_of_kind-words.ensures.words)) c.loop-index.invariant

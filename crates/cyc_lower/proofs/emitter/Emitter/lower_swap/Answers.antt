@@ -7,7 +7,7 @@ use Rattle.cyc_lower.specs.inside.Slots.{Starts}
 use Rattle.cyc_lower.specs.inside.ObjectCode.{right_slot}
 use Rattle.cyc_lower.specs.inside.Lowering.{side_code}
 use Rattle.cyc_lower.specs.inside.Emission.{most_locals, view_starts}
-use Rattle.cyc_lower.proofs.emission.Emitting.{room_for_right}
+use Rattle.cyc_lower.proofs.emission.ExpressionEmitting.{room_for_right}
 use Rattle.cyc_lower.proofs.emitter.Emitter.lower_swap.Goals as goal
 
 -- the address of a cell waits in a slot, and has code

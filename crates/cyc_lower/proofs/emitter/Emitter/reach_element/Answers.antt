@@ -1,5 +1,5 @@
 use Rattle.cyc_lower.specs.inside.Emission.{view_starts}
-use Rattle.cyc_lower.proofs.emission.Emitting.{made_element}
+use Rattle.cyc_lower.proofs.emission.ExpressionEmitting.{made_element}
 use Rattle.cyc_lower.proofs.emitter.Emitter.reach_element.Goals as goal
 
 pub returns : goal.returns

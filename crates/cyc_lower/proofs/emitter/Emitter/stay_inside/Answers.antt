@@ -1,6 +1,6 @@
 use Rattle.std.proofs.lemmas.Result.{on_ok_weaker}
 use Rattle.cyc_lower.specs.inside.Emission.{view_starts}
-use Rattle.cyc_lower.proofs.emission.Emitting.{made_inside}
+use Rattle.cyc_lower.proofs.emission.ExpressionEmitting.{made_inside}
 use Rattle.cyc_lower.proofs.emitter.Emitter.stay_inside.Goals as goal
 
 pub returns : goal.returns

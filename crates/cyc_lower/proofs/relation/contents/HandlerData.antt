@@ -1,0 +1,107 @@
+-- What stays of the records of handlers, and how many calls the frames are, while a step changes some of the slots.
+use Rattle.std.proofs.Common.{◌≡◌, ℕ, suc, ◌+◌, ◌≤◌, ◌<◌, Bool, true, false, List, [], ◌∷◌, length, Option, None, Some, refl, ap, ◌∙◌, arith, inl, inr}
+use Rattle.cyc_types.specs.TypedTrees.{Program}
+use Rattle.cyc_plain.specs.inside.State as plain
+use Rattle.cyc_plain.specs.inside.State.{Words, Frame}
+use Rattle.cyc_plain.specs.declared.limits.TheConstants.{RECORD_WORDS}
+use Rattle.cyc_meaning.specs.State.{Object, Entry, Handler, Caller, Main, calls_in, CloseLexical, Loop}
+use Rattle.cyc_lower.specs.inside.ControlCode.{behind_record_in}
+use Rattle.cyc_lower.specs.inside.Lowering.{scopes_of}
+use Rattle.cyc_lower.proofs.slots.Widths.{Outside}
+use Rattle.cyc_objects.specs.inside.Tables.{Tables}
+use Rattle.cyc_lower.proofs.relation.contents.HeldValues.{behind_records, scopes_in, IsKept, callers, contents, left_by}
+use Rattle.cyc_lower.proofs.relation.simulation.Relation.{floor, HandlersStand, DataAt, base_of}
+use Rattle.cyc_lower.proofs.relation.contents.Data.{data_above}
+
+-- ---- records of handlers
+
+record-least : (scopes : Option ℕ) (slot : ℕ) → slot + RECORD_WORDS ≤ behind_record_in scopes slot
+record-least None slot = omega arith
+record-least (Some place) slot = omega arith
+
+-- temporaries begin behind the locals
+pub behind-least : (k : List Entry) (scopes : Option ℕ) (slot : ℕ) → slot ≤ behind_records k scopes slot
+behind-least [] scopes slot = omega arith
+behind-least (Handler handler ∷ k) scopes slot = omega (arith, behind-least k scopes slot, record-least scopes (behind_records k scopes slot))
+behind-least (CloseLexical region ∷ k) scopes slot = omega (arith, behind-least k scopes slot)
+behind-least (Caller e ∷ k) scopes slot = omega arith
+behind-least (Main ∷ k) scopes slot = omega arith
+behind-least (entry ∷ k) scopes slot = behind-least k scopes slot
+
+pub floor-least : (source : Program) (g : ℕ) (k : List Entry) → base_of source g ≤ floor source g k
+floor-least source g k = behind-least k (scopes_of source) (base_of source g)
+
+-- the record of a handler ends before the temporaries, with what is kept behind it
+pub record_below : (source : Program) (g : ℕ) (k : List Entry) → floor source g k + RECORD_WORDS ≤ behind_record_in (scopes_of source) (floor source g k)
+record_below source g k = record-least (scopes_of source) (floor source g k)
+
+record_kept : (scopes : Option ℕ) (slots other : Words) (slot many : ℕ) → (slot + RECORD_WORDS < behind_record_in scopes slot → other (slot + RECORD_WORDS) ≡ slots (slot + RECORD_WORDS))
+    → IsKept scopes slots (slot + RECORD_WORDS) many → IsKept scopes other (slot + RECORD_WORDS) many
+record_kept None slots other slot many same kept = tt
+record_kept (Some place) slots other slot many same kept = same (omega arith) ∙ kept
+
+module _ (source : Program) where
+  -- slots that are equal between the locals and the temporaries have the same records
+  pub handlers_same : (g : ℕ) (slots other : Words) (handlers : List plain.Handler) (frames : List Frame) (k : List Entry)
+      → ((n : ℕ) → base_of source g ≤ n → n < floor source g k → other n ≡ slots n) → HandlersStand source g slots handlers frames k → HandlersStand source g other handlers frames k
+  handlers_same g slots other handlers frames [] same stand = absurd stand
+  handlers_same g slots other [] frames (Handler handler ∷ k) same stand = absurd stand
+  handlers_same g slots other (plain.Caught ∷ handlers) frames (Handler handler ∷ k) same stand = absurd stand
+  handlers_same g slots other (plain.Open index first contents ∷ handlers) frames (Handler handler ∷ k) same (is, (zeroth, second, third, fourth), kept, catches, rest) =
+      let least = floor-least source g k in
+      let inside = record_below source g k in (
+        is,
+        (
+          same first (omega (arith, is, least)) (omega (arith, is, inside)) ∙ zeroth,
+          same (first + 1) (omega (arith, is, least)) (omega (arith, is, inside)) ∙ second,
+          same (first + 2) (omega (arith, is, least)) (omega (arith, is, inside)) ∙ third,
+          same (first + 3) (omega (arith, is, least)) (omega (arith, is, inside)) ∙ fourth,
+        ),
+        record_kept (scopes_of source) slots other (floor source g k) (scopes_in k) (λ inside. same (floor source g k + RECORD_WORDS) (omega (arith, least)) inside) kept,
+        catches,
+        handlers_same g slots other handlers frames k (λ n from to. same n from (omega (arith, to, inside))) rest,
+      )
+  handlers_same g slots other handlers frames (Caller e ∷ k) same stand = stand
+  handlers_same g slots other handlers frames (Main ∷ k) same stand = stand
+  handlers_same g slots other handlers frames (CloseLexical region ∷ k) same (marked, stand) =
+      (same (floor source g k) (floor-least source g k) (omega arith) ∙ marked, handlers_same g slots other handlers frames k (λ n from to. same n from (omega (arith, to))) stand)
+  handlers_same g slots other handlers frames (entry ∷ k) same stand = handlers_same g slots other handlers frames k same stand
+
+  -- a local is written
+  pub handlers_beside : (g : ℕ) (slots after : Words) (handlers : List plain.Handler) (frames : List Frame) (k : List Entry) (n many : ℕ) → n + many ≤ base_of source g
+      → ((m : ℕ) → Outside n many m → after m ≡ slots m) → HandlersStand source g slots handlers frames k → HandlersStand source g after handlers frames k
+  handlers_beside g slots after handlers frames k n many below same stand =
+      handlers_same g slots after handlers frames k (λ m from to. same m (inr (omega (arith, below, from)))) stand
+
+  -- words are written behind the records
+  pub data_written : (t : Tables) (g base : ℕ) (objects : List Object) (locals : ℕ → Option ℕ) (k : List Entry) (slots after : Words) (handlers : List plain.Handler) (globals : Words) (frames : List Frame) (n many : ℕ)
+      → floor source g k ≤ n → ((m : ℕ) → Outside n many m → after m ≡ slots m)
+      → DataAt source t g base objects locals (callers k) slots globals frames × HandlersStand source g slots handlers frames k
+      → DataAt source t g base objects locals (callers k) after globals frames × HandlersStand source g after handlers frames k
+  data_written t g base objects locals k slots after handlers globals frames n many above same (facts, stand) = (
+    data_above t source g base objects locals (callers k) slots after globals frames n many (omega (arith, above, floor-least source g k)) same facts,
+    handlers_same g slots after handlers frames k (λ m from to. same m (inl (omega (arith, to, above)))) stand,
+  )
+
+  -- each frame is a call, and the running one is one more
+  pub calls_counted : (g : ℕ) (slots : Words) (handlers : List plain.Handler) (frames : List Frame) (k : List Entry) → HandlersStand source g slots handlers frames k → calls_in k ≡ suc (length frames)
+  calls_counted g slots handlers frames [] stand = absurd stand
+  calls_counted g slots [] frames (Handler handler ∷ k) stand = absurd stand
+  calls_counted g slots (plain.Caught ∷ handlers) frames (Handler handler ∷ k) stand = absurd stand
+  calls_counted g slots (plain.Open index first contents ∷ handlers) frames (Handler handler ∷ k) (is, intact, kept, catches, rest) = calls_counted g slots handlers frames k rest
+  calls_counted g slots handlers [] (Caller e ∷ k) (none, rest) = absurd rest
+  calls_counted g slots handlers (f ∷ frames) (Caller e ∷ k) (none, rest) = ap suc (calls_counted f.caller.function f.caller.slots f.caller.handlers frames k rest)
+  calls_counted g slots handlers [] (Main ∷ []) (none, last) = refl
+  calls_counted g slots handlers [] (Main ∷ entry ∷ k) (none, last) = absurd last
+  calls_counted g slots handlers (f ∷ frames) (Main ∷ k) (none, last) = absurd last
+  calls_counted g slots handlers frames (CloseLexical region ∷ k) (marked, stand) = calls_counted g slots handlers frames k stand
+  calls_counted g slots handlers frames (entry ∷ k) stand = calls_counted g slots handlers frames k stand
+
+-- as many calls are under way where entries of one are left
+pub calls_left : (loop : Bool) (k : List Entry) → calls_in (left_by loop k) ≡ calls_in k
+calls_left loop [] = refl
+calls_left true (Loop condition body ∷ k) = refl
+calls_left false (Loop condition body ∷ k) = calls_left false k
+calls_left loop (Caller e ∷ k) = refl
+calls_left loop (Main ∷ k) = refl
+calls_left loop (entry ∷ k) = calls_left loop k
