@@ -22,7 +22,7 @@ use Rattle.cyc_registers.specs.inside.Fills.{AreFillable}
 use Rattle.cyc_frame.specs.inside.Layout.{AllReturn, AreFirstFrames, AreFrames, AreRaised, HasSmallFrames, IsAccepted, IsFrame, IsTooLarge, first_too_large, frame_at, is_too_large, loses_any, opens_any, returns_any}
 
 pub is_frame : (r : Routine) (saves : Bool) (saved : ℕ) (homes : List Home) (idle fills : List Bool) → saves ≡ loses_any r.code → saved ≤ MOST_SAVED → (0 < saved → returns_any r.code ≡ true) → r.slots + LAYOUT_WORDS ≤ r.frame_count → r.frame_count ≤ MOST_FRAME_WORDS
-    → IsFrame r (record { return_address = 0; saves = saves; first_saved = 1; saved = saved; first_slot = LAYOUT_WORDS; homes = homes; idle = idle; fills = fills })
+    → IsFrame r (record { return_address = 0; saves = saves; first_saved = 1; saved = saved; first_slot = LAYOUT_WORDS; parameters = r.parameters; homes = homes; idle = idle; fills = fills })
 is_frame r saves saved homes idle fills loses few returns fits small = record {
   apart = λ a b a_below b_below same. omega (arith, same);
   inside = λ slot below. omega (arith, below, fits);
@@ -35,6 +35,7 @@ is_frame r saves saved homes idle fills loses few returns fits small = record {
   saved_beside = λ slot j slot_below below same. absurd (omega (arith, same, below));
   saved_apart = λ j below same. absurd (omega (arith, same));
   most_saved = few;
+  parameters = refl;
   returning = returns;
 }
 
@@ -180,7 +181,7 @@ more_frames program count before most frames frame r are rises saved is framed h
 
 -- where there is none
 abbrev no_frame : Frame
-no_frame = record { return_address = 0; saves = false; first_saved = 0; saved = 0; first_slot = 0; homes = []; idle = []; fills = [] }
+no_frame = record { return_address = 0; saves = false; first_saved = 0; saved = 0; first_slot = 0; parameters = 0; homes = []; idle = []; fills = [] }
 
 -- a frame that saves more registers, as many as these
 module _ (program : Program) (most : ℕ) (few : most ≤ MOST_SAVED) where
@@ -190,7 +191,8 @@ module _ (program : Program) (most : ℕ) (few : most ≤ MOST_SAVED) where
     low = are.low;
     high = are.high;
     saved_registers = λ slot k has from. (let below = are.saved_registers slot k has from in omega (arith, below, fewer));
-    low_parameters = are.low_parameters;
+    arrivals = (let few_arrive = are.arrivals in omega (arith, few_arrive, fewer));
+    arriving = are.arriving;
     few = are.few;
     apart = are.apart;
     made = are.made;
@@ -216,6 +218,7 @@ module _ (program : Program) (most : ℕ) (few : most ≤ MOST_SAVED) where
     saved_beside = is.saved_beside;
     saved_apart = is.saved_apart;
     most_saved = few;
+    parameters = is.parameters;
     returning = returns;
   }
 

@@ -21,6 +21,8 @@ pub struct Frame {
     pub saved: usize,
     /// The word of the function's slot 0. The other slots follow it in order.
     pub first_slot: usize,
+    /// How many of the first slots are the function's parameters.
+    pub parameters: usize,
     /// The home of each slot, by its number.
     pub homes: Vec<Home>,
     /// Whether each place of the function's code is idle. Nothing is to be done there.
@@ -40,6 +42,7 @@ impl Model for Frame {
       first_saved = a.first_saved;
       saved = a.saved;
       first_slot = a.first_slot;
+      parameters = a.parameters;
       homes = a.homes.items;
       idle = a.idle.items;
       fills = a.fills.items;

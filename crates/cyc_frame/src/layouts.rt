@@ -129,6 +129,7 @@ fn frame_of(
         first_saved: 1,
         saved: given.saved,
         first_slot: LAYOUT_WORDS,
+        parameters: function.parameters,
         homes: given.homes,
         idle: given.idle,
         fills: given.fills,

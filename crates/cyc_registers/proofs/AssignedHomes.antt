@@ -1,19 +1,19 @@
 -- Homes that come of a checked table are right.
 use Rattle.std.proofs.Common.{◌≡◌, ◌≢◌, ℕ, zero, suc, ◌+◌, ◌<◌, ◌≤◌, true, false, List, [], ◌∷◌, ◌++◌, length, Some, None, refl, sym, ap, subst, ◌∙◌, arith, inl, inr}
-use Rattle.std.specs.Prelude.{◌⊎◌, ◌==◌, ◌||◌, ◌&&◌, Bool, nat_lt, if◌then◌else◌, bit_and}
+use Rattle.std.specs.Prelude.{◌⊎◌, ◌==◌, ◌||◌, ◌&&◌, Bool, nat_lt, bit_and}
 use Rattle.std.specs.Int.{bit_at}
 use Rattle.std.proofs.lemmas.Bool.{cases_eq, and_parts, or_cases, ltb-true, eqb-true, le-leb, lt-leb, cond-true, cond-false}
 use Rattle.std.proofs.lemmas.List.{length-append}
-use Rattle.std.proofs.lemmas.List.Sums.{sum_by-append}
+use Rattle.std.proofs.lemmas.List.Sums.{sum_by-append, sum_by-take-le}
 use Rattle.cyc_plain.specs.inside.Program.{Routine, Program}
 use Rattle.cyc_registers.specs.declared.home.Home.{Home}
 use Rattle.cyc_registers.specs.declared.home.Home.TheVariants as homes
 use Rattle.cyc_registers.specs.declared.home.TheConstants.{FIRST_REGISTER, FIRST_PRESERVED, MOST_BOTH, MOST_SAVED}
 use Rattle.cyc_registers.specs.declared.liveness.TheConstants.{MOST_CHOSEN, MOST_LOST}
-use Rattle.cyc_registers.specs.inside.Interference.{HasRegister, register_of, is_preserved, home_of, both_count, AreHomes}
+use Rattle.cyc_registers.specs.inside.Interference.{HasRegister, register_of, is_preserved, home_of, both_count, saved_count, AreHomes}
 use Rattle.cyc_registers.specs.inside.Masks.{mask_at, HasBit, AreMasks}
 use Rattle.cyc_registers.specs.inside.LivenessTable.{IsSound, may_have}
-use Rattle.cyc_registers.specs.inside.Assignment.{lost_count, saved_count, Suits, IsNext, IsGiven, IsHomeOf, AreFirstHomes, HaveOwnRegisters}
+use Rattle.cyc_registers.specs.inside.Assignment.{lost_count, Suits, IsNext, IsGiven, IsHomeOf, AreFirstHomes, HaveOwnRegisters}
 use Rattle.cyc_registers.proofs.Bits.{apart_bits}
 use Rattle.cyc_registers.proofs.CheckedLiveness.{live_bit, behind_bit, clause_bit, barred_bit}
 use Rattle.cyc_registers.specs.inside.Liveness.{IsLiveAt}
@@ -21,7 +21,6 @@ use Rattle.cyc_registers.specs.inside.Liveness.{IsLiveAt}
 pub memory_suits : (program : Program) (r : Routine) (slot : ℕ) → Suits program r slot homes.Memory
 memory_suits program r slot = record {
   entry = λ k is wanted. absurd (let e : None ≡ Some k = is in cc);
-  low_parameter = λ k is below. absurd (let e : None ≡ Some k = is in cc);
   behind = λ index function arguments count result at other wanted. refl;
   clause = λ index first handler at wanted. refl;
   barred = λ index i at barred. refl;
@@ -39,29 +38,26 @@ its_number register k is = let e : Some register ≡ Some k = is in cc
 module _ (program : Program) (r : Routine) (masks live : List ℕ) (calls clauses barred : ℕ) (sound : IsSound program r masks live calls clauses barred)
     (are : AreMasks masks MOST_CHOSEN) (slot j : ℕ) (has : HasBit masks slot j)
     (free : bit_at barred j ≡ 1 → ⊥) (entered : IsLiveAt program r slot 0 → slot < r.parameters) (register : ℕ) where
-  both_suits : register < FIRST_PRESERVED → Suits program r slot (homes.Both register)
-  both_suits low = record {
+  both_suits : Suits program r slot (homes.Both register)
+  both_suits = record {
     entry = λ k is wanted. entered wanted;
-    low_parameter = λ k is below. omega (arith, its_number register k is, low);
     behind = λ index function arguments count result at other wanted. refl;
     clause = λ index first handler at wanted. refl;
     barred = λ index i at is. absurd (free (barred_bit program r masks live calls clauses barred sound slot j are has index i at is));
   }
 
-  lost_suits : register < FIRST_PRESERVED → (bit_at calls j ≡ 1 → ⊥) → (bit_at clauses j ≡ 1 → ⊥) → Suits program r slot (homes.Register register)
-  lost_suits low no_call no_clause = record {
+  lost_suits : (bit_at calls j ≡ 1 → ⊥) → (bit_at clauses j ≡ 1 → ⊥) → Suits program r slot (homes.Register register)
+  lost_suits no_call no_clause = record {
     entry = λ k is wanted. entered wanted;
-    low_parameter = λ k is below. omega (arith, its_number register k is, low);
     behind = λ index function arguments count result at other wanted.
         absurd (no_call (behind_bit program r masks live calls clauses barred sound slot j are has index function arguments count result at other wanted));
     clause = λ index first handler at wanted. absurd (no_clause (clause_bit program r masks live calls clauses barred sound slot j are has index first handler at wanted));
     barred = λ index i at is. absurd (free (barred_bit program r masks live calls clauses barred sound slot j are has index i at is));
   }
 
-  preserved_suits : FIRST_PRESERVED ≤ register → r.parameters ≤ slot → (bit_at clauses j ≡ 1 → ⊥) → Suits program r slot (homes.Register register)
-  preserved_suits high past no_clause = record {
+  preserved_suits : FIRST_PRESERVED ≤ register → (bit_at clauses j ≡ 1 → ⊥) → Suits program r slot (homes.Register register)
+  preserved_suits high no_clause = record {
     entry = λ k is wanted. entered wanted;
-    low_parameter = λ k is below. absurd (omega (arith, past, below));
     behind = λ index function arguments count result at other wanted. le-leb FIRST_PRESERVED register high;
     clause = λ index first handler at wanted. absurd (no_clause (clause_bit program r masks live calls clauses barred sound slot j are has index first handler at wanted));
     barred = λ index i at is. absurd (free (barred_bit program r masks live calls clauses barred sound slot j are has index i at is));
@@ -111,7 +107,7 @@ module _ (program : Program) (r : Routine) (masks live : List ℕ) (calls clause
   next_both few =
       let (j, has) = are.some slot facts.0 in
       record {
-        suits = both_suits program r masks live calls clauses barred sound are slot j has (apart_bits barred (mask_at masks slot) j facts.1 has) (only_parameters j has) (FIRST_REGISTER + lost) (omega (arith, few));
+        suits = both_suits program r masks live calls clauses barred sound are slot j has (apart_bits barred (mask_at masks slot) j facts.1 has) (only_parameters j has) (FIRST_REGISTER + lost);
         register = λ k is.
             inl (its_number (FIRST_REGISTER + lost) k is, few, cond-false (is_preserved (FIRST_REGISTER + lost)) 0 1 (low_register few), cond-false (is_preserved (FIRST_REGISTER + lost)) 1 0 (low_register few));
       }
@@ -120,17 +116,17 @@ module _ (program : Program) (r : Routine) (masks live : List ℕ) (calls clause
   next_lost few no_call no_clause =
       let (j, has) = are.some slot facts.0 in
       record {
-        suits = lost_suits program r masks live calls clauses barred sound are slot j has (apart_bits barred (mask_at masks slot) j facts.1 has) (only_parameters j has) (FIRST_REGISTER + lost) (omega (arith, few))
+        suits = lost_suits program r masks live calls clauses barred sound are slot j has (apart_bits barred (mask_at masks slot) j facts.1 has) (only_parameters j has) (FIRST_REGISTER + lost)
             (apart_bits calls (mask_at masks slot) j no_call has) (apart_bits clauses (mask_at masks slot) j no_clause has);
         register = λ k is.
             inl (its_number (FIRST_REGISTER + lost) k is, few, cond-false (is_preserved (FIRST_REGISTER + lost)) 0 1 (low_register few), cond-false (is_preserved (FIRST_REGISTER + lost)) 1 0 (low_register few));
       }
 
-  pub next_preserved : saved < most → r.parameters ≤ slot → bit_and clauses (mask_at masks slot) ≡ 0 → IsHomeOf program r slot lost saved most (homes.Register (FIRST_PRESERVED + saved))
-  next_preserved few past no_clause =
+  pub next_preserved : saved < most → bit_and clauses (mask_at masks slot) ≡ 0 → IsHomeOf program r slot lost saved most (homes.Register (FIRST_PRESERVED + saved))
+  next_preserved few no_clause =
       let (j, has) = are.some slot facts.0 in
       record {
-        suits = preserved_suits program r masks live calls clauses barred sound are slot j has (apart_bits barred (mask_at masks slot) j facts.1 has) (only_parameters j has) (FIRST_PRESERVED + saved) (omega arith) past
+        suits = preserved_suits program r masks live calls clauses barred sound are slot j has (apart_bits barred (mask_at masks slot) j facts.1 has) (only_parameters j has) (FIRST_PRESERVED + saved) (omega arith)
             (apart_bits clauses (mask_at masks slot) j no_clause has);
         register = λ k is.
             inr (its_number (FIRST_PRESERVED + saved) k is, few, cond-true (is_preserved (FIRST_PRESERVED + saved)) 0 1 high_register, cond-true (is_preserved (FIRST_PRESERVED + saved)) 1 0 high_register);
@@ -164,6 +160,7 @@ module _ (program : Program) (r : Routine) where
     most_lost = omega arith;
     most_saved = omega arith;
     both = refl;
+    counted = refl;
     few = omega arith;
   }
 
@@ -235,6 +232,7 @@ module _ (program : Program) (r : Routine) where
       most_lost = few_more.0;
       most_saved = few_more.1;
       both = sum_by-append both_count hs (h ∷ []) ∙ omega (arith, are.both);
+      counted = sum_by-append saved_count hs (h ∷ []) ∙ omega (arith, are.counted);
       few = few;
     }
 
@@ -250,7 +248,8 @@ module _ (program : Program) (r : Routine) where
     low = λ slot k has. (lies lost saved most k are.most_lost are.most_saved small (are.within slot k has)).0;
     high = λ slot k has. (lies lost saved most k are.most_lost are.most_saved small (are.within slot k has)).1;
     saved_registers = λ slot k has from. (lies lost saved most k are.most_lost are.most_saved small (are.within slot k has)).2 from;
-    low_parameters = λ slot k has below. (are.each slot).low_parameter k has below;
+    arrivals = omega (arith, sum_by-take-le saved_count hs r.parameters, are.counted);
+    arriving = λ a c k has_a has_c high a_below c_below. are.one a c k has_a has_c;
     few = omega (arith, are.both, are.few);
     apart = λ index a c k has_a has_c wanted_a wanted_c. are.one a c k has_a has_c;
     made = λ index next a d k i at written led has_d has_a wanted. are.one a d k has_a has_d;

@@ -2,9 +2,10 @@
 use Rattle.std.proofs.Common.{◌≡◌, ℕ, zero, suc, Some, None, refl, sym, ap, ◌∙◌, arith}
 use Rattle.std.specs.Prelude.{sum_by, replicate}
 use Rattle.std.proofs.lemmas.List.{length-replicate}
+use Rattle.std.proofs.lemmas.List.Sums.{sum_by-take-le}
 use Rattle.cyc_plain.specs.inside.Program.{Routine, Program}
 use Rattle.cyc_registers.specs.declared.home.Home.TheVariants as homes
-use Rattle.cyc_registers.specs.inside.Interference.{AreHomes, HasRegister, register_of, is_kept, outlives, home_of, both_count}
+use Rattle.cyc_registers.specs.inside.Interference.{AreHomes, HasRegister, register_of, is_kept, outlives, home_of, both_count, saved_count}
 
 in_memory : (n slot : ℕ) → home_of (replicate n homes.Memory) slot ≡ homes.Memory
 in_memory zero slot = refl
@@ -15,6 +16,10 @@ none_both : (n : ℕ) → sum_by both_count (replicate n homes.Memory) ≡ 0
 none_both zero = refl
 none_both (suc n) = none_both n
 
+none_saved : (n : ℕ) → sum_by saved_count (replicate n homes.Memory) ≡ 0
+none_saved zero = refl
+none_saved (suc n) = none_saved n
+
 no_register : (n slot k : ℕ) → HasRegister (replicate n homes.Memory) slot k → ⊥
 no_register n slot k has = let e : None ≡ Some k = sym (ap register_of (in_memory n slot)) ∙ has in cc
 
@@ -24,7 +29,8 @@ memory_homes program r = record {
   low = λ slot k has. absurd (no_register r.slots slot k has);
   high = λ slot k has. absurd (no_register r.slots slot k has);
   saved_registers = λ slot k has from. absurd (no_register r.slots slot k has);
-  low_parameters = λ slot k has below. absurd (no_register r.slots slot k has);
+  arrivals = omega (arith, sum_by-take-le saved_count (replicate r.slots homes.Memory) r.parameters, none_saved r.slots);
+  arriving = λ a c k has_a has_c high a_below c_below. absurd (no_register r.slots a k has_a);
   few = omega (arith, none_both r.slots);
   apart = λ index a c k has_a has_c wanted_a wanted_c. absurd (no_register r.slots a k has_a);
   made = λ index next a d k i at written led has_d has_a wanted. absurd (no_register r.slots a k has_a);

@@ -6,6 +6,7 @@ ghost use Rattle.cyc_registers.specs.inside.Idle.{AreIdle};
 ghost use Rattle.cyc_registers.specs.inside.Fills.{AreFillable};
 
 use crate::assignment::{homes_in, in_memory, masks_of};
+use crate::choice::taken_of;
 use crate::fills::fills_of;
 use crate::home::{Home, MOST_SAVED};
 use crate::idle::idle_places;
@@ -54,7 +55,7 @@ pub fn allocate(
             fills: Vec::new(alloc),
         });
     }
-    let taken = costs.taken(&masks, &lives, function.parameters, most);
+    let taken = taken_of(alloc, &costs, &masks, &lives, function.parameters, most)?;
     let assigned = homes_in(alloc, plain, function, &masks, &lives, taken, most)?;
     let idle = idle_places(alloc, plain, function, &masks, &lives, &assigned.homes)?;
     let fills = fills_of(alloc, plain, function, &masks, &lives, &assigned.homes)?;

@@ -1,15 +1,15 @@
 //! Assignment: which register each of the slots has that are taken for one.
 ghost use Rattle.std.specs.Prelude.{◌≡◌, ◌+◌, ◌<◌, ◌≤◌, true, length, IfOk};
 ghost use Rattle.cyc_plain.specs.inside.Program.{routine_of};
-ghost use Rattle.cyc_registers.specs.inside.Assignment.{AreFirstHomes, HaveOwnRegisters, IsHomeOf, lost_count, saved_count};
-ghost use Rattle.cyc_registers.specs.inside.Interference.{AreHomes, both_count};
+ghost use Rattle.cyc_registers.specs.inside.Assignment.{AreFirstHomes, HaveOwnRegisters, IsHomeOf, lost_count};
+ghost use Rattle.cyc_registers.specs.inside.Interference.{AreHomes, both_count, saved_count};
 ghost use Rattle.cyc_registers.specs.inside.LivenessTable as checks;
 ghost use Rattle.cyc_registers.specs.inside.Masks.{AreMasks};
 
+use crate::choice::Taken;
 use crate::home::{FIRST_PRESERVED, FIRST_REGISTER, Home, MOST_BOTH, MOST_SAVED};
 use crate::liveness::{Lives, MOST_CHOSEN, MOST_LOST, may_have};
 use crate::masks::mask_at;
-use crate::spill_costs::Taken;
 use cyc_plain::{Function, Plain};
 use std::alloc::{AllocError, Global};
 
@@ -84,7 +84,7 @@ fn lost_home(
 }
 
 /// The home of a slot that may have a register, where it has the next one of those that calls preserve. What is live in a clause
-/// has none of them, and no parameter has.
+/// has none of them.
 fn preserved_home(
     plain: &Plain,
     function: &Function,
@@ -102,7 +102,7 @@ fn preserved_home(
     ensures home { IsHomeOf plain.now (routine_of function.now) slot given.lost given.saved most result }
     ensures both { both_count result ≡ 0 }
 {
-    if given.saved >= most || slot < function.parameters {
+    if given.saved >= most {
         return Home::Memory;
     }
     if lives.clauses & mask_at(masks, slot) == 0 {

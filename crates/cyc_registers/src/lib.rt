@@ -3,6 +3,7 @@
 
 mod allocation;
 mod assignment;
+mod choice;
 mod fills;
 mod home;
 mod idle;

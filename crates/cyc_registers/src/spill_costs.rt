@@ -1,51 +1,11 @@
 //! Spill costs: what each slot costs where it stays in memory, and so which are worth a register. Nothing is promised of the choice:
 //! homes are right whatever is chosen.
-use crate::home::MOST_BOTH;
-use crate::liveness::{Lives, MOST_CHOSEN, MOST_LOST};
-use crate::masks::mask_at;
+use crate::liveness::MOST_CHOSEN;
 use cyc_plain::{Function, Instruction, Operand, Request};
 use std::alloc::{AllocError, Global};
 
 /// How often the least gain is doubled at most, until no more slots have it than are looked at.
 const MOST_DOUBLINGS: u32 = 64;
-
-/// What a register that calls preserve costs: it is saved and restored once for each call of the function, and other functions
-/// find fewer that they need not save.
-const PRESERVED_PRICE: u64 = 4;
-
-/// The slots that are taken for registers, as masks.
-#[derive(Clone, Copy)]
-pub(crate) struct Taken {
-    /// Those that get one that calls lose.
-    pub(crate) lost: u32,
-    /// Those that get one that calls preserve.
-    pub(crate) preserved: u32,
-}
-
-/// What bounds the choice of registers that calls preserve.
-#[derive(Clone, Copy)]
-struct Limits {
-    /// How many parameters the function has, which come in none of them.
-    parameters: usize,
-    /// How many of them it may save.
-    saved: usize,
-}
-
-/// A slot that may be taken, by its mask, and what it gains.
-#[derive(Clone, Copy)]
-struct Choice {
-    mask: u32,
-    is_preserved: bool,
-    gain: u64,
-}
-
-fn better(first: Choice, second: Choice) -> Choice {
-    if second.gain > first.gain {
-        second
-    } else {
-        first
-    }
-}
 
 /// How often the code reads and writes a slot, by a guess of how often each place is executed.
 #[derive(Clone, Copy)]
@@ -271,7 +231,7 @@ impl SpillCosts {
     }
 
     /// What a register alone would save at most.
-    fn most_at(&self, slot: usize) -> u64 {
+    pub(crate) fn most_at(&self, slot: usize) -> u64 {
         match self.slots.get(slot) {
             Some(gain) => gain.reads.saturating_add(gain.writes),
             None => 0,
@@ -279,7 +239,7 @@ impl SpillCosts {
     }
 
     /// What a register beside memory would save, which is read again behind each call.
-    fn beside_at(&self, slot: usize) -> u64 {
+    pub(crate) fn beside_at(&self, slot: usize) -> u64 {
         match self.slots.get(slot) {
             Some(gain) => gain.reads.saturating_sub(self.calls),
             None => 0,
@@ -324,94 +284,6 @@ impl SpillCosts {
             }
         }
         Ok(chosen)
-    }
-
-    /// What one of the registers that calls lose would save for this slot, where so many are given and so many slots have both.
-    fn lost_gain(&self, slot: usize, mask: u32, lives: &Lives, lost: usize, both: usize) -> u64 {
-        if mask & lives.barred != 0 || lost >= MOST_LOST {
-            0
-        } else if mask & (lives.calls | lives.clauses) == 0 {
-            self.most_at(slot)
-        } else if both < MOST_BOTH {
-            self.beside_at(slot)
-        } else {
-            0
-        }
-    }
-
-    /// What one of those that calls preserve would save, which is saved and restored once for each call of the function.
-    fn preserved_gain(&self, slot: usize, mask: u32, lives: &Lives) -> u64 {
-        if mask & (lives.barred | lives.clauses) != 0 {
-            0
-        } else {
-            self.most_at(slot).saturating_sub(PRESERVED_PRICE)
-        }
-    }
-
-    /// The choice among the slots that are not taken yet that would gain most. Where none would gain anything, no slot's.
-    fn best(&self, masks: &[u32], lives: &Lives, taken: Taken, limits: Limits) -> Choice {
-        let lost = taken.lost.count_ones() as usize;
-        let saved = taken.preserved.count_ones() as usize;
-        let both = (taken.lost & (lives.calls | lives.clauses)).count_ones() as usize;
-        let mut best = Choice {
-            mask: 0,
-            is_preserved: false,
-            gain: 0,
-        };
-        for slot in 0..self.slots.len() {
-            let mask = mask_at(masks, slot);
-            if mask != 0 && mask & (taken.lost | taken.preserved) == 0 {
-                let gain = self.lost_gain(slot, mask, lives, lost, both);
-                best = better(
-                    best,
-                    Choice {
-                        mask,
-                        is_preserved: false,
-                        gain,
-                    },
-                );
-                if saved < limits.saved && slot >= limits.parameters {
-                    let gain = self.preserved_gain(slot, mask, lives);
-                    best = better(
-                        best,
-                        Choice {
-                            mask,
-                            is_preserved: true,
-                            gain,
-                        },
-                    );
-                }
-            }
-        }
-        best
-    }
-
-    /// The masks of those of the chosen slots that gain most, of a function with so many parameters, which may save so many
-    /// registers.
-    pub(crate) fn taken(
-        &self,
-        masks: &[u32],
-        lives: &Lives,
-        parameters: usize,
-        saved: usize,
-    ) -> Taken {
-        let limits = Limits { parameters, saved };
-        let mut taken = Taken {
-            lost: 0,
-            preserved: 0,
-        };
-        for _ in 0..MOST_CHOSEN {
-            let choice = self.best(masks, lives, taken, limits);
-            if choice.gain == 0 {
-                break;
-            }
-            if choice.is_preserved {
-                taken.preserved = taken.preserved | choice.mask;
-            } else {
-                taken.lost = taken.lost | choice.mask;
-            }
-        }
-        taken
     }
 }
 

@@ -16,7 +16,7 @@ abbrev nothing : Program
 nothing = record { functions = []; globals = []; main = 0 }
 
 abbrev frame : Frame
-frame = record { first_slot = 0; return_address = 11; saves = false; first_saved = 0; saved = 0; homes = []; idle = []; fills = [] }
+frame = record { first_slot = 0; parameters = 0; return_address = 11; saves = false; first_saved = 0; saved = 0; homes = []; idle = []; fills = [] }
 
 abbrev lines_of : List Instruction → ℕ
 lines_of code = sum_by (body_count nothing (frame ∷ []) 0) code

@@ -2,6 +2,7 @@
 pub mod Matches
 pub mod Standing
 pub mod Values
+pub mod Arriving
 pub mod Held
 pub mod Stores
 pub mod Places

@@ -1,6 +1,6 @@
 //! The lines of calls and returns, and of moves of several words.
 ghost use Rattle.std.specs.Prelude.{◌≡◌, ◌+◌, ◌*◌, ◌<◌, ◌≤◌, [], ◌∷◌, ◌++◌, true, length, OnOk};
-ghost use Rattle.cyc_select.specs.inside.Selection.{load, store, pass, spill, spills, copies, ordinary, load_all, load_words, store_all, moves, all_moved, move_words, calling_code, room_code, returned_code, saves, restores, way_code, saving_code, restoring_code, ending_code, returning_code};
+ghost use Rattle.cyc_select.specs.inside.Selection.{coming, load, store, pass, spill, spills, copies, ordinary, load_all, load_words, store_all, moves, all_moved, move_words, calling_code, room_code, returned_code, saves, restores, way_code, saving_code, restoring_code, ending_code, returning_code};
 ghost use Rattle.cyc_select.specs.inside.Emission.{AddsLines, IsReached, AreReached, most_lines};
 
 use crate::code::Line;
@@ -10,7 +10,7 @@ use crate::emitter::Emitter;
 use crate::instructions::{
     load, load_slot, load_word, offset_of, pop_frame, push_frame, small, store, store_slot, syscall,
 };
-use crate::operands::{is_kept, made_in, passed_from};
+use crate::operands::{comes_by, is_kept, made_in, passed_from};
 use cyc_frame::Frame;
 use cyc_isa::{BranchOp, Instr};
 use cyc_machine::constants::{ARGUMENT, END_FULL, END_RETURNED, RETURN_ADDRESS, SERVICE};
@@ -47,7 +47,7 @@ fn restore(frame: &Frame, number: usize) -> Instr
 
 impl Emitter {
     /// One argument, from the caller's slot to the callee's, whose frame is the current one already. One that is passed
-    /// from memory comes by the register that the callee has it in.
+    /// from memory comes by the register that it comes in.
     fn argument(
         &mut self,
         caller: &Frame,
@@ -57,14 +57,14 @@ impl Emitter {
     ) -> Result<(), AllocError>
         requires source { IsReached caller.now source }
         requires target { IsReached callee.now slot }
-        ensures { AddsLines result self.old self.new (ordinary (pass caller.now callee.now source slot)) }
+        ensures { AddsLines result self.old self.new (ordinary (pass caller.now (coming callee.now) source slot)) }
     {
         match passed_from(caller, callee, source, slot) {
-            Some(register) => self.give(callee, register, slot),
+            Some(register) => self.give_coming(callee, register, slot),
             None => {
                 let offset = offset_of(MOST_FRAME_WORDS) + offset_of(caller.first_slot + source);
-                self.ordinary(&[load(made_in(callee, slot), offset)])?;
-                self.keep(callee, slot)
+                self.ordinary(&[load(comes_by(callee, slot), offset)])?;
+                self.keep_coming(callee, slot)
             }
         }
     }
@@ -78,7 +78,7 @@ impl Emitter {
         slot: usize,
     ) -> Result<(), AllocError>
         requires { IsReached caller.now source }
-        ensures { AddsLines result self.old self.new (ordinary (spill caller.now callee.now source slot)) }
+        ensures { AddsLines result self.old self.new (ordinary (spill caller.now (coming callee.now) source slot)) }
     {
         if let Some(_) = passed_from(caller, callee, source, slot) {
             return Ok(());
@@ -98,7 +98,7 @@ impl Emitter {
         count: usize,
     ) -> Result<(), AllocError>
         requires { AreReached caller.now source count }
-        ensures { AddsLines result self.old self.new (ordinary (spills caller.now callee.now source 0 count)) }
+        ensures { AddsLines result self.old self.new (ordinary (spills caller.now (coming callee.now) source 0 count)) }
     {
         for slot in 0..count {
             self.spill(caller, callee, source + slot, slot)?;
@@ -116,7 +116,7 @@ impl Emitter {
     ) -> Result<(), AllocError>
         requires source { AreReached caller.now source count }
         requires target { AreReached callee.now 0 count }
-        ensures { AddsLines result self.old self.new (ordinary (copies caller.now callee.now source 0 count)) }
+        ensures { AddsLines result self.old self.new (ordinary (copies caller.now (coming callee.now) source 0 count)) }
     {
         for slot in 0..count {
             self.argument(caller, callee, source + slot, slot)?;
@@ -146,7 +146,7 @@ impl Emitter {
         requires fits { here ≤ most_lines + MOST_FRAME_WORDS }
         requires source { AreReached caller.now arguments count }
         requires target { AreReached callee.now 0 count }
-        ensures { AddsLines result self.old self.new (calling_code caller.now callee.now here label arguments count) }
+        ensures { AddsLines result self.old self.new (calling_code caller.now (coming callee.now) here label arguments count) }
     {
         self.test_room(here)?;
         self.ordinary(&[push_frame()])?;
@@ -302,15 +302,17 @@ impl Emitter {
         Ok(())
     }
 
-    /// All that a function saves where it begins.
+    /// All that a function saves where it begins, and the parameters that come to registers then.
     pub(crate) fn saving(&mut self, frame: &Frame) -> Result<(), AllocError>
         requires return_address { frame.now.return_address ≤ MOST_FRAME_WORDS }
         requires few { frame.now.saved ≤ MOST_SAVED }
         requires inside { frame.now.first_saved ≤ MOST_FRAME_WORDS }
+        requires homes { AreReached frame.now 0 (length frame.now.homes) }
         ensures { AddsLines result self.old self.new (ordinary (saving_code frame.now)) }
     {
         self.keep_way(frame)?;
-        self.saves(frame)
+        self.saves(frame)?;
+        self.arrivals(frame)
     }
 
     /// The way back comes from the frame again, where the function returns.

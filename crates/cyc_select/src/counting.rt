@@ -4,7 +4,7 @@ ghost use Rattle.cyc_plain.specs.inside.Program.{routine_of, routine_at, instruc
 ghost use Rattle.cyc_plain.specs.inside.WellFormed.{IsPlain, IsInRange};
 ghost use Rattle.cyc_frame.specs.inside.Layout.{AreFrames, frame_at};
 ghost use Rattle.cyc_registers.specs.declared.home.TheConstants.{MOST_BOTH, MOST_SAVED};
-ghost use Rattle.cyc_select.specs.inside.Selection.{way_count, saving_count, reload_count, spill_count, spills_count, pass_count, copies_count, moves_count, move_words_count, operator_count, ending_count, body_count, behind_count, is_idle, count_of, code_count, function_count};
+ghost use Rattle.cyc_select.specs.inside.Selection.{coming, arrival_count, way_count, saving_count, reload_count, spill_count, spills_count, pass_count, copies_count, moves_count, move_words_count, operator_count, ending_count, body_count, behind_count, is_idle, count_of, code_count, function_count};
 ghost use Rattle.cyc_select.specs.inside.Emission.{AreFew, most_lines, instruction_lines, function_starts};
 
 use crate::asking::ask_count;
@@ -13,8 +13,8 @@ use crate::globals::reach_count;
 use crate::hoisting::branch_count;
 use crate::memory::address_count;
 use crate::operands::{
-    give_count, is_kept, keep_count, load_count, move_count, operand_count, passed_from,
-    reload_count, word_count,
+    arrival_count, give_coming_count, give_count, is_kept, keep_coming_count, keep_count,
+    load_count, move_count, operand_count, passed_from, reload_count, word_count,
 };
 use crate::operators::{Parts, is_tested, plan_count};
 use crate::plan::{binary_plan, test_of, unary_plan};
@@ -56,6 +56,7 @@ pub(crate) fn frame_in<'a>(plain: &Plain, frames: &'a [Frame], function: usize) 
     ensures few { reload_count result.now ≤ MOST_BOTH }
     ensures saved { result.now.saved ≤ MOST_SAVED }
     ensures first_saved { result.now.first_saved ≤ MOST_FRAME_WORDS }
+    ensures arrivals { arrival_count result.now ≤ MOST_SAVED }
 {
     known_frame(frames, function)
 }
@@ -108,7 +109,7 @@ fn move_words_count(frame: &Frame, destination: usize, source: usize, count: usi
 }
 
 fn spill_count(caller: &Frame, callee: &Frame, source: usize, slot: usize) -> usize
-    ensures value { result ≡ spill_count caller.now callee.now source slot }
+    ensures value { result ≡ spill_count caller.now (coming callee.now) source slot }
     ensures few { result ≤ 1 }
 {
     match passed_from(caller, callee, source, slot) {
@@ -121,7 +122,7 @@ fn spill_count(caller: &Frame, callee: &Frame, source: usize, slot: usize) -> us
 #[tactic(auto, using(crate::proofs::emission::Counts::spills_next))]
 pub(crate) fn spills_count(caller: &Frame, callee: &Frame, source: usize, count: usize) -> usize
     requires { source + count ≤ MOST_FRAME_WORDS }
-    ensures value { result ≡ spills_count caller.now callee.now source 0 count }
+    ensures value { result ≡ spills_count caller.now (coming callee.now) source 0 count }
     ensures few { result ≤ MOST_FRAME_WORDS }
 {
     let mut lines = 0;
@@ -132,12 +133,12 @@ pub(crate) fn spills_count(caller: &Frame, callee: &Frame, source: usize, count:
 }
 
 fn pass_count(caller: &Frame, callee: &Frame, source: usize, slot: usize) -> usize
-    ensures value { result ≡ pass_count caller.now callee.now source slot }
+    ensures value { result ≡ pass_count caller.now (coming callee.now) source slot }
     ensures few { result ≤ 2 }
 {
     match passed_from(caller, callee, source, slot) {
-        Some(_) => give_count(callee, slot),
-        None => keep_count(callee, slot) + 1,
+        Some(_) => give_coming_count(callee, slot),
+        None => keep_coming_count(callee, slot) + 1,
     }
 }
 
@@ -145,7 +146,7 @@ fn pass_count(caller: &Frame, callee: &Frame, source: usize, slot: usize) -> usi
 #[tactic(auto, using(crate::proofs::emission::Counts::copies_next))]
 fn copies_count(caller: &Frame, callee: &Frame, source: usize, count: usize) -> usize
     requires { source + count ≤ MOST_FRAME_WORDS }
-    ensures value { result ≡ copies_count caller.now callee.now source 0 count }
+    ensures value { result ≡ copies_count caller.now (coming callee.now) source 0 count }
     ensures few { result ≤ 2 * MOST_FRAME_WORDS }
 {
     let mut lines = 0;
@@ -158,7 +159,7 @@ fn copies_count(caller: &Frame, callee: &Frame, source: usize, count: usize) -> 
 /// The lines of a call up to where it leaves for the callee.
 fn call_count(caller: &Frame, callee: &Frame, arguments: usize, count: usize) -> usize
     requires { arguments + count ≤ MOST_FRAME_WORDS }
-    ensures { result ≡ spills_count caller.now callee.now arguments 0 count + 5 + copies_count caller.now callee.now arguments 0 count }
+    ensures { result ≡ spills_count caller.now (coming callee.now) arguments 0 count + 5 + copies_count caller.now (coming callee.now) arguments 0 count }
 {
     spills_count(caller, callee, arguments, count)
         + 5
@@ -173,13 +174,14 @@ pub(crate) fn way_count(frame: &Frame) -> usize
     if frame.saves { 1 } else { 0 }
 }
 
-/// The lines that save what a function saves where it begins.
+/// The lines that save what a function saves where it begins, and bring parameters to registers.
 pub(crate) fn saving_count(frame: &Frame) -> usize
-    requires { frame.now.saved ≤ MOST_SAVED }
+    requires saved { frame.now.saved ≤ MOST_SAVED }
+    requires arrivals { arrival_count frame.now ≤ MOST_SAVED }
     ensures value { result ≡ saving_count frame.now }
-    ensures few { result ≤ MOST_SAVED + 1 }
+    ensures few { result ≤ 2 * MOST_SAVED + 1 }
 {
-    way_count(frame) + frame.saved
+    way_count(frame) + (frame.saved + arrival_count(frame))
 }
 
 /// The lines of a return.
@@ -394,7 +396,7 @@ pub(crate) fn instruction_lines(
     requires few { AreFew plain.now }
     requires in_range { All (IsInRange plain.now (routine_at plain.now function)) code.now }
     requires small { sum_by instruction_size code.now ≤ MOST_SIZE }
-    requires fits { first + sum_by instruction_size code.now ≤ most_lines + MOST_SAVED + 1 }
+    requires fits { first + sum_by instruction_size code.now ≤ most_lines + 2 * MOST_SAVED + 1 }
     ensures { IfOk result (λ lines. lines.items ≡ instruction_lines plain.now frames.now function 0 first code.now) }
 {
     let mut lines = Vec::new(alloc);

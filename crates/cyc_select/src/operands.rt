@@ -1,8 +1,8 @@
 //! The lines that bring an operand into a register.
 ghost use Rattle.std.specs.Prelude.{◌≡◌, ◌≤◌, length, OnOk};
-ghost use Rattle.cyc_registers.specs.inside.Interference.{home_of, both_count};
-ghost use Rattle.cyc_registers.specs.declared.home.TheConstants.{MOST_BOTH};
-ghost use Rattle.cyc_select.specs.inside.Selection.{ordinary, value_register, is_kept, made_in, keep_code, keep_count, give_code, give_count, bring_code, bring_all, is_taken, passed_from, move_count, reload, reloads, reload_count, word_code, load_code, operand_code, operand_register, word_count, load_count, operand_count};
+ghost use Rattle.cyc_registers.specs.inside.Interference.{home_of, both_count, saved_count};
+ghost use Rattle.cyc_registers.specs.declared.home.TheConstants.{MOST_BOTH, MOST_SAVED};
+ghost use Rattle.cyc_select.specs.inside.Selection.{coming, coming_home, arriving_home, arriving, arrivals, ordinary, value_register, is_kept, made_in, keep_code, keep_count, give_code, give_count, bring_code, bring_all, is_taken, passed_from, move_count, reload, reloads, reload_count, arrival_count, word_code, load_code, operand_code, operand_register, word_count, load_count, operand_count};
 ghost use Rattle.cyc_select.specs.inside.Emission.{AddsLines, IsReached, AreReached, IsFound};
 
 use crate::constants::{FIRST, ZERO};
@@ -13,7 +13,7 @@ use crate::instructions::{
 use crate::numbers::{fits_signed, is_zero_word};
 use cyc_frame::Frame;
 use cyc_plain::Operand;
-use cyc_registers::Home;
+use cyc_registers::{FIRST_PRESERVED, Home};
 use std::alloc::AllocError;
 
 /// The home of a slot.
@@ -56,21 +56,94 @@ pub(crate) fn made_in(frame: &Frame, slot: usize) -> u8
     }
 }
 
-/// Whether one of the first parameters comes by this register.
+/// Where an argument comes that has this home in its function: in memory where that is a register that calls preserve.
+fn coming_home(home: Home) -> Home
+    ensures { result ≡ coming_home home }
+{
+    match home {
+        Home::Both { register } | Home::Register { register } if register >= FIRST_PRESERVED => {
+            Home::Memory
+        }
+        _ => home,
+    }
+}
+
+/// Where the argument comes to this slot.
+#[tactic(auto, using(crate::proofs::relation::Arriving::coming_is))]
+fn home_coming(callee: &Frame, slot: usize) -> Home
+    ensures { result ≡ home_of (coming callee.now).homes slot }
+{
+    coming_home(home(callee, slot))
+}
+
+/// The home that a parameter comes to from memory where its function begins, beside it.
+fn arriving_home(home: Home) -> Home
+    ensures { result ≡ arriving_home home }
+{
+    match home {
+        Home::Both { register } | Home::Register { register } if register >= FIRST_PRESERVED => {
+            Home::Both { register }
+        }
+        _ => Home::Memory,
+    }
+}
+
+/// That of this slot, if it is one of a parameter.
+#[tactic(auto, using(crate::proofs::relation::Arriving::arriving_is, crate::proofs::relation::Arriving::arriving_past))]
+fn home_arriving(frame: &Frame, slot: usize) -> Home
+    ensures { result ≡ home_of (arriving frame.now) slot }
+{
+    if slot >= frame.parameters {
+        return Home::Memory;
+    }
+    arriving_home(home(frame, slot))
+}
+
+/// The register that it comes in, if it comes in one.
+fn register_coming(callee: &Frame, slot: usize) -> Option<u8>
+    ensures { result ≡ value_register (coming callee.now) slot }
+{
+    match home_coming(callee, slot) {
+        Home::Memory => None,
+        Home::Both { register } | Home::Register { register } => Some(register),
+    }
+}
+
+/// Whether it comes in memory, also.
+fn is_kept_coming(callee: &Frame, slot: usize) -> bool
+    ensures { result ≡ is_kept (coming callee.now) slot }
+{
+    match home_coming(callee, slot) {
+        Home::Memory | Home::Both { .. } => true,
+        Home::Register { .. } => false,
+    }
+}
+
+/// The register that it comes by.
+pub(crate) fn comes_by(callee: &Frame, slot: usize) -> u8
+    ensures { result ≡ made_in (coming callee.now) slot }
+{
+    match register_coming(callee, slot) {
+        Some(register) => register,
+        None => FIRST,
+    }
+}
+
+/// Whether one of the first arguments comes by this register.
 #[tactic(auto, using(crate::proofs::emission::Counts::taken_next))]
 fn is_taken(callee: &Frame, slot: usize, register: u8) -> bool
-    ensures { result ≡ is_taken callee.now slot register }
+    ensures { result ≡ is_taken (coming callee.now) slot register }
 {
     let mut taken = false;
     for parameter in 0..slot {
-        taken = taken || made_in(callee, parameter) == register;
+        taken = taken || comes_by(callee, parameter) == register;
     }
     taken
 }
 
 /// The register that an argument is passed from, if it is passed from one.
 pub(crate) fn passed_from(caller: &Frame, callee: &Frame, source: usize, slot: usize) -> Option<u8>
-    ensures { result ≡ passed_from caller.now callee.now source slot }
+    ensures { result ≡ passed_from caller.now (coming callee.now) source slot }
 {
     match value_register(caller, source) {
         Some(register) => {
@@ -122,6 +195,24 @@ pub(crate) fn give_count(frame: &Frame, slot: usize) -> usize
     }
 }
 
+/// The lines that bring an argument from where it comes by into the callee's frame, and those that bring a register's word to it.
+pub(crate) fn keep_coming_count(callee: &Frame, slot: usize) -> usize
+    ensures value { result ≡ keep_count (coming callee.now) slot }
+    ensures few { result ≤ 1 }
+{
+    if is_kept_coming(callee, slot) { 1 } else { 0 }
+}
+
+pub(crate) fn give_coming_count(callee: &Frame, slot: usize) -> usize
+    ensures value { result ≡ give_count (coming callee.now) slot }
+    ensures few { result ≤ 2 }
+{
+    match register_coming(callee, slot) {
+        Some(_) => keep_coming_count(callee, slot) + 1,
+        None => 1,
+    }
+}
+
 fn both_count(home: Home) -> usize
     ensures value { result ≡ both_count home }
     ensures few { result ≤ 1 }
@@ -130,6 +221,28 @@ fn both_count(home: Home) -> usize
         Home::Memory | Home::Register { .. } => 0,
         Home::Both { .. } => 1,
     }
+}
+
+fn saved_count(home: Home) -> usize
+    ensures value { result ≡ saved_count home }
+    ensures few { result ≤ 1 }
+{
+    match home {
+        Home::Both { register } | Home::Register { register } if register >= FIRST_PRESERVED => 1,
+        _ => 0,
+    }
+}
+
+/// The lines that bring parameters to registers which calls preserve.
+pub(crate) fn arrival_count(frame: &Frame) -> usize
+    requires { arrival_count frame.now ≤ MOST_SAVED }
+    ensures { result ≡ arrival_count frame.now }
+{
+    let mut count = 0;
+    for slot in 0..frame.parameters {
+        count += saved_count(home(frame, slot));
+    }
+    count
 }
 
 /// The lines that read registers again which stand beside memory.
@@ -318,12 +431,42 @@ impl Emitter {
         Ok(())
     }
 
-    /// The register of a slot is read again, where it stands beside memory.
-    fn reload(&mut self, frame: &Frame, slot: usize) -> Result<(), AllocError>
-        requires { IsReached frame.now slot }
-        ensures { AddsLines result self.old self.new (ordinary (reload frame.now (home_of frame.now.homes slot) slot)) }
+    /// An argument comes from where it comes by into the callee's frame, where it comes there.
+    pub(crate) fn keep_coming(&mut self, callee: &Frame, slot: usize) -> Result<(), AllocError>
+        requires { IsReached callee.now slot }
+        ensures { AddsLines result self.old self.new (ordinary (keep_code (coming callee.now) slot)) }
     {
-        match home(frame, slot) {
+        if !is_kept_coming(callee, slot) {
+            return Ok(());
+        }
+        self.ordinary(&[store_slot(callee, comes_by(callee, slot), slot)])
+    }
+
+    /// A register's word comes to an argument's slot.
+    pub(crate) fn give_coming(
+        &mut self,
+        callee: &Frame,
+        source: u8,
+        slot: usize,
+    ) -> Result<(), AllocError>
+        requires { IsReached callee.now slot }
+        ensures { AddsLines result self.old self.new (ordinary (give_code (coming callee.now) source slot)) }
+    {
+        match register_coming(callee, slot) {
+            Some(register) => {
+                self.ordinary(&[copy(register, source)])?;
+                self.keep_coming(callee, slot)
+            }
+            None => self.ordinary(&[store_slot(callee, source, slot)]),
+        }
+    }
+
+    /// The register of a home is read again, where it stands beside memory.
+    fn reload(&mut self, frame: &Frame, home: Home, slot: usize) -> Result<(), AllocError>
+        requires { IsReached frame.now slot }
+        ensures { AddsLines result self.old self.new (ordinary (reload frame.now home slot)) }
+    {
+        match home {
             Home::Both { register } => self.ordinary(&[load_word(frame, register, slot)]),
             Home::Memory | Home::Register { .. } => Ok(()),
         }
@@ -335,7 +478,18 @@ impl Emitter {
         ensures { AddsLines result self.old self.new (ordinary (reloads frame.now)) }
     {
         for slot in 0..frame.homes.len() {
-            self.reload(frame, slot)?;
+            self.reload(frame, home(frame, slot), slot)?;
+        }
+        Ok(())
+    }
+
+    /// Parameters that came in memory come to their registers, which calls preserve.
+    pub(crate) fn arrivals(&mut self, frame: &Frame) -> Result<(), AllocError>
+        requires { AreReached frame.now 0 (length frame.now.homes) }
+        ensures { AddsLines result self.old self.new (ordinary (arrivals frame.now)) }
+    {
+        for slot in 0..frame.homes.len() {
+            self.reload(frame, home_arriving(frame, slot), slot)?;
         }
         Ok(())
     }

@@ -62,13 +62,14 @@ pub record IsFrame (r : Routine) (frame : Frame) : Type 0 where
   pub saved_beside : (slot j : ℕ) → slot < r.slots → j < MOST_SAVED → slot_word frame slot ≢ frame.first_saved + j
   pub saved_apart : (j : ℕ) → j < MOST_SAVED → frame.first_saved + j ≢ frame.return_address
   pub most_saved : frame.saved ≤ MOST_SAVED
+  pub parameters : frame.parameters ≡ r.parameters
   pub returning : 0 < frame.saved → returns_any r.code ≡ true
 
 -- the frame of the function of this index; where there is none, an empty one
 abbrev pub frame_at : List Frame → ℕ → Frame
 frame_at frames function =
     slice_index_or frames function
-    (record { return_address = 0; saves = false; first_saved = 0; saved = 0; first_slot = 0; homes = []; idle = []; fills = [] })
+    (record { return_address = 0; saves = false; first_saved = 0; saved = 0; first_slot = 0; parameters = 0; homes = []; idle = []; fills = [] })
 
 -- each function of the program returns
 abbrev pub AllReturn : Program → Type 0

@@ -8,25 +8,19 @@ use Rattle.cyc_registers.specs.declared.home.Home.{Home}
 use Rattle.cyc_registers.specs.declared.home.Home.TheVariants as homes
 use Rattle.cyc_registers.specs.declared.home.TheConstants.{FIRST_REGISTER, FIRST_PRESERVED, MOST_BOTH}
 use Rattle.cyc_registers.specs.declared.liveness.TheConstants.{MOST_LOST}
-use Rattle.cyc_registers.specs.inside.Interference.{HasRegister, register_of, is_kept, is_preserved, outlives, home_of, both_count}
+use Rattle.cyc_registers.specs.inside.Interference.{HasRegister, register_of, is_kept, is_preserved, outlives, home_of, both_count, saved_count}
 use Rattle.cyc_registers.specs.inside.Bars.{bars}
 use Rattle.cyc_registers.specs.inside.Liveness.{IsLiveAt}
 
--- which of the two kinds of registers a home has one of
+-- how many registers a home has of those that calls lose
 abbrev pub lost_count : Home → ℕ
 lost_count homes.Memory = 0
 lost_count (homes.Both register) = if is_preserved register then 0 else 1
 lost_count (homes.Register register) = if is_preserved register then 0 else 1
 
-abbrev pub saved_count : Home → ℕ
-saved_count homes.Memory = 0
-saved_count (homes.Both register) = if is_preserved register then 1 else 0
-saved_count (homes.Register register) = if is_preserved register then 1 else 0
-
 -- a home that suits a slot, whatever register of its kind it has
 pub record Suits (program : Program) (r : Routine) (slot : ℕ) (home : Home) : Type 0 where
   pub entry : (k : ℕ) → register_of home ≡ Some k → IsLiveAt program r slot 0 → slot < r.parameters
-  pub low_parameter : (k : ℕ) → register_of home ≡ Some k → slot < r.parameters → k < FIRST_PRESERVED
   pub behind : (index function arguments count result : ℕ) → At r index (instructions.Call function arguments count result)
       → writes program (instructions.Call function arguments count result) slot ≡ false → IsLiveAt program r slot (suc index) → outlives home ≡ true
   pub clause : (index first handler : ℕ) → At r index (instructions.Try first handler)
@@ -63,4 +57,5 @@ pub record AreFirstHomes (program : Program) (r : Routine) (count lost saved mos
   pub most_lost : lost ≤ MOST_LOST
   pub most_saved : saved ≤ most
   pub both : sum_by both_count homes ≡ both_so_far
+  pub counted : sum_by saved_count homes ≡ saved
   pub few : both_so_far ≤ MOST_BOTH

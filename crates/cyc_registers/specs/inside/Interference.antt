@@ -1,6 +1,6 @@
 -- Interference: when the homes of a function's slots are right. Slots that are live at once share no register, and what is live where
 -- registers are lost is in memory too, or in one that calls preserve.
-use Rattle.std.specs.Prelude.{◌≡◌, ℕ, suc, ◌+◌, ◌<◌, ◌≤◌, Bool, true, false, List, length, nat_le, sum_by, Option, Some, None, slice_index_or}
+use Rattle.std.specs.Prelude.{◌≡◌, ℕ, suc, ◌+◌, ◌<◌, ◌≤◌, Bool, true, false, if◌then◌else◌, List, length, nat_le, sum_by, take, Option, Some, None, slice_index_or}
 use Rattle.cyc_plain.specs.declared.instruction.Instruction.{Instruction}
 use Rattle.cyc_plain.specs.declared.instruction.Instruction.TheVariants as instructions
 use Rattle.cyc_plain.specs.inside.Program.{Routine, Program}
@@ -38,6 +38,12 @@ both_count homes.Memory = 0
 both_count (homes.Both register) = 1
 both_count (homes.Register register) = 0
 
+-- how many registers it has of those that calls preserve
+abbrev pub saved_count : Home → ℕ
+saved_count homes.Memory = 0
+saved_count (homes.Both register) = if is_preserved register then 1 else 0
+saved_count (homes.Register register) = if is_preserved register then 1 else 0
+
 -- the home of a slot; where none is listed, memory
 abbrev pub home_of : List Home → (slot : ℕ) → Home
 home_of hs slot = slice_index_or hs slot homes.Memory
@@ -52,10 +58,12 @@ pub record AreHomes (program : Program) (r : Routine) (saved : ℕ) (hs : List H
   pub as_many : length hs ≡ r.slots
   pub low : (slot k : ℕ) → HasRegister hs slot k → FIRST_REGISTER ≤ k
   pub high : (slot k : ℕ) → HasRegister hs slot k → k < REGISTERS_END
-  -- of the registers that calls preserve slots have those that the function saves; no parameter comes in one, which has a word of
-  -- the caller's until it is saved
+  -- of the registers that calls preserve slots have those that the function saves
   pub saved_registers : (slot k : ℕ) → HasRegister hs slot k → FIRST_PRESERVED ≤ k → k < FIRST_PRESERVED + saved
-  pub low_parameters : (slot k : ℕ) → HasRegister hs slot k → slot < r.parameters → k < FIRST_PRESERVED
+  -- a parameter comes to one from memory, since it has a word of the caller's until it is saved: no two to the same, and no more of
+  -- them than are saved
+  pub arrivals : sum_by saved_count (take r.parameters hs) ≤ saved
+  pub arriving : (a c k : ℕ) → HasRegister hs a k → HasRegister hs c k → FIRST_PRESERVED ≤ k → a < r.parameters → c < r.parameters → a ≡ c
   pub few : sum_by both_count hs ≤ MOST_BOTH
   -- two slots that are both live later never share a register
   pub apart : (index a c k : ℕ) → HasRegister hs a k → HasRegister hs c k

@@ -1,7 +1,7 @@
 -- Lines that are made piece by piece.
 use Rattle.std.proofs.Common.{◌≡◌, ℕ, suc, ◌+◌, ◌-◌, ◌*◌, ◌<◌, List, [], ◌∷◌, ◌++◌, length, drop, refl, sym, ap, ◌∙◌, append_assoc, arith}
 use Rattle.std.specs.Prelude.{sum_by}
-use Rattle.std.proofs.lemmas.List.{drop_more}
+use Rattle.std.proofs.lemmas.List.{append-nil, drop_more}
 use Rattle.std.proofs.lemmas.List.Sums.{sum_by-drop_more}
 use Rattle.cyc_isa.specs.declared.instr.Instr.{Instr}
 use Rattle.cyc_plain.specs.declared.instruction.Operand.TheVariants as operands
@@ -12,7 +12,8 @@ use Rattle.cyc_registers.specs.declared.home.Home.{Home}
 use Rattle.cyc_registers.specs.declared.home.Home.TheVariants as homes
 use Rattle.cyc_select.specs.declared.code.Line.TheVariants as lines
 use Rattle.cyc_select.specs.declared.code.Line.{Line}
-use Rattle.cyc_select.specs.inside.Selection.{load, store, saves_from, restores_from, value_register, pass, copies, spill, spills, move_to, moves, reload, reloads_from, ordinary}
+use Rattle.cyc_select.specs.inside.Selection.{arriving, load, store, saves_from, restores_from, value_register, pass, copies, spill, spills, move_to, moves, reload, reloads_from, ordinary}
+use Rattle.cyc_select.proofs.relation.Arriving.{reloads_next, arriving_all}
 
 -- what comes next is made, and the rest of the whole is left
 pub goes_on : {A : Type 0} (all old new next rest whole : List A) → new ≡ old ++ next → whole ≡ next ++ rest → old ++ whole ≡ all → new ++ rest ≡ all
@@ -118,3 +119,21 @@ reload_next frame slot below =
 
 pub both_next : (hs : List Home) (slot : ℕ) → slot < length hs → sum_by both_count (drop slot hs) ≡ both_count (home_of hs slot) + sum_by both_count (drop (slot + 1) hs)
 both_next hs slot below = sum_by-drop_more both_count hs slot homes.Memory below
+
+-- one parameter more comes to its register
+pub arrived_next : (frame : Frame) (slot : ℕ) (all old new : List Line) → new ≡ old ++ ordinary (reload frame (home_of (arriving frame) slot) slot)
+    → old ++ ordinary (reloads_from frame slot (drop slot (arriving frame))) ≡ all → new ++ ordinary (reloads_from frame (slot + 1) (drop (slot + 1) (arriving frame))) ≡ all
+arrived_next frame slot all old new is before =
+    let next : suc slot ≡ slot + 1 = omega arith in
+    let one : List Instr = reload frame (home_of (arriving frame) slot) slot in
+    goes_on all old new (ordinary one) (ordinary (reloads_from frame (slot + 1) (drop (slot + 1) (arriving frame)))) (ordinary (reloads_from frame slot (drop slot (arriving frame)))) is
+    (ap ordinary (reloads_next frame (arriving frame) slot slot)
+    ∙ ordinary_append one (reloads_from frame (suc slot) (drop (suc slot) (arriving frame)))
+    ∙ ap (λ (n : ℕ). ordinary one ++ ordinary (reloads_from frame n (drop n (arriving frame)))) next)
+    before
+
+-- all have come
+pub arrived_all : (frame : Frame) (slot : ℕ) → slot ≡ length frame.homes → (old : List Line) → old ++ ordinary (reloads_from frame slot (drop slot (arriving frame))) ≡ old
+arrived_all frame slot same old =
+    ap (λ (n : ℕ). old ++ ordinary (reloads_from frame slot (drop n (arriving frame)))) same
+    ∙ (ap (λ (hs : List Home). old ++ ordinary (reloads_from frame slot hs)) (arriving_all frame.parameters frame.homes) ∙ append-nil old)

@@ -14,11 +14,11 @@ use Rattle.cyc_plain.specs.inside.Program.{Program, Routine, no_routine, routine
 use Rattle.cyc_plain.specs.inside.WellFormed.{IsCallInRange, IsMoveInRange, IsRequestInRange, IsRoutine, IsWellFormed}
 use Rattle.cyc_plain.specs.declared.instruction.Request.{Request}
 use Rattle.cyc_plain.specs.declared.limits.TheConstants.{GREATEST_VALUE, MOST_SIZE, MOST_FRAME_WORDS}
-use Rattle.cyc_registers.specs.inside.Interference.{AreHomes}
+use Rattle.cyc_registers.specs.inside.Interference.{AreHomes, saved_count}
 use Rattle.cyc_frame.specs.inside.Layout.{IsFrame, AreFrames, frame_at, loses, loses_any, returns, returns_any}
 use Rattle.cyc_frame.specs.inside.Frame.{Frame}
 use Rattle.cyc_select.specs.declared.constants.TheConstants.{START_LINES}
-use Rattle.cyc_select.specs.inside.Selection.{reload_count, ending_count, body_count, behind_count, is_idle, count_of, code_count, function_count, functions_count, function_line, instruction_line, behind, place_lines, code_lines, function_lines, way_count, saving_count, routine_lines, hoisted}
+use Rattle.cyc_select.specs.inside.Selection.{coming, arrival_count, reload_count, ending_count, body_count, behind_count, is_idle, count_of, code_count, function_count, functions_count, function_line, instruction_line, behind, place_lines, code_lines, function_lines, way_count, saving_count, routine_lines, hoisted}
 use Rattle.cyc_select.specs.inside.Plans.{test_of}
 use Rattle.cyc_select.specs.inside.Emission.{AreReached, AreFew, most_lines, instruction_lines, function_starts, AreReady, AreTables}
 use Rattle.cyc_words.proofs.Lists.{slice_get_below}
@@ -26,7 +26,7 @@ use Rattle.cyc_select.proofs.layout.Lines.{line_next}
 use Rattle.cyc_select.proofs.emission.Counts.{move_small, move_words_small, spills_few, copies_few, give_small, keep_few, argument_small, regions_small, gives_small, word_small, load_small, operand_small, address_small, unary_small, test_small, operator_small, reach_few, hoisted_few}
 
 abbrev no_frame : Frame
-no_frame = record { return_address = 0; saves = false; first_saved = 0; saved = 0; first_slot = 0; homes = []; idle = []; fills = [] }
+no_frame = record { return_address = 0; saves = false; first_saved = 0; saved = 0; first_slot = 0; parameters = 0; homes = []; idle = []; fills = [] }
 
 -- ---- an instruction has few lines for each unit of its size
 
@@ -55,29 +55,33 @@ losing_next i code = go (loses i)
     go true = omega arith
     go false = omega arith
 
--- and how many it has room for that save registers
+-- and how many it has room for that save registers, and bring parameters to them
 abbrev pub returning : List Instruction → ℕ
-returning code = if returns_any code then 7 else 0
+returning code = if returns_any code then 14 else 0
 
-pub returning_next : (i : Instruction) (code : List Instruction) → returning (i ∷ code) ≤ (if returns i then 7 else 0) + returning code
+pub returning_next : (i : Instruction) (code : List Instruction) → returning (i ∷ code) ≤ (if returns i then 14 else 0) + returning code
 returning_next i code = go (returns i)
   where
-    go : (b : Bool) → (if b || returns_any code then 7 else 0) ≤ (if b then 7 else 0) + (if returns_any code then 7 else 0)
+    go : (b : Bool) → (if b || returns_any code then 14 else 0) ≤ (if b then 14 else 0) + (if returns_any code then 14 else 0)
     go true = omega arith
     go false = omega arith
 
 -- a function with this code saves where it begins what the code has room for
 abbrev pub IsSaving : Frame → List Instruction → Type 0
-IsSaving frame code = (frame.saves ≡ loses_any code) × (frame.saved ≤ returning code)
+IsSaving frame code = (frame.saves ≡ loses_any code) × (frame.saved + arrival_count frame ≤ returning code)
 
-pub is_saving : (r : Routine) (frame : Frame) → IsFrame r frame → IsSaving frame r.code
-is_saving r frame is = (is.saved, go frame.saved refl)
+-- no more parameters come to such registers than it saves
+pub arrivals_few : (program : Program) (r : Routine) (frame : Frame) → IsFrame r frame → AreHomes program r frame.saved frame.homes → arrival_count frame ≤ frame.saved
+arrivals_few program r frame is right = subst (λ (n : ℕ). sum_by saved_count (take n frame.homes) ≤ frame.saved) (sym is.parameters) right.arrivals
+
+pub is_saving : (program : Program) (r : Routine) (frame : Frame) → IsFrame r frame → AreHomes program r frame.saved frame.homes → IsSaving frame r.code
+is_saving program r frame is right = (is.saved, go frame.saved refl)
   where
-    go : (saved : ℕ) → saved ≡ frame.saved → frame.saved ≤ returning r.code
-    go zero none = omega (arith, none)
+    go : (saved : ℕ) → saved ≡ frame.saved → frame.saved + arrival_count frame ≤ returning r.code
+    go zero none = omega (arith, none, arrivals_few program r frame is right)
     go (suc n) some =
-        let room : returning r.code ≡ 7 = ap (λ (b : Bool). if b then 7 else 0) (is.returning (omega (arith, some))) in
-        omega (arith, room, is.most_saved)
+        let room : returning r.code ≡ 14 = ap (λ (b : Bool). if b then 14 else 0) (is.returning (omega (arith, some))) in
+        omega (arith, room, is.most_saved, arrivals_few program r frame is right)
 
 -- these functions, from this index on, do so by their frames
 abbrev pub AreSaved : List Frame → (first : ℕ) → List Routine → Type 0
@@ -96,7 +100,7 @@ saved_next frames first r routines saved k below =
 pub are_saved : (program : Program) (frames : List Frame) → AreFrames program frames → AreSaved frames 0 program.functions
 are_saved program frames fit k below =
     let same : k ≡ 0 + k = omega arith in
-    subst (λ (n : ℕ). IsSaving (frame_at frames n) (routine_at program k).code) same (is_saving (routine_at program k) (frame_at frames k) (fit.each k below))
+    subst (λ (n : ℕ). IsSaving (frame_at frames n) (routine_at program k).code) same (is_saving program (routine_at program k) (frame_at frames k) (fit.each k below) (fit.homes k below))
 
 -- an operator has words for its lines
 operator_fits : (operator : BinaryOperator) → 11 ≤ operator_size operator
@@ -108,13 +112,13 @@ operator_fits operator = omega arith
 abbrev pub ReadsFew : List Frame → (function : ℕ) → Type 0
 ReadsFew frames function = (reload_count (frame_at frames function) ≤ 6) × ((frame_at frames function).saved ≤ 7)
 
-body_small : (program : Program) (frames : List Frame) (function : ℕ) → ReadsFew frames function → AreFew program → (i : Instruction) → body_count program frames function i + behind_count program frames function i + (if loses i then 1 else 0) + (if returns i then 7 else 0) ≤ instruction_size i
+body_small : (program : Program) (frames : List Frame) (function : ℕ) → ReadsFew frames function → AreFew program → (i : Instruction) → body_count program frames function i + behind_count program frames function i + (if loses i then 1 else 0) + (if returns i then 14 else 0) ≤ instruction_size i
 body_small program frames function fit few (plain.Move destination source) = omega (arith, move_small (frame_at frames function) destination source)
 body_small program frames function fit few (plain.Unary operator destination operand) = omega (arith, unary_small (frame_at frames function) operator operand destination)
 body_small program frames function fit few (plain.Binary operator destination left right) = omega (arith, operator_small (frame_at frames function) operator destination left right, operator_fits operator)
 body_small program frames function fit few (plain.Jump target) = omega arith
 body_small program frames function fit few (plain.Branch comparison left right target) = omega (arith, test_small (frame_at frames function) (test_of comparison left right), hoisted_few (hoisted (frame_at frames function) (routine_at program function).code (test_of comparison left right) target))
-body_small program frames function fit few (plain.Call f a n r) = omega (arith, few f, fit.0, spills_few (frame_at frames function) (frame_at frames f) a 0 n, copies_few (frame_at frames function) (frame_at frames f) a 0 n)
+body_small program frames function fit few (plain.Call f a n r) = omega (arith, few f, fit.0, spills_few (frame_at frames function) (coming (frame_at frames f)) a 0 n, copies_few (frame_at frames function) (coming (frame_at frames f)) a 0 n)
 body_small program frames function fit few (plain.Return v) = omega (arith, few function, ending_small program function, way_small (frame_at frames function), fit.1)
 body_small program frames function fit few (plain.ReadByte destination) = omega (arith, give_small (frame_at frames function) destination)
 body_small program frames function fit few (plain.WriteByte source) = omega (arith, load_small source)
@@ -135,7 +139,7 @@ body_small program frames function fit few (plain.Finish v) = omega (arith, few 
 body_small program frames function fit few (plain.Uncaught tag value) = omega (arith, word_small tag, load_small value)
 body_small program frames function fit few (plain.Enter callee) = omega arith
 
-function_count_small : (program : Program) (frames : List Frame) (function : ℕ) → ReadsFew frames function → AreFew program → (index : ℕ) (i : Instruction) → count_of program frames function index i + (if loses i then 1 else 0) + (if returns i then 7 else 0) ≤ instruction_size i
+function_count_small : (program : Program) (frames : List Frame) (function : ℕ) → ReadsFew frames function → AreFew program → (index : ℕ) (i : Instruction) → count_of program frames function index i + (if loses i then 1 else 0) + (if returns i then 14 else 0) ≤ instruction_size i
 function_count_small program frames function fit few index i = omega (arith, body_small program frames function fit few i, go (is_idle (frame_at frames function) index i))
   where
     go : (b : Bool) → (if b then 0 else body_count program frames function i) ≤ body_count program frames function i
@@ -195,7 +199,7 @@ start_fits program frames are fit few k below =
 pub line_fits : (program : Program) (frames : List Frame) → AreFrames program frames → ((k : ℕ) → ReadsFew frames k) → AreFew program → (k : ℕ) → k < length program.functions → (index : ℕ)
     → instruction_line program frames k index ≤ START_LINES + sum_by size program.functions
 line_fits program frames are fit few k below index =
-    omega (arith, start_fits program frames are fit few k below, routine_small program frames k (fit k) few (routine_at program k).code (is_saving (routine_at program k) (frame_at frames k) (are.each k below)), count_take program frames k 0 (routine_at program k).code index)
+    omega (arith, start_fits program frames are fit few k below, routine_small program frames k (fit k) few (routine_at program k).code (is_saving program (routine_at program k) (frame_at frames k) (are.each k below) (are.homes k below)), count_take program frames k 0 (routine_at program k).code index)
 
 -- ---- what a well-formed program says of all its functions
 

@@ -27,7 +27,7 @@ use Rattle.cyc_select.specs.declared.plan.Test.{Test}
 use Rattle.cyc_select.specs.inside.Plans.{unary_plan, binary_plan, test_of}
 use Rattle.cyc_select.specs.inside.Labelled.{Labelled, words_of, all_words}
 use Rattle.cyc_select.specs.inside.Selected.{words_at}
-use Rattle.cyc_select.specs.inside.Selection.{product_code, quotient_code, operand_count, operand_register, slot_offset, recorded_code, caught_code, reload_count, value_register, move_to, keep_code, give_code, moved_code, reloads, opened_code, made_in, ordinary, argument_code, service_number, answer_code, unwound_code, address_code, at_address, copies, bring_all, word_code, load_code, load_count, operand_code, plan_code, test_code, condition_of, hoisted, with_hoisted, behind_hoisted, branch_code, divided_code, divide_code, is_tested, part_of, result_registers, ending_code, operator_code, body, behind, place_lines, is_idle, count_of, function_count, function_line, instruction_line, code_lines, function_lines, small, syscall, store, add_immediate, push_frame, load, regions_code, load_at, store_at, spills, spills_count, calling_code, global_code, saves_from, way_code, saving_code, restoring_code, way_count, saving_count, returning_code, routine_lines}
+use Rattle.cyc_select.specs.inside.Selection.{arrivals, coming, product_code, quotient_code, operand_count, operand_register, slot_offset, recorded_code, caught_code, reload_count, value_register, move_to, keep_code, give_code, moved_code, reloads, opened_code, made_in, ordinary, argument_code, service_number, answer_code, unwound_code, address_code, at_address, copies, bring_all, word_code, load_code, load_count, operand_code, plan_code, test_code, condition_of, hoisted, with_hoisted, behind_hoisted, branch_code, divided_code, divide_code, is_tested, part_of, result_registers, ending_code, operator_code, body, behind, place_lines, is_idle, count_of, function_count, function_line, instruction_line, code_lines, function_lines, small, syscall, store, add_immediate, push_frame, load, regions_code, load_at, store_at, spills, spills_count, calling_code, global_code, saves_from, way_code, saving_code, restoring_code, way_count, saving_count, returning_code, routine_lines}
 use Rattle.cyc_isa.specs.Decoding.{register_of}
 use Rattle.cyc_isa.specs.declared.instr.BranchOp.TheVariants as branch
 use Rattle.cyc_select.proofs.emission.Counts.{length_keep, length_give, length_move, length_moved, length_spills, spills_few, length_copies, copies_few, move_words_small, keep_few, give_small, move_small, argument_small, regions_small, gives_small, length_argument, length_answer, length_regions, length_results, length_registers, word_small, load_small, operand_small, address_small, plan_small, unary_small, test_small, length_word, length_load, length_operand, length_address, length_plan, length_test, length_divided, reach_few, length_global, length_hoisted, hoisted_few}
@@ -35,6 +35,7 @@ use Rattle.cyc_select.proofs.steps.Preserving.{length_saves}
 use Rattle.cyc_select.proofs.steps.Returns.{loaded, length_loaded}
 use Rattle.cyc_select.proofs.emission.Numbering.{ReadsFew, losing, losing_next, returning, returning_next, IsSaving, AreSaved, saved_first, saved_next}
 use Rattle.cyc_select.proofs.relation.Values.{length_reloads}
+use Rattle.cyc_select.proofs.relation.Arriving.{length_arrivals}
 use Rattle.cyc_select.proofs.effects.Walks.{Stands}
 
 words_ordinary : (is : List Instr) → all_words (ordinary is) ≡ length is
@@ -104,7 +105,7 @@ module _ (program : Program) (frames : List Frame) (reads_few : (function : ℕ)
       go true = omega arith
       go false = omega arith
 
-  returning_words : (function here value : ℕ) → all_words (returning_code (function == program.main) (frame_at frames function) here value (routine_at program function).results) + 0 + 0 + 7 ≤ 36
+  returning_words : (function here value : ℕ) → all_words (returning_code (function == program.main) (frame_at frames function) here value (routine_at program function).results) + 0 + 0 + 14 ≤ 36
   returning_words function here value =
       let frame : Frame = frame_at frames function in
       let there : ℕ = here + way_count frame in
@@ -115,7 +116,7 @@ module _ (program : Program) (frames : List Frame) (reads_few : (function : ℕ)
       let front = sum_by-append words_of ends loads in
       omega (arith, whole, all, front, restoring_words function, words_ordinary (loaded frame value (routine_at program function).results), length_loaded frame value (routine_at program function).results (few_results function), ending_words (function == program.main) frame there value, few_results function, (reads_few function).1)
 
-  body_words : (function here : ℕ) (i : Instruction) → all_words (body program frames function here i) + all_words (behind program frames function i) + (if loses i then 1 else 0) + (if returns i then 7 else 0) ≤ instruction_size i
+  body_words : (function here : ℕ) (i : Instruction) → all_words (body program frames function here i) + all_words (behind program frames function i) + (if loses i then 1 else 0) + (if returns i then 14 else 0) ≤ instruction_size i
   body_words function here (plain.Move destination source) =
       omega (arith, words_ordinary (move_to (value_register (frame_at frames function) destination) (frame_at frames function) destination source), length_move (frame_at frames function) destination source, move_small (frame_at frames function) destination source)
   body_words function here (plain.Unary operator destination operand) =
@@ -124,20 +125,20 @@ module _ (program : Program) (frames : List Frame) (reads_few : (function : ℕ)
   body_words function here (plain.Jump target) = omega arith
   body_words function here (plain.Branch comparison left right target) = omega (arith, test_words (frame_at frames function) (test_of comparison left right) (hoisted (frame_at frames function) (routine_at program function).code (test_of comparison left right) target) (instruction_line program frames function target))
   body_words function here (plain.Call callee arguments count result) =
-      let spilled : ℕ = here + spills_count (frame_at frames function) (frame_at frames callee) arguments 0 count in
-      let calling : List Line = calling_code (frame_at frames function) (frame_at frames callee) spilled (function_line program frames callee) arguments count in
-      let front = sum_by-append words_of (ordinary (spills (frame_at frames function) (frame_at frames callee) arguments 0 count)) calling in
-      let spill_words = words_ordinary (spills (frame_at frames function) (frame_at frames callee) arguments 0 count) in
+      let spilled : ℕ = here + spills_count (frame_at frames function) (coming (frame_at frames callee)) arguments 0 count in
+      let calling : List Line = calling_code (frame_at frames function) (coming (frame_at frames callee)) spilled (function_line program frames callee) arguments count in
+      let front = sum_by-append words_of (ordinary (spills (frame_at frames function) (coming (frame_at frames callee)) arguments 0 count)) calling in
+      let spill_words = words_ordinary (spills (frame_at frames function) (coming (frame_at frames callee)) arguments 0 count) in
       let first : List Line = lines.Branch (conditions.Registers branch.NotEqual (register_of FRAME) (register_of LOWEST)) (spilled + 3) ∷ ordinary (small 2 11 ∷ syscall ∷ push_frame ∷ []) in
-      let passed = words_ordinary (copies (frame_at frames function) (frame_at frames callee) arguments 0 count) in
-      let long = length_copies (frame_at frames function) (frame_at frames callee) arguments 0 count in
-      let a = sum_by-append words_of (lines.Branch (conditions.Registers branch.NotEqual (register_of FRAME) (register_of LOWEST)) (spilled + 3) ∷ ordinary (small 2 11 ∷ syscall ∷ push_frame ∷ [])) (ordinary (copies (frame_at frames function) (frame_at frames callee) arguments 0 count) ++ lines.Call (function_line program frames callee) ∷ []) in
-      let b = sum_by-append words_of (ordinary (copies (frame_at frames function) (frame_at frames callee) arguments 0 count)) (lines.Call (function_line program frames callee) ∷ []) in
+      let passed = words_ordinary (copies (frame_at frames function) (coming (frame_at frames callee)) arguments 0 count) in
+      let long = length_copies (frame_at frames function) (coming (frame_at frames callee)) arguments 0 count in
+      let a = sum_by-append words_of (lines.Branch (conditions.Registers branch.NotEqual (register_of FRAME) (register_of LOWEST)) (spilled + 3) ∷ ordinary (small 2 11 ∷ syscall ∷ push_frame ∷ [])) (ordinary (copies (frame_at frames function) (coming (frame_at frames callee)) arguments 0 count) ++ lines.Call (function_line program frames callee) ∷ []) in
+      let b = sum_by-append words_of (ordinary (copies (frame_at frames function) (coming (frame_at frames callee)) arguments 0 count)) (lines.Call (function_line program frames callee) ∷ []) in
       let kept = words_ordinary (bring_all true (frame_at frames function) result (result_registers (routine_at program callee).results) ++ reloads (frame_at frames function)) in
       let both = length-append (bring_all true (frame_at frames function) result (result_registers (routine_at program callee).results)) (reloads (frame_at frames function)) in
       let stores = length_results (frame_at frames function) result (result_registers (routine_at program callee).results) in
       let registers = length_registers (routine_at program callee).results (few_results callee) in
-      omega (arith, front, spill_words, length_spills (frame_at frames function) (frame_at frames callee) arguments 0 count, spills_few (frame_at frames function) (frame_at frames callee) arguments 0 count, copies_few (frame_at frames function) (frame_at frames callee) arguments 0 count, passed, long, a, b, kept, both, stores, registers, few_results callee, length_reloads (frame_at frames function), reads_few function)
+      omega (arith, front, spill_words, length_spills (frame_at frames function) (coming (frame_at frames callee)) arguments 0 count, spills_few (frame_at frames function) (coming (frame_at frames callee)) arguments 0 count, copies_few (frame_at frames function) (coming (frame_at frames callee)) arguments 0 count, passed, long, a, b, kept, both, stores, registers, few_results callee, length_reloads (frame_at frames function), reads_few function)
   body_words function here (plain.Return value) = returning_words function here value
   body_words function here (plain.Finish value) = returning_words function here value
   body_words function here (plain.ReadByte destination) =
@@ -191,7 +192,7 @@ module _ (program : Program) (frames : List Frame) (reads_few : (function : ℕ)
       omega (arith, words_ordinary (word_code ARGUMENT tag ++ loads), length-append (word_code ARGUMENT tag) loads, length_word ARGUMENT tag, length-append (load_code (frame_at frames function) SECOND_ARGUMENT value) last, length_load (frame_at frames function) SECOND_ARGUMENT value, load_small value, word_small tag)
   body_words function here (plain.Enter callee) = omega arith
 
-  place_words : (function index here : ℕ) (i : Instruction) → all_words (place_lines program frames function index here i) + all_words (behind program frames function i) + (if loses i then 1 else 0) + (if returns i then 7 else 0) ≤ instruction_size i
+  place_words : (function index here : ℕ) (i : Instruction) → all_words (place_lines program frames function index here i) + all_words (behind program frames function i) + (if loses i then 1 else 0) + (if returns i then 14 else 0) ≤ instruction_size i
   place_words function index here i = omega (arith, body_words function here i, go (is_idle (frame_at frames function) index i))
     where
       go : (b : Bool) → all_words (if b then [] else body program frames function here i) ≤ all_words (body program frames function here i)
@@ -232,7 +233,10 @@ module _ (program : Program) (frames : List Frame) (reads_few : (function : ℕ)
         words_ordinary (saving_code frame),
         words_ordinary (way_code frame),
         words_ordinary saves,
-        length-append (way_code frame) saves,
+        words_ordinary (arrivals frame),
+        length_arrivals frame,
+        length-append (way_code frame) (saves ++ arrivals frame),
+        length-append saves (arrivals frame),
         code_words function 0 (here + saving_count frame) r.code,
         sum_by-append words_of (ordinary (saving_code frame)) (code_lines program frames function 0 (here + saving_count frame) r.code),
       )

@@ -51,7 +51,8 @@ use Rattle.cyc_select.specs.declared.plan.Test.TheVariants as tests
 use Rattle.cyc_select.specs.inside.Plans.{unary_plan, binary_plan, test_of}
 use Rattle.cyc_select.specs.inside.Labelled.{Labelled, IsFormed, IsFormedLine}
 use Rattle.cyc_select.specs.inside.Numbers.{fits_signed, is_zero_word}
-use Rattle.cyc_select.specs.inside.Selection.{saves_from, restores_from, saves, restores, way_code, way_count, value_register, product_code, quotient_code, passed_from, spill_from, pass_from, pass, is_kept, load_from, fetch_from, move_to, keep_code, give_to, give_code, bring_code, bring_all, load_words, reloads_from, reloads, opened_code, made_in, slot_offset, ordinary, result_registers, argument_code, service_number, answer_code, unwound_code, far_plan, address_code, near_half, at_address, copies, load_all, store_all, moves, all_moved, store_slot, pop_frame, load_upper, constant, or_immediate, is_tested, part_of, plan_count, small, syscall, add_immediate, minus, upper_of_global, word_code, load_code, load_count, operand_code, operand_register, operands_code, operation_code, outcome_code, operation_of, computed_code, plan_code, test_code, condition_of, hoisted, branch_code, behind_count, divided_code, divide_code, divide_count, ending_code, ending_count, operator_code, operator_count, body, behind, place_lines, is_idle, body_count, count_of, code_count, function_count, functions_count, function_line, instruction_line, code_lines, function_lines, start_lines, select_of, regions_code, load_at, store_at, spill, spills, spills_count, calling_code, operand_count, global_code, is_near, global_address, load, store, saving_code, restoring_code, saving_count, returning_code, routine_lines}
+use Rattle.cyc_select.specs.inside.Selection.{coming, arriving, arrivals, saves_from, restores_from, saves, restores, way_code, way_count, value_register, product_code, quotient_code, passed_from, spill_from, pass_from, pass, is_kept, load_from, fetch_from, move_to, keep_code, give_to, give_code, bring_code, bring_all, load_words, reloads_from, reloads, opened_code, made_in, slot_offset, ordinary, result_registers, argument_code, service_number, answer_code, unwound_code, far_plan, address_code, near_half, at_address, copies, load_all, store_all, moves, all_moved, store_slot, pop_frame, load_upper, constant, or_immediate, is_tested, part_of, plan_count, small, syscall, add_immediate, minus, upper_of_global, word_code, load_code, load_count, operand_code, operand_register, operands_code, operation_code, outcome_code, operation_of, computed_code, plan_code, test_code, condition_of, hoisted, branch_code, behind_count, divided_code, divide_code, divide_count, ending_code, ending_count, operator_code, operator_count, body, behind, place_lines, is_idle, body_count, count_of, code_count, function_count, functions_count, function_line, instruction_line, code_lines, function_lines, start_lines, select_of, regions_code, load_at, store_at, spill, spills, spills_count, calling_code, operand_count, global_code, is_near, global_address, load, store, saving_code, restoring_code, saving_count, returning_code, routine_lines}
+use Rattle.cyc_select.proofs.relation.Arriving.{length_arriving}
 use Rattle.cyc_select.proofs.layout.Lines.{line_first, line_next}
 use Rattle.cyc_select.proofs.values.Plans.{AllOfTest, all_unary, all_binary, all_test}
 use Rattle.cyc_select.proofs.emission.Counts.{operation_some, move_some, move_words_some, give_some, length_registers, answer_few, service_small}
@@ -266,6 +267,13 @@ module _ (program : Program) (well : IsWellFormed program) (words : HasWords pro
 
     reloads_formed : Formed (ordinary (reloads frame))
     reloads_formed = reload_formed 0 frame.homes (omega (arith, (fit.homes function known).as_many))
+
+    arrivals_formed : Formed (ordinary (arrivals frame))
+    arrivals_formed =
+        let its = fit.each function known in
+        let takes = (routine_in program function well known).parameters in
+        let listed : frame.parameters ≤ length frame.homes = omega (arith, its.parameters, takes, (fit.homes function known).as_many) in
+        reload_formed 0 (arriving frame) (omega (arith, length_arriving frame.parameters frame.homes listed, its.parameters, takes))
 
     keep_formed : (slot : ℕ) → slot < slots → Formed (ordinary (keep_code frame slot))
     keep_formed slot below = go (is_kept frame slot)
@@ -498,7 +506,9 @@ module _ (program : Program) (well : IsWellFormed program) (words : HasWords pro
         go false = tt
 
     saving_formed : Formed (ordinary (saving_code frame))
-    saving_formed = formed_append (way_code frame) (saves frame) way_formed (saves_formed 0 frame.saved (omega (arith, (fit.each function known).most_saved)))
+    saving_formed =
+        formed_append (way_code frame) (saves frame ++ arrivals frame) way_formed
+        (formed_append (saves frame) (arrivals frame) (saves_formed 0 frame.saved (omega (arith, (fit.each function known).most_saved))) arrivals_formed)
 
     restoring_formed : Formed (ordinary (restoring_code frame))
     restoring_formed = go frame.saves
@@ -625,9 +635,9 @@ module _ (program : Program) (well : IsWellFormed program) (words : HasWords pro
             (behind_known target (condition_of frame test) x its, tt)
     body_formed (plain.Call callee arguments count result) n in_range fits long =
         let its = fit.each callee in_range.function_in_range in
-        let spilled : ℕ = n + spills_count frame (frame_at frames callee) arguments 0 count in
-        all_append (IsFormedLine (length (select_of program frames).lines)) (ordinary (spills frame (frame_at frames callee) arguments 0 count)) (calling_code frame (frame_at frames callee) spilled (function_line program frames callee) arguments count)
-        (spills_formed (frame_at frames callee) arguments 0 count in_range.arguments_in_range) (
+        let spilled : ℕ = n + spills_count frame (coming (frame_at frames callee)) arguments 0 count in
+        all_append (IsFormedLine (length (select_of program frames).lines)) (ordinary (spills frame (coming (frame_at frames callee)) arguments 0 count)) (calling_code frame (coming (frame_at frames callee)) spilled (function_line program frames callee) arguments count)
+        (spills_formed (coming (frame_at frames callee)) arguments 0 count in_range.arguments_in_range) (
           (omega (arith, long)),
           (
             (refl, (omega arith)),
@@ -635,8 +645,8 @@ module _ (program : Program) (well : IsWellFormed program) (words : HasWords pro
               (refl, tt),
               (
                 (refl, (omega arith)),
-                all_append (IsFormedLine (length (select_of program frames).lines)) (ordinary (copies frame (frame_at frames callee) arguments 0 count)) (lines.Call (function_line program frames callee) ∷ [])
-                    (copies_formed (frame_at frames callee) (routine_at program callee).slots (λ slot below. omega (arith, its.inside slot below, its.small)) arguments 0 count in_range.arguments_in_range
+                all_append (IsFormedLine (length (select_of program frames).lines)) (ordinary (copies frame (coming (frame_at frames callee)) arguments 0 count)) (lines.Call (function_line program frames callee) ∷ [])
+                    (copies_formed (coming (frame_at frames callee)) (routine_at program callee).slots (λ slot below. omega (arith, its.inside slot below, its.small)) arguments 0 count in_range.arguments_in_range
                     (let takes = in_range.takes in let parameters = (routine_in program callee well in_range.function_in_range).parameters in omega (arith, takes, parameters)))
                     (function_known_line callee in_range.function_in_range, tt),
               ),

@@ -26,12 +26,13 @@ use Rattle.cyc_select.specs.declared.plan.Plan.{Plan}
 use Rattle.cyc_select.specs.declared.plan.Test.{Test}
 use Rattle.cyc_select.specs.inside.Labelled.{Labelled}
 use Rattle.cyc_select.specs.inside.Plans.{unary_plan, binary_plan, test_of}
-use Rattle.cyc_select.specs.inside.Selection.{value_register, product_code, quotient_code, copies_count, move_to, keep_code, keep_count, give_code, give_count, moved_code, reloads, reload_count, opened_code, made_in, ordinary, argument_code, service_number, answer_code, unwound_code, address_code, at_address, copies, bring_all, small, syscall, word_code, load_code, load_count, operand_code, operand_register, plan_code, plan_count, test_code, condition_of, hoisted, with_hoisted, behind_hoisted, divided_code, divide_code, divide_count, is_tested, part_of, result_registers, ending_code, ending_count, operator_code, operator_count, body, behind, place_lines, is_idle, body_count, behind_count, place_count, count_of, code_count, function_count, functions_count, function_line, instruction_line, code_lines, function_lines, start_lines, select_of, regions_code, load_at, store_at, address_count, operand_count, spills, spills_count, calling_code, global_code, load, store, saves, way_code, saving_code, restoring_code, way_count, saving_count, returning_code, routine_lines}
+use Rattle.cyc_select.specs.inside.Selection.{arrivals, coming, value_register, product_code, quotient_code, copies_count, move_to, keep_code, keep_count, give_code, give_count, moved_code, reloads, reload_count, opened_code, made_in, ordinary, argument_code, service_number, answer_code, unwound_code, address_code, at_address, copies, bring_all, small, syscall, word_code, load_code, load_count, operand_code, operand_register, plan_code, plan_count, test_code, condition_of, hoisted, with_hoisted, behind_hoisted, divided_code, divide_code, divide_count, is_tested, part_of, result_registers, ending_code, ending_count, operator_code, operator_count, body, behind, place_lines, is_idle, body_count, behind_count, place_count, count_of, code_count, function_count, functions_count, function_line, instruction_line, code_lines, function_lines, start_lines, select_of, regions_code, load_at, store_at, address_count, operand_count, spills, spills_count, calling_code, global_code, load, store, saves, way_code, saving_code, restoring_code, way_count, saving_count, returning_code, routine_lines}
 use Rattle.cyc_select.proofs.steps.Calls.{length_ordinary}
 use Rattle.cyc_select.proofs.emission.Counts.{length_keep, length_give, length_move, length_moved, length_spills, length_copies, length_argument, length_answer, length_regions, length_results, length_registers, length_word, length_load, length_operand, length_address, length_plan, length_test, length_hoisted, length_divided, length_global}
 use Rattle.cyc_select.proofs.steps.Preserving.{length_saves}
 use Rattle.cyc_select.proofs.steps.Returns.{loaded, length_loaded}
 use Rattle.cyc_select.proofs.relation.Values.{length_reloads}
+use Rattle.cyc_select.proofs.relation.Arriving.{length_arrivals}
 use Rattle.cyc_select.proofs.effects.Walks.{Stands, stands_front, stands_back}
 
 slice_get-seam : (front : List Line) (l : Line) (rest : List Line) → slice_get (front ++ l ∷ rest) (length front) ≡ Some l
@@ -105,14 +106,14 @@ module _ (program : Program) (frames : List Frame) (few_results : (function : �
       let last : List Line = lines.Branch (condition_of (frame_at frames function) test) (behind_hoisted first (instruction_line program frames function target)) ∷ [] in
       omega (arith, length-append (ordinary is) last, length_ordinary is, length_hoisted (test_code (frame_at frames function) test) first, length_test (frame_at frames function) test)
   length_body function here (plain.Call callee arguments count result) =
-      let spilled : ℕ = here + spills_count (frame_at frames function) (frame_at frames callee) arguments 0 count in
-      let calling : List Line = calling_code (frame_at frames function) (frame_at frames callee) spilled (function_line program frames callee) arguments count in
-      let whole = length-append (ordinary (copies (frame_at frames function) (frame_at frames callee) arguments 0 count)) (lines.Call (function_line program frames callee) ∷ []) in
-      let parts = length_ordinary (copies (frame_at frames function) (frame_at frames callee) arguments 0 count) in
-      let copied = length_copies (frame_at frames function) (frame_at frames callee) arguments 0 count in
-      let e : suc (suc (suc (suc (length (ordinary (copies (frame_at frames function) (frame_at frames callee) arguments 0 count) ++ lines.Call (function_line program frames callee) ∷ []))))) ≡ 5 + copies_count (frame_at frames function) (frame_at frames callee) arguments 0 count = omega (arith, whole, parts, copied) in
-      let called : length calling ≡ 5 + copies_count (frame_at frames function) (frame_at frames callee) arguments 0 count = e in
-      omega (arith, length-append (ordinary (spills (frame_at frames function) (frame_at frames callee) arguments 0 count)) calling, length_ordinary (spills (frame_at frames function) (frame_at frames callee) arguments 0 count), length_spills (frame_at frames function) (frame_at frames callee) arguments 0 count, called)
+      let spilled : ℕ = here + spills_count (frame_at frames function) (coming (frame_at frames callee)) arguments 0 count in
+      let calling : List Line = calling_code (frame_at frames function) (coming (frame_at frames callee)) spilled (function_line program frames callee) arguments count in
+      let whole = length-append (ordinary (copies (frame_at frames function) (coming (frame_at frames callee)) arguments 0 count)) (lines.Call (function_line program frames callee) ∷ []) in
+      let parts = length_ordinary (copies (frame_at frames function) (coming (frame_at frames callee)) arguments 0 count) in
+      let copied = length_copies (frame_at frames function) (coming (frame_at frames callee)) arguments 0 count in
+      let e : suc (suc (suc (suc (length (ordinary (copies (frame_at frames function) (coming (frame_at frames callee)) arguments 0 count) ++ lines.Call (function_line program frames callee) ∷ []))))) ≡ 5 + copies_count (frame_at frames function) (coming (frame_at frames callee)) arguments 0 count = omega (arith, whole, parts, copied) in
+      let called : length calling ≡ 5 + copies_count (frame_at frames function) (coming (frame_at frames callee)) arguments 0 count = e in
+      omega (arith, length-append (ordinary (spills (frame_at frames function) (coming (frame_at frames callee)) arguments 0 count)) calling, length_ordinary (spills (frame_at frames function) (coming (frame_at frames callee)) arguments 0 count), length_spills (frame_at frames function) (coming (frame_at frames callee)) arguments 0 count, called)
   length_body function here (plain.Return value) = length_returning function here value
   length_body function here (plain.Finish value) = length_returning function here value
   length_body function here (plain.ReadByte destination) =
@@ -223,7 +224,7 @@ module _ (program : Program) (frames : List Frame) (few_results : (function : �
   pub length_saving : (function : ℕ) → length (ordinary (saving_code (frame_at frames function))) ≡ saving_count (frame_at frames function)
   length_saving function =
       let frame : Frame = frame_at frames function in
-      omega (arith, length_ordinary (saving_code frame), length-append (way_code frame) (saves frame), length_way function, length_saves frame.first_saved 0 frame.saved)
+      omega (arith, length_ordinary (saving_code frame), length-append (way_code frame) (saves frame ++ arrivals frame), length-append (saves frame) (arrivals frame), length_way function, length_saves frame.first_saved 0 frame.saved, length_arrivals frame)
 
   pub length_routine : (function here : ℕ) (r : Routine) → length (routine_lines program frames function here r) ≡ function_count program frames function r
   length_routine function here r =

@@ -38,7 +38,7 @@ module _ (program : Program) (well : IsWellFormed program) (words : HasWords pro
       let long = length_routine program frames (few_results program well) function (function_line program frames function) (routine_at program function) in
       let four : sum_by (words_at (select_of program frames)) (range_with_len (function_line program frames function) (function_count program frames function (routine_at program function))) ≡ sum_by (words_at (select_of program frames)) (range_with_len (function_line program frames function) (length (routine_lines program frames function (function_line program frames function) (routine_at program function)))) = ap (λ (n : ℕ). sum_by (words_at (select_of program frames)) (range_with_len (function_line program frames function) n)) (sym long) in
       let five = words_range (select_of program frames) (function_line program frames function) (routine_lines program frames function (function_line program frames function) (routine_at program function)) (stand_function program frames (few_results program well) function known) in
-      omega (arith, one, two, three, four, five, routine_words program frames (reads_few program frames fit) (few_results program well) function (function_line program frames function) (routine_at program function) (is_saving (routine_at program function) (frame_at frames function) (fit.each function known)))
+      omega (arith, one, two, three, four, five, routine_words program frames (reads_few program frames fit) (few_results program well) function (function_line program frames function) (routine_at program function) (is_saving program (routine_at program function) (frame_at frames function) (fit.each function known) (fit.homes function known)))
 
   few_before : sum_by (words_at (select_of program frames)) (range_with_len 0 START_LINES) ≤ MAX_START_WORDS
   few_before = omega (arith, words_range (select_of program frames) 0 (start_lines program frames) (starts program frames (few_results program well)))

@@ -19,12 +19,13 @@ use Rattle.cyc_plain.specs.inside.State.{Words, AreWords, put, copied, Configura
 use Rattle.cyc_plain.specs.inside.Step.{Choice, IsAllowed, instruction_at, performed, executed, gives, step, is_within, limit_of, limit_at, limited, Step}
 use Rattle.cyc_plain.specs.inside.WellFormed.{IsWellFormed}
 use Rattle.cyc_plain.proofs.RunLaws.{limited-within, limit_free, zeros, calls_nothing, zeros_at}
+use Rattle.cyc_registers.specs.inside.Liveness.{IsLiveAt}
 use Rattle.cyc_frame.specs.inside.Layout.{AreFrames, frame_at}
 use Rattle.cyc_frame.specs.inside.Frame.{Frame}
 use Rattle.cyc_select.specs.inside.Labelled.{Labelled, IsFormed}
 use Rattle.cyc_select.specs.inside.Machine as labelled
 use Rattle.cyc_select.specs.inside.Machine.{State, Running, Ended}
-use Rattle.cyc_select.specs.inside.Selection.{slot_offset, value_register, is_kept, is_idle, function_line, instruction_line, count_of}
+use Rattle.cyc_select.specs.inside.Selection.{coming, slot_offset, value_register, is_kept, is_idle, function_line, instruction_line, count_of}
 use Rattle.cyc_select.proofs.values.Blocks.{ValuesSame, lasting}
 use Rattle.cyc_select.proofs.layout.Lines.{line_next}
 use Rattle.cyc_select.proofs.effects.Views.{Contents, written}
@@ -64,7 +65,8 @@ module _ (program : Program) (well : IsWellFormed program) (frames : List Frame)
     pub standing : Standing program frames addresses pages calls c r w base back (stage_of frames c) c.active.slots
     pub caches : Caches program frames c.active.function c.active.next r c.active.slots
 
-  -- The function begins: the line that keeps its way back is next, if it has one, before the instruction's own.
+  -- The function begins: the lines that keep its way back and save registers are next, if it has some, before the instruction's own.
+  -- What it was given is where its caller sees its parameters.
   pub record Entered (c : Configuration) (t : State) : Type 0 where
     pub run : labelled.Configuration
     pub r : Words
@@ -74,7 +76,9 @@ module _ (program : Program) (well : IsWellFormed program) (frames : List Frame)
     pub first : c.active.next ≡ 0
     pub now : At (function_line program frames c.active.function) c.output c.input r w run
     pub standing : Standing program frames addresses pages calls c r w base (r RETURN_ADDRESS) entering c.active.slots
-    pub caches : Caches program frames c.active.function c.active.next r c.active.slots
+    pub came : (slot k : ℕ) → value_register (coming (frame_at frames c.active.function)) slot ≡ Some k → IsLiveAt program (routine_at program c.active.function) slot 0 → r k ≡ c.active.slots slot
+    pub there : (slot : ℕ) → slot < (routine_at program c.active.function).parameters → is_kept (coming (frame_at frames c.active.function)) slot ≡ true
+        → w.words (base + slot_offset (frame_at frames c.active.function) slot) ≡ c.active.slots slot
 
   -- The lines behind a call are next, before the instruction's own, and what the call returned is in registers, and so is
   -- what it preserved.

@@ -164,7 +164,7 @@ module _ (program : Program) (frames : List Frame) (function : ℕ) (right : Are
 
 -- ---- registers that are read again
 
-length_reload : (frame : Frame) (slot : ℕ) (hs : List Home) → length (reloads_from frame slot hs) ≡ sum_by homing.both_count hs
+pub length_reload : (frame : Frame) (slot : ℕ) (hs : List Home) → length (reloads_from frame slot hs) ≡ sum_by homing.both_count hs
 length_reload frame slot [] = refl
 length_reload frame slot (homes.Memory ∷ hs) = length_reload frame (suc slot) hs ∙ (let e = sum_by-cons homing.both_count homes.Memory hs in let f : sum_by homing.both_count hs ≡ sum_by homing.both_count (homes.Memory ∷ hs) = omega (arith, e) in f)
 length_reload frame slot (homes.Both k ∷ hs) =
@@ -176,10 +176,10 @@ length_reload frame slot (homes.Register k ∷ hs) = length_reload frame (suc sl
 pub length_reloads : (frame : Frame) → length (reloads frame) ≡ reload_count frame
 length_reloads frame = length_reload frame 0 frame.homes
 
-abbrev AreAlone : List Home → Type 0
+abbrev pub AreAlone : List Home → Type 0
 AreAlone hs = (a c k : ℕ) → homing.home_of hs a ≡ homes.Both k → homing.home_of hs c ≡ homes.Both k → a ≡ c
 
-abbrev AreValues : List Home → Type 0
+abbrev pub AreValues : List Home → Type 0
 AreValues hs = (a k : ℕ) → homing.home_of hs a ≡ homes.Both k → (6 ≤ k) × (k < 24)
 
 module _ (globals stack : ℕ) (frame : Frame) (base : ℕ) (w : Contents) where
@@ -187,13 +187,13 @@ module _ (globals stack : ℕ) (frame : Frame) (base : ℕ) (w : Contents) where
   word_there slot = w.words (memory_address base (slot_offset frame slot))
 
   -- what they leave, from registers on
-  record AreReloaded (slot : ℕ) (hs : List Home) (q : Words) : Type 0 where
+  pub record AreReloaded (slot : ℕ) (hs : List Home) (q : Words) : Type 0 where
     pub safe : AreSafe globals stack (reloads_from frame slot hs) q w
     pub memory : after_w (reloads_from frame slot hs) q w ≡ w
     pub others : (n : ℕ) → ((j : ℕ) → homing.home_of hs j ≡ homes.Both n → ⊥) → after_r (reloads_from frame slot hs) q w n ≡ q n
     pub result : (j k : ℕ) → homing.home_of hs j ≡ homes.Both k → after_r (reloads_from frame slot hs) q w k ≡ w.words (memory_address base (slot_offset frame (slot + j)))
 
-  abbrev AreCells : (slot : ℕ) → List Home → Type 0
+  abbrev pub AreCells : (slot : ℕ) → List Home → Type 0
   AreCells slot hs = (j : ℕ) → j < length hs → IsCell globals stack (memory_address base (slot_offset frame (slot + j)))
 
   cells_behind : (slot : ℕ) (h : Home) (hs : List Home) → AreCells slot (h ∷ hs) → AreCells (suc slot) hs
@@ -206,7 +206,7 @@ module _ (globals stack : ℕ) (frame : Frame) (base : ℕ) (w : Contents) where
   alone_behind : (h : Home) (hs : List Home) → AreAlone (h ∷ hs) → AreAlone hs
   alone_behind h hs alone a c k here there = let e = alone (suc a) (suc c) k here there in omega (arith, e)
 
-  are_reloaded : (slot : ℕ) (hs : List Home) (q : Words) → q FRAME ≡ base → AreValues hs → AreAlone hs → AreCells slot hs → AreReloaded slot hs q
+  pub are_reloaded : (slot : ℕ) (hs : List Home) (q : Words) → q FRAME ≡ base → AreValues hs → AreAlone hs → AreCells slot hs → AreReloaded slot hs q
   are_reloaded slot [] q is values alone cells = record {
     safe = tt;
     memory = refl;

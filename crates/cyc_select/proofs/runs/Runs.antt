@@ -38,7 +38,7 @@ use Rattle.cyc_select.specs.inside.Machine.{State, Running, Ended, IsReturnPoint
 use Rattle.cyc_select.specs.declared.constants.TheConstants.{HANDLERS}
 use Rattle.cyc_select.specs.declared.code.Line.{Line}
 use Rattle.cyc_select.specs.declared.code.Line.TheVariants as lines
-use Rattle.cyc_select.specs.inside.Selection.{reload_count, recorded_code, caught_code, opened_code, body, behind, place_lines, is_idle, body_count, behind_count, place_count, ordinary, spills, spills_count, copies_count, calling_code, function_line, divide_code, divide_count, plan_code, plan_count, is_tested, part_of, count_of, operator_count, instruction_line, saving_code, saving_count}
+use Rattle.cyc_select.specs.inside.Selection.{coming, reload_count, recorded_code, caught_code, opened_code, body, behind, place_lines, is_idle, body_count, behind_count, place_count, ordinary, spills, spills_count, copies_count, calling_code, function_line, divide_code, divide_count, plan_code, plan_count, is_tested, part_of, count_of, operator_count, instruction_line, saving_code, saving_count}
 use Rattle.cyc_select.proofs.emission.Counts.{length_spills}
 use Rattle.cyc_select.proofs.layout.Lines.{line_next, line_first}
 use Rattle.cyc_select.specs.inside.Numbers.{is_plain_divisor}
@@ -127,16 +127,16 @@ module _ (program : Program) (well : IsWellFormed program) (words : HasWords pro
       → IsReturnPoint code (behind_line program frames function index callee arguments count result)
   returns_to function index callee arguments count result at =
       let line : ℕ = instruction_line program frames function index in
-      let spilled : ℕ = line + spills_count (frame_at frames function) (frame_at frames callee) arguments 0 count in
-      let calling : List Line = calling_code (frame_at frames function) (frame_at frames callee) spilled (function_line program frames callee) arguments count in
-      let before : List Instr = spills (frame_at frames function) (frame_at frames callee) arguments 0 count in
-      let long_spills : length (ordinary before) ≡ spills_count (frame_at frames function) (frame_at frames callee) arguments 0 count = length_ordinary before ∙ length_spills (frame_at frames function) (frame_at frames callee) arguments 0 count in
+      let spilled : ℕ = line + spills_count (frame_at frames function) (coming (frame_at frames callee)) arguments 0 count in
+      let calling : List Line = calling_code (frame_at frames function) (coming (frame_at frames callee)) spilled (function_line program frames callee) arguments count in
+      let before : List Instr = spills (frame_at frames function) (coming (frame_at frames callee)) arguments 0 count in
+      let long_spills : length (ordinary before) ≡ spills_count (frame_at frames function) (coming (frame_at frames callee)) arguments 0 count = length_ordinary before ∙ length_spills (frame_at frames function) (coming (frame_at frames callee)) arguments 0 count in
       record {
         inside = behind_inside function index callee arguments count result at;
-        call = spilled + 4 + copies_count (frame_at frames function) (frame_at frames callee) arguments 0 count;
+        call = spilled + 4 + copies_count (frame_at frames function) (coming (frame_at frames callee)) arguments 0 count;
         label = function_line program frames callee;
         behind = omega arith;
-        calls = call_last code (frame_at frames function) (frame_at frames callee) spilled (function_line program frames callee) arguments count
+        calls = call_last code (frame_at frames function) (coming (frame_at frames callee)) spilled (function_line program frames callee) arguments count
             (subst (λ (n : ℕ). Stands code (line + n) calling) long_spills
             (stands_back code line (ordinary before) calling
             (stands_front code line (ordinary before ++ calling) (behind program frames function (plain.Call callee arguments count result)) (stand function index (plain.Call callee arguments count result) at))));

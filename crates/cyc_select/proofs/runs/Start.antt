@@ -35,6 +35,7 @@ use Rattle.cyc_select.specs.inside.Labelled.{Labelled, IsFormed, AreAddresses}
 use Rattle.cyc_select.specs.inside.Machine as labelled
 use Rattle.cyc_select.specs.inside.Machine.{State, Running, machine, memory_of, word_in, globals_of, start}
 use Rattle.cyc_select.specs.inside.Selection.{slot_offset, body, behind, place_lines, body_count, arithmetic_of, shift_by_of, push_frame, ordinary, start_lines, function_line, instruction_line, load_upper, or_lower, saving_code}
+use Rattle.cyc_select.proofs.relation.Arriving.{came_in}
 use Rattle.cyc_select.proofs.relation.Cells.{cell, place_of-data, place_of-stack}
 use Rattle.cyc_select.proofs.Laws.{lawful}
 use Rattle.cyc_select.proofs.values.Operations.{take_small}
@@ -304,7 +305,9 @@ module _ (program : Program) (well : IsWellFormed program) (words : HasWords pro
         first = refl;
         now = jumped;
         standing = standing;
-        caches = λ slot k has wanted. absurd (let parameters = well.main_parameters in omega (arith, parameters, (fit.homes program.main well.main).entry slot k has wanted));
+        came = λ slot k comes wanted.
+            absurd (let parameters = well.main_parameters in let has = (came_in (frame_at frames program.main) slot k comes).0 in omega (arith, parameters, (fit.homes program.main well.main).entry slot k has wanted));
+        there = λ slot below kept. absurd (let parameters = well.main_parameters in omega (arith, parameters, below));
       }))))))))
 
   pub follows : NeverFails (steps.machine program pages calls) (steps.start program (main_place program frames) store input)

@@ -1,5 +1,5 @@
 -- Calls: a new frame below the caller's, or the end of a run that has no room for one.
-use Rattle.std.proofs.Common.{◌≡◌, ◌≢◌, ℕ, suc, ◌+◌, ◌-◌, ◌*◌, ◌%◌, ◌<◌, ◌≤◌, Bool, false, not, List, [], ◌∷◌, ◌++◌, length, Option, Some, None, slice_get, refl, sym, ap, subst, ◌∙◌, arith, inl, inr}
+use Rattle.std.proofs.Common.{◌≡◌, ◌≢◌, ℕ, suc, ◌+◌, ◌-◌, ◌*◌, ◌%◌, ◌<◌, ◌≤◌, Bool, true, false, not, List, [], ◌∷◌, ◌++◌, length, Option, Some, None, slice_get, refl, sym, ap, subst, ◌∙◌, arith, inl, inr}
 use Rattle.std.specs.Prelude.{◌==◌, if◌then◌else◌, nat_le}
 use Rattle.std.proofs.lemmas.Bool.{cases_eq, cases_lt, eq-eqb, ne_eqb, and_right, lt-leb}
 use Rattle.cyc_plain.specs.declared.limits.TheConstants.{MOST_FRAME_WORDS}
@@ -23,6 +23,7 @@ use Rattle.cyc_plain.specs.inside.WellFormed.{IsWellFormed, IsCallInRange}
 use Rattle.cyc_plain.proofs.RunLaws.{zeros, limited-full, called_at}
 use Rattle.cyc_plain.proofs.SlotLaws.{put-other, copied-inside, copied-above}
 use Rattle.cyc_registers.specs.inside.Interference.{AreHomes}
+use Rattle.cyc_registers.specs.inside.Liveness.{IsLiveAt}
 use Rattle.cyc_frame.specs.inside.Layout.{AreFrames, frame_at, slot_word}
 use Rattle.cyc_frame.specs.inside.Frame.{Frame}
 use Rattle.cyc_select.specs.declared.code.Line.{Line}
@@ -31,11 +32,11 @@ use Rattle.cyc_select.specs.declared.code.Line.TheVariants as lines
 use Rattle.cyc_select.specs.inside.Labelled.{Labelled, IsFormed, AreAddresses}
 use Rattle.cyc_select.specs.inside.Machine as labelled
 use Rattle.cyc_select.specs.inside.Machine.{State, Running, Ended}
-use Rattle.cyc_select.specs.inside.Selection.{value_register, is_kept, passed_from, copies_count, slot_offset, minus, small, push_frame, copies, ordinary, syscall, calling_code, function_line}
+use Rattle.cyc_select.specs.inside.Selection.{coming, value_register, is_kept, passed_from, copies_count, slot_offset, minus, small, push_frame, copies, ordinary, syscall, calling_code, function_line}
 use Rattle.cyc_select.proofs.relation.Cells.{IsCell}
 use Rattle.cyc_select.proofs.emission.Counts.{length_copies}
 use Rattle.cyc_select.proofs.values.Operations.{add_small, take_small}
-use Rattle.cyc_select.proofs.relation.Values.{Caches}
+use Rattle.cyc_select.proofs.relation.Arriving.{came_in, comes_to_memory}
 use Rattle.cyc_select.proofs.effects.Views.{Contents}
 use Rattle.cyc_select.proofs.effects.Walks.{Stands, stands_front, stands_back, after_r, after_w, Walk, walk_end, walk_few, walk_block, walk_branch, walk_call, walk_full}
 use Rattle.cyc_select.proofs.steps.Copies.{Copied, copied_all}
@@ -64,18 +65,19 @@ module _ (program : Program) (well : IsWellFormed program) (frames : List Frame)
     (callee arguments count result : ℕ) (at_i : instruction_at program (states.place_of (states.Running c)) ≡ Some (plain.Call callee arguments count result))
     (in_range : IsCallInRange program (routine_at program c.active.function) callee arguments count result)
     (inside : behind_line program frames c.active.function c.active.next callee arguments count result < length code.lines)
-    (stands : Stands code here (calling_code (frame_at frames c.active.function) (frame_at frames callee) here (function_line program frames callee) arguments count))
-    (here_is : here + (5 + copies_count (frame_at frames c.active.function) (frame_at frames callee) arguments 0 count) ≡ behind_line program frames c.active.function c.active.next callee arguments count result)
-    (there : (slot : ℕ) → slot < count → passed_from (frame_at frames c.active.function) (frame_at frames callee) (arguments + slot) slot ≡ None
+    (stands : Stands code here (calling_code (frame_at frames c.active.function) (coming (frame_at frames callee)) here (function_line program frames callee) arguments count))
+    (here_is : here + (5 + copies_count (frame_at frames c.active.function) (coming (frame_at frames callee)) arguments 0 count) ≡ behind_line program frames c.active.function c.active.next callee arguments count result)
+    (there : (slot : ℕ) → slot < count → passed_from (frame_at frames c.active.function) (coming (frame_at frames callee)) (arguments + slot) slot ≡ None
     → w.words (base + slot_offset (frame_at frames c.active.function) (arguments + slot)) ≡ c.active.slots (arguments + slot))
-    (held : (slot k : ℕ) → slot < count → passed_from (frame_at frames c.active.function) (frame_at frames callee) (arguments + slot) slot ≡ Some k
+    (held : (slot k : ℕ) → slot < count → passed_from (frame_at frames c.active.function) (coming (frame_at frames callee)) (arguments + slot) slot ≡ Some k
     → (6 ≤ k) × (k < 24) × (r k ≡ c.active.slots (arguments + slot)) × IsWord (c.active.slots (arguments + slot)))
     (finds : Finds program frames c.active.function c.active.next callee arguments count result (preserved_of r) c.active.slots) where
   abbrev mine : Frame
   mine = frame_at frames c.active.function
 
+  -- as the caller sees it
   abbrev its : Frame
-  its = frame_at frames callee
+  its = coming (frame_at frames callee)
 
   abbrev Goes : (least lo hi : ℕ) → State → Type 0
   Goes least lo hi t = Walk code formed addresses globals_length (words_per_call * calls) least lo hi c.output (After program pages calls c) (Reached program well frames fit code formed addresses pages calls few c) t
@@ -126,7 +128,7 @@ module _ (program : Program) (well : IsWellFormed program) (frames : List Frame)
   -- there is room below for the slots of any function
   room_below : IsBelow program callee (c.active.base - 4 * (routine_at program callee).slots) c.active.base
   room_below =
-      let fits = slots_fit (routine_at program callee) its (fit.each callee in_range.function_in_range) in
+      let fits = slots_fit (routine_at program callee) (frame_at frames callee) (fit.each callee in_range.function_in_range) in
       record {
         aligned = omega (arith, place_is, here_lies.2, here_lies.1, s.deep, fits);
         low = omega (arith, place_is, here_lies.1, s.deep, fits);
@@ -144,12 +146,12 @@ module _ (program : Program) (well : IsWellFormed program) (frames : List Frame)
         refl,
       )
 
-  full_goes : (d : labelled.Configuration) → r FRAME ≡ r LOWEST → AtLine (here + 1) r w d → Goes 0 (suc here) (here + (5 + copies_count (frame_at frames c.active.function) (frame_at frames callee) arguments 0 count)) (Running d)
+  full_goes : (d : labelled.Configuration) → r FRAME ≡ r LOWEST → AtLine (here + 1) r w d → Goes 0 (suc here) (here + (5 + copies_count (frame_at frames c.active.function) (coming (frame_at frames callee)) arguments 0 count)) (Running d)
   full_goes d lowest later =
-      walk_few code formed addresses globals_length (words_per_call * calls) 0 (1 + 1) (suc here) (here + (5 + copies_count (frame_at frames c.active.function) (frame_at frames callee) arguments 0 count)) c.output _ (Running d) (omega arith)
-      (walk_block code formed addresses globals_length (words_per_call * calls) (small 2 11 ∷ []) 1 (here + 1) (suc here) (here + (5 + copies_count (frame_at frames c.active.function) (frame_at frames callee) arguments 0 count)) c.output c.input _ r w d later (at_full.0, tt) (refl, tt) (omega arith)
+      walk_few code formed addresses globals_length (words_per_call * calls) 0 (1 + 1) (suc here) (here + (5 + copies_count (frame_at frames c.active.function) (coming (frame_at frames callee)) arguments 0 count)) c.output _ (Running d) (omega arith)
+      (walk_block code formed addresses globals_length (words_per_call * calls) (small 2 11 ∷ []) 1 (here + 1) (suc here) (here + (5 + copies_count (frame_at frames c.active.function) (coming (frame_at frames callee)) arguments 0 count)) c.output c.input _ r w d later (at_full.0, tt) (refl, tt) (omega arith)
       (λ e after.
-      walk_full code formed addresses globals_length (words_per_call * calls) (here + 1 + 1) (here + 1 + 1) (here + (5 + copies_count (frame_at frames c.active.function) (frame_at frames callee) arguments 0 count)) c.output c.input _ (after_r (small 2 11 ∷ []) r w) w e after at_full.1.0 (omega arith) (omega arith)
+      walk_full code formed addresses globals_length (words_per_call * calls) (here + 1 + 1) (here + 1 + 1) (here + (5 + copies_count (frame_at frames c.active.function) (coming (frame_at frames callee)) arguments 0 count)) c.output c.input _ (after_r (small 2 11 ∷ []) r w) w e after at_full.1.0 (omega arith) (omega arith)
       (ap (λ (x : ℕ). add_of x (sign_extended 11)) s.zero_is ∙ add_small 0 11 (omega arith) (omega arith))
       (full_step lowest)))
 
@@ -198,7 +200,7 @@ module _ (program : Program) (well : IsWellFormed program) (frames : List Frame)
         let own = fit.each c.active.function s.known in
         copied_all globals_length (words_per_call * calls) mine its (routine_at program c.active.function).slots (routine_at program callee).slots low base low_is
         (omega (arith, here_lies.0)) (λ slot below. omega (arith, own.inside slot below, own.small)) (λ slot below. omega (arith, frame.inside slot below, frame.small)) frame.apart
-        caller_cell (λ slot below. callee_cell (slot_word its slot) (omega (arith, frame.inside slot below, frame.small))) its_right.low its_right.high
+        caller_cell (λ slot below. callee_cell (slot_word its slot) (omega (arith, frame.inside slot below, frame.small))) (λ slot k has. its_right.low slot k (came_in (frame_at frames callee) slot k has).0) (λ slot k has. its_right.high slot k (came_in (frame_at frames callee) slot k has).0)
         c.active.slots arguments 0 count r1 w s.zero_is entered_base in_range.arguments_in_range
         (let takes = in_range.takes in let parameters = (well.functions callee no_routine in_range.function_in_range).parameters in omega (arith, takes, parameters))
         argument_there argument_held
@@ -228,7 +230,7 @@ module _ (program : Program) (well : IsWellFormed program) (frames : List Frame)
     above_kept : (a : ℕ) → base ≤ a → w2.words a ≡ w.words a
     above_kept a over = copied_now.outside a (inr over)
 
-    -- the registers that calls preserve are as in the caller: no parameter comes in one
+    -- the registers that calls preserve are as in the caller: no argument comes in one
     preserved_same : (j : ℕ) → j < 7 → r3 (17 + j) ≡ r (17 + j)
     preserved_same j high =
         put-other r2 RETURN_ADDRESS (17 + j) (addresses (here + 3 + 1 + length passed + 1)) (λ e. absurd (omega (arith, e, high)))
@@ -236,7 +238,7 @@ module _ (program : Program) (well : IsWellFormed program) (frames : List Frame)
         ∙ put-other r FRAME (17 + j) _ (λ e. absurd (omega (arith, e, high))))
       where
         unpassed : (i j : ℕ) → i < count → value_register its (0 + i) ≡ Some (17 + j) → ⊥
-        unpassed i j below has = (let low = its_right.low_parameters (0 + i) (17 + j) has (let takes = in_range.takes in omega (arith, takes, below)) in omega (arith, low))
+        unpassed i j below has = (let low = (came_in (frame_at frames callee) (0 + i) (17 + j) has).1 in omega (arith, low))
 
     -- and by what the callee leaves in them the caller leaves what it left
     own_left_is : (j : ℕ) → j < 7 → LeftBy mine base (preserved_of r3) w2 j ≡ s.left j
@@ -259,7 +261,7 @@ module _ (program : Program) (well : IsWellFormed program) (frames : List Frame)
       | inl argument ↦
           let zero_slot : slot ≡ 0 + slot = omega arith in
           ap (λ (x : ℕ). w2.words (low + slot_offset its x)) zero_slot
-          ∙ (copied_now.inside slot argument (ap (is_kept its) (sym zero_slot) ∙ slot_kept)
+          ∙ (copied_now.inside slot argument (ap (is_kept its) (sym zero_slot) ∙ comes_to_memory (frame_at frames callee) slot slot_kept)
           ∙ sym (ap (copied c.active.slots arguments count choice.contents 0) zero_slot ∙ copied-inside c.active.slots choice.contents arguments count 0 slot argument))
       | inr new ↦ sym (copied-above c.active.slots choice.contents arguments count 0 slot (omega (arith, new)))
     ]
@@ -310,21 +312,31 @@ module _ (program : Program) (well : IsWellFormed program) (frames : List Frame)
       middle = copied_now.kept GLOBALS (inr (omega arith)) ∙ s.middle;
     }
 
-    -- its parameters are in their registers, where they are live
-    entered_caches : Caches program frames callee 0 r3 (copied c.active.slots arguments count choice.contents 0)
-    entered_caches slot k has wanted =
+    -- its parameters are in the registers that they come in, where they are live
+    entered_caches : (slot k : ℕ) → value_register its slot ≡ Some k → IsLiveAt program (routine_at program callee) slot 0 → r3 k ≡ copied c.active.slots arguments count choice.contents 0 slot
+    entered_caches slot k comes wanted =
+        let has = (came_in (frame_at frames callee) slot k comes).0 in
         let below : slot < count = (let takes = in_range.takes in omega (arith, takes, its_right.entry slot k has wanted)) in
         let zero_slot : slot ≡ 0 + slot = omega arith in
         put-other r2 RETURN_ADDRESS k (addresses (here + 3 + 1 + length passed + 1)) (λ e. absurd (omega (arith, e, its_right.high slot k has)))
-        ∙ (copied_now.values slot k below (ap (value_register its) (sym zero_slot) ∙ has)
+        ∙ (copied_now.values slot k below (ap (value_register its) (sym zero_slot) ∙ comes)
         (λ i i_below there.
-        its_right.parameters slot i k has (ap (value_register its) (let e : i ≡ 0 + i = omega arith in e) ∙ there) (let takes = in_range.takes in omega (arith, takes, i_below)) wanted)
+        its_right.parameters slot i k has (came_in (frame_at frames callee) i k (ap (value_register its) (let e : i ≡ 0 + i = omega arith in e) ∙ there)).0 (let takes = in_range.takes in omega (arith, takes, i_below)) wanted)
         ∙ sym (ap (copied c.active.slots arguments count choice.contents 0) zero_slot ∙ copied-inside c.active.slots choice.contents arguments count 0 slot below))
+
+    -- and the others in memory
+    entered_there : (slot : ℕ) → slot < (routine_at program callee).parameters → is_kept its slot ≡ true → w2.words (low + slot_offset its slot) ≡ copied c.active.slots arguments count choice.contents 0 slot
+    entered_there slot below kept =
+        let argument : slot < count = (let takes = in_range.takes in omega (arith, takes, below)) in
+        let zero_slot : slot ≡ 0 + slot = omega arith in
+        ap (λ (x : ℕ). w2.words (low + slot_offset its x)) zero_slot
+        ∙ (copied_now.inside slot argument (ap (is_kept its) (sym zero_slot) ∙ kept)
+        ∙ sym (ap (copied c.active.slots arguments count choice.contents 0) zero_slot ∙ copied-inside c.active.slots choice.contents arguments count 0 slot argument))
 
     -- its slots lie below the caller's
     new_below : IsBelow program callee (low + 4 * its.first_slot) c.active.base
     new_below =
-        let fits = slots_fit (routine_at program callee) its (fit.each callee in_range.function_in_range) in
+        let fits = slots_fit (routine_at program callee) (frame_at frames callee) (fit.each callee in_range.function_in_range) in
         record {
           aligned = omega (arith, low_is, here_lies.2);
           low = omega (arith, low_is, here_lies.1, deeper);
@@ -345,33 +357,34 @@ module _ (program : Program) (well : IsWellFormed program) (frames : List Frame)
           first = refl;
           now = later;
           standing = entered_stands;
-          caches = entered_caches;
+          came = entered_caches;
+          there = entered_there;
         })))))
 
-    room_goes : (d : labelled.Configuration) → AtLine (here + 3) r w d → Goes 0 (suc here) (here + (5 + copies_count (frame_at frames c.active.function) (frame_at frames callee) arguments 0 count)) (Running d)
+    room_goes : (d : labelled.Configuration) → AtLine (here + 3) r w d → Goes 0 (suc here) (here + (5 + copies_count (frame_at frames c.active.function) (coming (frame_at frames callee)) arguments 0 count)) (Running d)
     room_goes d later =
-        walk_few code formed addresses globals_length (words_per_call * calls) 0 (1 + (length passed + 1)) (suc here) (here + (5 + copies_count (frame_at frames c.active.function) (frame_at frames callee) arguments 0 count)) c.output _ (Running d) (omega arith)
-        (walk_block code formed addresses globals_length (words_per_call * calls) entry (length passed + 1) (here + 3) (suc here) (here + (5 + copies_count (frame_at frames c.active.function) (frame_at frames callee) arguments 0 count)) c.output c.input _ r w d later
+        walk_few code formed addresses globals_length (words_per_call * calls) 0 (1 + (length passed + 1)) (suc here) (here + (5 + copies_count (frame_at frames c.active.function) (coming (frame_at frames callee)) arguments 0 count)) c.output _ (Running d) (omega arith)
+        (walk_block code formed addresses globals_length (words_per_call * calls) entry (length passed + 1) (here + 3) (suc here) (here + (5 + copies_count (frame_at frames c.active.function) (coming (frame_at frames callee)) arguments 0 count)) c.output c.input _ r w d later
         (stands_front code (here + 3) (ordinary entry) (ordinary passed ++ call_line) at_entry)
         (refl, tt) (omega arith)
         (λ e after.
-        walk_block code formed addresses globals_length (words_per_call * calls) passed 1 (here + 3 + 1) (here + 3 + 1) (here + (5 + copies_count (frame_at frames c.active.function) (frame_at frames callee) arguments 0 count)) c.output c.input _ r1 w e after
+        walk_block code formed addresses globals_length (words_per_call * calls) passed 1 (here + 3 + 1) (here + 3 + 1) (here + (5 + copies_count (frame_at frames c.active.function) (coming (frame_at frames callee)) arguments 0 count)) c.output c.input _ r1 w e after
         (stands_front code (here + 3 + 1) (ordinary passed) call_line at_passed) copied_now.safe (omega arith)
         (λ f there.
-        walk_call code formed addresses globals_length (words_per_call * calls) 0 (here + 3 + 1 + length passed) (here + 3 + 1 + length passed) (here + (5 + copies_count (frame_at frames c.active.function) (frame_at frames callee) arguments 0 count)) c.output c.input _ r2 w2 f (function_line program frames callee) there at_call (omega arith)
+        walk_call code formed addresses globals_length (words_per_call * calls) 0 (here + 3 + 1 + length passed) (here + 3 + 1 + length passed) (here + (5 + copies_count (frame_at frames c.active.function) (coming (frame_at frames callee)) arguments 0 count)) c.output c.input _ r2 w2 f (function_line program frames callee) there at_call (omega arith)
         (omega (arith, ap addresses line_is, lie.below (behind_line program frames c.active.function c.active.next callee arguments count result) inside))
         (λ g called.
-        walk_end code formed addresses globals_length (words_per_call * calls) (suc (here + 3 + 1 + length passed)) (here + (5 + copies_count (frame_at frames c.active.function) (frame_at frames callee) arguments 0 count)) c.output _ (Running g) (omega (arith, length_copies mine its arguments 0 count))
+        walk_end code formed addresses globals_length (words_per_call * calls) (suc (here + 3 + 1 + length passed)) (here + (5 + copies_count (frame_at frames c.active.function) (coming (frame_at frames callee)) arguments 0 count)) c.output _ (Running g) (omega (arith, length_copies mine its arguments 0 count))
         (enters g called)))))
 
-  pub calling_goes : Goes 1 here (here + (5 + copies_count (frame_at frames c.active.function) (frame_at frames callee) arguments 0 count)) (Running run)
+  pub calling_goes : Goes 1 here (here + (5 + copies_count (frame_at frames c.active.function) (coming (frame_at frames callee)) arguments 0 count)) (Running run)
   calling_goes = elim (cases_eq (r FRAME) (r LOWEST)) [
     | inl lowest ↦
         let stays : (if not (r FRAME == r LOWEST) then here + 3 else here + 1) ≡ here + 1 = ap (λ (b : Bool). if not b then here + 3 else here + 1) (eq-eqb (r FRAME) (r LOWEST) lowest) in
-        walk_branch code formed addresses globals_length (words_per_call * calls) 0 here here (here + (5 + copies_count (frame_at frames c.active.function) (frame_at frames callee) arguments 0 count)) c.output c.input _ r w run (conditions.Registers branch.NotEqual (register_of FRAME) (register_of LOWEST)) (here + 3) (here + 1) now stands.0 (omega arith) stays
+        walk_branch code formed addresses globals_length (words_per_call * calls) 0 here here (here + (5 + copies_count (frame_at frames c.active.function) (coming (frame_at frames callee)) arguments 0 count)) c.output c.input _ r w run (conditions.Registers branch.NotEqual (register_of FRAME) (register_of LOWEST)) (here + 3) (here + 1) now stands.0 (omega arith) stays
         (λ d later. full_goes d lowest later)
     | inr other ↦
         let leaps : (if not (r FRAME == r LOWEST) then here + 3 else here + 1) ≡ here + 3 = ap (λ (b : Bool). if not b then here + 3 else here + 1) (ne_eqb (r FRAME) (r LOWEST) other) in
-        walk_branch code formed addresses globals_length (words_per_call * calls) 0 here here (here + (5 + copies_count (frame_at frames c.active.function) (frame_at frames callee) arguments 0 count)) c.output c.input _ r w run (conditions.Registers branch.NotEqual (register_of FRAME) (register_of LOWEST)) (here + 3) (here + 3) now stands.0 (omega arith) leaps
+        walk_branch code formed addresses globals_length (words_per_call * calls) 0 here here (here + (5 + copies_count (frame_at frames c.active.function) (coming (frame_at frames callee)) arguments 0 count)) c.output c.input _ r w run (conditions.Registers branch.NotEqual (register_of FRAME) (register_of LOWEST)) (here + 3) (here + 3) now stands.0 (omega arith) leaps
         (λ d later. room_goes other d later)
   ]

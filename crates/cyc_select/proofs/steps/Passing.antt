@@ -20,7 +20,7 @@ use Rattle.cyc_frame.specs.inside.Frame.{Frame}
 use Rattle.cyc_select.specs.inside.Labelled.{Labelled, IsFormed, AreAddresses}
 use Rattle.cyc_select.specs.inside.Machine as labelled
 use Rattle.cyc_select.specs.inside.Machine.{Running}
-use Rattle.cyc_select.specs.inside.Selection.{value_register, is_kept, made_in, slot_offset, store_slot, passed_from, spill_from, spill, spills, spills_count, copies_count, ordinary, calling_code, function_line, instruction_line, body, body_count}
+use Rattle.cyc_select.specs.inside.Selection.{coming, value_register, is_kept, made_in, slot_offset, store_slot, passed_from, spill_from, spill, spills, spills_count, copies_count, ordinary, calling_code, function_line, instruction_line, body, body_count}
 use Rattle.cyc_select.proofs.values.Blocks.{safe_append}
 use Rattle.cyc_select.proofs.steps.Calls.{length_ordinary, calling_goes}
 use Rattle.cyc_select.proofs.steps.Copies.{is_free}
@@ -49,7 +49,7 @@ module _ (program : Program) (well : IsWellFormed program) (frames : List Frame)
 
   -- where an argument comes from
   abbrev from : (source slot : ℕ) → Option ℕ
-  from source slot = passed_from (frame_at frames c.active.function) (frame_at frames callee) source slot
+  from source slot = passed_from (frame_at frames c.active.function) (coming (frame_at frames callee)) source slot
 
   record AreSpilled (is : List Instr) (m : Contents) (source slot count : ℕ) : Type 0 where
     pub safe : AreSafe globals_length (words_per_call * calls) is r m
@@ -150,12 +150,12 @@ module _ (program : Program) (well : IsWellFormed program) (frames : List Frame)
       here (suc k) below = absurd (omega (arith, below))
 
   are_spilled : (m : Contents) (source slot count : ℕ) → source + count ≤ (routine_at program c.active.function).slots → StandsIn m → ((k : ℕ) → k < count → HasCached (source + k))
-      → AreSpilled (spills (frame_at frames c.active.function) (frame_at frames callee) source slot count) m source slot count
+      → AreSpilled (spills (frame_at frames c.active.function) (coming (frame_at frames callee)) source slot count) m source slot count
   are_spilled m source slot zero fits s cached = record { safe = tt; same = refl; standing = s; stay = λ a a_below is. is; there = λ k below none. absurd (omega (arith, below)) }
   are_spilled m source slot (suc count) fits s cached =
       let here : source + 0 ≡ source = omega arith in
-      let is : List Instr = spill (frame_at frames c.active.function) (frame_at frames callee) source slot in
-      let js : List Instr = spills (frame_at frames c.active.function) (frame_at frames callee) (suc source) (suc slot) count in
+      let is : List Instr = spill (frame_at frames c.active.function) (coming (frame_at frames callee)) source slot in
+      let js : List Instr = spills (frame_at frames c.active.function) (coming (frame_at frames callee)) (suc source) (suc slot) count in
       let one = spilled_from m source slot (omega (arith, fits)) s (subst HasCached here (cached 0 (omega arith))) (from source slot) refl in
       let m1 : Contents = after_w is r m in
       let rest = are_spilled m1 (suc source) (suc slot) count (omega (arith, fits)) one.standing
@@ -171,14 +171,14 @@ module _ (program : Program) (well : IsWellFormed program) (frames : List Frame)
       }
     where
       there_at : (source slot count : ℕ) (m1 all : Contents) → source + suc count ≤ (routine_at program c.active.function).slots
-          → (rest : AreSpilled (spills (frame_at frames c.active.function) (frame_at frames callee) (suc source) (suc slot) count) m1 (suc source) (suc slot) count)
-          → ((a : ℕ) → IsThere (after_w (spills (frame_at frames c.active.function) (frame_at frames callee) (suc source) (suc slot) count) r m1) a → IsThere all a)
+          → (rest : AreSpilled (spills (frame_at frames c.active.function) (coming (frame_at frames callee)) (suc source) (suc slot) count) m1 (suc source) (suc slot) count)
+          → ((a : ℕ) → IsThere (after_w (spills (frame_at frames c.active.function) (coming (frame_at frames callee)) (suc source) (suc slot) count) r m1) a → IsThere all a)
           → (from (source + 0) (slot + 0) ≡ None → IsThere m1 (source + 0)) → (k : ℕ) → k < suc count → from (source + k) (slot + k) ≡ None → IsThere all (source + k)
       there_at source slot count m1 all fits rest at first zero below none = at (source + 0) (rest.stay (source + 0) (omega (arith, fits)) (first none))
       there_at source slot count m1 all fits rest at first (suc k) below none =
           let next : suc source + k ≡ source + suc k = omega arith in
           at (source + suc k)
-          (subst (IsThere (after_w (spills (frame_at frames c.active.function) (frame_at frames callee) (suc source) (suc slot) count) r m1)) next
+          (subst (IsThere (after_w (spills (frame_at frames c.active.function) (coming (frame_at frames callee)) (suc source) (suc slot) count) r m1)) next
           (rest.there k (omega (arith, below)) (ap (λ (n : ℕ). from n (suc slot + k)) next ∙ (ap (from (source + suc k)) (let e : suc slot + k ≡ slot + suc k = omega arith in e) ∙ none))))
 
 module _ (program : Program) (well : IsWellFormed program) (frames : List Frame) (fit : AreFrames program frames) (code : Labelled) (formed : IsFormed code) (addresses : ℕ → ℕ) (pages calls : ℕ) (few : calls ≤ 4096)
@@ -197,23 +197,23 @@ module _ (program : Program) (well : IsWellFormed program) (frames : List Frame)
   mine = frame_at frames c.active.function
 
   abbrev before : List Instr
-  before = spills (frame_at frames c.active.function) (frame_at frames callee) arguments 0 count
+  before = spills (frame_at frames c.active.function) (coming (frame_at frames callee)) arguments 0 count
 
   abbrev spilled : ℕ
-  spilled = here + spills_count mine (frame_at frames callee) arguments 0 count
+  spilled = here + spills_count mine (coming (frame_at frames callee)) arguments 0 count
 
-  long : length before ≡ spills_count mine (frame_at frames callee) arguments 0 count
-  long = length_spills mine (frame_at frames callee) arguments 0 count
+  long : length before ≡ spills_count mine (coming (frame_at frames callee)) arguments 0 count
+  long = length_spills mine (coming (frame_at frames callee)) arguments 0 count
 
-  at_slot : (slot : ℕ) → passed_from mine (frame_at frames callee) (arguments + slot) (0 + slot) ≡ passed_from mine (frame_at frames callee) (arguments + slot) slot
-  at_slot slot = ap (passed_from mine (frame_at frames callee) (arguments + slot)) (let e : 0 + slot ≡ slot = omega arith in e)
+  at_slot : (slot : ℕ) → passed_from mine (coming (frame_at frames callee)) (arguments + slot) (0 + slot) ≡ passed_from mine (coming (frame_at frames callee)) (arguments + slot) slot
+  at_slot slot = ap (passed_from mine (coming (frame_at frames callee)) (arguments + slot)) (let e : 0 + slot ≡ slot = omega arith in e)
 
   -- what is passed from a register is live here
-  held_there : (slot k : ℕ) → slot < count → passed_from mine (frame_at frames callee) (arguments + slot) slot ≡ Some k
+  held_there : (slot k : ℕ) → slot < count → passed_from mine (coming (frame_at frames callee)) (arguments + slot) slot ≡ Some k
       → (6 ≤ k) × (k < 24) × (r k ≡ c.active.slots (arguments + slot)) × IsWord (c.active.slots (arguments + slot))
   held_there slot k below some =
       let right = fit.homes c.active.function s.known in
-      let has = (is_free (value_register mine (arguments + slot)) (frame_at frames callee) slot k some).0 in
+      let has = (is_free (value_register mine (arguments + slot)) (coming (frame_at frames callee)) slot k some).0 in
       let is = caches (arguments + slot) k has (0, (plain.Call callee arguments count result, at_i, among arguments count (arguments + slot) (omega arith) (omega (arith, below)))) in
       (right.low (arguments + slot) k has, right.high (arguments + slot) k has, is, subst IsWord is (now.r_words k))
 
@@ -228,7 +228,7 @@ module _ (program : Program) (well : IsWellFormed program) (frames : List Frame)
       let all = are_spilled program well frames fit addresses pages calls few c r base back (stage_of frames c) callee s.known w arguments 0 count in_range.arguments_in_range s
       (λ k below n has. caches (arguments + k) n has (0, (plain.Call callee arguments count result, at_i, among arguments count (arguments + k) (omega arith) (omega (arith, below))))) in
       let m : Contents = after_w before r w in
-      let next = calling_code mine (frame_at frames callee) spilled (function_line program frames callee) arguments count in
+      let next = calling_code mine (coming (frame_at frames callee)) spilled (function_line program frames callee) arguments count in
       let long_lines : here + length (ordinary before) ≡ spilled = omega (arith, length_ordinary before, long) in
       let stands_next = subst (λ (n : ℕ). Stands code n next) long_lines (stands_back code here (ordinary before) next stands) in
       walk_few code formed addresses globals_length (words_per_call * calls) 1 (length before + 1) here hi c.output _ (Running run) (omega arith)
@@ -237,6 +237,6 @@ module _ (program : Program) (well : IsWellFormed program) (frames : List Frame)
       let at_next = now_at code formed addresses globals_length (words_per_call * calls) (here + length before) spilled c.output c.input r m d (omega (arith, long))
       (now_is code formed addresses globals_length (words_per_call * calls) (here + length before) c.output c.input (after_r before r w) m r m d all.same refl later) in
       walk_from code formed addresses globals_length (words_per_call * calls) 1 (here + length before) spilled hi c.output _ (Running d) (omega (arith, long))
-      (subst (λ (n : ℕ). Walk code formed addresses globals_length (words_per_call * calls) 1 spilled n c.output (After program pages calls c) (Reached program well frames fit code formed addresses pages calls few c) (Running d)) (let e : spilled + (5 + copies_count mine (frame_at frames callee) arguments 0 count) ≡ hi = omega arith in e)
+      (subst (λ (n : ℕ). Walk code formed addresses globals_length (words_per_call * calls) 1 spilled n c.output (After program pages calls c) (Reached program well frames fit code formed addresses pages calls few c) (Running d)) (let e : spilled + (5 + copies_count mine (coming (frame_at frames callee)) arguments 0 count) ≡ hi = omega arith in e)
       (calling_goes program well frames fit code formed addresses pages calls few lie c d r m base back spilled at_next all.standing callee arguments count result at_i in_range inside stands_next (omega arith)
       (λ slot below none. all.there slot below (at_slot slot ∙ none)) held_there finds_there))))

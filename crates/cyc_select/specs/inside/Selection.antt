@@ -250,12 +250,38 @@ restoring_code frame = if frame.saves then load RETURN_ADDRESS (4 * frame.return
 abbrev pub way_count : Frame → ℕ
 way_count frame = if frame.saves then 1 else 0
 
--- all that a function saves where it begins
+-- A parameter comes where its home is, but for one with a register that calls preserve: that has a word of the caller's until it is
+-- saved, so such a parameter comes in memory.
+abbrev pub coming_home : Home → Home
+coming_home homes.Memory = homes.Memory
+coming_home (homes.Both register) = if homing.is_preserved register then homes.Memory else homes.Both register
+coming_home (homes.Register register) = if homing.is_preserved register then homes.Memory else homes.Register register
+
+-- a frame as a caller sees it, who brings arguments to the homes of the first slots
+abbrev pub coming : Frame → Frame
+coming frame = record frame { homes = map coming_home frame.homes }
+
+-- Where the function begins it is read into the register, behind the lines that save that.
+abbrev pub arriving_home : Home → Home
+arriving_home homes.Memory = homes.Memory
+arriving_home (homes.Both register) = if homing.is_preserved register then homes.Both register else homes.Memory
+arriving_home (homes.Register register) = if homing.is_preserved register then homes.Both register else homes.Memory
+
+abbrev pub arriving : Frame → List Home
+arriving frame = map arriving_home (take frame.parameters frame.homes)
+
+abbrev pub arrivals : Frame → List Instr
+arrivals frame = reloads_from frame 0 (arriving frame)
+
+abbrev pub arrival_count : Frame → ℕ
+arrival_count frame = sum_by homing.saved_count (take frame.parameters frame.homes)
+
+-- all that a function saves where it begins, and the parameters that come to registers then
 abbrev pub saving_code : Frame → List Instr
-saving_code frame = way_code frame ++ saves frame
+saving_code frame = way_code frame ++ (saves frame ++ arrivals frame)
 
 abbrev pub saving_count : Frame → ℕ
-saving_count frame = way_count frame + frame.saved
+saving_count frame = way_count frame + (frame.saved + arrival_count frame)
 
 -- ---- operands
 
@@ -755,8 +781,8 @@ body_count program frames function (plain.Branch comparison left right target) =
     + hoisted_count (hoisted (frame_at frames function) (routine_at program function).code (test_of comparison left right) target)
     + 1
 body_count program frames function (plain.Call callee arguments count result) =
-    spills_count (frame_at frames function) (frame_at frames callee) arguments 0 count + 5
-    + copies_count (frame_at frames function) (frame_at frames callee) arguments 0 count
+    spills_count (frame_at frames function) (coming (frame_at frames callee)) arguments 0 count + 5
+    + copies_count (frame_at frames function) (coming (frame_at frames callee)) arguments 0 count
 body_count program frames function (plain.Return value) =
     way_count (frame_at frames function) + ending_count program function
     + ((routine_at program function).results + (frame_at frames function).saved + 2)
@@ -1031,8 +1057,8 @@ body program frames function here (plain.Branch comparison left right target) =
     (hoisted (frame_at frames function) (routine_at program function).code (test_of comparison left right) target)
     (instruction_line program frames function target)
 body program frames function here (plain.Call callee arguments count result) =
-    ordinary (spills (frame_at frames function) (frame_at frames callee) arguments 0 count)
-    ++ calling_code (frame_at frames function) (frame_at frames callee) (here + spills_count (frame_at frames function) (frame_at frames callee) arguments 0 count) (function_line program frames callee) arguments count
+    ordinary (spills (frame_at frames function) (coming (frame_at frames callee)) arguments 0 count)
+    ++ calling_code (frame_at frames function) (coming (frame_at frames callee)) (here + spills_count (frame_at frames function) (coming (frame_at frames callee)) arguments 0 count) (function_line program frames callee) arguments count
 body program frames function here (plain.Return value) =
     returning_code (function == program.main) (frame_at frames function) here value (routine_at program function).results
 body program frames function here (plain.ReadByte destination) =

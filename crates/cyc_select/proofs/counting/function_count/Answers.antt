@@ -24,5 +24,5 @@ returns-clause-small c =
       arith,
       saving,
       lines,
-      routine_small program frames function (reads_few program frames c.requires.fit function) c.requires.few (routine_at program function).code (is_saving (routine_at program function) (frame_at frames function) (c.requires.fit.each function c.requires.function)),
+      routine_small program frames function (reads_few program frames c.requires.fit function) c.requires.few (routine_at program function).code (is_saving program (routine_at program function) (frame_at frames function) (c.requires.fit.each function c.requires.function) (c.requires.fit.homes function c.requires.function)),
     )

@@ -1,4 +1,4 @@
-use Rattle.std.proofs.Common.{◌≡◌, ◌+◌, ◌≤◌, ◌++◌, drop}
+use Rattle.std.proofs.Common.{◌≡◌, ◌+◌, ◌*◌, ◌≤◌, ◌++◌, drop}
 use Rattle.std.specs.Prelude.{sum_by}
 use Rattle.cyc_plain.specs.inside.Program.{instruction_size}
 use Rattle.cyc_registers.specs.declared.home.TheConstants.{MOST_SAVED}
@@ -10,4 +10,4 @@ abbrev pub invariant-loop-index : goal.invariant-loop-index
 invariant-loop-index l =
     (l.lines.items ++ instruction_lines l.plain l.frames l.function l.index l.here (drop l.index l.code)
     ≡ instruction_lines l.plain l.frames l.function 0 l.first l.code)
-    × (l.here + sum_by instruction_size (drop l.index l.code) ≤ most_lines + MOST_SAVED + 1)
+    × (l.here + sum_by instruction_size (drop l.index l.code) ≤ most_lines + 2 * MOST_SAVED + 1)

@@ -1,9 +1,9 @@
 use Rattle.std.proofs.Common.{◌≡◌, ◌+◌, ◌-◌, ◌≤◌}
-use Rattle.cyc_select.specs.inside.Selection.{spills_count}
+use Rattle.cyc_select.specs.inside.Selection.{coming, spills_count}
 use Rattle.cyc_select.proofs.counting.spills_count.Given as goal
 
 -- the lines so far, with those of the other slots, are all of them
 abbrev pub invariant-loop-word : goal.invariant-loop-word
 invariant-loop-word l =
-    (l.lines + spills_count l.caller l.callee (l.source + l.word) l.word (l.count - l.word) ≡ spills_count l.caller l.callee l.source 0 l.count)
+    (l.lines + spills_count l.caller (coming l.callee) (l.source + l.word) l.word (l.count - l.word) ≡ spills_count l.caller (coming l.callee) l.source 0 l.count)
     × (l.lines ≤ l.word)

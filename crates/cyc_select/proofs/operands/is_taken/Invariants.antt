@@ -1,7 +1,7 @@
 use Rattle.std.proofs.Common.{◌≡◌}
-use Rattle.cyc_select.specs.inside.Selection.{is_taken}
+use Rattle.cyc_select.specs.inside.Selection.{coming, is_taken}
 use Rattle.cyc_select.proofs.operands.is_taken.Given as goal
 
 -- the parameters so far
 abbrev pub invariant-loop-parameter : goal.invariant-loop-parameter
-invariant-loop-parameter l = l.taken ≡ is_taken l.callee l.parameter l.register
+invariant-loop-parameter l = l.taken ≡ is_taken (coming l.callee) l.parameter l.register

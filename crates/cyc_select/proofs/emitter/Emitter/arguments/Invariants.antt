@@ -1,9 +1,9 @@
 use Rattle.std.proofs.Common.{◌≡◌, ◌+◌, ◌-◌, ◌++◌}
-use Rattle.cyc_select.specs.inside.Selection.{ordinary, copies}
+use Rattle.cyc_select.specs.inside.Selection.{coming, ordinary, copies}
 use Rattle.cyc_select.proofs.emitter.Emitter.arguments.Given as goal
 
 -- the lines so far, with those of the other arguments, are all of them
 abbrev pub invariant-loop-slot : goal.invariant-loop-slot
 invariant-loop-slot l =
-    l.self.lines.items ++ ordinary (copies l.caller l.callee (l.source + l.slot) l.slot (l.count - l.slot))
-    ≡ l.fn.self.lines.items ++ ordinary (copies l.caller l.callee l.source 0 l.count)
+    l.self.lines.items ++ ordinary (copies l.caller (coming l.callee) (l.source + l.slot) l.slot (l.count - l.slot))
+    ≡ l.fn.self.lines.items ++ ordinary (copies l.caller (coming l.callee) l.source 0 l.count)

@@ -1,0 +1,9 @@
+use Rattle.std.proofs.Common.{◌≡◌, ◌++◌, drop}
+use Rattle.cyc_select.specs.inside.Selection.{ordinary, reloads_from, arriving, arrivals}
+use Rattle.cyc_select.proofs.emitter.Emitter.arrivals.Given as goal
+
+-- the lines so far, with those of the other parameters, are all of them
+abbrev pub invariant-loop-slot : goal.invariant-loop-slot
+invariant-loop-slot l =
+    l.self.lines.items ++ ordinary (reloads_from l.frame l.slot (drop l.slot (arriving l.frame)))
+    ≡ l.fn.self.lines.items ++ ordinary (arrivals l.frame)

@@ -1,0 +1,9 @@
+use Rattle.std.proofs.Common.{◌≡◌, ◌+◌, drop, take}
+use Rattle.std.specs.Prelude.{sum_by}
+use Rattle.cyc_registers.specs.inside.Interference.{saved_count}
+use Rattle.cyc_select.specs.inside.Selection.{arrival_count}
+use Rattle.cyc_select.proofs.operands.arrival_count.Given as goal
+
+-- those so far, with those of the other parameters, are all of them
+abbrev pub invariant-loop-slot : goal.invariant-loop-slot
+invariant-loop-slot l = l.count + sum_by saved_count (drop l.slot (take l.frame.parameters l.frame.homes)) ≡ arrival_count l.frame
