@@ -1,7 +1,8 @@
 -- What an instruction leaves and makes of the slots of its call.
-use Rattle.std.proofs.Common.{◌≡◌, ◌≢◌, ℕ, suc, ◌+◌, ◌-◌, ◌≤◌, ◌<◌, Bool, true, false, ◌||◌, List, None, refl, sym, ap, subst, ◌∙◌, arith}
+use Rattle.std.proofs.Common.{◌≡◌, ◌≢◌, ℕ, suc, ◌+◌, ◌-◌, ◌≤◌, ◌<◌, Bool, true, false, ◌||◌, List, Option, Some, None, refl, sym, ap, subst, ◌∙◌, arith}
 use Rattle.std.specs.Prelude.{◌==◌, not, if◌then◌else◌}
-use Rattle.std.proofs.lemmas.Bool.{or_parts, and_from, eqb-true, eq-eqb, eqb-false, cond-false, cond_both, not-true, le-leb, lt-ltb, false≢true, not_from_false}
+use Rattle.std.proofs.lemmas.Bool.{or_parts, and_parts, and_from, eqb-true, eq-eqb, eqb-false, cond-false, cond_both, not-true, le-leb, lt-ltb, false≢true, not_from_false}
+use Rattle.cyc_words.specs.Word.{add_of}
 use Rattle.cyc_store.specs.State.{StoreState}
 use Rattle.cyc_store.specs.Services as services
 use Rattle.cyc_store.specs.Services.{answer}
@@ -17,10 +18,11 @@ use Rattle.cyc_plain.specs.inside.State.{Words, put, copied}
 use Rattle.cyc_plain.specs.inside.Step.{operand_word, call_in, told}
 use Rattle.cyc_plain.proofs.SlotLaws.{put-same, put-other}
 use Rattle.cyc_plain.specs.inside.Uses.{is_slot, is_among}
+use Rattle.cyc_simplify.specs.declared.fact.Fact.{Fact}
 use Rattle.cyc_simplify.specs.declared.fact.Fact.TheVariants as facts_are
 use Rattle.cyc_simplify.specs.declared.fact.Written.{Written}
-use Rattle.cyc_simplify.specs.inside.Facts.{IsTrueIn, IsTrueIfAny, leaves_slot, negated, is_any_slot, suited, shown}
-use Rattle.cyc_simplify.proofs.Truth.{IsLeft, suited_any}
+use Rattle.cyc_simplify.specs.inside.Facts.{Scene, IsTrueIn, IsTrueIfAny, is_free, suits_operand, leaves_slot, negated, is_any_slot, suited, loaded, shown}
+use Rattle.cyc_simplify.proofs.Truth.{IsLeft, suited_any, suited_if}
 use Rattle.cyc_simplify.proofs.Same.{negated_compares}
 
 abbrev range : (first count : ℕ) → Written
@@ -84,23 +86,24 @@ other_word : (old : Words) (destination word : ℕ) (operand : Operand) → is_s
 other_word old destination word (operands.Word number) other = refl
 other_word old destination word (operands.Slot number) other = put-other old destination number word (eqb-false number destination other)
 
-pub moved_made : (old : Words) (pinned : List Bool) (destination : ℕ) (source : Operand) → is_slot source destination ≡ false
-    → IsTrueIfAny (put old destination (operand_word old source)) (suited pinned (facts_are.Equal destination source))
-moved_made old pinned destination source other =
-    suited_any (put old destination (operand_word old source)) pinned (facts_are.Equal destination source)
+pub moved_made : (old : Words) (memory : ℕ → Option ℕ) (pinned : List Bool) (destination : ℕ) (source : Operand) → is_slot source destination ≡ false
+    → IsTrueIfAny (record { slots = put old destination (operand_word old source); memory = memory })
+    (suited pinned (facts_are.Equal destination source))
+moved_made old memory pinned destination source other =
+    suited_any (record { slots = put old destination (operand_word old source); memory = memory }) pinned (facts_are.Equal destination source)
     (put-same old destination (operand_word old source) ∙ sym (other_word old destination (operand_word old source) source other))
 
 pub itself_word : (old : Words) (destination : ℕ) (source : Operand) → is_slot source destination ≡ true → operand_word old source ≡ old destination
 itself_word old destination (operands.Word number) is = absurd (false≢true is)
 itself_word old destination (operands.Slot number) is = ap old (eqb-true number destination is)
 
-pub computed_made : (old : Words) (pinned : List Bool) (operator : BinaryOperator) (destination : ℕ) (left right : Operand)
+pub computed_made : (old : Words) (memory : ℕ → Option ℕ) (pinned : List Bool) (operator : BinaryOperator) (destination : ℕ) (left right : Operand)
     → has_no_result operator (operand_word old right) ≡ false
-    → IsTrueIfAny (put old destination (binary_result operator (operand_word old left) (operand_word old right)))
+    → IsTrueIfAny (record { slots = put old destination (binary_result operator (operand_word old left) (operand_word old right)); memory = memory })
     (if is_slot left destination || is_slot right destination then None else suited pinned (facts_are.Computed destination operator left right))
-computed_made old pinned operator destination left right some =
+computed_made old memory pinned operator destination left right some =
     let word : ℕ = binary_result operator (operand_word old left) (operand_word old right) in
-    let new : Words = put old destination word in
+    let new : Scene = record { slots = put old destination word; memory = memory } in
     cond_both (is_slot left destination || is_slot right destination) None (suited pinned (facts_are.Computed destination operator left right)) (IsTrueIfAny new)
     (λ among. tt)
     (λ none.
@@ -109,30 +112,46 @@ computed_made old pinned operator destination left right some =
     let by_right = other_word old destination word right r in
     suited_any new pinned (facts_are.Computed destination operator left right) (
       put-same old destination word ∙ ap (λ (a : ℕ). binary_result operator a (operand_word old right)) (sym by_left)
-          ∙ ap (λ (b : ℕ). binary_result operator (operand_word new left) b) (sym by_right),
+          ∙ ap (λ (b : ℕ). binary_result operator (operand_word new.slots left) b) (sym by_right),
       ap (has_no_result operator) by_right ∙ some,
     ))
 
+-- the word that memory has there was loaded
+pub loaded_made : (old : Words) (memory : ℕ → Option ℕ) (pinned : List Bool) (address : Operand) (offset destination word : ℕ)
+    → (is_free pinned destination ≡ true → memory (add_of (operand_word old address) offset) ≡ Some word)
+    → IsTrueIfAny (record { slots = put old destination word; memory = memory }) (loaded pinned address offset destination)
+loaded_made old memory pinned address offset destination word there =
+    let new : Scene = record { slots = put old destination word; memory = memory } in
+    let fact : Fact = facts_are.Held address offset (operands.Slot destination) in
+    cond_both (is_slot address destination) None (suited pinned fact) (IsTrueIfAny new)
+    (λ among. tt)
+    (λ none.
+    suited_if new pinned fact
+    (λ suits.
+    ap (λ (w : ℕ). memory (add_of w offset)) (other_word old destination word address none)
+    ∙ there (and_parts (suits_operand pinned address) (is_free pinned destination) suits).1
+    ∙ ap Some (sym (put-same old destination word))))
+
 -- what a branch shows, where it is taken or not
-pub shown_true : (slots : Words) (pinned : List Bool) (comparison : Comparison) (left right : Operand) (target index : ℕ) (taken : Bool)
-    → compares comparison (operand_word slots left) (operand_word slots right) ≡ taken
-    → IsTrueIfAny slots (shown pinned comparison left right target index (if taken then target else index + 1))
-shown_true slots pinned comparison left right target index taken is =
+pub shown_true : (scene : Scene) (pinned : List Bool) (comparison : Comparison) (left right : Operand) (target index : ℕ) (taken : Bool)
+    → compares comparison (operand_word scene.slots left) (operand_word scene.slots right) ≡ taken
+    → IsTrueIfAny scene (shown pinned comparison left right target index (if taken then target else index + 1))
+shown_true scene pinned comparison left right target index taken is =
     let next : ℕ = if taken then target else index + 1 in
     cond_both (target == index + 1 || not (is_any_slot left || is_any_slot right)) None
-    (suited pinned (facts_are.Holds (if next == target then comparison else negated comparison) left right)) (IsTrueIfAny slots)
+    (suited pinned (facts_are.Holds (if next == target then comparison else negated comparison) left right)) (IsTrueIfAny scene)
     (λ nothing. tt)
-    (λ some. suited_any slots pinned (facts_are.Holds (if next == target then comparison else negated comparison) left right) (go taken is (eqb-false target (index + 1) (or_parts (target == index + 1) (not (is_any_slot left || is_any_slot right)) some).0)))
+    (λ some. suited_any scene pinned (facts_are.Holds (if next == target then comparison else negated comparison) left right) (go taken is (eqb-false target (index + 1) (or_parts (target == index + 1) (not (is_any_slot left || is_any_slot right)) some).0)))
   where
-    go : (taken : Bool) → compares comparison (operand_word slots left) (operand_word slots right) ≡ taken → target ≢ index + 1
-        → IsTrueIn slots (facts_are.Holds (if (if taken then target else index + 1) == target then comparison else negated comparison) left right)
+    go : (taken : Bool) → compares comparison (operand_word scene.slots left) (operand_word scene.slots right) ≡ taken → target ≢ index + 1
+        → IsTrueIn scene (facts_are.Holds (if (if taken then target else index + 1) == target then comparison else negated comparison) left right)
     go true is apart =
-        subst (λ (b : Bool). compares (if b then comparison else negated comparison) (operand_word slots left) (operand_word slots right) ≡ true)
+        subst (λ (b : Bool). compares (if b then comparison else negated comparison) (operand_word scene.slots left) (operand_word scene.slots right) ≡ true)
         (sym (eq-eqb target target refl)) is
     go false is apart =
-        subst (λ (b : Bool). compares (if b then comparison else negated comparison) (operand_word slots left) (operand_word slots right) ≡ true)
+        subst (λ (b : Bool). compares (if b then comparison else negated comparison) (operand_word scene.slots left) (operand_word scene.slots right) ≡ true)
         (sym (not_there apart))
-        (negated_compares comparison (operand_word slots left) (operand_word slots right) ∙ not_from_false (compares comparison (operand_word slots left) (operand_word slots right)) is)
+        (negated_compares comparison (operand_word scene.slots left) (operand_word scene.slots right) ∙ not_from_false (compares comparison (operand_word scene.slots left) (operand_word scene.slots right)) is)
       where
         not_there : target ≢ index + 1 → (index + 1 == target) ≡ false
         not_there apart = grind (arith, apart)

@@ -1,14 +1,16 @@
 -- What is kept and remembered, as it is found.
 use Rattle.std.proofs.Common.{◌≡◌, ℕ, ◌+◌, ◌-◌, ◌<◌, ◌≤◌, Bool, true, false, ◌&&◌, List, [], ◌∷◌, refl, ap, ◌∙◌, arith, inl, inr}
 use Rattle.std.specs.Prelude.{not, nat_le, nat_lt}
-use Rattle.std.proofs.lemmas.Bool.{cases_lt, and_from, and_parts, and_right, cond-true, le-ltb, lt-ltb, le-leb, lt-leb, not_from_false}
+use Rattle.std.proofs.lemmas.Bool.{cases_lt, and_from, and_parts, and_right, cond-true, le-ltb, lt-ltb, le-leb, lt-leb, eqb-true, false≢true, not_from_false}
 use Rattle.cyc_plain.specs.declared.instruction.Operand.{Operand}
 use Rattle.cyc_plain.specs.declared.instruction.Operand.TheVariants as operands
 use Rattle.cyc_plain.specs.inside.Uses.{is_among}
 use Rattle.cyc_simplify.specs.declared.fact.Fact.{Fact}
 use Rattle.cyc_simplify.specs.declared.fact.Fact.TheVariants as facts_are
+use Rattle.cyc_simplify.specs.declared.fact.Touched.{Touched}
+use Rattle.cyc_simplify.specs.declared.fact.Touched.TheVariants as touches
 use Rattle.cyc_simplify.specs.declared.fact.Written.{Written}
-use Rattle.cyc_simplify.specs.inside.Entries.{keeps_all}
+use Rattle.cyc_simplify.specs.inside.Entries.{keeps_all, changes_nothing}
 use Rattle.cyc_simplify.specs.inside.Replacement.{simplified_operand}
 use Rattle.cyc_simplify.specs.inside.Facts.{leaves_slot, leaves_operand, keeps, kept}
 
@@ -39,23 +41,29 @@ module _ (slots : Written) (none : slots.count ≡ 0) where
   leaves_any_operand (operands.Slot number) = leaves_any number
   leaves_any_operand (operands.Word word) = refl
 
-  keeps_any : (fact : Fact) → keeps slots fact ≡ true
+  keeps_any : (fact : Fact) → keeps slots touches.Nothing fact ≡ true
   keeps_any (facts_are.Equal slot operand) = and_from _ _ (leaves_any slot) (leaves_any_operand operand)
   keeps_any (facts_are.Computed slot operator left right) = and_from _ _ (leaves_any slot) (and_from _ _ (leaves_any_operand left) (leaves_any_operand right))
   keeps_any (facts_are.Holds comparison left right) = and_from _ _ (leaves_any_operand left) (leaves_any_operand right)
+  keeps_any (facts_are.Held address offset value) = and_from _ _ (leaves_any_operand address) (and_from _ _ (leaves_any_operand value) refl)
 
-  pub none_written : (facts : List Fact) → kept slots facts ≡ facts
+  none_written : (facts : List Fact) → kept slots touches.Nothing facts ≡ facts
   none_written [] = refl
   none_written (fact ∷ facts) =
-      cond-true (keeps slots fact) (fact ∷ kept slots facts) (kept slots facts) (keeps_any fact) ∙ ap (λ (others : List Fact). fact ∷ others) (none_written facts)
+      cond-true (keeps slots touches.Nothing fact) (fact ∷ kept slots touches.Nothing facts) (kept slots touches.Nothing facts) (keeps_any fact)
+      ∙ ap (λ (others : List Fact). fact ∷ others) (none_written facts)
+
+pub nothing_changed : (slots : Written) (t : Touched) (facts : List Fact) → changes_nothing slots t ≡ true → kept slots t facts ≡ facts
+nothing_changed slots touches.Nothing facts none = none_written slots (eqb-true slots.count 0 none) facts
+nothing_changed slots t facts none = absurd (false≢true none)
 
 -- ---- nothing forgotten
 
-pub all_kept : (slots : Written) (facts : List Fact) → keeps_all slots facts ≡ true → kept slots facts ≡ facts
-all_kept slots [] all = refl
-all_kept slots (fact ∷ facts) all =
-    let (first, rest) = and_parts (keeps slots fact) (keeps_all slots facts) all in
-    cond-true (keeps slots fact) (fact ∷ kept slots facts) (kept slots facts) first ∙ ap (λ (others : List Fact). fact ∷ others) (all_kept slots facts rest)
+pub all_kept : (slots : Written) (t : Touched) (facts : List Fact) → keeps_all slots t facts ≡ true → kept slots t facts ≡ facts
+all_kept slots t [] all = refl
+all_kept slots t (fact ∷ facts) all =
+    let (first, rest) = and_parts (keeps slots t fact) (keeps_all slots t facts) all in
+    cond-true (keeps slots t fact) (fact ∷ kept slots t facts) (kept slots t facts) first ∙ ap (λ (others : List Fact). fact ∷ others) (all_kept slots t facts rest)
 
 -- ---- a word stands for itself
 
@@ -64,3 +72,4 @@ simplified_word [] word = refl
 simplified_word (facts_are.Equal slot operand ∷ facts) word = simplified_word facts word
 simplified_word (facts_are.Computed slot operator left right ∷ facts) word = simplified_word facts word
 simplified_word (facts_are.Holds comparison left right ∷ facts) word = simplified_word facts word
+simplified_word (facts_are.Held address offset value ∷ facts) word = simplified_word facts word

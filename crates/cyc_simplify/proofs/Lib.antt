@@ -1,3 +1,5 @@
+-- what changes of memory
+pub mod Memory
 -- facts that are true stay so
 pub mod Truth
 pub mod Behind

@@ -15,6 +15,7 @@ use Rattle.cyc_store.specs.State.{StoreState}
 use Rattle.cyc_store.specs.Services.{Call}
 use Rattle.cyc_plain.specs.declared.instruction.Instruction.{Instruction}
 use Rattle.cyc_plain.specs.declared.instruction.Instruction.TheVariants as instructions
+use Rattle.cyc_plain.specs.declared.instruction.Operand.{Operand}
 use Rattle.cyc_plain.specs.inside.Program.{Routine, Program, CodePlace, no_routine, routine_at}
 use Rattle.cyc_plain.specs.inside.State.{Activation, Frame, Configuration, State, Running, Ended, Stuck, seen_of, status_of, place_of}
 use Rattle.cyc_plain.specs.inside.Memory.{pins, is_pinned, global_at, slot_at, word_or, word_waiting, put_or, with_waiting, Range, OfGlobals, OfStore, OfSlots, range_of, word_in, memory_at, with_global, with_slot, with_word, with_memory}
@@ -22,8 +23,8 @@ use Rattle.cyc_plain.specs.inside.Step.{Choice, operand_word, IsAllowed, MayLie,
 use Rattle.cyc_plain.proofs.RunLaws.{lawful, limited_either}
 use Rattle.cyc_simplify.specs.declared.fact.Fact.{Fact}
 use Rattle.cyc_simplify.specs.declared.fact.Fact.TheVariants as facts_are
-use Rattle.cyc_simplify.specs.inside.Facts.{is_known}
-use Rattle.cyc_simplify.specs.inside.Replacement.{simplified_operand, holder_in, simplified_binary, simplified_move, decision_in, simplified_branch, simplified_instruction}
+use Rattle.cyc_simplify.specs.inside.Facts.{scene_of, is_known}
+use Rattle.cyc_simplify.specs.inside.Replacement.{simplified_operand, right_operand, folded_unary, simplified_unary, folded_at, holder_in, simplified_binary, simplified_move, decision_in, simplified_branch, value_in, simplified_load, simplified_instruction}
 use Rattle.cyc_simplify.specs.inside.Table.{IsReplaced, AreReplaced}
 use Rattle.cyc_simplify.proofs.Kept.{facts_in, IsKnown, known_behind, known_start}
 use Rattle.cyc_simplify.proofs.Steps.{performs_same, callee_same, limit_same, request_same}
@@ -51,16 +52,27 @@ simplified_pins_same facts (instructions.Move destination source) slot = go (is_
     go : (b : Bool) → pins (simplified_move b destination (simplified_operand facts source)) slot ≡ false
     go true = refl
     go false = refl
-simplified_pins_same facts (instructions.Binary operator destination left right) slot = go (holder_in facts operator (simplified_operand facts left) (simplified_operand facts right))
+simplified_pins_same facts (instructions.Binary operator destination left right) slot = go (folded_at facts operator destination (simplified_operand facts left) (right_operand facts operator (simplified_operand facts right))) (holder_in facts operator (simplified_operand facts left) (right_operand facts operator (simplified_operand facts right)))
   where
-    go : (o : Option ℕ) → pins (simplified_binary o operator destination (simplified_operand facts left) (simplified_operand facts right)) slot ≡ false
-    go (Some found) = refl
-    go None = refl
+    go : (f o : Option ℕ) → pins (simplified_binary f o operator destination (simplified_operand facts left) (right_operand facts operator (simplified_operand facts right))) slot ≡ false
+    go (Some word) o = refl
+    go None (Some found) = refl
+    go None None = refl
 simplified_pins_same facts (instructions.Branch comparison left right target) slot = go (decision_in facts comparison (simplified_operand facts left) (simplified_operand facts right))
   where
     go : (o : Option Bool) → pins (simplified_branch o comparison (simplified_operand facts left) (simplified_operand facts right) target) slot ≡ false
     go (Some true) = refl
     go (Some false) = refl
+    go None = refl
+simplified_pins_same facts (instructions.Load destination address offset) slot = go (value_in facts (simplified_operand facts address) offset)
+  where
+    go : (o : Option Operand) → pins (simplified_load o destination (simplified_operand facts address) offset) slot ≡ false
+    go (Some value) = refl
+    go None = refl
+simplified_pins_same facts (instructions.Unary operator destination operand) slot = go (folded_unary facts operator (simplified_operand facts operand))
+  where
+    go : (o : Option ℕ) → pins (simplified_unary o operator destination (simplified_operand facts operand)) slot ≡ false
+    go (Some word) = refl
     go None = refl
 simplified_pins_same facts i slot = refl
 
@@ -205,7 +217,7 @@ module _ (program simplified : Program) (are : AreReplaced program simplified) w
           knows = subst (IsKnown program simplified (each_replaced program simplified are)) same
               (known_behind program simplified (each_replaced program simplified are) choice c j (at ∙ is) known);
           calls = ap callee_of is ∙ callee_same facts i;
-          asks = ap (call_of c.active.slots) is ∙ request_same c.active.slots facts known.0 i;
+          asks = ap (call_of c.active.slots) is ∙ request_same (scene_of program c) facts known.0 i;
           limits = λ most. ap (λ (x : Option Instruction). limit_of x most) is ∙ limit_same most facts i;
         }
 

@@ -5,17 +5,18 @@ use Rattle.std.proofs.lemmas.Bool.{and_parts, eqb-true, cond_both, not-true, not
 use Rattle.cyc_words.specs.Word.{signed}
 use Rattle.cyc_plain.specs.declared.instruction.Operand.{Operand}
 use Rattle.cyc_plain.specs.declared.instruction.Operand.TheVariants as operands
+use Rattle.cyc_plain.specs.declared.instruction.UnaryOperator.{UnaryOperator}
 use Rattle.cyc_plain.specs.declared.instruction.BinaryOperator.{BinaryOperator}
 use Rattle.cyc_plain.specs.declared.instruction.Comparison.{Comparison}
 use Rattle.cyc_plain.specs.declared.instruction.Comparison.TheVariants as comparisons
-use Rattle.cyc_plain.specs.inside.Operators.{compares}
-use Rattle.cyc_plain.specs.inside.State.{Words}
+use Rattle.cyc_plain.specs.declared.instruction.BinaryOperator.TheVariants as binary
+use Rattle.cyc_plain.specs.inside.Operators.{unary_result, binary_result, has_no_result, compares}
 use Rattle.cyc_plain.specs.inside.Step.{operand_word}
 use Rattle.cyc_simplify.specs.declared.fact.Fact.{Fact}
 use Rattle.cyc_simplify.specs.declared.fact.Fact.TheVariants as facts_are
-use Rattle.cyc_simplify.specs.inside.Facts.{IsTrueIn, AreTrueIn, is_same_operator, is_same_operand, negated}
-use Rattle.cyc_simplify.specs.inside.Replacement.{is_cheap, instead, simplified_operand, holder, or_slot, holder_in, implies, verdict, decision, or_verdict, decision_in}
-use Rattle.cyc_simplify.proofs.Truth.{same_operator, same_comparison, same_operand}
+use Rattle.cyc_simplify.specs.inside.Facts.{Scene, IsTrueIn, AreTrueIn, is_same_operator, is_same_operand, is_same_word, negated}
+use Rattle.cyc_simplify.specs.inside.Replacement.{is_cheap, instead, simplified_operand, or_number, word_by, word_in, takes_word, small_or, right_operand, folded, folded_of, folded_in, negated_of, folded_unary, may_fold, folded_at, holder, or_slot, holder_in, implies, verdict, decision, or_verdict, decision_in, value_by, or_value, value_in}
+use Rattle.cyc_simplify.proofs.Truth.{same_operator, same_comparison, same_operand, found_same}
 
 -- ---- comparisons
 
@@ -72,42 +73,123 @@ implied known asked a b is holds = ap (λ (c : Comparison). compares c a b) (sym
 
 -- ---- what facts say
 
-module _ (slots : Words) where
+module _ (scene : Scene) where
   -- what is put for an operand stands for the same word
-  instead_word : (fact : Fact) (operand : Operand) (rest : Operand) → IsTrueIn slots fact → operand_word slots rest ≡ operand_word slots operand
-      → operand_word slots (unwrap_or (instead fact operand) rest) ≡ operand_word slots operand
+  instead_word : (fact : Fact) (operand : Operand) (rest : Operand) → IsTrueIn scene fact → operand_word scene.slots rest ≡ operand_word scene.slots operand
+      → operand_word scene.slots (unwrap_or (instead fact operand) rest) ≡ operand_word scene.slots operand
   instead_word (facts_are.Computed slot operator left right) operand rest holds other = other
   instead_word (facts_are.Holds comparison left right) operand rest holds other = other
+  instead_word (facts_are.Held address offset value) operand rest holds other = other
   instead_word (facts_are.Equal slot equal) (operands.Word word) rest holds other = other
   instead_word (facts_are.Equal slot equal) (operands.Slot number) rest holds other =
-      cond_both (number == slot && is_cheap equal) (Some equal) None (λ o. operand_word slots (unwrap_or o rest) ≡ slots number)
-      (λ is. sym holds ∙ ap slots (sym (eqb-true number slot (and_parts (number == slot) (is_cheap equal) is).0)))
+      cond_both (number == slot && is_cheap equal) (Some equal) None (λ o. operand_word scene.slots (unwrap_or o rest) ≡ scene.slots number)
+      (λ is. sym holds ∙ ap scene.slots (sym (eqb-true number slot (and_parts (number == slot) (is_cheap equal) is).0)))
       (λ is. other)
 
-  pub operand_same : (facts : List Fact) (operand : Operand) → AreTrueIn slots facts → operand_word slots (simplified_operand facts operand) ≡ operand_word slots operand
+  pub operand_same : (facts : List Fact) (operand : Operand) → AreTrueIn scene facts → operand_word scene.slots (simplified_operand facts operand) ≡ operand_word scene.slots operand
   operand_same [] operand holds = refl
   operand_same (fact ∷ facts) operand (first, rest) =
       instead_word fact operand (simplified_operand facts operand) first (operand_same facts operand rest)
 
+  -- the word that an operand is said to stand for is its word
+  abbrev pub IsItsWord : Operand → Option ℕ → Type 0
+  IsItsWord operand (Some word) = operand_word scene.slots operand ≡ word
+  IsItsWord operand None = Unit {0}
+
+  word_true : (fact : Fact) (operand : Operand) → IsTrueIn scene fact → IsItsWord operand (word_by fact operand)
+  word_true (facts_are.Equal slot (operands.Slot other)) operand holds = tt
+  word_true (facts_are.Equal slot (operands.Word word)) (operands.Word other) holds = tt
+  word_true (facts_are.Equal slot (operands.Word word)) (operands.Slot number) holds =
+      cond_both (number == slot) (Some word) None (IsItsWord (operands.Slot number)) (λ is. ap scene.slots (eqb-true number slot is) ∙ holds) (λ is. tt)
+  word_true (facts_are.Computed slot operator left right) operand holds = tt
+  word_true (facts_are.Holds comparison left right) operand holds = tt
+  word_true (facts_are.Held address offset value) operand holds = tt
+
+  pub word_in_true : (facts : List Fact) (operand : Operand) → AreTrueIn scene facts → IsItsWord operand (word_in facts operand)
+  word_in_true [] (operands.Slot number) holds = tt
+  word_in_true [] (operands.Word word) holds = refl
+  word_in_true (fact ∷ facts) operand (first, rest) = go (word_by fact operand) (word_true fact operand first) (word_in_true facts operand rest)
+    where
+      go : (one : Option ℕ) → IsItsWord operand one → IsItsWord operand (word_in facts operand) → IsItsWord operand (or_number one (word_in facts operand))
+      go (Some word) is others = is
+      go None is others = others
+
+  pub second_same : (facts : List Fact) (operator : BinaryOperator) (operand : Operand) → AreTrueIn scene facts
+      → operand_word scene.slots (right_operand facts operator operand) ≡ operand_word scene.slots operand
+  second_same facts operator operand holds =
+      cond_both (takes_word operator) (small_or (word_in facts operand) operand) operand (λ o. operand_word scene.slots o ≡ operand_word scene.slots operand)
+      (λ takes. go (word_in facts operand) (word_in_true facts operand holds)) (λ not_taken. refl)
+    where
+      go : (o : Option ℕ) → IsItsWord operand o → operand_word scene.slots (small_or o operand) ≡ operand_word scene.slots operand
+      go None is = refl
+      go (Some word) is = cond_both (nat_lt word 32768) (operands.Word word) operand (λ o. operand_word scene.slots o ≡ operand_word scene.slots operand) (λ small. sym is) (λ large. refl)
+
+  -- what is computed of two words that are known is the result, and there is one
+  abbrev pub IsFolded : BinaryOperator → (left right : Operand) → Option ℕ → Type 0
+  IsFolded operator left right (Some word) =
+      (word ≡ binary_result operator (operand_word scene.slots left) (operand_word scene.slots right)) × (has_no_result operator (operand_word scene.slots right) ≡ false)
+  IsFolded operator left right None = Unit {0}
+
+  folded_in_true : (facts : List Fact) (operator : BinaryOperator) (left right : Operand) → AreTrueIn scene facts → IsFolded operator left right (folded_in facts operator left right)
+  folded_in_true [] operator left right holds = tt
+  folded_in_true (fact ∷ facts) operator left right holds =
+      go (word_in (fact ∷ facts) left) (word_in (fact ∷ facts) right) (word_in_true (fact ∷ facts) left holds) (word_in_true (fact ∷ facts) right holds)
+    where
+      by_operator : (operator : BinaryOperator) (a b : ℕ) → operand_word scene.slots left ≡ a → operand_word scene.slots right ≡ b → IsFolded operator left right (folded operator a b)
+      by_operator binary.Add a b l r = (ap (λ (x : ℕ). binary_result binary.Add x b) (sym l) ∙ ap (binary_result binary.Add (operand_word scene.slots left)) (sym r), refl)
+      by_operator binary.Subtract a b l r = (ap (λ (x : ℕ). binary_result binary.Subtract x b) (sym l) ∙ ap (binary_result binary.Subtract (operand_word scene.slots left)) (sym r), refl)
+      by_operator binary.Multiply a b l r = (ap (λ (x : ℕ). binary_result binary.Multiply x b) (sym l) ∙ ap (binary_result binary.Multiply (operand_word scene.slots left)) (sym r), refl)
+      by_operator binary.And a b l r = (ap (λ (x : ℕ). binary_result binary.And x b) (sym l) ∙ ap (binary_result binary.And (operand_word scene.slots left)) (sym r), refl)
+      by_operator binary.Or a b l r = (ap (λ (x : ℕ). binary_result binary.Or x b) (sym l) ∙ ap (binary_result binary.Or (operand_word scene.slots left)) (sym r), refl)
+      by_operator binary.Xor a b l r = (ap (λ (x : ℕ). binary_result binary.Xor x b) (sym l) ∙ ap (binary_result binary.Xor (operand_word scene.slots left)) (sym r), refl)
+      by_operator binary.ShiftLeft a b l r = (ap (λ (x : ℕ). binary_result binary.ShiftLeft x b) (sym l) ∙ ap (binary_result binary.ShiftLeft (operand_word scene.slots left)) (sym r), refl)
+      by_operator binary.ShiftRight a b l r = (ap (λ (x : ℕ). binary_result binary.ShiftRight x b) (sym l) ∙ ap (binary_result binary.ShiftRight (operand_word scene.slots left)) (sym r), refl)
+      by_operator operator a b l r = tt
+
+      go : (one other : Option ℕ) → IsItsWord left one → IsItsWord right other → IsFolded operator left right (folded_of operator one other)
+      go (Some a) (Some b) l r = by_operator operator a b l r
+      go None (Some b) l r = tt
+      go (Some a) None l r = tt
+      go None None l r = tt
+
+  abbrev pub IsFoldedUnary : UnaryOperator → Operand → Option ℕ → Type 0
+  IsFoldedUnary operator operand (Some word) = word ≡ unary_result operator (operand_word scene.slots operand)
+  IsFoldedUnary operator operand None = Unit {0}
+
+  pub folded_unary_true : (facts : List Fact) (operator : UnaryOperator) (operand : Operand) → AreTrueIn scene facts → IsFoldedUnary operator operand (folded_unary facts operator operand)
+  folded_unary_true [] operator operand holds = tt
+  folded_unary_true (fact ∷ facts) operator operand holds = go (word_in (fact ∷ facts) operand) (word_in_true (fact ∷ facts) operand holds)
+    where
+      go : (o : Option ℕ) → IsItsWord operand o → IsFoldedUnary operator operand (negated_of operator o)
+      go (Some word) is = ap (unary_result operator) (sym is)
+      go None is = tt
+
+  pub folded_at_true : (facts : List Fact) (operator : BinaryOperator) (destination : ℕ) (left right : Operand) → AreTrueIn scene facts
+      → IsFolded operator left right (folded_at facts operator destination left right)
+  folded_at_true facts operator destination left right holds =
+      cond_both (may_fold destination left right) (folded_in facts operator left right) None (IsFolded operator left right)
+      (λ may. folded_in_true facts operator left right holds) (λ stays. tt)
+
   -- the slot that is said to hold a result holds it
   abbrev pub HoldsResult : BinaryOperator → (left right : Operand) → Option ℕ → Type 0
-  HoldsResult operator left right (Some slot) = IsTrueIn slots (facts_are.Computed slot operator left right)
+  HoldsResult operator left right (Some slot) = IsTrueIn scene (facts_are.Computed slot operator left right)
   HoldsResult operator left right None = Unit {0}
 
-  holder_true : (fact : Fact) (operator : BinaryOperator) (left right : Operand) → IsTrueIn slots fact → HoldsResult operator left right (holder fact operator left right)
+  holder_true : (fact : Fact) (operator : BinaryOperator) (left right : Operand) → IsTrueIn scene fact → HoldsResult operator left right (holder fact operator left right)
   holder_true (facts_are.Equal slot operand) operator left right holds = tt
   holder_true (facts_are.Holds comparison left_2 right_2) operator left right holds = tt
+  holder_true (facts_are.Held address offset value) operator left right holds = tt
   holder_true (facts_are.Computed slot other left_2 right_2) operator left right (holds, some) =
       cond_both (is_same_operator other operator && (is_same_operand left_2 left && is_same_operand right_2 right)) (Some slot) None (HoldsResult operator left right)
       (λ is.
       let (o, both) = and_parts (is_same_operator other operator) (is_same_operand left_2 left && is_same_operand right_2 right) is in
       let (l, r) = and_parts (is_same_operand left_2 left) (is_same_operand right_2 right) both in
-      subst (λ (x : BinaryOperator). IsTrueIn slots (facts_are.Computed slot x left right)) (same_operator other operator o)
-      (subst (λ (x : Operand). IsTrueIn slots (facts_are.Computed slot other x right)) (same_operand left_2 left l)
-      (subst (λ (x : Operand). IsTrueIn slots (facts_are.Computed slot other left_2 x)) (same_operand right_2 right r) (holds, some))))
+      subst (λ (x : BinaryOperator). IsTrueIn scene (facts_are.Computed slot x left right)) (same_operator other operator o)
+      (subst (λ (x : Operand). IsTrueIn scene (facts_are.Computed slot other x right)) (same_operand left_2 left l)
+      (subst (λ (x : Operand). IsTrueIn scene (facts_are.Computed slot other left_2 x)) (same_operand right_2 right r) (holds, some))))
       (λ is. tt)
 
-  pub holder_in_true : (facts : List Fact) (operator : BinaryOperator) (left right : Operand) → AreTrueIn slots facts → HoldsResult operator left right (holder_in facts operator left right)
+  pub holder_in_true : (facts : List Fact) (operator : BinaryOperator) (left right : Operand) → AreTrueIn scene facts → HoldsResult operator left right (holder_in facts operator left right)
   holder_in_true [] operator left right holds = tt
   holder_in_true (fact ∷ facts) operator left right (first, rest) =
       go (holder fact operator left right) (holder_true fact operator left right first) (holder_in_true facts operator left right rest)
@@ -119,33 +201,34 @@ module _ (slots : Words) where
 
   -- a decision is right
   abbrev pub IsDecidedRight : Comparison → (left right : Operand) → Option Bool → Type 0
-  IsDecidedRight comparison left right (Some holds) = compares comparison (operand_word slots left) (operand_word slots right) ≡ holds
+  IsDecidedRight comparison left right (Some holds) = compares comparison (operand_word scene.slots left) (operand_word scene.slots right) ≡ holds
   IsDecidedRight comparison left right None = Unit {0}
 
-  verdict_right : (known comparison : Comparison) (left right : Operand) → compares known (operand_word slots left) (operand_word slots right) ≡ true
+  verdict_right : (known comparison : Comparison) (left right : Operand) → compares known (operand_word scene.slots left) (operand_word scene.slots right) ≡ true
       → IsDecidedRight comparison left right (verdict known comparison)
   verdict_right known comparison left right holds =
-      let a = operand_word slots left in
-      let b = operand_word slots right in
+      let a = operand_word scene.slots left in
+      let b = operand_word scene.slots right in
       cond_both (implies known comparison) (Some true) (if implies known (negated comparison) then Some false else None) (IsDecidedRight comparison left right)
       (λ is. implied known comparison a b is holds)
       (λ no. cond_both (implies known (negated comparison)) (Some false) None (IsDecidedRight comparison left right)
       (λ is. not-true (compares comparison a b) (sym (negated_compares comparison a b) ∙ implied known (negated comparison) a b is holds))
       (λ is. tt))
 
-  decision_right : (fact : Fact) (comparison : Comparison) (left right : Operand) → IsTrueIn slots fact → IsDecidedRight comparison left right (decision fact comparison left right)
+  decision_right : (fact : Fact) (comparison : Comparison) (left right : Operand) → IsTrueIn scene fact → IsDecidedRight comparison left right (decision fact comparison left right)
   decision_right (facts_are.Equal slot operand) comparison left right holds = tt
   decision_right (facts_are.Computed slot operator left_2 right_2) comparison left right holds = tt
+  decision_right (facts_are.Held address offset value) comparison left right holds = tt
   decision_right (facts_are.Holds known left_2 right_2) comparison left right holds =
       cond_both (is_same_operand left_2 left && is_same_operand right_2 right) (verdict known comparison) None (IsDecidedRight comparison left right)
       (λ is.
       let (l, r) = and_parts (is_same_operand left_2 left) (is_same_operand right_2 right) is in
       verdict_right known comparison left right
-      (subst (λ (x : Operand). compares known (operand_word slots x) (operand_word slots right) ≡ true) (same_operand left_2 left l)
-      (subst (λ (x : Operand). compares known (operand_word slots left_2) (operand_word slots x) ≡ true) (same_operand right_2 right r) holds)))
+      (subst (λ (x : Operand). compares known (operand_word scene.slots x) (operand_word scene.slots right) ≡ true) (same_operand left_2 left l)
+      (subst (λ (x : Operand). compares known (operand_word scene.slots left_2) (operand_word scene.slots x) ≡ true) (same_operand right_2 right r) holds)))
       (λ is. tt)
 
-  pub decision_in_right : (facts : List Fact) (comparison : Comparison) (left right : Operand) → AreTrueIn slots facts
+  pub decision_in_right : (facts : List Fact) (comparison : Comparison) (left right : Operand) → AreTrueIn scene facts
       → IsDecidedRight comparison left right (decision_in facts comparison left right)
   decision_in_right [] comparison left right holds = tt
   decision_in_right (fact ∷ facts) comparison left right (first, rest) =
@@ -155,3 +238,26 @@ module _ (slots : Words) where
           → IsDecidedRight comparison left right (or_verdict one (decision_in facts comparison left right))
       go (Some holds) right others = right
       go None right others = others
+
+  -- the word that is said to be there is found
+  abbrev pub IsFound : (address : Operand) → (offset : ℕ) → Option Operand → Type 0
+  IsFound address offset (Some value) = IsTrueIn scene (facts_are.Held address offset value)
+  IsFound address offset None = Unit {0}
+
+  value_true : (fact : Fact) (address : Operand) (offset : ℕ) → IsTrueIn scene fact → IsFound address offset (value_by fact address offset)
+  value_true (facts_are.Equal slot operand) address offset holds = tt
+  value_true (facts_are.Computed slot operator left right) address offset holds = tt
+  value_true (facts_are.Holds comparison left right) address offset holds = tt
+  value_true (facts_are.Held other further value) address offset holds =
+      cond_both (is_same_word other further address offset) (Some value) None (IsFound address offset)
+      (λ is. found_same scene other further address offset is ∙ holds) (λ is. tt)
+
+  pub value_in_true : (facts : List Fact) (address : Operand) (offset : ℕ) → AreTrueIn scene facts → IsFound address offset (value_in facts address offset)
+  value_in_true [] address offset holds = tt
+  value_in_true (fact ∷ facts) address offset (first, rest) =
+      go (value_by fact address offset) (value_true fact address offset first) (value_in_true facts address offset rest)
+    where
+      go : (one : Option Operand) → IsFound address offset one → IsFound address offset (value_in facts address offset)
+          → IsFound address offset (or_value one (value_in facts address offset))
+      go (Some value) is others = is
+      go None is others = others

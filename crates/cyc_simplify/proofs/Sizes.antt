@@ -1,6 +1,6 @@
 -- A simplified program is well formed, its numbers are words, and it is not larger.
 use Rattle.std.proofs.Common.{◌≡◌, ℕ, suc, ◌-◌, ◌^◌, ◌<◌, ◌≤◌, Bool, true, false, ◌&&◌, List, [], ◌∷◌, length, get_or, Option, Some, None, slice_get, refl, sym, ap, subst, ◌∙◌, arith, inl, inr}
-use Rattle.std.specs.Prelude.{All, IsSomeAnd, sum_by, not, slice_index_or, unwrap_or}
+use Rattle.std.specs.Prelude.{All, IsSomeAnd, sum_by, not, nat_lt, slice_index_or, unwrap_or}
 use Rattle.std.proofs.lemmas.Bool.{and_parts, cases_lt, cond_both, ltb-true, false≢true}
 use Rattle.std.proofs.lemmas.List.{get_or_past}
 use Rattle.std.proofs.lemmas.List.Sums.{sum_by-cons}
@@ -13,18 +13,20 @@ use Rattle.cyc_plain.specs.declared.instruction.Operand.{Operand}
 use Rattle.cyc_plain.specs.declared.instruction.Operand.TheVariants as operands
 use Rattle.cyc_plain.specs.declared.instruction.Request.{Request}
 use Rattle.cyc_plain.specs.declared.instruction.Request.TheVariants as requests
+use Rattle.cyc_plain.specs.declared.instruction.UnaryOperator.{UnaryOperator}
 use Rattle.cyc_plain.specs.declared.instruction.BinaryOperator.{BinaryOperator}
 use Rattle.cyc_plain.specs.declared.instruction.BinaryOperator.TheVariants as binary
 use Rattle.cyc_plain.specs.declared.limits.TheConstants.{MOST_GLOBALS, RECORD_WORDS}
 use Rattle.cyc_plain.specs.inside.Requests.{first_operand, second_operand, request_size}
 use Rattle.cyc_plain.specs.inside.Program.{Routine, Program, no_routine, routine_at, operator_size, instruction_size, size}
 use Rattle.cyc_plain.specs.inside.WellFormed.{HasSlots, IsOperand, IsCallInRange, IsRequestInRange, IsInRange, IsRoutine, IsWellFormed, is_return, leaves, IsOfWord, IsArgumentOfWord, HasWord, HasWords, IsPlain}
+use Rattle.cyc_plain.proofs.WordLaws.{IsWord-unary_result, IsWord-binary_result}
 use Rattle.cyc_plain.proofs.Placed.{below_of_get, holds_at}
 use Rattle.cyc_plain.specs.inside.Uses.{At, is_slot}
 use Rattle.cyc_simplify.specs.declared.fact.Fact.{Fact}
 use Rattle.cyc_simplify.specs.declared.fact.Fact.TheVariants as facts_are
-use Rattle.cyc_simplify.specs.inside.Facts.{is_same_operator, is_same_operand, is_known, is_free, suits_operand, suits, are_suited}
-use Rattle.cyc_simplify.specs.inside.Replacement.{is_cheap, instead, simplified_operand, holder, or_slot, holder_in, simplified_binary, simplified_move, decision_in, simplified_branch, simplified_request, simplified_instruction}
+use Rattle.cyc_simplify.specs.inside.Facts.{is_same_operator, is_same_operand, is_same_word, is_known, is_free, suits_operand, suits, are_suited}
+use Rattle.cyc_simplify.specs.inside.Replacement.{is_cheap, instead, simplified_operand, or_number, word_by, word_in, takes_word, small_or, right_operand, folded, folded_of, folded_in, negated_of, folded_unary, simplified_unary, may_fold, folded_at, holder, or_slot, holder_in, simplified_binary, simplified_move, decision_in, simplified_branch, value_by, or_value, value_in, simplified_load, simplified_request, simplified_instruction}
 use Rattle.cyc_simplify.specs.inside.Simplified.{IsLike, IsSimplified}
 use Rattle.cyc_simplify.specs.inside.Table.{IsReplaced, AreReplaced}
 use Rattle.cyc_simplify.proofs.Runs.{each_replaced, follows}
@@ -59,6 +61,7 @@ module _ (pinned : List Bool) where
     instead_has : (fact : Fact) (operand rest : Operand) → suits pinned fact ≡ true → P rest → P (unwrap_or (instead fact operand) rest)
     instead_has (facts_are.Computed slot operator left right) operand rest suits has = has
     instead_has (facts_are.Holds comparison left right) operand rest suits has = has
+    instead_has (facts_are.Held address offset value) operand rest suits has = has
     instead_has (facts_are.Equal slot other) operand rest suits has =
         cond_both (is_slot operand slot && is_cheap other) (Some other) None (λ o. P (unwrap_or o rest))
         (λ is. fine other (and_parts (is_free pinned slot) (suits_operand pinned other) suits).1) (λ is. has)
@@ -77,6 +80,7 @@ module _ (pinned : List Bool) where
   holder_free : (fact : Fact) (operator : BinaryOperator) (left right : Operand) → suits pinned fact ≡ true → IsFreeIfAny (holder fact operator left right)
   holder_free (facts_are.Equal slot operand) operator left right suits = tt
   holder_free (facts_are.Holds comparison left_2 right_2) operator left right suits = tt
+  holder_free (facts_are.Held address offset value) operator left right suits = tt
   holder_free (facts_are.Computed slot other left_2 right_2) operator left right suits =
       cond_both (is_same_operator other operator && (is_same_operand left_2 left && is_same_operand right_2 right)) (Some slot) None IsFreeIfAny
       (λ is. (and_parts (is_free pinned slot) (suits_operand pinned left_2 && suits_operand pinned right_2) suits).0) (λ is. tt)
@@ -91,9 +95,104 @@ module _ (pinned : List Bool) where
       go (Some slot) free others = free
       go None free others = others
 
+-- what is known to be in memory suits
+module _ (pinned : List Bool) where
+  abbrev SuitsIfAny : Option Operand → Type 0
+  SuitsIfAny (Some value) = suits_operand pinned value ≡ true
+  SuitsIfAny None = Unit {0}
+
+  value_suits : (fact : Fact) (address : Operand) (offset : ℕ) → suits pinned fact ≡ true → SuitsIfAny (value_by fact address offset)
+  value_suits (facts_are.Equal slot operand) address offset suits = tt
+  value_suits (facts_are.Computed slot operator left right) address offset suits = tt
+  value_suits (facts_are.Holds comparison left right) address offset suits = tt
+  value_suits (facts_are.Held other further value) address offset suits =
+      cond_both (is_same_word other further address offset) (Some value) None SuitsIfAny
+      (λ is. (and_parts (suits_operand pinned other) (suits_operand pinned value) suits).1) (λ is. tt)
+
+  value_in_suits : (facts : List Fact) (address : Operand) (offset : ℕ) → are_suited pinned facts ≡ true → SuitsIfAny (value_in facts address offset)
+  value_in_suits [] address offset all = tt
+  value_in_suits (fact ∷ facts) address offset all =
+      let (first, rest) = and_parts (suits pinned fact) (are_suited pinned facts) all in
+      go (value_by fact address offset) (value_suits fact address offset first) (value_in_suits facts address offset rest)
+    where
+      go : (one : Option Operand) → SuitsIfAny one → SuitsIfAny (value_in facts address offset) → SuitsIfAny (or_value one (value_in facts address offset))
+      go (Some value) is others = is
+      go None is others = others
+
 word_suits : (pinned : List Bool) (operand : Operand) → suits_operand pinned operand ≡ true → IsOfWord operand
 word_suits pinned (operands.Slot number) suits = tt
 word_suits pinned (operands.Word word) suits = ltb-true word (2 ^ 32) suits
+
+-- a word that is known is one
+module _ (pinned : List Bool) where
+  abbrev IsWordIfAny : Option ℕ → Type 0
+  IsWordIfAny (Some word) = IsWord word
+  IsWordIfAny None = Unit {0}
+
+  word_known : (fact : Fact) (operand : Operand) → suits pinned fact ≡ true → IsWordIfAny (word_by fact operand)
+  word_known (facts_are.Equal slot (operands.Slot other)) operand suits = tt
+  word_known (facts_are.Equal slot (operands.Word word)) operand suits =
+      cond_both (is_slot operand slot) (Some word) None IsWordIfAny
+      (λ is. ltb-true word (2 ^ 32) (and_parts (is_free pinned slot) (nat_lt word (2 ^ 32)) suits).1) (λ is. tt)
+  word_known (facts_are.Computed slot operator left right) operand suits = tt
+  word_known (facts_are.Holds comparison left right) operand suits = tt
+  word_known (facts_are.Held address offset value) operand suits = tt
+
+  word_in_known : (facts : List Fact) (operand : Operand) → are_suited pinned facts ≡ true → IsOfWord operand → IsWordIfAny (word_in facts operand)
+  word_in_known [] (operands.Slot number) all is = tt
+  word_in_known [] (operands.Word word) all is = is
+  word_in_known (fact ∷ facts) operand all is =
+      let (first, rest) = and_parts (suits pinned fact) (are_suited pinned facts) all in
+      go (word_by fact operand) (word_known fact operand first) (word_in_known facts operand rest is)
+    where
+      go : (one : Option ℕ) → IsWordIfAny one → IsWordIfAny (word_in facts operand) → IsWordIfAny (or_number one (word_in facts operand))
+      go (Some word) is others = is
+      go None is others = others
+
+  second_of_word : (facts : List Fact) (operator : BinaryOperator) (operand : Operand) → are_suited pinned facts ≡ true → IsOfWord operand → IsOfWord (right_operand facts operator operand)
+  second_of_word facts operator operand all is =
+      cond_both (takes_word operator) (small_or (word_in facts operand) operand) operand IsOfWord (λ takes. go (word_in facts operand) (word_in_known facts operand all is)) (λ not_taken. is)
+    where
+      go : (o : Option ℕ) → IsWordIfAny o → IsOfWord (small_or o operand)
+      go None known = is
+      go (Some word) known = cond_both (nat_lt word 32768) (operands.Word word) operand IsOfWord (λ small. known) (λ large. is)
+
+  folded_known : (facts : List Fact) (operator : BinaryOperator) (left right : Operand) → are_suited pinned facts ≡ true → IsOfWord left → IsOfWord right
+      → IsWordIfAny (folded_in facts operator left right)
+  folded_known [] operator left right all one other = tt
+  folded_known (fact ∷ facts) operator left right all one other =
+      go (word_in (fact ∷ facts) left) (word_in (fact ∷ facts) right) (word_in_known (fact ∷ facts) left all one) (word_in_known (fact ∷ facts) right all other)
+    where
+      by_operator : (operator : BinaryOperator) (a b : ℕ) → IsWord a → IsWord b → IsWordIfAny (folded operator a b)
+      by_operator binary.Add a b v w = IsWord-binary_result binary.Add a b v w
+      by_operator binary.Subtract a b v w = IsWord-binary_result binary.Subtract a b v w
+      by_operator binary.Multiply a b v w = IsWord-binary_result binary.Multiply a b v w
+      by_operator binary.And a b v w = IsWord-binary_result binary.And a b v w
+      by_operator binary.Or a b v w = IsWord-binary_result binary.Or a b v w
+      by_operator binary.Xor a b v w = IsWord-binary_result binary.Xor a b v w
+      by_operator binary.ShiftLeft a b v w = IsWord-binary_result binary.ShiftLeft a b v w
+      by_operator binary.ShiftRight a b v w = IsWord-binary_result binary.ShiftRight a b v w
+      by_operator operator a b v w = tt
+
+      go : (x y : Option ℕ) → IsWordIfAny x → IsWordIfAny y → IsWordIfAny (folded_of operator x y)
+      go (Some a) (Some b) v w = by_operator operator a b v w
+      go None (Some b) v w = tt
+      go (Some a) None v w = tt
+      go None None v w = tt
+
+  unary_known : (facts : List Fact) (operator : UnaryOperator) (operand : Operand) → are_suited pinned facts ≡ true → IsOfWord operand
+      → IsWordIfAny (folded_unary facts operator operand)
+  unary_known [] operator operand all is = tt
+  unary_known (fact ∷ facts) operator operand all is = go (word_in (fact ∷ facts) operand) (word_in_known (fact ∷ facts) operand all is)
+    where
+      go : (o : Option ℕ) → IsWordIfAny o → IsWordIfAny (negated_of operator o)
+      go (Some word) w = IsWord-unary_result operator word w
+      go None w = tt
+
+  fold_known : (facts : List Fact) (operator : BinaryOperator) (destination : ℕ) (left right : Operand) → are_suited pinned facts ≡ true → IsOfWord left → IsOfWord right
+      → IsWordIfAny (folded_at facts operator destination left right)
+  fold_known facts operator destination left right all one other =
+      cond_both (may_fold destination left right) (folded_in facts operator left right) None IsWordIfAny (λ may. folded_known facts operator left right all one other) (λ stays. tt)
 
 -- ---- an instruction
 
@@ -117,12 +216,20 @@ module _ (pinned : List Bool) (facts : List Fact) (all : are_suited pinned facts
       go : (b : Bool) → HasWord (simplified_move b destination (simplified_operand facts source))
       go true = tt
       go false = of_word source has
-  has_word (instructions.Unary operator destination operand) has = of_word operand has
-  has_word (instructions.Binary operator destination left right) (first, second) = go (holder_in facts operator (simplified_operand facts left) (simplified_operand facts right))
+  has_word (instructions.Unary operator destination operand) has =
+      go (folded_unary facts operator (simplified_operand facts operand)) (unary_known pinned facts operator (simplified_operand facts operand) all (of_word operand has))
     where
-      go : (o : Option ℕ) → HasWord (simplified_binary o operator destination (simplified_operand facts left) (simplified_operand facts right))
-      go (Some slot) = tt
-      go None = (of_word left first, of_word right second)
+      go : (o : Option ℕ) → IsWordIfAny pinned o → HasWord (simplified_unary o operator destination (simplified_operand facts operand))
+      go (Some word) known = known
+      go None known = of_word operand has
+  has_word (instructions.Binary operator destination left right) (first, second) =
+      go (folded_at facts operator destination (simplified_operand facts left) (right_operand facts operator (simplified_operand facts right))) (holder_in facts operator (simplified_operand facts left) (right_operand facts operator (simplified_operand facts right)))
+      (fold_known pinned facts operator destination (simplified_operand facts left) (right_operand facts operator (simplified_operand facts right)) all (of_word left first) (second_of_word pinned facts operator (simplified_operand facts right) all (of_word right second)))
+    where
+      go : (f o : Option ℕ) → IsWordIfAny pinned f → HasWord (simplified_binary f o operator destination (simplified_operand facts left) (right_operand facts operator (simplified_operand facts right)))
+      go (Some word) o known = known
+      go None (Some slot) known = tt
+      go None None known = (of_word left first, second_of_word pinned facts operator (simplified_operand facts right) all (of_word right second))
   has_word (instructions.Branch comparison left right target) (first, second) = go (decision_in facts comparison (simplified_operand facts left) (simplified_operand facts right))
     where
       zero_word : IsWord 0
@@ -134,7 +241,12 @@ module _ (pinned : List Bool) (facts : List Fact) (all : are_suited pinned facts
       go None = (of_word left first, of_word right second)
   has_word (instructions.WriteByte source) has = of_word source has
   has_word (instructions.StoreGlobal global source) has = of_word source has
-  has_word (instructions.Load destination address offset) (first, second) = (of_word address first, second)
+  has_word (instructions.Load destination address offset) (first, second) =
+      go (value_in facts (simplified_operand facts address) offset) (value_in_suits pinned facts (simplified_operand facts address) offset all)
+    where
+      go : (o : Option Operand) → SuitsIfAny pinned o → HasWord (simplified_load o destination (simplified_operand facts address) offset)
+      go (Some value) is = word_suits pinned value is
+      go None is = (of_word address first, second)
   has_word (instructions.Store address offset source) (first, second, third) = (of_word address first, second, of_word source third)
   has_word (instructions.LoadByte destination address offset) (first, second) = (of_word address first, second)
   has_word (instructions.StoreByte address offset source) (first, second, third) = (of_word address first, second, of_word source third)
@@ -163,16 +275,27 @@ not_larger facts (instructions.Move destination source) = go (is_known facts (fa
     go : (b : Bool) → instruction_size (simplified_move b destination (simplified_operand facts source)) ≤ 6
     go true = omega arith
     go false = omega arith
-not_larger facts (instructions.Binary operator destination left right) = go (holder_in facts operator (simplified_operand facts left) (simplified_operand facts right))
+not_larger facts (instructions.Binary operator destination left right) = go (folded_at facts operator destination (simplified_operand facts left) (right_operand facts operator (simplified_operand facts right))) (holder_in facts operator (simplified_operand facts left) (right_operand facts operator (simplified_operand facts right)))
   where
-    go : (o : Option ℕ) → instruction_size (simplified_binary o operator destination (simplified_operand facts left) (simplified_operand facts right)) ≤ operator_size operator
-    go (Some slot) = omega (arith, eleven operator)
-    go None = omega arith
+    go : (f o : Option ℕ) → instruction_size (simplified_binary f o operator destination (simplified_operand facts left) (right_operand facts operator (simplified_operand facts right))) ≤ operator_size operator
+    go (Some word) o = omega (arith, eleven operator)
+    go None (Some slot) = omega (arith, eleven operator)
+    go None None = omega arith
 not_larger facts (instructions.Branch comparison left right target) = go (decision_in facts comparison (simplified_operand facts left) (simplified_operand facts right))
   where
     go : (o : Option Bool) → instruction_size (simplified_branch o comparison (simplified_operand facts left) (simplified_operand facts right) target) ≤ 11
     go (Some true) = omega arith
     go (Some false) = omega arith
+    go None = omega arith
+not_larger facts (instructions.Load destination address offset) = go (value_in facts (simplified_operand facts address) offset)
+  where
+    go : (o : Option Operand) → instruction_size (simplified_load o destination (simplified_operand facts address) offset) ≤ 10
+    go (Some value) = omega arith
+    go None = omega arith
+not_larger facts (instructions.Unary operator destination operand) = go (folded_unary facts operator (simplified_operand facts operand))
+  where
+    go : (o : Option ℕ) → instruction_size (simplified_unary o operator destination (simplified_operand facts operand)) ≤ 7
+    go (Some word) = omega arith
     go None = omega arith
 not_larger facts (instructions.Ask request) = omega (arith, same_request_size facts request)
 not_larger facts i = omega arith
@@ -184,16 +307,27 @@ same_return facts (instructions.Move destination source) = go (is_known facts (f
     go : (b : Bool) → is_return (simplified_move b destination (simplified_operand facts source)) ≡ false
     go true = refl
     go false = refl
-same_return facts (instructions.Binary operator destination left right) = go (holder_in facts operator (simplified_operand facts left) (simplified_operand facts right))
+same_return facts (instructions.Binary operator destination left right) = go (folded_at facts operator destination (simplified_operand facts left) (right_operand facts operator (simplified_operand facts right))) (holder_in facts operator (simplified_operand facts left) (right_operand facts operator (simplified_operand facts right)))
   where
-    go : (o : Option ℕ) → is_return (simplified_binary o operator destination (simplified_operand facts left) (simplified_operand facts right)) ≡ false
-    go (Some slot) = refl
-    go None = refl
+    go : (f o : Option ℕ) → is_return (simplified_binary f o operator destination (simplified_operand facts left) (right_operand facts operator (simplified_operand facts right))) ≡ false
+    go (Some word) o = refl
+    go None (Some slot) = refl
+    go None None = refl
 same_return facts (instructions.Branch comparison left right target) = go (decision_in facts comparison (simplified_operand facts left) (simplified_operand facts right))
   where
     go : (o : Option Bool) → is_return (simplified_branch o comparison (simplified_operand facts left) (simplified_operand facts right) target) ≡ false
     go (Some true) = refl
     go (Some false) = refl
+    go None = refl
+same_return facts (instructions.Load destination address offset) = go (value_in facts (simplified_operand facts address) offset)
+  where
+    go : (o : Option Operand) → is_return (simplified_load o destination (simplified_operand facts address) offset) ≡ false
+    go (Some value) = refl
+    go None = refl
+same_return facts (instructions.Unary operator destination operand) = go (folded_unary facts operator (simplified_operand facts operand))
+  where
+    go : (o : Option ℕ) → is_return (simplified_unary o operator destination (simplified_operand facts operand)) ≡ false
+    go (Some word) = refl
     go None = refl
 same_return facts i = refl
 
@@ -202,6 +336,8 @@ still_leaves : (facts : List Fact) (i : Instruction) → leaves i ≡ true → l
 still_leaves facts (instructions.Move destination source) is = absurd (false≢true is)
 still_leaves facts (instructions.Binary operator destination left right) is = absurd (false≢true is)
 still_leaves facts (instructions.Branch comparison left right target) is = absurd (false≢true is)
+still_leaves facts (instructions.Unary operator destination operand) is = absurd (false≢true is)
+still_leaves facts (instructions.Load destination address offset) is = absurd (false≢true is)
 still_leaves facts i is = is
 
 -- ---- a function
@@ -263,6 +399,15 @@ module _ (program simplified : Program) (are : AreReplaced program simplified) (
     operand_in : (operand : Operand) → IsOperand r operand → IsOperand s (simplified_operand facts operand)
     operand_in operand is = operand_has replaced.pinned (IsOperand s) operand_fine facts operand all (operand_still operand is)
 
+    second_in : (operator : BinaryOperator) (operand : Operand) → IsOperand r operand → IsOperand s (right_operand facts operator (simplified_operand facts operand))
+    second_in operator operand is =
+        cond_both (takes_word operator) (small_or (word_in facts (simplified_operand facts operand)) (simplified_operand facts operand)) (simplified_operand facts operand) (IsOperand s)
+        (λ takes. go (word_in facts (simplified_operand facts operand))) (λ not_taken. operand_in operand is)
+      where
+        go : (o : Option ℕ) → IsOperand s (small_or o (simplified_operand facts operand))
+        go None = operand_in operand is
+        go (Some word) = cond_both (nat_lt word 32768) (operands.Word word) (simplified_operand facts operand) (IsOperand s) (λ small. tt) (λ large. operand_in operand is)
+
     request_in : (request : Request) → IsRequestInRange r request → IsRequestInRange s (simplified_request facts request)
     request_in (requests.OpenLexical destination) is =
         record { answer_in_range = has_slots destination 2 is.answer_in_range; first_in_range = tt; second_in_range = tt }
@@ -304,14 +449,19 @@ module _ (program simplified : Program) (are : AreReplaced program simplified) (
           destination_in_range = has_slots destination count is.destination_in_range;
           source_in_range = has_slots source count is.source_in_range;
         }
-    in_range (instructions.Unary operator destination operand) (first, second) = (below_slots destination first, operand_in operand second)
-    in_range (instructions.Binary operator destination left right) (first, second, third) =
-        go (holder_in facts operator (simplified_operand facts left) (simplified_operand facts right))
-        (holder_in_free replaced.pinned facts operator (simplified_operand facts left) (simplified_operand facts right) all)
+    in_range (instructions.Unary operator destination operand) (first, second) = go (folded_unary facts operator (simplified_operand facts operand))
       where
-        go : (o : Option ℕ) → IsFreeIfAny replaced.pinned o → IsInRange simplified s (simplified_binary o operator destination (simplified_operand facts left) (simplified_operand facts right))
-        go (Some slot) free = (below_slots destination first, free_slot slot free)
-        go None free = (below_slots destination first, operand_in left second, operand_in right third)
+        go : (o : Option ℕ) → IsInRange simplified s (simplified_unary o operator destination (simplified_operand facts operand))
+        go (Some word) = (below_slots destination first, tt)
+        go None = (below_slots destination first, operand_in operand second)
+    in_range (instructions.Binary operator destination left right) (first, second, third) =
+        go (folded_at facts operator destination (simplified_operand facts left) (right_operand facts operator (simplified_operand facts right))) (holder_in facts operator (simplified_operand facts left) (right_operand facts operator (simplified_operand facts right)))
+        (holder_in_free replaced.pinned facts operator (simplified_operand facts left) (right_operand facts operator (simplified_operand facts right)) all)
+      where
+        go : (f o : Option ℕ) → IsFreeIfAny replaced.pinned o → IsInRange simplified s (simplified_binary f o operator destination (simplified_operand facts left) (right_operand facts operator (simplified_operand facts right)))
+        go (Some word) o free = (below_slots destination first, tt)
+        go None (Some slot) free = (below_slots destination first, free_slot slot free)
+        go None None free = (below_slots destination first, operand_in left second, second_in operator right third)
     in_range (instructions.Jump target) is = in_code target is
     in_range (instructions.Branch comparison left right target) (first, second, third) = go (decision_in facts comparison (simplified_operand facts left) (simplified_operand facts right))
       where
@@ -326,7 +476,12 @@ module _ (program simplified : Program) (are : AreReplaced program simplified) (
     in_range (instructions.AddressOf destination slot count) (first, second, third) = (below_slots destination first, second, has_slots slot count third)
     in_range (instructions.LoadGlobal destination global) (first, second) = (below_slots destination first, global_in global second)
     in_range (instructions.StoreGlobal global source) (first, second) = (global_in global first, operand_in source second)
-    in_range (instructions.Load destination address offset) (first, second) = (below_slots destination first, operand_in address second)
+    in_range (instructions.Load destination address offset) (first, second) =
+        go (value_in facts (simplified_operand facts address) offset) (value_in_suits replaced.pinned facts (simplified_operand facts address) offset all)
+      where
+        go : (o : Option Operand) → SuitsIfAny replaced.pinned o → IsInRange simplified s (simplified_load o destination (simplified_operand facts address) offset)
+        go (Some value) is = (below_slots destination first, operand_fine value is)
+        go None is = (below_slots destination first, operand_in address second)
     in_range (instructions.Store address offset source) (first, second) = (operand_in address first, operand_in source second)
     in_range (instructions.LoadByte destination address offset) (first, second) = (below_slots destination first, operand_in address second)
     in_range (instructions.StoreByte address offset source) (first, second) = (operand_in address first, operand_in source second)

@@ -1,8 +1,9 @@
 -- Truth of facts: where two are the same, where an instruction leaves the slots that they are about, and where what is asked is
 -- among what is known.
-use Rattle.std.proofs.Common.{◌≡◌, ℕ, zero, suc, Bool, true, ◌&&◌, List, [], ◌∷◌, drop, length, Option, Some, None, refl, sym, ap, ◌∙◌, inl, inr}
-use Rattle.std.specs.Prelude.{◌==◌, nat_lt, if◌then◌else◌}
-use Rattle.std.proofs.lemmas.Bool.{and_parts, or_cases, eqb-true, false≢true, cond_both}
+use Rattle.std.proofs.Common.{◌≡◌, ◌≢◌, ℕ, zero, suc, ◌+◌, ◌^◌, ◌<◌, Bool, true, false, ◌&&◌, List, [], ◌∷◌, drop, length, Option, Some, None, refl, sym, ap, subst, ◌∙◌, arith, inl, inr}
+use Rattle.std.specs.Prelude.{◌==◌, not, nat_le, nat_lt, if◌then◌else◌}
+use Rattle.std.proofs.lemmas.Bool.{and_parts, and_from, and_right, or_cases, eqb-true, eq-eqb, ltb-true, le-ltb, not_from_false, false≢true, cond_both, cond-true}
+use Rattle.cyc_words.specs.Word.{add_of}
 use Rattle.cyc_words.proofs.Lists.{all_append}
 use Rattle.cyc_plain.specs.declared.instruction.Operand.{Operand}
 use Rattle.cyc_plain.specs.declared.instruction.Operand.TheVariants as operands
@@ -13,11 +14,14 @@ use Rattle.cyc_plain.specs.declared.instruction.Comparison.TheVariants as compar
 use Rattle.cyc_plain.specs.inside.Operators.{binary_result, has_no_result, compares}
 use Rattle.cyc_plain.specs.inside.State.{Words}
 use Rattle.cyc_plain.specs.inside.Step.{operand_word}
+use Rattle.cyc_plain.specs.inside.Uses.{is_among}
 use Rattle.cyc_simplify.specs.declared.fact.Fact.{Fact}
 use Rattle.cyc_simplify.specs.declared.fact.Fact.TheVariants as facts_are
+use Rattle.cyc_simplify.specs.declared.fact.Touched.{Touched}
+use Rattle.cyc_simplify.specs.declared.fact.Touched.TheVariants as touches
 use Rattle.cyc_simplify.specs.declared.fact.Written.{Written}
 use Rattle.cyc_simplify.specs.declared.fact.TheConstants.{MOST_FACTS}
-use Rattle.cyc_simplify.specs.inside.Facts.{IsTrueIn, AreTrueIn, IsTrueIfAny, operator_number, comparison_number, is_same_operator, is_same_comparison, is_same_operand, is_same_fact, is_known, is_free, suits_operand, suits, are_suited, leaves_slot, leaves_operand, keeps, kept, suited, remembered}
+use Rattle.cyc_simplify.specs.inside.Facts.{Scene, found, IsTrueIn, AreTrueIn, IsTrueIfAny, operator_number, comparison_number, is_same_operator, is_same_comparison, is_same_operand, is_same_word, is_same_fact, is_known, is_free, suits_operand, suits, are_suited, leaves_slot, leaves_operand, are_apart, is_untouched, keeps, kept, suited, remembered}
 
 -- ---- what is the same
 
@@ -93,12 +97,20 @@ same_operand (operands.Word word) (operands.Word other) same = ap operands.Word 
 same_operand (operands.Slot number) (operands.Word word) same = absurd (false≢true same)
 same_operand (operands.Word word) (operands.Slot number) same = absurd (false≢true same)
 
+-- the same word is found
+pub found_same : (scene : Scene) (address : Operand) (offset : ℕ) (other : Operand) (further : ℕ) → is_same_word address offset other further ≡ true
+    → found scene other further ≡ found scene address offset
+found_same scene address offset other further same =
+    let (a, o) = and_parts (is_same_operand address other) (offset == further) same in
+    ap (λ (x : Operand). found scene x further) (sym (same_operand address other a)) ∙ ap (found scene address) (sym (eqb-true offset further o))
+
 -- one that is the same is as true
-pub same_fact : (slots : Words) (one other : Fact) → is_same_fact one other ≡ true → IsTrueIn slots one → IsTrueIn slots other
-same_fact slots (facts_are.Equal slot operand) (facts_are.Equal slot_2 operand_2) same holds =
+pub same_fact : (scene : Scene) (one other : Fact) → is_same_fact one other ≡ true → IsTrueIn scene one → IsTrueIn scene other
+same_fact scene (facts_are.Equal slot operand) (facts_are.Equal slot_2 operand_2) same holds =
     let (s, o) = and_parts (slot == slot_2) (is_same_operand operand operand_2) same in
-    ap slots (sym (eqb-true slot slot_2 s)) ∙ holds ∙ ap (operand_word slots) (same_operand operand operand_2 o)
-same_fact slots (facts_are.Computed slot operator left right) (facts_are.Computed slot_2 operator_2 left_2 right_2) same (holds, some) =
+    ap scene.slots (sym (eqb-true slot slot_2 s)) ∙ holds ∙ ap (operand_word scene.slots) (same_operand operand operand_2 o)
+same_fact scene (facts_are.Computed slot operator left right) (facts_are.Computed slot_2 operator_2 left_2 right_2) same (holds, some) =
+    let slots : Words = scene.slots in
     let (s, rest) = and_parts (slot == slot_2) (is_same_operator operator operator_2 && (is_same_operand left left_2 && is_same_operand right right_2)) same in
     let (o, both) = and_parts (is_same_operator operator operator_2) (is_same_operand left left_2 && is_same_operand right right_2) rest in
     let (l, r) = and_parts (is_same_operand left left_2) (is_same_operand right right_2) both in
@@ -112,80 +124,135 @@ same_fact slots (facts_are.Computed slot operator left right) (facts_are.Compute
       ap (λ (x : BinaryOperator). has_no_result x (operand_word slots right_2)) (sym by_operator)
           ∙ ap (has_no_result operator) (sym by_right) ∙ some,
     )
-same_fact slots (facts_are.Holds comparison left right) (facts_are.Holds comparison_2 left_2 right_2) same holds =
+same_fact scene (facts_are.Holds comparison left right) (facts_are.Holds comparison_2 left_2 right_2) same holds =
+    let slots : Words = scene.slots in
     let (o, both) = and_parts (is_same_comparison comparison comparison_2) (is_same_operand left left_2 && is_same_operand right right_2) same in
     let (l, r) = and_parts (is_same_operand left left_2) (is_same_operand right right_2) both in
     ap (λ (x : Comparison). compares x (operand_word slots left_2) (operand_word slots right_2)) (sym (same_comparison comparison comparison_2 o))
     ∙ ap (λ (a : ℕ). compares comparison a (operand_word slots right_2)) (sym (ap (operand_word slots) (same_operand left left_2 l)))
     ∙ ap (λ (b : ℕ). compares comparison (operand_word slots left) b) (sym (ap (operand_word slots) (same_operand right right_2 r)))
     ∙ holds
-same_fact slots (facts_are.Equal slot operand) (facts_are.Computed slot_2 operator left right) same holds = absurd (false≢true same)
-same_fact slots (facts_are.Equal slot operand) (facts_are.Holds comparison left right) same holds = absurd (false≢true same)
-same_fact slots (facts_are.Computed slot operator left right) (facts_are.Equal slot_2 operand) same holds = absurd (false≢true same)
-same_fact slots (facts_are.Computed slot operator left right) (facts_are.Holds comparison left_2 right_2) same holds = absurd (false≢true same)
-same_fact slots (facts_are.Holds comparison left right) (facts_are.Equal slot operand) same holds = absurd (false≢true same)
-same_fact slots (facts_are.Holds comparison left right) (facts_are.Computed slot operator left_2 right_2) same holds = absurd (false≢true same)
+same_fact scene (facts_are.Held address offset value) (facts_are.Held address_2 offset_2 value_2) same holds =
+    let (w, v) = and_parts (is_same_word address offset address_2 offset_2) (is_same_operand value value_2) same in
+    found_same scene address offset address_2 offset_2 w ∙ holds ∙ ap (λ (x : Operand). Some (operand_word scene.slots x)) (same_operand value value_2 v)
+same_fact scene one other same holds = absurd (false≢true same)
 
 -- what is among true facts is true
-pub known_true : (slots : Words) (facts : List Fact) (fact : Fact) → AreTrueIn slots facts → is_known facts fact ≡ true → IsTrueIn slots fact
-known_true slots [] fact holds known = absurd (false≢true known)
-known_true slots (other ∷ facts) fact (first, rest) known = elim (or_cases (is_same_fact other fact) (is_known facts fact) known) [
-  | inl same ↦ same_fact slots other fact same first
-  | inr behind ↦ known_true slots facts fact rest behind
+pub known_true : (scene : Scene) (facts : List Fact) (fact : Fact) → AreTrueIn scene facts → is_known facts fact ≡ true → IsTrueIn scene fact
+known_true scene [] fact holds known = absurd (false≢true known)
+known_true scene (other ∷ facts) fact (first, rest) known = elim (or_cases (is_same_fact other fact) (is_known facts fact) known) [
+  | inl same ↦ same_fact scene other fact same first
+  | inr behind ↦ known_true scene facts fact rest behind
 ]
 
--- ---- other words in the slots
+-- ---- what changes
 
-module _ (old new : Words) where
+-- where nothing is written all is left
+pub leaves_any : (slot : ℕ) → leaves_slot (record { first = 0; count = 0 }) slot ≡ true
+leaves_any slot = not_from_false (is_among 0 0 slot) (and_right (nat_le 0 slot) (nat_lt slot (0 + 0)) (le-ltb slot (0 + 0) (omega arith)))
+
+pub leaves_any_operand : (operand : Operand) → leaves_operand (record { first = 0; count = 0 }) operand ≡ true
+leaves_any_operand (operands.Slot number) = leaves_any number
+leaves_any_operand (operands.Word word) = refl
+
+offsets_apart : (address offset other : ℕ) → are_apart offset other ≡ true → add_of address other ≡ add_of address offset → ⊥
+offsets_apart address offset other apart same =
+    let (low, both) = and_parts (nat_lt offset (2 ^ 32)) (nat_lt other (2 ^ 32) && not (offset == other)) apart in
+    let (below, differ) = and_parts (nat_lt other (2 ^ 32)) (not (offset == other)) both in
+    let one : offset < 2 ^ 32 = ltb-true offset (2 ^ 32) low in
+    let two : other < 2 ^ 32 = ltb-true other (2 ^ 32) below in
+    let equal : offset ≡ other = omega (arith, one, two, same) in
+    false≢true (sym (ap not (eq-eqb offset other equal)) ∙ differ)
+
+-- the slots that are written are all that change
+abbrev pub IsLeft : (old new : Words) → Written → Type 0
+IsLeft old new w = (slot : ℕ) → leaves_slot w slot ≡ true → new slot ≡ old slot
+
+-- memory is as it was, but for what may be changed
+abbrev pub IsUntouched : (old new : Scene) → Touched → Type 0
+IsUntouched old new touches.Nothing = (address : ℕ) → new.memory address ≡ old.memory address
+IsUntouched old new (touches.Word address offset) =
+    (other : ℕ) → other ≢ add_of (operand_word old.slots address) offset → new.memory other ≡ old.memory other
+IsUntouched old new touches.All = Unit {0}
+
+module _ (old new : Scene) where
   -- a fact is as true where the words that it is about are the same
-  same_words : (slot : ℕ) (operator : BinaryOperator) (left right : Operand) → new slot ≡ old slot → operand_word new left ≡ operand_word old left
-      → operand_word new right ≡ operand_word old right → IsTrueIn old (facts_are.Computed slot operator left right) → IsTrueIn new (facts_are.Computed slot operator left right)
+  same_equal : (slot : ℕ) (operand : Operand) → new.slots slot ≡ old.slots slot → operand_word new.slots operand ≡ operand_word old.slots operand
+      → IsTrueIn old (facts_are.Equal slot operand) → IsTrueIn new (facts_are.Equal slot operand)
+  same_equal slot operand at by_operand holds = at ∙ holds ∙ sym by_operand
+
+  same_words : (slot : ℕ) (operator : BinaryOperator) (left right : Operand) → new.slots slot ≡ old.slots slot → operand_word new.slots left ≡ operand_word old.slots left
+      → operand_word new.slots right ≡ operand_word old.slots right → IsTrueIn old (facts_are.Computed slot operator left right) → IsTrueIn new (facts_are.Computed slot operator left right)
   same_words slot operator left right at by_left by_right (holds, some) = (
-    at ∙ holds ∙ ap (λ (a : ℕ). binary_result operator a (operand_word old right)) (sym by_left)
-        ∙ ap (λ (b : ℕ). binary_result operator (operand_word new left) b) (sym by_right),
+    at ∙ holds ∙ ap (λ (a : ℕ). binary_result operator a (operand_word old.slots right)) (sym by_left)
+        ∙ ap (λ (b : ℕ). binary_result operator (operand_word new.slots left) b) (sym by_right),
     ap (has_no_result operator) by_right ∙ some,
   )
 
-  same_comparing : (comparison : Comparison) (left right : Operand) → operand_word new left ≡ operand_word old left → operand_word new right ≡ operand_word old right
-      → IsTrueIn old (facts_are.Holds comparison left right) → IsTrueIn new (facts_are.Holds comparison left right)
+  same_comparing : (comparison : Comparison) (left right : Operand) → operand_word new.slots left ≡ operand_word old.slots left
+      → operand_word new.slots right ≡ operand_word old.slots right → IsTrueIn old (facts_are.Holds comparison left right) → IsTrueIn new (facts_are.Holds comparison left right)
   same_comparing comparison left right by_left by_right holds =
-      ap (λ (a : ℕ). compares comparison a (operand_word new right)) by_left ∙ ap (λ (b : ℕ). compares comparison (operand_word old left) b) by_right ∙ holds
+      ap (λ (a : ℕ). compares comparison a (operand_word new.slots right)) by_left
+      ∙ ap (λ (b : ℕ). compares comparison (operand_word old.slots left) b) by_right ∙ holds
 
-  -- the slots that are written are all that change
-  abbrev pub IsLeft : Written → Type 0
-  IsLeft w = (slot : ℕ) → leaves_slot w slot ≡ true → new slot ≡ old slot
+  same_held : (address : Operand) (offset : ℕ) (value : Operand) → found new address offset ≡ found old address offset
+      → operand_word new.slots value ≡ operand_word old.slots value → IsTrueIn old (facts_are.Held address offset value) → IsTrueIn new (facts_are.Held address offset value)
+  same_held address offset value at by_value holds = at ∙ holds ∙ sym (ap Some by_value)
 
-  module _ (w : Written) (left_alone : (slot : ℕ) → leaves_slot w slot ≡ true → new slot ≡ old slot) where
-    operand_left : (operand : Operand) → leaves_operand w operand ≡ true → operand_word new operand ≡ operand_word old operand
+  module _ (w : Written) (left_alone : (slot : ℕ) → leaves_slot w slot ≡ true → new.slots slot ≡ old.slots slot) where
+    operand_left : (operand : Operand) → leaves_operand w operand ≡ true → operand_word new.slots operand ≡ operand_word old.slots operand
     operand_left (operands.Slot number) leaves = left_alone number leaves
     operand_left (operands.Word word) leaves = refl
 
-    fact_left : (fact : Fact) → keeps w fact ≡ true → IsTrueIn old fact → IsTrueIn new fact
-    fact_left (facts_are.Equal slot operand) keeps holds =
-        let (s, o) = and_parts (leaves_slot w slot) (leaves_operand w operand) keeps in left_alone slot s ∙ holds ∙ sym (operand_left operand o)
-    fact_left (facts_are.Computed slot operator left right) keeps holds =
+    -- where the word of an address is the same, the word that memory has there is
+    by_address : (address : Operand) (offset : ℕ) → leaves_operand w address ≡ true
+        → new.memory (add_of (operand_word old.slots address) offset) ≡ old.memory (add_of (operand_word old.slots address) offset)
+        → found new address offset ≡ found old address offset
+    by_address address offset leaves same =
+        ap (λ (a : ℕ). new.memory (add_of a offset)) (operand_left address leaves) ∙ same
+
+    word_left : (t : Touched) → IsUntouched old new t → (address : Operand) (offset : ℕ) → leaves_operand w address ≡ true → is_untouched t address offset ≡ true
+        → found new address offset ≡ found old address offset
+    word_left touches.Nothing memory address offset leaves is = by_address address offset leaves (memory (add_of (operand_word old.slots address) offset))
+    word_left (touches.Word other written) memory address offset leaves is =
+        let (a, o) = and_parts (is_same_operand other address) (are_apart written offset) is in
+        by_address address offset leaves
+        (memory (add_of (operand_word old.slots address) offset)
+        (λ same. offsets_apart (operand_word old.slots other) written offset o (ap (λ (x : Operand). add_of (operand_word old.slots x) offset) (same_operand other address a) ∙ same)))
+    word_left touches.All untouched address offset leaves is = absurd (false≢true is)
+
+    pub fact_left : (t : Touched) → IsUntouched old new t → (fact : Fact) → keeps w t fact ≡ true → IsTrueIn old fact → IsTrueIn new fact
+    fact_left t untouched (facts_are.Equal slot operand) keeps holds =
+        let (s, o) = and_parts (leaves_slot w slot) (leaves_operand w operand) keeps in
+        same_equal slot operand (left_alone slot s) (operand_left operand o) holds
+    fact_left t untouched (facts_are.Computed slot operator left right) keeps holds =
         let (s, both) = and_parts (leaves_slot w slot) (leaves_operand w left && leaves_operand w right) keeps in
         let (l, r) = and_parts (leaves_operand w left) (leaves_operand w right) both in
         same_words slot operator left right (left_alone slot s) (operand_left left l) (operand_left right r) holds
-    fact_left (facts_are.Holds comparison left right) keeps holds =
+    fact_left t untouched (facts_are.Holds comparison left right) keeps holds =
         let (l, r) = and_parts (leaves_operand w left) (leaves_operand w right) keeps in
         same_comparing comparison left right (operand_left left l) (operand_left right r) holds
+    fact_left t untouched (facts_are.Held address offset value) keeps holds =
+        let (a, both) = and_parts (leaves_operand w address) (leaves_operand w value && is_untouched t address offset) keeps in
+        let (v, is) = and_parts (leaves_operand w value) (is_untouched t address offset) both in
+        same_held address offset value (word_left t untouched address offset a is) (operand_left value v) holds
 
-    pub kept_true : (facts : List Fact) → AreTrueIn old facts → AreTrueIn new (kept w facts)
-    kept_true [] holds = tt
-    kept_true (fact ∷ facts) (first, rest) =
-        cond_both (keeps w fact) (fact ∷ kept w facts) (kept w facts) (AreTrueIn new)
-        (λ keeps. (fact_left fact keeps first, kept_true facts rest)) (λ not_kept. kept_true facts rest)
+    pub kept_true : (t : Touched) → IsUntouched old new t → (facts : List Fact) → AreTrueIn old facts → AreTrueIn new (kept w t facts)
+    kept_true t untouched [] holds = tt
+    kept_true t untouched (fact ∷ facts) (first, rest) =
+        cond_both (keeps w t fact) (fact ∷ kept w t facts) (kept w t facts) (AreTrueIn new)
+        (λ keeps. (fact_left t untouched fact keeps first, kept_true t untouched facts rest)) (λ not_kept. kept_true t untouched facts rest)
 
-  -- no slot changes that is free
-  module _ (pinned : List Bool) (free_left : (slot : ℕ) → is_free pinned slot ≡ true → new slot ≡ old slot) where
-    operand_free : (operand : Operand) → suits_operand pinned operand ≡ true → operand_word new operand ≡ operand_word old operand
+  -- no slot changes that is free, and nothing else
+  module _ (pinned : List Bool) (free_left : (slot : ℕ) → is_free pinned slot ≡ true → new.slots slot ≡ old.slots slot)
+      (memory_left : (address : ℕ) → new.memory address ≡ old.memory address) where
+    operand_free : (operand : Operand) → suits_operand pinned operand ≡ true → operand_word new.slots operand ≡ operand_word old.slots operand
     operand_free (operands.Slot number) suits = free_left number suits
     operand_free (operands.Word word) suits = refl
 
-    fact_free : (fact : Fact) → suits pinned fact ≡ true → IsTrueIn old fact → IsTrueIn new fact
+    pub fact_free : (fact : Fact) → suits pinned fact ≡ true → IsTrueIn old fact → IsTrueIn new fact
     fact_free (facts_are.Equal slot operand) suits holds =
-        let (s, o) = and_parts (is_free pinned slot) (suits_operand pinned operand) suits in free_left slot s ∙ holds ∙ sym (operand_free operand o)
+        let (s, o) = and_parts (is_free pinned slot) (suits_operand pinned operand) suits in same_equal slot operand (free_left slot s) (operand_free operand o) holds
     fact_free (facts_are.Computed slot operator left right) suits holds =
         let (s, both) = and_parts (is_free pinned slot) (suits_operand pinned left && suits_operand pinned right) suits in
         let (l, r) = and_parts (suits_operand pinned left) (suits_operand pinned right) both in
@@ -193,24 +260,84 @@ module _ (old new : Words) where
     fact_free (facts_are.Holds comparison left right) suits holds =
         let (l, r) = and_parts (suits_operand pinned left) (suits_operand pinned right) suits in
         same_comparing comparison left right (operand_free left l) (operand_free right r) holds
+    fact_free (facts_are.Held address offset value) suits holds =
+        let (a, v) = and_parts (suits_operand pinned address) (suits_operand pinned value) suits in
+        same_held address offset value
+        (ap (λ (w : ℕ). new.memory (add_of w offset)) (operand_free address a) ∙ memory_left (add_of (operand_word old.slots address) offset)) (operand_free value v) holds
 
     pub suited_true : (facts : List Fact) → are_suited pinned facts ≡ true → AreTrueIn old facts → AreTrueIn new facts
     suited_true [] suited holds = tt
     suited_true (fact ∷ facts) suited (first, rest) =
         let (s, others) = and_parts (suits pinned fact) (are_suited pinned facts) suited in (fact_free fact s first, suited_true facts others rest)
 
+-- what is kept is about slots that are free
+pub kept_suited : (pinned : List Bool) (w : Written) (t : Touched) (facts : List Fact) → are_suited pinned facts ≡ true → are_suited pinned (kept w t facts) ≡ true
+kept_suited pinned w t [] all = refl
+kept_suited pinned w t (fact ∷ facts) all =
+    let (first, rest) = and_parts (suits pinned fact) (are_suited pinned facts) all in
+    cond_both (keeps w t fact) (fact ∷ kept w t facts) (kept w t facts) (λ l. are_suited pinned l ≡ true)
+    (λ is. and_from _ _ first (kept_suited pinned w t facts rest)) (λ is. kept_suited pinned w t facts rest)
+
+-- ---- facts about slots alone
+
+abbrev nowhere : Written
+nowhere = record { first = 0; count = 0 }
+
+-- they are true whatever memory has
+abbrev pub AreTrueAlone : Words → List Fact → Type 0
+AreTrueAlone slots facts = (memory : ℕ → Option ℕ) → AreTrueIn (record { slots = slots; memory = memory }) (kept nowhere touches.All facts)
+
+pub true_alone : (scene : Scene) (facts : List Fact) → AreTrueIn scene facts → AreTrueAlone scene.slots facts
+true_alone scene facts holds = λ memory.
+    kept_true scene (record { slots = scene.slots; memory = memory }) nowhere (λ slot leaves. refl) touches.All tt facts holds
+
+-- what is kept where some slots are written is kept where none is
+kept_none : (w : Written) (fact : Fact) → keeps w touches.All fact ≡ true → keeps nowhere touches.All fact ≡ true
+kept_none w (facts_are.Equal slot operand) keeps = and_from _ _ (leaves_any slot) (leaves_any_operand operand)
+kept_none w (facts_are.Computed slot operator left right) keeps = and_from _ _ (leaves_any slot) (and_from _ _ (leaves_any_operand left) (leaves_any_operand right))
+kept_none w (facts_are.Holds comparison left right) keeps = and_from _ _ (leaves_any_operand left) (leaves_any_operand right)
+kept_none w (facts_are.Held address offset value) keeps =
+    let (a, both) = and_parts (leaves_operand w address) (leaves_operand w value && false) keeps in
+    absurd (false≢true (and_parts (leaves_operand w value) false both).1)
+
+-- behind a call, whose results come to some slots
+pub true_behind_call : (old : Words) (new : Scene) (w : Written) → IsLeft old new.slots w → (facts : List Fact) → AreTrueAlone old facts → AreTrueIn new (kept w touches.All facts)
+true_behind_call old new w leaves [] alone = tt
+true_behind_call old new w leaves (fact ∷ facts) alone =
+    let before : Scene = record { slots = old; memory = new.memory } in
+    let here : AreTrueIn before (kept nowhere touches.All (fact ∷ facts)) = alone new.memory in
+    cond_both (keeps w touches.All fact) (fact ∷ kept w touches.All facts) (kept w touches.All facts) (AreTrueIn new)
+    (λ is.
+    let both : AreTrueIn before (fact ∷ kept nowhere touches.All facts) =
+    subst (AreTrueIn before) (cond-true (keeps nowhere touches.All fact) (fact ∷ kept nowhere touches.All facts) (kept nowhere touches.All facts) (kept_none w fact is)) here in
+    (fact_left before new w leaves touches.All tt fact is both.0, true_behind_call old new w leaves facts (rest fact facts alone)))
+    (λ is. true_behind_call old new w leaves facts (rest fact facts alone))
+  where
+    rest : (fact : Fact) (facts : List Fact) → AreTrueAlone old (fact ∷ facts) → AreTrueAlone old facts
+    rest fact facts alone = λ memory.
+        let scene : Scene = record { slots = old; memory = memory } in
+        behind (keeps nowhere touches.All fact) fact (kept nowhere touches.All facts) scene (alone memory)
+      where
+        behind : (b : Bool) (fact : Fact) (others : List Fact) (scene : Scene) → AreTrueIn scene (if b then fact ∷ others else others) → AreTrueIn scene others
+        behind true fact others scene are = are.1
+        behind false fact others scene are = are
+
 -- ---- one fact more
 
-pub suited_any : (slots : Words) (pinned : List Bool) (fact : Fact) → IsTrueIn slots fact → IsTrueIfAny slots (suited pinned fact)
-suited_any slots pinned fact holds = cond_both (suits pinned fact) (Some fact) None (IsTrueIfAny slots) (λ s. holds) (λ s. tt)
+-- a fact is made where it suits
+pub suited_if : (scene : Scene) (pinned : List Bool) (fact : Fact) → (suits pinned fact ≡ true → IsTrueIn scene fact) → IsTrueIfAny scene (suited pinned fact)
+suited_if scene pinned fact holds = cond_both (suits pinned fact) (Some fact) None (IsTrueIfAny scene) (λ s. holds s) (λ s. tt)
 
-pub remembered_true : (slots : Words) (facts : List Fact) (more : Option Fact) → AreTrueIn slots facts → IsTrueIfAny slots more → AreTrueIn slots (remembered facts more)
-remembered_true slots facts None holds one = holds
-remembered_true slots facts (Some fact) holds one =
-    all_append (IsTrueIn slots) (if nat_lt (length facts) MOST_FACTS then facts else drop 1 facts) (fact ∷ [])
-    (cond_both (nat_lt (length facts) MOST_FACTS) facts (drop 1 facts) (AreTrueIn slots) (λ few. holds) (λ many. behind_first facts holds))
+pub suited_any : (scene : Scene) (pinned : List Bool) (fact : Fact) → IsTrueIn scene fact → IsTrueIfAny scene (suited pinned fact)
+suited_any scene pinned fact holds = cond_both (suits pinned fact) (Some fact) None (IsTrueIfAny scene) (λ s. holds) (λ s. tt)
+
+pub remembered_true : (scene : Scene) (facts : List Fact) (more : Option Fact) → AreTrueIn scene facts → IsTrueIfAny scene more → AreTrueIn scene (remembered facts more)
+remembered_true scene facts None holds one = holds
+remembered_true scene facts (Some fact) holds one =
+    all_append (IsTrueIn scene) (if nat_lt (length facts) MOST_FACTS then facts else drop 1 facts) (fact ∷ [])
+    (cond_both (nat_lt (length facts) MOST_FACTS) facts (drop 1 facts) (AreTrueIn scene) (λ few. holds) (λ many. behind_first facts holds))
     (one, tt)
   where
-    behind_first : (facts : List Fact) → AreTrueIn slots facts → AreTrueIn slots (drop 1 facts)
+    behind_first : (facts : List Fact) → AreTrueIn scene facts → AreTrueIn scene (drop 1 facts)
     behind_first [] holds = tt
     behind_first (other ∷ facts) (first, rest) = rest

@@ -94,11 +94,23 @@ fn is_check(code: &[Instruction], instruction: Instruction) -> bool {
     }
 }
 
-/// Whether code may test or move something once more: it has a check, or reads a copy of a slot.
+/// Whether an operator has a word for its operand, as a constant with a sign.
+fn is_of_word(instruction: Instruction) -> bool {
+    match instruction {
+        Instruction::Unary { operand, .. } => !is_any_slot(operand),
+        _ => false,
+    }
+}
+
+/// Whether code may test or move something once more, or compute what is known: it has a check, reads a copy of a slot, or has a
+/// constant with a sign.
 pub(crate) fn is_candidate(code: &[Instruction]) -> bool {
     let mut copies = no_copies();
     for instruction in code {
-        if is_check(code, *instruction) || reads_copy(copies, *instruction) {
+        if is_check(code, *instruction)
+            || reads_copy(copies, *instruction)
+            || is_of_word(*instruction)
+        {
             return true;
         }
         copies = copies_behind(copies, *instruction);

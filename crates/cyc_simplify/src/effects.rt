@@ -5,8 +5,8 @@ ghost use Rattle.cyc_plain.specs.inside.Requests as requests_of;
 ghost use Rattle.cyc_simplify.specs.inside.Entries as keeping;
 ghost use Rattle.cyc_simplify.specs.inside.Facts as facts_of;
 
-use crate::fact::{Fact, MOST_FACTS, Written};
-use crate::known::is_slot;
+use crate::fact::{Fact, MOST_FACTS, Touched, Written};
+use crate::known::{is_same_operand, is_slot};
 use crate::pins::{is_free, suits_operand};
 use cyc_plain::{Comparison, Instruction, Operand, Plain, RECORD_WORDS, Request};
 use std::alloc::AllocError;
@@ -117,9 +117,69 @@ fn leaves_operand(slots: Written, operand: Operand) -> bool
     }
 }
 
-/// Whether none of the slots that a fact is about is written.
-fn keeps(slots: Written, fact: Fact) -> bool
-    ensures { result ≡ facts_of.keeps slots fact }
+/// What the word that an instruction gives to a slot changes in memory.
+fn touched_by(pinned: &[bool], slot: usize) -> Touched
+    ensures { result ≡ facts_of.touched_by pinned.now slot }
+{
+    if is_free(pinned, slot) {
+        Touched::Nothing
+    } else {
+        Touched::All
+    }
+}
+
+/// What an instruction may change of memory.
+fn touched(pinned: &[bool], instruction: Instruction) -> Touched
+    ensures { result ≡ facts_of.touched pinned.now instruction }
+{
+    match instruction {
+        Instruction::Move { destination, .. } => touched_by(pinned, destination),
+        Instruction::Unary { destination, .. } => touched_by(pinned, destination),
+        Instruction::Binary { destination, .. } => touched_by(pinned, destination),
+        Instruction::ReadByte { destination } => touched_by(pinned, destination),
+        Instruction::AddressOf { destination, .. } => touched_by(pinned, destination),
+        Instruction::LoadGlobal { destination, .. } => touched_by(pinned, destination),
+        Instruction::Load { destination, .. } => touched_by(pinned, destination),
+        Instruction::LoadByte { destination, .. } => touched_by(pinned, destination),
+        Instruction::CountLexical { destination } => touched_by(pinned, destination),
+        Instruction::Store {
+            address,
+            offset,
+            ..
+        } => Touched::Word { address, offset },
+        Instruction::StoreByte { .. }
+        | Instruction::StoreGlobal { .. }
+        | Instruction::MoveWords { .. }
+        | Instruction::Call { .. }
+        | Instruction::Ask { .. }
+        | Instruction::Try { .. } => Touched::All,
+        _ => Touched::Nothing,
+    }
+}
+
+fn are_apart(offset: u32, other: u32) -> bool
+    ensures { result ≡ facts_of.are_apart offset other }
+{
+    offset != other
+}
+
+/// Whether the word by this address is as it was. By the same address and another offset another word is found.
+fn is_untouched(touched: Touched, address: Operand, offset: u32) -> bool
+    ensures { result ≡ facts_of.is_untouched touched address offset }
+{
+    match touched {
+        Touched::Nothing => true,
+        Touched::Word {
+            address: other,
+            offset: written,
+        } => is_same_operand(other, address) && are_apart(written, offset),
+        Touched::All => false,
+    }
+}
+
+/// Whether none of the slots that a fact is about is written, nor a word of memory changed that it is about.
+fn keeps(slots: Written, touched: Touched, fact: Fact) -> bool
+    ensures { result ≡ facts_of.keeps slots touched fact }
 {
     match fact {
         Fact::Equal { slot, operand } => {
@@ -137,30 +197,48 @@ fn keeps(slots: Written, fact: Fact) -> bool
         Fact::Holds { left, right, .. } => {
             leaves_operand(slots, left) && leaves_operand(slots, right)
         }
+        Fact::Held {
+            address,
+            offset,
+            value,
+        } => {
+            leaves_operand(slots, address)
+                && (leaves_operand(slots, value) && is_untouched(touched, address, offset))
+        }
     }
 }
 
-/// Whether no fact is about a slot that is written.
-fn keeps_all(slots: Written, facts: &[Fact]) -> bool
-    ensures { result ≡ keeping.keeps_all slots facts.now }
+/// Whether each fact is kept.
+fn keeps_all(slots: Written, touched: Touched, facts: &[Fact]) -> bool
+    ensures { result ≡ keeping.keeps_all slots touched facts.now }
 {
     for fact in facts {
-        if !keeps(slots, *fact) {
+        if !keeps(slots, touched, *fact) {
             return false;
         }
     }
     true
 }
 
-/// What is known of slots that are written is forgotten.
-fn keep(facts: &mut Vec<Fact>, slots: Written)
-    ensures { facts.new.items ≡ facts_of.kept slots facts.old.items }
+/// Whether nothing is written or changed.
+fn changes_nothing(slots: Written, touched: Touched) -> bool
+    ensures { result ≡ keeping.changes_nothing slots touched }
 {
-    if slots.count == 0 {
+    match touched {
+        Touched::Nothing => slots.count == 0,
+        _ => false,
+    }
+}
+
+/// What is known of slots that are written, and of what may be changed, is forgotten.
+fn keep(facts: &mut Vec<Fact>, slots: Written, touched: Touched)
+    ensures { facts.new.items ≡ facts_of.kept slots touched facts.old.items }
+{
+    if changes_nothing(slots, touched) {
         return;
     }
-    if !keeps_all(slots, facts) {
-        facts.retain(|fact| keeps(slots, *fact));
+    if !keeps_all(slots, touched, facts) {
+        facts.retain(|fact| keeps(slots, touched, *fact));
     }
 }
 
@@ -196,6 +274,9 @@ pub(crate) fn suits(pinned: &[bool], fact: Fact) -> bool
         }
         Fact::Holds { left, right, .. } => {
             suits_operand(pinned, left) && suits_operand(pinned, right)
+        }
+        Fact::Held { address, value, .. } => {
+            suits_operand(pinned, address) && suits_operand(pinned, value)
         }
     }
 }
@@ -246,6 +327,37 @@ fn shown(
             comparison,
             left,
             right,
+        },
+    )
+}
+
+/// What is true where memory has this word.
+fn held(pinned: &[bool], address: Operand, offset: u32, value: Operand) -> Option<Fact>
+    ensures { result ≡ facts_of.held pinned.now address offset value }
+{
+    suited(
+        pinned,
+        Fact::Held {
+            address,
+            offset,
+            value,
+        },
+    )
+}
+
+/// What is true behind the load of a word, which may come to the slot that has the address.
+fn loaded(pinned: &[bool], address: Operand, offset: u32, destination: usize) -> Option<Fact>
+    ensures { result ≡ facts_of.loaded pinned.now address offset destination }
+{
+    if is_slot(address, destination) {
+        return None;
+    }
+    held(
+        pinned,
+        address,
+        offset,
+        Operand::Slot {
+            number: destination,
         },
     )
 }
@@ -303,6 +415,16 @@ pub(crate) fn made(
             right,
             target,
         } => shown(pinned, comparison, left, right, target, index, next),
+        Instruction::Load {
+            destination,
+            address,
+            offset,
+        } => loaded(pinned, address, offset, destination),
+        Instruction::Store {
+            address,
+            offset,
+            source,
+        } => held(pinned, address, offset, source),
         _ => None,
     }
 }
@@ -331,6 +453,10 @@ pub(crate) fn go_on(
     requires { index + 1 < 2 ^ 64 }
     ensures { OnOk result (facts.new.items ≡ facts_of.facts_behind plain.now pinned.now facts.old.items instruction index (index + 1)) }
 {
-    keep(facts, written(plain, instruction));
+    keep(
+        facts,
+        written(plain, instruction),
+        touched(pinned, instruction),
+    );
     remember(facts, made(pinned, instruction, index, index + 1))
 }

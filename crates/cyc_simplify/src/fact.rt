@@ -1,10 +1,10 @@
-//! What is known of slots at a place of the code.
+//! What is known at a place of the code.
 use cyc_plain::{BinaryOperator, Comparison, Operand};
 
 /// So many facts are remembered at most. Where there is one more, the oldest is forgotten.
-pub(crate) const MOST_FACTS: usize = 6;
+pub(crate) const MOST_FACTS: usize = 12;
 
-/// Something that is true of the words in a function's slots.
+/// Something that is true of the words in a function's slots, and of memory.
 #[derive(Clone, Copy)]
 pub(crate) enum Fact {
     /// The slot holds the word that the operand stands for.
@@ -25,6 +25,21 @@ pub(crate) enum Fact {
         left: Operand,
         right: Operand,
     },
+    /// Memory has a word so many bytes behind an address, and it is the one that the operand stands for.
+    Held {
+        address: Operand,
+        offset: u32,
+        value: Operand,
+    },
+}
+
+/// What an instruction may change of memory.
+#[derive(Clone, Copy)]
+pub(crate) enum Touched {
+    Nothing,
+    /// The word so many bytes behind an address.
+    Word { address: Operand, offset: u32 },
+    All,
 }
 
 /// The slots that an instruction writes: so many from the first on.

@@ -95,6 +95,18 @@ pub(crate) fn are_same_operands(
     is_same_operand(left, other_left) && is_same_operand(right, other_right)
 }
 
+/// Whether two are the same word of memory, by the same address.
+pub(crate) fn is_same_word(
+    address: Operand,
+    offset: u32,
+    other_address: Operand,
+    other_offset: u32,
+) -> bool
+    ensures { result ≡ facts_of.is_same_word address offset other_address other_offset }
+{
+    is_same_operand(address, other_address) && offset == other_offset
+}
+
 fn is_same_fact(one: Fact, other: Fact) -> bool
     ensures { result ≡ facts_of.is_same_fact one other }
 {
@@ -104,7 +116,7 @@ fn is_same_fact(one: Fact, other: Fact) -> bool
                 slot: second,
                 operand: other_operand,
             } => slot == second && is_same_operand(operand, other_operand),
-            Fact::Computed { .. } | Fact::Holds { .. } => false,
+            _ => false,
         },
         Fact::Computed {
             slot,
@@ -122,7 +134,7 @@ fn is_same_fact(one: Fact, other: Fact) -> bool
                     && (is_same_operator(operator, other_operator)
                         && are_same_operands(left, right, other_left, other_right))
             }
-            Fact::Equal { .. } | Fact::Holds { .. } => false,
+            _ => false,
         },
         Fact::Holds {
             comparison,
@@ -137,7 +149,22 @@ fn is_same_fact(one: Fact, other: Fact) -> bool
                 is_same_comparison(comparison, second)
                     && are_same_operands(left, right, other_left, other_right)
             }
-            Fact::Equal { .. } | Fact::Computed { .. } => false,
+            _ => false,
+        },
+        Fact::Held {
+            address,
+            offset,
+            value,
+        } => match other {
+            Fact::Held {
+                address: second,
+                offset: other_offset,
+                value: other_value,
+            } => {
+                is_same_word(address, offset, second, other_offset)
+                    && is_same_operand(value, other_value)
+            }
+            _ => false,
         },
     }
 }
@@ -183,7 +210,7 @@ fn resolved_fact(facts: &[Fact], fact: Fact) -> Fact
             left: simplified_operand(facts, left),
             right: simplified_operand(facts, right),
         },
-        Fact::Equal { .. } | Fact::Computed { .. } => fact,
+        _ => fact,
     }
 }
 

@@ -6,11 +6,14 @@ ghost use Rattle.cyc_simplify.specs.declared.fact.Fact.TheVariants as facts_are;
 
 use crate::effects::negated;
 use crate::fact::Fact;
-use crate::known::{are_same_operands, is_known, is_same_comparison, is_same_operator, is_slot};
-use cyc_plain::{BinaryOperator, Comparison, Instruction, Operand, Request};
+use crate::folding::{folded_at, folded_unary, right_operand};
+use crate::known::{
+    are_same_operands, is_known, is_same_comparison, is_same_operator, is_same_word, is_slot,
+};
+use cyc_plain::{BinaryOperator, Comparison, Instruction, Operand, Request, UnaryOperator};
 
 /// Whether an operand serves in the place of a slot: a word may take lines of its own.
-fn is_cheap(operand: Operand) -> bool
+pub(crate) fn is_cheap(operand: Operand) -> bool
     ensures { result ≡ replacement.is_cheap operand }
 {
     match operand {
@@ -34,7 +37,7 @@ fn instead(fact: Fact, operand: Operand) -> Option<Operand>
                 None
             }
         }
-        Fact::Computed { .. } | Fact::Holds { .. } => None,
+        _ => None,
     }
 }
 
@@ -73,7 +76,7 @@ fn holder(fact: Fact, operator: BinaryOperator, left: Operand, right: Operand) -
                 None
             }
         }
-        Fact::Equal { .. } | Fact::Holds { .. } => None,
+        _ => None,
     }
 }
 
@@ -93,6 +96,7 @@ fn holder_in(
     None
 }
 
+/// What is computed of two words that are known is a word, and what a slot holds already comes from there.
 fn simplified_binary(
     facts: &[Fact],
     operator: BinaryOperator,
@@ -100,8 +104,15 @@ fn simplified_binary(
     left: Operand,
     right: Operand,
 ) -> Instruction
-    ensures { result ≡ replacement.simplified_binary (replacement.holder_in facts.now operator left right) operator destination left right }
+    ensures { result ≡ replacement.simplified_binary (replacement.folded_at facts.now operator destination left right)
+        (replacement.holder_in facts.now operator left right) operator destination left right }
 {
+    if let Some(word) = folded_at(facts, operator, destination, left, right) {
+        return Instruction::Move {
+            destination,
+            source: Operand::Word { word },
+        };
+    }
     match holder_in(facts, operator, left, right) {
         Some(slot) => Instruction::Move {
             destination,
@@ -112,6 +123,27 @@ fn simplified_binary(
             destination,
             left,
             right,
+        },
+    }
+}
+
+fn simplified_unary(
+    facts: &[Fact],
+    operator: UnaryOperator,
+    destination: usize,
+    operand: Operand,
+) -> Instruction
+    ensures { result ≡ replacement.simplified_unary (replacement.folded_unary facts.now operator operand) operator destination operand }
+{
+    match folded_unary(facts, operator, operand) {
+        Some(word) => Instruction::Move {
+            destination,
+            source: Operand::Word { word },
+        },
+        None => Instruction::Unary {
+            operator,
+            destination,
+            operand,
         },
     }
 }
@@ -193,7 +225,7 @@ fn decision(fact: Fact, comparison: Comparison, left: Operand, right: Operand) -
                 None
             }
         }
-        Fact::Equal { .. } | Fact::Computed { .. } => None,
+        _ => None,
     }
 }
 
@@ -244,6 +276,54 @@ fn simplified_branch(
     }
 }
 
+/// What memory has there, by a fact.
+fn value_by(fact: Fact, address: Operand, offset: u32) -> Option<Operand>
+    ensures { result ≡ replacement.value_by fact address offset }
+{
+    match fact {
+        Fact::Held {
+            address: other,
+            offset: other_offset,
+            value,
+        } => {
+            if is_same_word(other, other_offset, address, offset) {
+                Some(value)
+            } else {
+                None
+            }
+        }
+        _ => None,
+    }
+}
+
+fn value_in(facts: &[Fact], address: Operand, offset: u32) -> Option<Operand>
+    ensures { result ≡ replacement.value_in facts.now address offset }
+{
+    for fact in facts {
+        if let Some(value) = value_by(*fact, address, offset) {
+            return Some(value);
+        }
+    }
+    None
+}
+
+/// The load of a word that is known is a move.
+fn simplified_load(facts: &[Fact], destination: usize, address: Operand, offset: u32) -> Instruction
+    ensures { result ≡ replacement.simplified_load (replacement.value_in facts.now address offset) destination address offset }
+{
+    match value_in(facts, address, offset) {
+        Some(value) => Instruction::Move {
+            destination,
+            source: value,
+        },
+        None => Instruction::Load {
+            destination,
+            address,
+            offset,
+        },
+    }
+}
+
 fn simplified_request(facts: &[Fact], request: Request) -> Request
     ensures { result ≡ replacement.simplified_request facts.now request }
 {
@@ -287,11 +367,12 @@ pub(crate) fn simplified_instruction(facts: &[Fact], instruction: Instruction) -
             operator,
             destination,
             operand,
-        } => Instruction::Unary {
+        } => simplified_unary(
+            facts,
             operator,
             destination,
-            operand: simplified_operand(facts, operand),
-        },
+            simplified_operand(facts, operand),
+        ),
         Instruction::Binary {
             operator,
             destination,
@@ -302,7 +383,7 @@ pub(crate) fn simplified_instruction(facts: &[Fact], instruction: Instruction) -
             operator,
             destination,
             simplified_operand(facts, left),
-            simplified_operand(facts, right),
+            right_operand(facts, operator, simplified_operand(facts, right)),
         ),
         Instruction::Branch {
             comparison,
@@ -327,11 +408,12 @@ pub(crate) fn simplified_instruction(facts: &[Fact], instruction: Instruction) -
             destination,
             address,
             offset,
-        } => Instruction::Load {
+        } => simplified_load(
+            facts,
             destination,
-            address: simplified_operand(facts, address),
+            simplified_operand(facts, address),
             offset,
-        },
+        ),
         Instruction::Store {
             address,
             offset,

@@ -1,11 +1,13 @@
 -- What is known at the places that are jumped to, as the code holds it, and the two halves of the check.
-use Rattle.std.specs.Prelude.{◌≡◌, ℕ, ◌+◌, ◌<◌, Bool, true, ◌==◌, ◌&&◌, if◌then◌else◌, List, [], ◌∷◌, length, Option, Some, None, slice_get, slice_index_or}
+use Rattle.std.specs.Prelude.{◌≡◌, ℕ, ◌+◌, ◌<◌, Bool, true, false, ◌==◌, ◌&&◌, if◌then◌else◌, List, [], ◌∷◌, length, Option, Some, None, slice_get, slice_index_or}
 use Rattle.cyc_plain.specs.declared.instruction.Instruction.{Instruction}
 use Rattle.cyc_plain.specs.declared.instruction.Instruction.TheVariants as instructions
 use Rattle.cyc_plain.specs.inside.Uses.{At}
 use Rattle.cyc_simplify.specs.declared.entry.Entry.{Entry}
 use Rattle.cyc_simplify.specs.declared.fact.Fact.{Fact}
 use Rattle.cyc_plain.specs.inside.Program.{Program, Routine, no_routine, routine_at}
+use Rattle.cyc_simplify.specs.declared.fact.Touched.{Touched}
+use Rattle.cyc_simplify.specs.declared.fact.Touched.TheVariants as touches
 use Rattle.cyc_simplify.specs.declared.fact.Written.{Written}
 use Rattle.cyc_simplify.specs.inside.Facts.{keeps, made}
 use Rattle.cyc_simplify.specs.inside.Replacement.{simplified_instruction}
@@ -59,7 +61,12 @@ pub record AreFirstReplaced (program : Program) (count : ℕ) (routines : List R
   pub as_many : length routines ≡ count
   pub each : (k : ℕ) → k < count → IsReplaced program (routine_at program k) (slice_index_or routines k no_routine)
 
--- no fact is about a slot that is written
-abbrev pub keeps_all : Written → List Fact → Bool
-keeps_all slots [] = true
-keeps_all slots (fact ∷ facts) = keeps slots fact && keeps_all slots facts
+-- each fact is kept
+abbrev pub keeps_all : Written → Touched → List Fact → Bool
+keeps_all slots touched [] = true
+keeps_all slots touched (fact ∷ facts) = keeps slots touched fact && keeps_all slots touched facts
+
+-- nothing is written or changed
+abbrev pub changes_nothing : Written → Touched → Bool
+changes_nothing slots touches.Nothing = slots.count == 0
+changes_nothing slots touched = false

@@ -1,6 +1,7 @@
--- Facts about the slots of a function: when they are true, which an instruction keeps, and which it makes.
+-- Facts about the slots of a function, and memory: when they are true, which an instruction keeps, and which it makes.
 use Rattle.std.specs.Prelude.{◌≡◌, ℕ, ◌+◌, ◌^◌, Bool, true, false, not, ◌==◌, ◌&&◌, ◌||◌, nat_lt, if◌then◌else◌, List, [], ◌∷◌, ◌++◌, length, filter, drop, Option, Some, None, slice_index_or}
 use Rattle.std.specs.List.{AllByRecursion}
+use Rattle.cyc_words.specs.Word.{add_of}
 use Rattle.cyc_plain.specs.declared.instruction.Instruction.{Instruction}
 use Rattle.cyc_plain.specs.declared.instruction.Instruction.TheVariants as instructions
 use Rattle.cyc_plain.specs.declared.instruction.Operand.{Operand}
@@ -13,34 +14,51 @@ use Rattle.cyc_plain.specs.declared.limits.TheConstants.{RECORD_WORDS}
 use Rattle.cyc_plain.specs.inside.Requests.{destination_of, answer_count}
 use Rattle.cyc_plain.specs.inside.Operators.{binary_result, has_no_result, compares}
 use Rattle.cyc_plain.specs.inside.Program.{Program, routine_at}
-use Rattle.cyc_plain.specs.inside.State.{Words}
+use Rattle.cyc_plain.specs.inside.State.{Words, Configuration}
+use Rattle.cyc_plain.specs.inside.Memory.{memory_at}
 use Rattle.cyc_plain.specs.inside.Step.{operand_word}
 use Rattle.cyc_plain.specs.inside.Uses.{is_slot, is_among}
 use Rattle.cyc_simplify.specs.declared.fact.Fact.{Fact}
 use Rattle.cyc_simplify.specs.declared.fact.Fact.TheVariants as facts_are
+use Rattle.cyc_simplify.specs.declared.fact.Touched.{Touched}
+use Rattle.cyc_simplify.specs.declared.fact.Touched.TheVariants as touches
 use Rattle.cyc_simplify.specs.declared.fact.Written.{Written}
 use Rattle.cyc_simplify.specs.declared.fact.TheConstants.{MOST_FACTS}
 
 -- ---- truth
 
-abbrev pub IsTrueIn : Words → Fact → Type 0
-IsTrueIn slots (facts_are.Equal slot operand) = slots slot ≡ operand_word slots operand
-IsTrueIn slots (facts_are.Computed slot operator left right) =
-    (slots slot ≡ binary_result operator (operand_word slots left) (operand_word slots right))
-    × (has_no_result operator (operand_word slots right) ≡ false)
-IsTrueIn slots (facts_are.Holds comparison left right) =
-    compares comparison (operand_word slots left) (operand_word slots right) ≡ true
+-- What facts are about: the words in the slots of a call, and memory, which has a word at some addresses.
+pub record Scene : Type 0 where
+  pub slots : Words
+  pub memory : (address : ℕ) → Option ℕ
 
-abbrev pub AreTrueIn : Words → List Fact → Type 0
-AreTrueIn slots facts = AllByRecursion (IsTrueIn slots) facts
+-- that of the call that is executed
+abbrev pub scene_of : Program → Configuration → Scene
+scene_of program c = record { slots = c.active.slots; memory = memory_at program c }
 
-abbrev pub IsTrueIfAny : Words → Option Fact → Type 0
-IsTrueIfAny slots (Some fact) = IsTrueIn slots fact
-IsTrueIfAny slots None = Unit {0}
+-- the word that a load finds
+abbrev pub found : Scene → (address : Operand) → (offset : ℕ) → Option ℕ
+found scene address offset = scene.memory (add_of (operand_word scene.slots address) offset)
+
+abbrev pub IsTrueIn : Scene → Fact → Type 0
+IsTrueIn scene (facts_are.Equal slot operand) = scene.slots slot ≡ operand_word scene.slots operand
+IsTrueIn scene (facts_are.Computed slot operator left right) =
+    (scene.slots slot ≡ binary_result operator (operand_word scene.slots left) (operand_word scene.slots right))
+    × (has_no_result operator (operand_word scene.slots right) ≡ false)
+IsTrueIn scene (facts_are.Holds comparison left right) =
+    compares comparison (operand_word scene.slots left) (operand_word scene.slots right) ≡ true
+IsTrueIn scene (facts_are.Held address offset value) = found scene address offset ≡ Some (operand_word scene.slots value)
+
+abbrev pub AreTrueIn : Scene → List Fact → Type 0
+AreTrueIn scene facts = AllByRecursion (IsTrueIn scene) facts
+
+abbrev pub IsTrueIfAny : Scene → Option Fact → Type 0
+IsTrueIfAny scene (Some fact) = IsTrueIn scene fact
+IsTrueIfAny scene None = Unit {0}
 
 -- wherever the first are true, and one more if there is one, the others are
 abbrev pub Entails : List Fact → Option Fact → (others : List Fact) → Type 0
-Entails facts more others = (slots : Words) → AreTrueIn slots facts → IsTrueIfAny slots more → AreTrueIn slots others
+Entails facts more others = (scene : Scene) → AreTrueIn scene facts → IsTrueIfAny scene more → AreTrueIn scene others
 
 -- ---- which are the same
 
@@ -83,12 +101,18 @@ is_same_operand (operands.Slot number) (operands.Slot other) = number == other
 is_same_operand (operands.Word word) (operands.Word other) = word == other
 is_same_operand operand other = false
 
+-- the same word of memory, by the same address
+abbrev pub is_same_word : (address : Operand) → (offset : ℕ) → (other_address : Operand) → (other_offset : ℕ) → Bool
+is_same_word address offset other_address other_offset = is_same_operand address other_address && offset == other_offset
+
 abbrev pub is_same_fact : Fact → Fact → Bool
 is_same_fact (facts_are.Equal slot operand) (facts_are.Equal slot_2 operand_2) = slot == slot_2 && is_same_operand operand operand_2
 is_same_fact (facts_are.Computed slot operator left right) (facts_are.Computed slot_2 operator_2 left_2 right_2) =
     slot == slot_2 && (is_same_operator operator operator_2 && (is_same_operand left left_2 && is_same_operand right right_2))
 is_same_fact (facts_are.Holds comparison left right) (facts_are.Holds comparison_2 left_2 right_2) =
     is_same_comparison comparison comparison_2 && (is_same_operand left left_2 && is_same_operand right right_2)
+is_same_fact (facts_are.Held address offset value) (facts_are.Held address_2 offset_2 value_2) =
+    is_same_word address offset address_2 offset_2 && is_same_operand value value_2
 is_same_fact fact other = false
 
 -- a fact is among these
@@ -112,6 +136,7 @@ suits pinned (facts_are.Equal slot operand) = is_free pinned slot && suits_opera
 suits pinned (facts_are.Computed slot operator left right) =
     is_free pinned slot && (suits_operand pinned left && suits_operand pinned right)
 suits pinned (facts_are.Holds comparison left right) = suits_operand pinned left && suits_operand pinned right
+suits pinned (facts_are.Held address offset value) = suits_operand pinned address && suits_operand pinned value
 
 abbrev pub are_suited : List Bool → List Fact → Bool
 are_suited pinned [] = true
@@ -145,15 +170,50 @@ abbrev pub leaves_operand : Written → Operand → Bool
 leaves_operand slots (operands.Slot number) = leaves_slot slots number
 leaves_operand slots (operands.Word word) = true
 
--- none of the slots that it is about is written
-abbrev pub keeps : Written → Fact → Bool
-keeps slots (facts_are.Equal slot operand) = leaves_slot slots slot && leaves_operand slots operand
-keeps slots (facts_are.Computed slot operator left right) =
-    leaves_slot slots slot && (leaves_operand slots left && leaves_operand slots right)
-keeps slots (facts_are.Holds comparison left right) = leaves_operand slots left && leaves_operand slots right
+-- What it may change of memory. The slot that it gives a word to may be one that memory has.
+abbrev pub touched_by : List Bool → (slot : ℕ) → Touched
+touched_by pinned slot = if is_free pinned slot then touches.Nothing else touches.All
 
-abbrev pub kept : Written → List Fact → List Fact
-kept slots facts = filter (keeps slots) facts
+abbrev pub touched : List Bool → Instruction → Touched
+touched pinned (instructions.Move destination source) = touched_by pinned destination
+touched pinned (instructions.Unary operator destination operand) = touched_by pinned destination
+touched pinned (instructions.Binary operator destination left right) = touched_by pinned destination
+touched pinned (instructions.ReadByte destination) = touched_by pinned destination
+touched pinned (instructions.AddressOf destination slot count) = touched_by pinned destination
+touched pinned (instructions.LoadGlobal destination global) = touched_by pinned destination
+touched pinned (instructions.Load destination address offset) = touched_by pinned destination
+touched pinned (instructions.LoadByte destination address offset) = touched_by pinned destination
+touched pinned (instructions.CountLexical destination) = touched_by pinned destination
+touched pinned (instructions.Store address offset source) = touches.Word address offset
+touched pinned (instructions.StoreByte address offset source) = touches.All
+touched pinned (instructions.StoreGlobal global source) = touches.All
+touched pinned (instructions.MoveWords destination source count) = touches.All
+touched pinned (instructions.Call function arguments count result) = touches.All
+touched pinned (instructions.Ask request) = touches.All
+touched pinned (instructions.Try first handler) = touches.All
+touched pinned instruction = touches.Nothing
+
+-- by these two offsets from the same address two words are found
+abbrev pub are_apart : (offset other : ℕ) → Bool
+are_apart offset other = nat_lt offset (2 ^ 32) && (nat_lt other (2 ^ 32) && not (offset == other))
+
+-- the word by this address is as it was
+abbrev pub is_untouched : Touched → (address : Operand) → (offset : ℕ) → Bool
+is_untouched touches.Nothing address offset = true
+is_untouched (touches.Word other written) address offset = is_same_operand other address && are_apart written offset
+is_untouched touches.All address offset = false
+
+-- none of the slots that it is about is written, nor is a word of memory changed that it is about
+abbrev pub keeps : Written → Touched → Fact → Bool
+keeps slots touched (facts_are.Equal slot operand) = leaves_slot slots slot && leaves_operand slots operand
+keeps slots touched (facts_are.Computed slot operator left right) =
+    leaves_slot slots slot && (leaves_operand slots left && leaves_operand slots right)
+keeps slots touched (facts_are.Holds comparison left right) = leaves_operand slots left && leaves_operand slots right
+keeps slots touched (facts_are.Held address offset value) =
+    leaves_operand slots address && (leaves_operand slots value && is_untouched touched address offset)
+
+abbrev pub kept : Written → Touched → List Fact → List Fact
+kept slots touched facts = filter (keeps slots touched) facts
 
 -- ---- what it makes
 
@@ -182,6 +242,15 @@ shown pinned comparison left right target index next =
     then None
     else suited pinned (facts_are.Holds (if next == target then comparison else negated comparison) left right)
 
+-- memory has this word
+abbrev pub held : List Bool → (address : Operand) → (offset : ℕ) → (value : Operand) → Option Fact
+held pinned address offset value = suited pinned (facts_are.Held address offset value)
+
+-- what is true behind the load of a word, which may come to the slot that has the address
+abbrev pub loaded : List Bool → (address : Operand) → (offset destination : ℕ) → Option Fact
+loaded pinned address offset destination =
+    if is_slot address destination then None else held pinned address offset (operands.Slot destination)
+
 -- what is true behind the instruction at this index where the run goes on at `next`, whatever was true before
 abbrev pub made : List Bool → Instruction → (index next : ℕ) → Option Fact
 made pinned (instructions.Move destination source) index next =
@@ -189,6 +258,8 @@ made pinned (instructions.Move destination source) index next =
 made pinned (instructions.Binary operator destination left right) index next =
     if is_slot left destination || is_slot right destination then None else suited pinned (facts_are.Computed destination operator left right)
 made pinned (instructions.Branch comparison left right target) index next = shown pinned comparison left right target index next
+made pinned (instructions.Load destination address offset) index next = loaded pinned address offset destination
+made pinned (instructions.Store address offset source) index next = held pinned address offset source
 made pinned instruction index next = None
 
 -- a fact more, in place of the oldest where there are as many as there may be
@@ -198,4 +269,4 @@ remembered facts None = facts
 
 -- what is known behind an instruction
 abbrev pub facts_behind : Program → List Bool → List Fact → Instruction → (index next : ℕ) → List Fact
-facts_behind program pinned facts i index next = remembered (kept (written program i) facts) (made pinned i index next)
+facts_behind program pinned facts i index next = remembered (kept (written program i) (touched pinned i) facts) (made pinned i index next)

@@ -1,18 +1,22 @@
 -- What stands for an instruction where facts are known: another that does exactly the same wherever they are true.
-use Rattle.std.specs.Prelude.{ℕ, Bool, true, false, ◌&&◌, if◌then◌else◌, List, [], ◌∷◌, Option, Some, None, unwrap_or}
+use Rattle.std.specs.Prelude.{ℕ, Bool, true, false, nat_lt, bit_and, bit_or, bit_xor, ◌&&◌, ◌||◌, not, if◌then◌else◌, List, [], ◌∷◌, Option, Some, None, unwrap_or}
+use Rattle.cyc_words.specs.Word.{add_of, sub_of, mul_of, shl_of, sar_of}
 use Rattle.cyc_plain.specs.declared.instruction.Instruction.{Instruction}
 use Rattle.cyc_plain.specs.declared.instruction.Instruction.TheVariants as instructions
 use Rattle.cyc_plain.specs.declared.instruction.Operand.{Operand}
 use Rattle.cyc_plain.specs.declared.instruction.Operand.TheVariants as operands
 use Rattle.cyc_plain.specs.declared.instruction.Request.{Request}
 use Rattle.cyc_plain.specs.declared.instruction.Request.TheVariants as requests
+use Rattle.cyc_plain.specs.declared.instruction.UnaryOperator.{UnaryOperator}
 use Rattle.cyc_plain.specs.declared.instruction.BinaryOperator.{BinaryOperator}
+use Rattle.cyc_plain.specs.declared.instruction.BinaryOperator.TheVariants as binary
 use Rattle.cyc_plain.specs.declared.instruction.Comparison.{Comparison}
 use Rattle.cyc_plain.specs.declared.instruction.Comparison.TheVariants as comparisons
+use Rattle.cyc_plain.specs.inside.Operators.{unary_result}
 use Rattle.cyc_plain.specs.inside.Uses.{is_slot}
 use Rattle.cyc_simplify.specs.declared.fact.Fact.{Fact}
 use Rattle.cyc_simplify.specs.declared.fact.Fact.TheVariants as facts_are
-use Rattle.cyc_simplify.specs.inside.Facts.{is_same_operator, is_same_comparison, is_same_operand, is_known, negated}
+use Rattle.cyc_simplify.specs.inside.Facts.{is_same_operator, is_same_word, is_same_comparison, is_same_operand, is_known, negated}
 
 -- ---- operands
 
@@ -30,6 +34,85 @@ abbrev pub simplified_operand : List Fact → Operand → Operand
 simplified_operand [] operand = operand
 simplified_operand (fact ∷ facts) operand = unwrap_or (instead fact operand) (simplified_operand facts operand)
 
+-- ---- words
+
+abbrev pub or_number : Option ℕ → Option ℕ → Option ℕ
+or_number (Some number) other = Some number
+or_number None other = other
+
+abbrev pub own_word : Operand → Option ℕ
+own_word (operands.Slot number) = None
+own_word (operands.Word word) = Some word
+
+-- the word that an operand stands for, by one fact, or by the first that says so
+abbrev pub word_by : Fact → Operand → Option ℕ
+word_by (facts_are.Equal slot (operands.Word word)) operand = if is_slot operand slot then Some word else None
+word_by fact operand = None
+
+abbrev pub word_in : List Fact → Operand → Option ℕ
+word_in [] operand = own_word operand
+word_in (fact ∷ facts) operand = or_number (word_by fact operand) (word_in facts operand)
+
+-- a small word takes no line where it is the second operand
+abbrev pub takes_word : BinaryOperator → Bool
+takes_word binary.And = true
+takes_word binary.Or = true
+takes_word binary.Xor = true
+takes_word binary.ShiftLeft = true
+takes_word binary.ShiftRight = true
+takes_word operator = false
+
+abbrev pub small_or : Option ℕ → Operand → Operand
+small_or (Some word) operand = if nat_lt word 32768 then operands.Word word else operand
+small_or None operand = operand
+
+-- what stands for the same word as the second operand of an operator, and takes no more lines
+abbrev pub right_operand : List Fact → BinaryOperator → Operand → Operand
+right_operand facts operator operand = if takes_word operator then small_or (word_in facts operand) operand else operand
+
+-- what an operator computes of two words
+abbrev pub folded : BinaryOperator → (left right : ℕ) → Option ℕ
+folded binary.Add left right = Some (add_of left right)
+folded binary.Subtract left right = Some (sub_of left right)
+folded binary.Multiply left right = Some (mul_of left right)
+folded binary.And left right = Some (bit_and left right)
+folded binary.Or left right = Some (bit_or left right)
+folded binary.Xor left right = Some (bit_xor left right)
+folded binary.ShiftLeft left right = Some (shl_of left right)
+folded binary.ShiftRight left right = Some (sar_of left right)
+folded operator left right = None
+
+abbrev pub folded_of : BinaryOperator → (left right : Option ℕ) → Option ℕ
+folded_of operator (Some left) (Some right) = folded operator left right
+folded_of operator left right = None
+
+-- of two operands, where both words are known; where no fact is known nothing is computed
+abbrev pub folded_in : List Fact → BinaryOperator → (left right : Operand) → Option ℕ
+folded_in [] operator left right = None
+folded_in (fact ∷ facts) operator left right = folded_of operator (word_in (fact ∷ facts) left) (word_in (fact ∷ facts) right)
+
+abbrev pub negated_of : UnaryOperator → Option ℕ → Option ℕ
+negated_of operator (Some word) = Some (unary_result operator word)
+negated_of operator None = None
+
+-- what an operator computes of one operand, where its word is known
+abbrev pub folded_unary : List Fact → UnaryOperator → Operand → Option ℕ
+folded_unary [] operator operand = None
+folded_unary (fact ∷ facts) operator operand = negated_of operator (word_in (fact ∷ facts) operand)
+
+abbrev pub simplified_unary : Option ℕ → UnaryOperator → (destination : ℕ) → Operand → Instruction
+simplified_unary (Some word) operator destination operand = instructions.Move destination (operands.Word word)
+simplified_unary None operator destination operand = instructions.Unary operator destination operand
+
+-- Whether nothing more would be known of what the operator computes: what is computed of a word that stands there, and what takes the
+-- place of an operand. Elsewhere an operator stays, so that what a loop computes of the same slots in each turn is known at its head.
+abbrev pub may_fold : (destination : ℕ) → (left right : Operand) → Bool
+may_fold destination left right = not (is_cheap left) || (is_slot left destination || is_slot right destination)
+
+abbrev pub folded_at : List Fact → BinaryOperator → (destination : ℕ) → (left right : Operand) → Option ℕ
+folded_at facts operator destination left right =
+    if may_fold destination left right then folded_in facts operator left right else None
+
 -- ---- results
 
 -- the slot that holds a result already, by one fact, or by the first that says so
@@ -46,9 +129,14 @@ abbrev pub holder_in : List Fact → BinaryOperator → (left right : Operand) �
 holder_in [] operator left right = None
 holder_in (fact ∷ facts) operator left right = or_slot (holder fact operator left right) (holder_in facts operator left right)
 
-abbrev pub simplified_binary : Option ℕ → BinaryOperator → (destination : ℕ) → (left right : Operand) → Instruction
-simplified_binary (Some slot) operator destination left right = instructions.Move destination (operands.Slot slot)
-simplified_binary None operator destination left right = instructions.Binary operator destination left right
+abbrev pub simplified_binary : (folded holder : Option ℕ) → BinaryOperator → (destination : ℕ) → (left right : Operand) → Instruction
+simplified_binary (Some word) holder operator destination left right = instructions.Move destination (operands.Word word)
+simplified_binary None (Some slot) operator destination left right = instructions.Move destination (operands.Slot slot)
+simplified_binary None None operator destination left right = instructions.Binary operator destination left right
+
+abbrev pub simplified_of : List Fact → BinaryOperator → (destination : ℕ) → (left right : Operand) → Instruction
+simplified_of facts operator destination left right =
+    simplified_binary (folded_at facts operator destination left right) (holder_in facts operator left right) operator destination left right
 
 -- ---- moves
 
@@ -94,6 +182,25 @@ simplified_branch (Some false) comparison left right target =
     instructions.Branch comparisons.NotEqual (operands.Word 0) (operands.Word 0) target
 simplified_branch None comparison left right target = instructions.Branch comparison left right target
 
+-- ---- loads
+
+-- the word that memory has there, by one fact, or by the first that says so
+abbrev pub value_by : Fact → (address : Operand) → (offset : ℕ) → Option Operand
+value_by (facts_are.Held other other_offset value) address offset = if is_same_word other other_offset address offset then Some value else None
+value_by fact address offset = None
+
+abbrev pub or_value : Option Operand → Option Operand → Option Operand
+or_value (Some value) other = Some value
+or_value None other = other
+
+abbrev pub value_in : List Fact → (address : Operand) → (offset : ℕ) → Option Operand
+value_in [] address offset = None
+value_in (fact ∷ facts) address offset = or_value (value_by fact address offset) (value_in facts address offset)
+
+abbrev pub simplified_load : Option Operand → (destination : ℕ) → (address : Operand) → (offset : ℕ) → Instruction
+simplified_load (Some value) destination address offset = instructions.Move destination value
+simplified_load None destination address offset = instructions.Load destination address offset
+
 -- ---- instructions
 
 abbrev pub simplified_request : List Fact → Request → Request
@@ -108,17 +215,16 @@ abbrev pub simplified_instruction : List Fact → Instruction → Instruction
 simplified_instruction facts (instructions.Move destination source) =
     simplified_move (is_known facts (facts_are.Equal destination (simplified_operand facts source))) destination (simplified_operand facts source)
 simplified_instruction facts (instructions.Unary operator destination operand) =
-    instructions.Unary operator destination (simplified_operand facts operand)
+    simplified_unary (folded_unary facts operator (simplified_operand facts operand)) operator destination (simplified_operand facts operand)
 simplified_instruction facts (instructions.Binary operator destination left right) =
-    simplified_binary (holder_in facts operator (simplified_operand facts left) (simplified_operand facts right))
-    operator destination (simplified_operand facts left) (simplified_operand facts right)
+    simplified_of facts operator destination (simplified_operand facts left) (right_operand facts operator (simplified_operand facts right))
 simplified_instruction facts (instructions.Branch comparison left right target) =
     simplified_branch (decision_in facts comparison (simplified_operand facts left) (simplified_operand facts right))
     comparison (simplified_operand facts left) (simplified_operand facts right) target
 simplified_instruction facts (instructions.WriteByte source) = instructions.WriteByte (simplified_operand facts source)
 simplified_instruction facts (instructions.StoreGlobal global source) = instructions.StoreGlobal global (simplified_operand facts source)
 simplified_instruction facts (instructions.Load destination address offset) =
-    instructions.Load destination (simplified_operand facts address) offset
+    simplified_load (value_in facts (simplified_operand facts address) offset) destination (simplified_operand facts address) offset
 simplified_instruction facts (instructions.Store address offset source) =
     instructions.Store (simplified_operand facts address) offset (simplified_operand facts source)
 simplified_instruction facts (instructions.LoadByte destination address offset) =

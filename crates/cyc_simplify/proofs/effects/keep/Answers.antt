@@ -4,16 +4,16 @@ use Rattle.std.proofs.lemmas.Fn.{filter_same}
 use Rattle.std.specs.Prelude.{List}
 use Rattle.cyc_simplify.specs.declared.fact.Fact.{Fact}
 use Rattle.cyc_simplify.specs.inside.Entries.{keeps_all}
-use Rattle.cyc_simplify.proofs.Keeping.{none_written, all_kept}
+use Rattle.cyc_simplify.proofs.Keeping.{nothing_changed, all_kept}
 use Rattle.cyc_simplify.proofs.effects.keep.Goals as goal
 
-pub returns-then-slots-eq0 : goal.returns-then-slots-eq0
-returns-then-slots-eq0 c = sym (none_written c.args.slots c.if-slots-eq0.true _)
+pub returns-then-changes_nothing : goal.returns-then-changes_nothing
+returns-then-changes_nothing c = sym (nothing_changed c.args.slots c.args.touched _ (sym c.changes_nothing.ensures ∙ c.if-changes_nothing.true))
 
 pub returns-then-not-keeps_all : goal.returns-then-not-keeps_all
 returns-then-not-keeps_all c = filter_same _ _ _ (λ x b f' k. search rules) _ _ c.retain.ensures.filtered
 
 pub returns-else-not-keeps_all : goal.returns-else-not-keeps_all
 returns-else-not-keeps_all c =
-    sym (all_kept c.args.slots c.args.facts.now.items
-    (subst (λ (facts : List Fact). keeps_all c.args.slots facts ≡ true) c.deref.ensures.value (sym c.keeps_all.ensures ∙ c.if-not-keeps_all.false)))
+    sym (all_kept c.args.slots c.args.touched c.args.facts.now.items
+    (subst (λ (facts : List Fact). keeps_all c.args.slots c.args.touched facts ≡ true) c.deref.ensures.value (sym c.keeps_all.ensures ∙ c.if-not-keeps_all.false)))
