@@ -1073,6 +1073,72 @@ class ByteMaker(Chars, RegionMaker):
         self.close()
 
 
+# --- Regions that are opened turn by turn ---
+
+TURN_ROUTINES = [
+    "int @`r inside(region_t<`r> h, int n) { return rnew(h) n; }",
+    "int ?`r rowed(region_t<`r> h, int n) { return rnew(h) {for i < (n & 3) + 1 : i + n}; }",
+    "int summed(int n) { region<`s> h; int ?`s p = rowed(h, n); int @`s q = inside(h, numelts(p)); return *q + p[0]; }",
+]
+
+
+class TurnMaker(Maker):
+    """Ints, and lexical regions that are opened in each turn of a loop, now and then one inside another, and what is made in them."""
+
+    def prepare(self):
+        super().prepare()
+        self.count = 0
+
+    def declarations(self):
+        return super().declarations() + [[line] for line in TURN_ROUTINES]
+
+    def nested_statements(self):
+        return super().nested_statements() + [self.turns] * 3 + [self.lasting] * self.chance(15)
+
+    def expressions(self):
+        return super().expressions() + [self.summed]
+
+    def summed(self, depth):
+        """A call of a function that opens a region of its own."""
+        return f"summed({self.operand(depth)})"
+
+    def opened(self, depth):
+        """A region to the end of the block, and what is made in it."""
+        self.count += 1
+        name, handle = f"r{self.count}_", f"h{self.count}_"
+        self.put(f"region<`{name}> {handle};")
+        for number in range(self.random.randint(0, 3)):
+            made = f"q{self.count}_{number}"
+            if self.chance(50):
+                self.put(f"int @`{name} {made} = {self.pick([f'rnew({handle}) ({self.expression(1)})', f'inside({handle}, {self.expression(1)})'])};")
+                self.put(f"show(*{made});")
+            else:
+                self.put(f"int ?`{name} {made} = {self.pick([f'rowed({handle}, {self.expression(1)})', f'rnew({handle}) {{for i_ < {self.pick([3, 40, 600])} : i_}}'])};")
+                self.put(f"show(numelts({made}) + {made}[0]);")
+        self.statements(self.random.randint(0, 2), depth)
+
+    def turns(self, depth):
+        """A loop of which each turn opens a region, or a region that is opened once."""
+        self.count += 1
+        name = f"t{self.count}_"
+        self.open("{")
+        is_loop = self.chance(70)
+        if is_loop:
+            self.put(f"int {name} = {self.random.randint(0, 3)};")
+            self.loops += 1
+            self.open(f"while ({name} > 0) {{")
+            self.put(f"{name} = {name} - 1;")
+        self.opened(depth)
+        if is_loop:
+            self.close()
+            self.loops -= 1
+        self.close()
+
+    def lasting(self, depth):
+        """An object on the heap, by `new` or by the heap's handle."""
+        self.put(self.pick([f"show(*new ({self.expression(1)}));", f"show(*rnew(heap_region) ({self.expression(1)}));"]))
+
+
 PROFILES = {"ints": Maker, "pointers": PointerMaker, "heap": HeapMaker, "exceptions": ExceptionMaker, "unique": UniqueMaker}
 PROFILES.update({"regions": RegionMaker, "chars": CharMaker, "bytes": ByteMaker})
 
@@ -1119,6 +1185,8 @@ def before(way):
 
 # Those whose calls, and those whose steps too, have a bound where no routine of theirs stands in the way.
 IN_ROWS, WITHOUT_LOOPS = before(InRows), before(WithoutLoops)
+# Those whose regions mostly close before the next turn of a loop.
+IN_TURNS = {"turns": type("InRowsTurnMaker", (InRows, TurnMaker), {})}
 # Those that have nothing but ints and chars.
 OF_NUMBERS = ("ints", "chars")
 # Those whose programs are run beside the same in C.

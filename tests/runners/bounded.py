@@ -3,14 +3,16 @@
 
     python3 tests/runners/bounded.py [--program PATH] [--count N] [--seed N]
 
-Of each example, and of N random programs, 300 where it is left out, two thirds of which have no functions that lead back to themselves, and a
-third no loops either. Calls: the number is the longest row of functions of which each calls the next, from `main` on; where there is none,
-each function that is named calls the next one at the place that is told, the last one calls the first, and `main` leads to them. Pages:
-where nothing leads back, there is a number just where no loop makes or opens anything, also by calls, and else the place is that of one
-that does. Steps: there is a number just where nothing leads back and `main` leads to no loop, and else the place is that of one. No run has
-more calls under way, takes more pages or executes more instructions, and one that is allowed just so many calls and pages ends as one that
-is allowed more. The last line is `N passed, M failed`, of programs; before it stands how many have a bound, and how near their runs come to
-it.
+Of each example, and of N random programs, 300 where it is left out, three quarters of which have no functions that lead back to themselves,
+a quarter no loops either, and a quarter regions that are opened in each turn of a loop. Calls: the number is the longest row of functions of
+which each calls the next, from `main` on; where there is none, each function that is named calls the next one at the place that is told, the
+last one calls the first, and `main` leads to them. Pages: where nothing leads back, there is a number just where no loop stands in the way,
+and else the place is that of one that does. A loop does that makes or opens anything, also by calls. Where `main` leads to no dynamic region
+and nowhere is the heap's handle a value, lexical regions give back: then only a loop does that makes an object on the heap or a unique one,
+or that makes or opens anything while a region is open outside of it. Steps: there is a number just where nothing leads back and `main` leads
+to no loop, and else the place is that of one. No run has more calls under way, takes more pages or executes more instructions, and one that
+is allowed just so many calls and pages ends as one that is allowed more. The last line is `N passed, M failed`, of programs; before it stands
+how many have a bound, and how near their runs come to it.
 """
 import itertools
 import json
@@ -39,9 +41,32 @@ def parts_of(part):
             yield from parts_of(inner)
 
 
+def is_region(part):
+    """Whether a part declares a lexical region."""
+    return part.kind == "region" and hasattr(part, "at")
+
+
 def is_making(part):
     """Whether a part makes an object or opens a region."""
-    return part.kind in ("new", "key") or part.kind == "region" and hasattr(part, "at")
+    return part.kind in ("new", "key") or is_region(part)
+
+
+def is_lasting(part):
+    """Whether a part makes an object that the end of no lexical region gives back, where there is no handle of the heap."""
+    return part.kind == "new" and (part.handle is None or part.handle.kind == "unique_region")
+
+
+def outermost_regions(part):
+    """What stands to the end of its block behind each lexical region that is declared where no other one is open in its function."""
+    if isinstance(part, list):
+        for place, inner in enumerate(part):
+            if hasattr(inner, "kind") and is_region(inner):
+                yield part[place:]
+                return
+            yield from outermost_regions(inner)
+    elif hasattr(part, "kind"):
+        for inner in vars(part).values():
+            yield from outermost_regions(inner)
 
 
 class Calls:
@@ -64,8 +89,9 @@ class Calls:
             heights[name] = None if None in below else 1 + max(below, default=0)
         return heights[name]
 
-    def reached(self):
-        found, left = set(), ["main"]
+    def reached(self, first=("main",)):
+        """The functions that these lead to."""
+        found, left = set(), list(first)
         while left:
             name = left.pop()
             if name not in found:
@@ -73,18 +99,36 @@ class Calls:
                 left += self.sites[name]
         return found
 
-    def loops(self, is_counted):
-        """The places of loops that `main` leads to of which a part is counted, also in a function that is called there."""
+    def counted(self, is_counted):
+        """The functions of which a part is counted, also in one that is called there."""
         counted = {name for name, function in self.functions.items() if any(is_counted(part) for part in parts_of(function.body))}
         for _ in self.functions:
             counted |= {name for name, sites in self.sites.items() if counted & set(sites)}
+        return counted
+
+    def loops_in(self, parts, is_counted):
+        """The places of loops in these parts, and in functions that they lead to, of which a part is counted, also by calls."""
+        counted = self.counted(is_counted)
+        called = self.reached(part.name for part in parts_of(parts) if part.kind == "call" and part.name in self.functions)
         return {
             loop.place
-            for name in self.reached()
-            for loop in parts_of(self.functions[name].body)
+            for where in [parts] + [self.functions[name].body for name in called]
+            for loop in parts_of(where)
             if loop.kind == "while"
             and any(is_counted(part) or part.kind == "call" and part.name in counted for part in parts_of(loop))
         }
+
+    def loops(self, is_counted):
+        """The places of loops that `main` leads to of which a part is counted."""
+        return self.loops_in(self.functions["main"].body, is_counted)
+
+    def loops_of_pages(self):
+        """The places of loops that stand in the way of a bound on pages."""
+        bodies = [self.functions[name].body for name in self.reached()]
+        if any(part.kind in ("heap_region", "key") for part in parts_of(bodies)):
+            return self.loops(is_making)
+        inside = [self.loops_in(rest, is_making) for rest in outermost_regions(bodies)]
+        return self.loops(is_lasting).union(*inside)
 
     def fault_of_circle(self, lines):
         """What is wrong with a circle that is told, if anything is."""
@@ -150,7 +194,7 @@ class Tried:
             return calls.fault_of_circle(told.lines["calls"][1:]) if told.lines["calls"][0] == "calls unbounded" else f"says {told.lines['calls']}"
         if told.lines["calls"] != [f"calls {height}"]:
             return f"says {told.lines['calls']}, not {height}"
-        return told.fault_of_loop("pages", calls.loops(is_making)) or told.fault_of_loop("steps", calls.loops(lambda part: True))
+        return told.fault_of_loop("pages", calls.loops_of_pages()) or told.fault_of_loop("steps", calls.loops(lambda part: True))
 
     def fault_of_run(self, folder, source, given, told):
         """What is wrong with what a run takes beside what is told, if anything is."""
@@ -185,8 +229,8 @@ def main():
     def all_faults():
         passed, failed, of_examples = 0, 0, {}
         made = [
-            texts.random_programs(f"bounded {number}", options.seed, options.count // 3, profiles=profiles)
-            for number, profiles in enumerate((makers.PROFILES, makers.IN_ROWS, makers.WITHOUT_LOOPS))
+            texts.random_programs(f"bounded {number}", options.seed, options.count // 4, profiles=profiles)
+            for number, profiles in enumerate((makers.PROFILES, makers.IN_ROWS, makers.WITHOUT_LOOPS, makers.IN_TURNS))
         ]
         for name, text, given in itertools.chain(texts.examples(), *made):
             fault = tried.fault(text, given)

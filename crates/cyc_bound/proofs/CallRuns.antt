@@ -20,7 +20,7 @@ module _ (program : Program) where
   steps_in zero s h = h
   steps_in (suc count) s h = steps_in count (step program s) (step_in program s h)
 
-  run_in : (input : List ℕ) (count : ℕ) → IsInSome program (run program input count)
+  pub run_in : (input : List ℕ) (count : ℕ) → IsInSome program (run program input count)
   run_in input count = steps_in count (start program input) (starts_in input)
 
   module _ (bound : ℕ) (most : IsAtMost program program.main bound) where

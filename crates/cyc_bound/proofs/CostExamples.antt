@@ -1,13 +1,17 @@
 -- What runs of small programs cost, worked out by hand from the language's rules, and what their runs take.
-use Rattle.std.proofs.Common.{◌≡◌, ℕ, [], ◌∷◌, refl}
+use Rattle.std.proofs.Common.{◌≡◌, ℕ, max, List, [], ◌∷◌, true, false, refl}
+use Rattle.std.specs.Prelude.{map}
 use Rattle.cyc_types.specs.declared.typed.Operator.TheVariants as operators
-use Rattle.cyc_types.specs.TypedTrees.{Number, OnHeap, AsUnique, Evaluate, Execute, If, Program}
+use Rattle.cyc_types.specs.declared.region.Region.TheVariants.{Heap}
+use Rattle.cyc_types.specs.Types.{Handle}
+use Rattle.cyc_types.specs.TypedTrees.{Number, HeapRegion, OnHeap, AsUnique, ByHandle, Evaluate, Statement, Execute, DeclareRegion, If, Item, Function, Program}
 use Rattle.cyc_meaning.specs.State.{demand, status_of, GoesOn}
 use Rattle.cyc_meaning.specs.Run.{run}
-use Rattle.cyc_meaning.proofs.ExampleTrees.{two, call, execute, return, while, function, program_with, program, fat, at, new, array, block}
+use Rattle.cyc_meaning.proofs.ExampleTrees.{two, call, execute, return, while, function, program_with, program, fat, at, new, array, variable, block, try_to, otherwise}
 use Rattle.cyc_bound.specs.declared.costs.Measure.TheVariants as measures
 use Rattle.cyc_bound.specs.declared.costs.Measure.{Measure}
-use Rattle.cyc_bound.specs.Costs.{next_costs, run_cost, costs_after}
+use Rattle.cyc_bound.specs.Costs.{too_many, next_costs, run_cost, costs_after}
+use Rattle.cyc_bound.specs.AtOnce.{items_at_once}
 use Rattle.cyc_bound.specs.Pages.{most_pages}
 use Rattle.cyc_bound.specs.Steps.{IsOver}
 
@@ -49,7 +53,7 @@ abbrev again : Program
 again = program_with (function [] (return (call 1 []) ∷ []) ∷ []) (return (call 1 []) ∷ [])
 
 -- it makes nothing, so that its pages have a bound all the same
-again_pages : most_pages (cost_by again 1) ≡ 1
+again_pages : most_pages false (cost_by again 1) ≡ 1
 again_pages = refl
 
 again_settles : next_costs again measures.Blocks (costs_after again measures.Blocks 1) ≡ costs_after again measures.Blocks 1
@@ -61,7 +65,7 @@ abbrev loop : Program
 loop = program (while (Number 1) (Evaluate (Number 2)) ∷ return (Number 0) ∷ [])
 
 -- it makes nothing, so that its pages have a bound all the same
-loop_pages : most_pages (cost_by loop 1) ≡ 1
+loop_pages : most_pages false (cost_by loop 1) ≡ 1
 loop_pages = refl
 
 -- ---- blocks
@@ -70,15 +74,130 @@ loop_pages = refl
 abbrev arrays : Program
 arrays = program (execute (array OnHeap fat (Number 600) (Number 0)) ∷ execute (array OnHeap fat (Number 600) (Number 0)) ∷ return (Number 0) ∷ [])
 
-arrays_pages : most_pages (cost_by arrays 1) ≡ 3
+arrays_pages : most_pages false (cost_by arrays 1) ≡ 3
 arrays_pages = refl
 
 -- of two branches the one with more counts
 abbrev branches : Program
 branches = program (Execute (If (Number 1) (Evaluate (new AsUnique at (Number 1))) (block [])) ∷ return (Number 0) ∷ [])
 
-branches_pages : most_pages (cost_by branches 1) ≡ 2
+branches_pages : most_pages false (cost_by branches 1) ≡ 2
 branches_pages = refl
 
 branches_ask : demand (run branches [] 12) ≡ 2
 branches_ask = refl
+
+-- ---- lexical regions
+
+-- The costliest outermost region of a program. `main` leads to each function here.
+abbrev greatest : List ℕ → ℕ
+greatest [] = 0
+greatest (n ∷ ns) = max n (greatest ns)
+
+abbrev at_once_by : Program → (rounds : ℕ) → Measure → ℕ
+at_once_by program rounds m = greatest (map (λ (h : Function). items_at_once m (costs_after program m rounds) h.body) program.functions)
+
+-- where lexical regions give back
+abbrev back_by : Program → (rounds : ℕ) → Measure → ℕ
+back_by program rounds measures.Openings = at_once_by program rounds measures.Openings
+back_by program rounds measures.RegionBlocks = at_once_by program rounds measures.RegionBlocks
+back_by program rounds measures.RegionWords = at_once_by program rounds measures.RegionWords
+back_by program rounds m = cost_by program rounds m
+
+-- rnew(h) 7, where h is this local
+abbrev made_by : ℕ → Item
+made_by number = execute (new (ByHandle (variable number (Handle Heap))) at (Number 7))
+
+-- { region<`a> h; rnew(h) 7; rnew(h) 7; }
+abbrev in_a_region : Statement
+in_a_region = block (DeclareRegion 2 0 ∷ made_by 0 ∷ made_by 0 ∷ [])
+
+-- while (1) { region<`a> h; rnew(h) 7; rnew(h) 7; } return 0;
+abbrev region_each_turn : Program
+region_each_turn = program (while (Number 1) in_a_region ∷ return (Number 0) ∷ [])
+
+-- nothing may last, and each turn asks for one page beside the heap's
+each_turn_gives_back : cost_by region_each_turn 1 measures.Lasting ≡ 0
+each_turn_gives_back = refl
+
+each_turn_pages : most_pages true (back_by region_each_turn 1) ≡ 2
+each_turn_pages = refl
+
+-- where nothing is taken off, its blocks have no bound
+each_turn_blocks : cost_by region_each_turn 1 measures.Blocks ≡ too_many
+each_turn_blocks = refl
+
+each_turn_asks : demand (run region_each_turn [] 20) ≡ 2
+each_turn_asks = refl
+
+-- heap_region; and then the same loop: the heap's handle is a value, which may come to any `rnew`
+abbrev heap_handle : Program
+heap_handle = program (execute HeapRegion ∷ while (Number 1) in_a_region ∷ return (Number 0) ∷ [])
+
+heap_handle_lasts : cost_by heap_handle 1 measures.Lasting ≡ 1
+heap_handle_lasts = refl
+
+heap_handle_blocks : cost_by heap_handle 1 measures.Blocks ≡ too_many
+heap_handle_blocks = refl
+
+-- while (1) { region<`a> h; rnew(h) 7; { region<`b> k; rnew(k) 7; } } return 0; the inner region's page and block count beside the outer one's
+abbrev nested : Program
+nested = program (while (Number 1) (block (DeclareRegion 2 0 ∷ made_by 0 ∷ Execute (block (DeclareRegion 3 1 ∷ made_by 1 ∷ [])) ∷ [])) ∷ return (Number 0) ∷ [])
+
+nested_openings : at_once_by nested 1 measures.Openings ≡ 2
+nested_openings = refl
+
+nested_blocks : at_once_by nested 1 measures.RegionBlocks ≡ 2
+nested_blocks = refl
+
+nested_pages : most_pages true (back_by nested 1) ≡ 3
+nested_pages = refl
+
+-- a function that opens a region of its own, called in a loop
+abbrev opened_by_callee : Program
+opened_by_callee = program_with (function [] (DeclareRegion 2 0 ∷ made_by 0 ∷ return (Number 7) ∷ []) ∷ []) (while (Number 1) (Evaluate (call 1 [])) ∷ return (Number 0) ∷ [])
+
+callee_pages : most_pages true (back_by opened_by_callee 2) ≡ 2
+callee_pages = refl
+
+-- one that is called in a region, whose region is open at the same time
+abbrev called_in_region : Program
+called_in_region = program_with (function [] (DeclareRegion 2 0 ∷ made_by 0 ∷ return (Number 7) ∷ []) ∷ []) (while (Number 1) (block (DeclareRegion 2 0 ∷ execute (call 1 []) ∷ made_by 0 ∷ [])) ∷ return (Number 0) ∷ [])
+
+called_openings : at_once_by called_in_region 2 measures.Openings ≡ 2
+called_openings = refl
+
+called_blocks : at_once_by called_in_region 2 measures.RegionBlocks ≡ 2
+called_blocks = refl
+
+-- of two regions that are not open at the same time the costlier one counts
+abbrev in_turn : Program
+in_turn = program (Execute in_a_region ∷ Execute (block (DeclareRegion 2 0 ∷ made_by 0 ∷ [])) ∷ return (Number 0) ∷ [])
+
+in_turn_blocks : at_once_by in_turn 1 measures.RegionBlocks ≡ 2
+in_turn_blocks = refl
+
+-- a loop in a region has no bound where its turns make something
+abbrev loop_in_region : Program
+loop_in_region = program (Execute (block (DeclareRegion 2 0 ∷ while (Number 1) (block (made_by 0 ∷ [])) ∷ [])) ∷ return (Number 0) ∷ [])
+
+loop_in_region_blocks : at_once_by loop_in_region 1 measures.RegionBlocks ≡ too_many
+loop_in_region_blocks = refl
+
+-- a `try` in a region has made what its body made when a clause makes more
+abbrev try_in_region : Program
+try_in_region = program (Execute (block (DeclareRegion 2 0 ∷ try_to (block (made_by 0 ∷ [])) (otherwise (made_by 0 ∷ [])) ∷ [])) ∷ return (Number 0) ∷ [])
+
+try_in_region_blocks : at_once_by try_in_region 1 measures.RegionBlocks ≡ 2
+try_in_region_blocks = refl
+
+-- A function that opens a region, and calls itself behind the region's end. As much as is counted is enough for it, and no less; but its
+-- regions are never open at the same time.
+abbrev again_behind : Program
+again_behind = program_with (function [] (Execute in_a_region ∷ return (call 1 []) ∷ []) ∷ []) (return (call 1 []) ∷ [])
+
+behind_is_enough : next_costs again_behind measures.RegionBlocks (too_many ∷ too_many ∷ []) ≡ too_many ∷ too_many ∷ []
+behind_is_enough = refl
+
+behind_blocks : greatest (map (λ (h : Function). items_at_once measures.RegionBlocks (too_many ∷ too_many ∷ []) h.body) again_behind.functions) ≡ 2
+behind_blocks = refl

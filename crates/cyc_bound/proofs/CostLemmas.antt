@@ -9,13 +9,15 @@ use Rattle.cyc_types.specs.declared.typed.Callee.{Callee}
 use Rattle.cyc_types.specs.declared.typed.Callee.TheVariants as callees
 use Rattle.cyc_types.specs.TypedTrees.{Expression, Number, NullPointer, HeapRegion, Counter, Copy, Move, Peek, Load, AddressOf, AddressOfCell, NumberOfElements, FreeUnique, FreeKey, Call, Unary, Binary, Assign, New, Dereference, Target, Member, Element, OnHeap, AsUnique, ByHandle, Initial, Plain, Fields, Array, Convert, Arguments, NoArguments, MoreArguments, Statement, Block, Empty, Evaluate, Swap, If, While, Break, Continue, Throw, Try, Items, NoItems, MoreItems, Execute, Declare, DeclareRegion, OpenRegion, DeclareAlias, DeclareKey, Clauses, NoClauses, Default, Case}
 use Rattle.cyc_types.specs.TypedTrees as typed
-use Rattle.cyc_meaning.specs.Values.{number_of_kind, is_kind, bytes_of_kind, behind, words_for}
+use Rattle.cyc_meaning.specs.Values.{Handle, number_of_kind, is_kind, bytes_of_kind, behind, words_for}
 use Rattle.cyc_meaning.specs.Allocation.{most_words}
-use Rattle.cyc_meaning.specs.State.{Awaiting, ConvertTo, Operate, Chain, Apply, ApplyPointer, Decide, Store, StoreCell, Pass, Follow, FollowMember, Index, Advance, CountElements, FreeObject, CloseByKey, PlaceBy, BesideHandle, MakePlain, MakeFields, MakeArray, FillElement, Initialise, Choose, Test, Return, ThrowWith, OpenBy, AliasOf, AwaitingPlace, LoadFrom, TakeAddress, StoreTo, SwapLeft, SwapRight, Entry, Needs, NeedsPlace, Discard, Rest, Join, Loop, CloseRegion, CloseLexical, EndLoan, Handler, Caller, Main, Focus, Evaluating, Locating, Given, GivenPlace, Executing, Proceeding, Calling, Entering, Binding, Naming, Writing, Beginning, Repeating, Swapping, Breaking, Continuing, Returning, Throwing, Catching}
+use Rattle.cyc_meaning.specs.State.{Awaiting, ConvertTo, Operate, Chain, Apply, ApplyPointer, Decide, Store, StoreCell, Pass, Follow, FollowMember, Index, Advance, CountElements, FreeObject, CloseByKey, PlaceBy, BesideHandle, MakePlain, MakeFields, MakeArray, FillElement, Initialise, Choose, Test, Return, ThrowWith, OpenBy, AliasOf, AwaitingPlace, LoadFrom, TakeAddress, StoreTo, SwapLeft, SwapRight, Entry, Needs, NeedsPlace, Discard, Rest, Join, Loop, CloseRegion, CloseLexical, EndLoan, Handler, Caller, Main, Focus, Evaluating, Locating, Given, GivenPlace, Executing, Proceeding, Calling, Entering, Binding, Naming, Writing, Beginning, Repeating, Swapping, Breaking, Continuing, Returning, Throwing, Catching, State, Running, Ended, Dead, Wrong, heap_number}
 use Rattle.cyc_bound.specs.declared.costs.Measure.{Measure}
 use Rattle.cyc_bound.specs.declared.costs.Measure.TheVariants as measures
-use Rattle.cyc_bound.specs.Costs.{too_many, step_cost, block_cost, array_block_cost, size_of_bytes, most_elements, array_cost, callee_cost, expression_cost, place_cost, fields_cost, loop_cost, statement_cost, items_cost, clauses_cost}
-use Rattle.cyc_bound.specs.inside.Remaining.{Delivery, Nothing, Anything, OfKind, delivered_number, is_unique, bytes_before, length_awaited, elements_left, awaiting_cost, awaiting_place_cost, stack_cost, focus_cost}
+use Rattle.cyc_bound.specs.declared.costs.Site.{Site}
+use Rattle.cyc_bound.specs.declared.costs.Site.TheVariants as sites
+use Rattle.cyc_bound.specs.Costs.{too_many, step_cost, block_cost, array_block_cost, size_of_bytes, most_elements, written_length, array_cost, callee_cost, expression_cost, place_cost, initial_cost, fields_cost, loop_cost, statement_cost, items_cost, clauses_cost}
+use Rattle.cyc_bound.specs.inside.Remaining.{Delivery, Nothing, Anything, OfKind, delivered_number, site_of_owner, bytes_before, length_awaited, elements_left, awaiting_cost, awaiting_place_cost, stack_cost, focus_cost}
 
 -- ---- loops
 
@@ -70,27 +72,47 @@ size_fits kinds.Fat n = omega arith
 size_fits kinds.Handle n = omega arith
 size_fits kinds.Key n = omega arith
 
-block_known : (m : Measure) (unique : Bool) (size : ℕ) → size ≤ most_words → block_cost m unique size ≤ array_block_cost m unique
-block_known measures.Steps false size fits = omega arith
-block_known measures.Steps true size fits = omega arith
-block_known measures.Openings false size fits = omega arith
-block_known measures.Openings true size fits = omega arith
-block_known measures.Blocks false size fits = omega arith
-block_known measures.Blocks true size fits = omega arith
-block_known measures.Words false size fits = fits
-block_known measures.Words true size fits = omega arith
-block_known (measures.Uniques class) false size fits = omega arith
-block_known (measures.Uniques class) true size fits = go (class_of size == class)
+block_known : (m : Measure) (site : Site) (size : ℕ) → size ≤ most_words → block_cost m site size ≤ array_block_cost m site
+block_known measures.Steps sites.Heap size fits = omega arith
+block_known measures.Steps sites.Region size fits = omega arith
+block_known measures.Steps sites.Unique size fits = omega arith
+block_known measures.Openings sites.Heap size fits = omega arith
+block_known measures.Openings sites.Region size fits = omega arith
+block_known measures.Openings sites.Unique size fits = omega arith
+block_known measures.Blocks sites.Heap size fits = omega arith
+block_known measures.Blocks sites.Region size fits = omega arith
+block_known measures.Blocks sites.Unique size fits = omega arith
+block_known measures.Words sites.Heap size fits = fits
+block_known measures.Words sites.Region size fits = fits
+block_known measures.Words sites.Unique size fits = omega arith
+block_known measures.HeapBlocks sites.Heap size fits = omega arith
+block_known measures.HeapBlocks sites.Region size fits = omega arith
+block_known measures.HeapBlocks sites.Unique size fits = omega arith
+block_known measures.HeapWords sites.Heap size fits = fits
+block_known measures.HeapWords sites.Region size fits = omega arith
+block_known measures.HeapWords sites.Unique size fits = omega arith
+block_known measures.RegionBlocks sites.Heap size fits = omega arith
+block_known measures.RegionBlocks sites.Region size fits = omega arith
+block_known measures.RegionBlocks sites.Unique size fits = omega arith
+block_known measures.RegionWords sites.Heap size fits = omega arith
+block_known measures.RegionWords sites.Region size fits = fits
+block_known measures.RegionWords sites.Unique size fits = omega arith
+block_known measures.Lasting sites.Heap size fits = omega arith
+block_known measures.Lasting sites.Region size fits = omega arith
+block_known measures.Lasting sites.Unique size fits = omega arith
+block_known (measures.Uniques class) sites.Heap size fits = omega arith
+block_known (measures.Uniques class) sites.Region size fits = omega arith
+block_known (measures.Uniques class) sites.Unique size fits = go (class_of size == class)
   where
     go : (b : Bool) → (if b then 1 else 0) ≤ 1
     go true = omega arith
     go false = omega arith
 
-pub array_known : (m : Measure) (unique : Bool) (kind : Kind) (element : ℕ) (n : Option ℕ) → array_cost m unique kind element n ≤ array_cost m unique kind element None
-array_known m unique kind element None = omega arith
-array_known m unique kind element (Some n) =
+pub array_known : (m : Measure) (site : Site) (kind : Kind) (element : ℕ) (n : Option ℕ) → array_cost m site kind element n ≤ array_cost m site kind element None
+array_known m site kind element None = omega arith
+array_known m site kind element (Some n) =
     let few : min n (most_elements kind) ≤ most_elements kind = omega arith in
-    omega (arith, mul-le-mul_right (step_cost m + element) few, block_known m unique (size_of_bytes (min n (most_elements kind) * bytes_of_kind kind)) (size_fits kind n))
+    omega (arith, mul-le-mul_right (step_cost m + element) few, block_known m site (size_of_bytes (min n (most_elements kind) * bytes_of_kind kind)) (size_fits kind n))
 
 pub length_is : (m : Measure) (array : Option ℕ → ℕ) (n : Option ℕ) → length_awaited m array (delivered_number n) ≡ array n
 length_is m array None = refl
@@ -118,13 +140,13 @@ module _ (m : Measure) (costs : List ℕ) where
   clauses_least (Default region items) = omega arith
   clauses_least (Case tag number region items later) = omega arith
 
-  fields_least : (unique : Bool) (count bytes : ℕ) (fields : Arguments) → step_cost m ≤ fields_cost m costs unique count bytes fields
-  fields_least unique count bytes NoArguments = omega arith
-  fields_least unique count bytes (MoreArguments (Convert from to a) fields) = omega arith
+  fields_least : (site : Site) (count bytes : ℕ) (fields : Arguments) → step_cost m ≤ fields_cost m costs site count bytes fields
+  fields_least site count bytes NoArguments = omega arith
+  fields_least site count bytes (MoreArguments (Convert from to a) fields) = omega arith
 
-  pub array_least : (unique : Bool) (kind : Kind) (element : ℕ) (n : Option ℕ) → step_cost m ≤ array_cost m unique kind element n
-  array_least unique kind element None = omega arith
-  array_least unique kind element (Some n) = omega arith
+  pub array_least : (site : Site) (kind : Kind) (element : ℕ) (n : Option ℕ) → step_cost m ≤ array_cost m site kind element n
+  array_least site kind element None = omega arith
+  array_least site kind element (Some n) = omega arith
 
   pub elements_left_least : (element count index : ℕ) → elements_left m element count index < too_many → step_cost m ≤ elements_left m element count index
   elements_left_least element count index less = go (nat_le index count) less
@@ -247,6 +269,47 @@ module _ (m : Measure) (costs : List ℕ) where
       go true is less = leb-true index count is
       go false is less = absurd (omega (arith, less))
 
+-- ---- sites
+
+-- nothing that is made on the heap costs more than if it were made by a handle
+abbrev pub IsNoMore : Measure → Type 0
+IsNoMore m = ((size : ℕ) → block_cost m sites.Heap size ≤ block_cost m sites.Region size) × (array_block_cost m sites.Heap ≤ array_block_cost m sites.Region)
+
+module _ (m : Measure) (costs : List ℕ) (no_more : IsNoMore m) where
+  fields_no_more : (count bytes : ℕ) (fields : Arguments) → fields_cost m costs sites.Heap count bytes fields ≤ fields_cost m costs sites.Region count bytes fields
+  fields_no_more count bytes NoArguments = omega (arith, no_more.0 (size_of_bytes bytes))
+  fields_no_more count bytes (MoreArguments (Convert from to a) fields) = omega (arith, fields_no_more (suc count) (behind to bytes) fields)
+
+  array_no_more : (kind : Kind) (element : ℕ) (n : Option ℕ) → array_cost m sites.Heap kind element n ≤ array_cost m sites.Region kind element n
+  array_no_more kind element None = omega (arith, no_more.1)
+  array_no_more kind element (Some n) = omega (arith, no_more.0 (size_of_bytes (min n (most_elements kind) * bytes_of_kind kind)))
+
+  pub initial_no_more : (initial : Initial) → initial_cost m costs sites.Heap initial ≤ initial_cost m costs sites.Region initial
+  initial_no_more (Plain kind a) = omega (arith, no_more.0 (size_of_bytes (behind kind 0)))
+  initial_no_more (Fields fields) = fields_no_more 0 0 fields
+  initial_no_more (Array place level count kind element) = omega (arith, array_no_more kind (expression_cost m costs element) (written_length count))
+
+-- where a handle of the heap is handed on nothing costs less by a handle than on the heap
+abbrev pub Fits : Measure → Focus → Type 0
+Fits m (Given v) = v.value ≡ Handle heap_number → IsNoMore m
+Fits m focus = Unit {0}
+
+abbrev pub FitsIn : Measure → State → Type 0
+FitsIn m (Running focus stack e w) = Fits m focus
+FitsIn m (Ended ending output input) = Unit {0}
+FitsIn m (Dead output input) = Unit {0}
+FitsIn m (Wrong output input) = Unit {0}
+
+pub always_fits : (m : Measure) → IsNoMore m → (s : State) → FitsIn m s
+always_fits m no_more (Running focus stack e w) = go focus
+  where
+    go : (focus : Focus) → Fits m focus
+    go (Given v) = λ is. no_more
+    go focus = tt
+always_fits m no_more (Ended ending output input) = tt
+always_fits m no_more (Dead output input) = tt
+always_fits m no_more (Wrong output input) = tt
+
 -- ---- stacks
 
 module _ (m : Measure) (costs : List ℕ) where
@@ -273,7 +336,7 @@ module _ (m : Measure) (costs : List ℕ) where
   nothing_of_any (Needs (BesideHandle region) ∷ stack) less = omega arith
   nothing_of_any (Needs (MakePlain owner kind) ∷ stack) less = omega arith
   nothing_of_any (Needs (MakeFields owner before fields) ∷ stack) less = absurd (omega (arith, less))
-  nothing_of_any (Needs (MakeArray owner level kind element) ∷ stack) less = omega (arith, array_least m costs (is_unique owner) kind (expression_cost m costs element) None)
+  nothing_of_any (Needs (MakeArray owner level kind element) ∷ stack) less = omega (arith, array_least m costs (site_of_owner owner) kind (expression_cost m costs element) None)
   nothing_of_any (Needs (FillElement object count index level kind element) ∷ stack) less = omega arith
   nothing_of_any (Needs (Initialise number kind items) ∷ stack) less = omega arith
   nothing_of_any (Needs (Choose first second) ∷ stack) less = omega arith
@@ -315,8 +378,8 @@ module _ (m : Measure) (costs : List ℕ) where
   nothing_of_kind k n (Needs (PlaceBy initial) ∷ stack) = omega arith
   nothing_of_kind k n (Needs (BesideHandle region) ∷ stack) = omega arith
   nothing_of_kind k n (Needs (MakePlain owner kind) ∷ stack) = omega arith
-  nothing_of_kind k n (Needs (MakeFields owner before fields) ∷ stack) = omega (arith, fields_least m costs (is_unique owner) (suc (length before)) (behind k (bytes_before before)) fields)
-  nothing_of_kind k n (Needs (MakeArray owner level kind element) ∷ stack) = omega (arith, array_least m costs (is_unique owner) kind (expression_cost m costs element) n)
+  nothing_of_kind k n (Needs (MakeFields owner before fields) ∷ stack) = omega (arith, fields_least m costs (site_of_owner owner) (suc (length before)) (behind k (bytes_before before)) fields)
+  nothing_of_kind k n (Needs (MakeArray owner level kind element) ∷ stack) = omega (arith, array_least m costs (site_of_owner owner) kind (expression_cost m costs element) n)
   nothing_of_kind k n (Needs (FillElement object count index level kind element) ∷ stack) = omega arith
   nothing_of_kind k n (Needs (Initialise number kind items) ∷ stack) = omega arith
   nothing_of_kind k n (Needs (Choose first second) ∷ stack) = omega arith
@@ -365,7 +428,7 @@ module _ (m : Measure) (costs : List ℕ) where
   known k n (Needs (BesideHandle region) ∷ stack) less = omega arith
   known k n (Needs (MakePlain owner kind) ∷ stack) less = omega arith
   known k n (Needs (MakeFields owner before fields) ∷ stack) less = absurd (omega (arith, less))
-  known k n (Needs (MakeArray owner level kind element) ∷ stack) less = omega (arith, array_known m (is_unique owner) kind (expression_cost m costs element) n)
+  known k n (Needs (MakeArray owner level kind element) ∷ stack) less = omega (arith, array_known m (site_of_owner owner) kind (expression_cost m costs element) n)
   known k n (Needs (FillElement object count index level kind element) ∷ stack) less = omega arith
   known k n (Needs (Initialise number kind items) ∷ stack) less = omega arith
   known k n (Needs (Choose first second) ∷ stack) less = omega arith
@@ -408,7 +471,7 @@ module _ (m : Measure) (costs : List ℕ) where
   kept k n (Needs (BesideHandle region) ∷ stack) = omega arith
   kept k n (Needs (MakePlain owner kind) ∷ stack) = omega arith
   kept k n (Needs (MakeFields owner before fields) ∷ stack) = omega arith
-  kept k n (Needs (MakeArray owner level kind element) ∷ stack) = omega (arith, array_known m (is_unique owner) kind (expression_cost m costs element) n)
+  kept k n (Needs (MakeArray owner level kind element) ∷ stack) = omega (arith, array_known m (site_of_owner owner) kind (expression_cost m costs element) n)
   kept k n (Needs (FillElement object count index level kind element) ∷ stack) = omega arith
   kept k n (Needs (Initialise number kind items) ∷ stack) = omega arith
   kept k n (Needs (Choose first second) ∷ stack) = omega arith

@@ -1,18 +1,19 @@
 -- What whole runs cost: they are over after so many steps, and spend no more than that.
-use Rattle.std.proofs.Common.{◌≡◌, ℕ, zero, suc, ◌+◌, ◌*◌, ◌-◌, ◌<◌, ◌≤◌, min, Bool, true, false, List, [], ◌∷◌, length, Option, Some, None, refl, sym, ap, subst, arith, suc-mul}
+use Rattle.std.proofs.Common.{◌≡◌, ℕ, zero, suc, ◌+◌, ◌*◌, ◌-◌, ◌<◌, ◌≤◌, min, Bool, true, false, List, [], ◌∷◌, length, Option, Some, None, refl, sym, subst, arith, suc-mul}
 use Rattle.std.specs.Prelude.{◌==◌, if◌then◌else◌, slice_get, map}
 use Rattle.cyc_types.specs.TypedTrees.{GlobalVariable, Function, Program}
 use Rattle.cyc_meaning.specs.State.{global_object, no_locals, first_world, Main, Entering, State, Running, Ended, Dead, Wrong}
 use Rattle.cyc_meaning.specs.Parts.{wrong}
 use Rattle.cyc_meaning.specs.Step.{called, step}
 use Rattle.cyc_meaning.specs.Run.{start, steps, run}
-use Rattle.cyc_meaning.proofs.RunLaws.{steps-add}
+use Rattle.cyc_meaning.proofs.RunLaws.{steps-add, steps-last}
 use Rattle.cyc_bound.specs.declared.costs.Measure.{Measure}
 use Rattle.cyc_bound.specs.declared.costs.Measure.TheVariants as measures
 use Rattle.cyc_bound.specs.Costs.{too_many, step_cost, opening_cost, function_cost, IsClosed, run_cost, IsRunCost}
 use Rattle.cyc_bound.specs.Steps.{IsOver}
 use Rattle.cyc_bound.specs.inside.Remaining.{objects_spent, spent, CostsAtMost}
-use Rattle.cyc_bound.proofs.CostLemmas.{focus_least, get_or_map}
+use Rattle.cyc_bound.proofs.CostLemmas.{IsNoMore, FitsIn, always_fits, focus_least, get_or_map}
+use Rattle.cyc_bound.proofs.CostWorlds.{all_counts}
 use Rattle.cyc_bound.proofs.CostSteps.{step_costs}
 
 module _ (program : Program) (m : Measure) where
@@ -43,23 +44,27 @@ module _ (program : Program) (m : Measure) where
     pub start_costs : (input : List ℕ) → CostsAtMost m costs (run_cost program m costs) (start program input)
     start_costs input = start_called input (slice_get program.functions program.main) refl
 
-    pub steps_cost : (n k : ℕ) (s : State) → k + n * step_cost m < too_many → CostsAtMost m costs (k + n * step_cost m) s → CostsAtMost m costs k (steps program n s)
-    steps_cost zero k s few h = subst (λ (most : ℕ). CostsAtMost m costs most s) (none k) h
-      where
-        none : (k : ℕ) → k + 0 * step_cost m ≡ k
-        none k = omega arith
-    steps_cost (suc n) k s few h =
-        let same : k + suc n * step_cost m ≡ k + n * step_cost m + step_cost m = omega (arith, suc-mul n (step_cost m)) in
-        steps_cost n k (step program s) (omega (arith, few, same))
-        (step_costs program m costs closed (k + n * step_cost m) (omega (arith, few, same)) s (subst (λ (most : ℕ). CostsAtMost m costs most s) same h))
-
-    -- what is counted beside steps
-    pub run_costs : (input : List ℕ) (n : ℕ) → step_cost m ≡ 0 → CostsAtMost m costs (run_cost program m costs) (run program input n)
-    run_costs input n free =
+    -- what is counted beside steps, where each state before fits
+    pub run_costs : (input : List ℕ) → step_cost m ≡ 0 → (n : ℕ) → ((i : ℕ) → i < n → FitsIn m (run program input i)) → CostsAtMost m costs (run_cost program m costs) (run program input n)
+    run_costs input free zero fits = start_costs input
+    run_costs input free (suc n) fits =
         let k : ℕ = run_cost program m costs in
-        let none : n * step_cost m ≡ n * 0 = ap (λ (s : ℕ). n * s) free in
-        let same : k ≡ k + n * step_cost m = omega (arith, none) in
-        steps_cost n k (start program input) (omega (arith, less, none)) (subst (λ (most : ℕ). CostsAtMost m costs most (start program input)) same (start_costs input))
+        let same : k ≡ k + step_cost m = omega (arith, free) in
+        subst (λ (s : State). CostsAtMost m costs k s) (sym (steps-last program n (start program input)))
+        (step_costs program m costs closed (spent m) (all_counts m) k (omega (arith, less, free)) (run program input n) (fits n (omega arith))
+        (subst (λ (most : ℕ). CostsAtMost m costs most (run program input n)) same (run_costs input free n (λ i below. fits i (omega (arith, below))))))
+
+  -- ---- steps
+
+  pub steps_cost : (costs : List ℕ) → IsClosed program m costs → IsNoMore m → (n k : ℕ) (s : State) → k + n * step_cost m < too_many → CostsAtMost m costs (k + n * step_cost m) s → CostsAtMost m costs k (steps program n s)
+  steps_cost costs closed no_more zero k s few h = subst (λ (most : ℕ). CostsAtMost m costs most s) (none k) h
+    where
+      none : (k : ℕ) → k + 0 * step_cost m ≡ k
+      none k = omega arith
+  steps_cost costs closed no_more (suc n) k s few h =
+      let same : k + suc n * step_cost m ≡ k + n * step_cost m + step_cost m = omega (arith, suc-mul n (step_cost m)) in
+      steps_cost costs closed no_more n k (step program s) (omega (arith, few, same))
+      (step_costs program m costs closed (spent m) (all_counts m) (k + n * step_cost m) (omega (arith, few, same)) s (always_fits m no_more s) (subst (λ (most : ℕ). CostsAtMost m costs most s) same h))
 
 module _ (program : Program) where
   over_stays : (n : ℕ) (s : State) → IsOver s → IsOver (steps program n s)
@@ -83,7 +88,7 @@ module _ (program : Program) where
       let few : c < too_many = omega (arith, is, less) in
       let same : c ≡ 0 + c * 1 = omega arith in
       let started = subst (λ (most : ℕ). CostsAtMost measures.Steps costs most (start program input)) same (start_costs program measures.Steps costs closed few input) in
-      let ended : IsOver (run program input c) = spent_all costs (run program input c) (steps_cost program measures.Steps costs closed few c 0 (start program input) (omega (arith, few)) started) in
+      let ended : IsOver (run program input c) = spent_all costs (run program input c) (steps_cost program measures.Steps costs closed ((λ size. omega arith), omega arith) c 0 (start program input) (omega (arith, few)) started) in
       let split : c + (count - c) ≡ count = omega (arith, enough, is) in
       subst (λ (n : ℕ). IsOver (run program input n)) split
       (subst IsOver (sym (steps-add program c (count - c) (start program input))) (over_stays (count - c) (run program input c) ended))

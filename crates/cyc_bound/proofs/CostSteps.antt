@@ -1,6 +1,6 @@
 -- A step makes what a run costs no more: what it does next, what waits and what is spent come to a step less, or stay where steps are not
 -- counted.
-use Rattle.std.proofs.Common.{◌≡◌, ℕ, suc, ◌+◌, ◌*◌, ◌-◌, ◌%◌, ◌^◌, ◌<◌, ◌≤◌, min, Bool, true, false, List, [], ◌∷◌, ◌++◌, drop, length, reverse, Option, Some, None, refl, ap, arith, suc-mul}
+use Rattle.std.proofs.Common.{◌≡◌, ℕ, zero, suc, ◌+◌, ◌*◌, ◌-◌, ◌%◌, ◌^◌, ◌<◌, ◌≤◌, min, Bool, true, false, List, [], ◌∷◌, ◌++◌, drop, length, reverse, Option, Some, None, refl, ap, arith, suc-mul}
 use Rattle.std.specs.Prelude.{◌==◌, ◌&&◌, nat_le, if◌then◌else◌, unwrap_or, slice_get, get_or}
 use Rattle.std.proofs.lemmas.Bool.{leb-true, eqb-false}
 use Rattle.std.proofs.lemmas.List.{length-reverse}
@@ -18,7 +18,7 @@ use Rattle.cyc_meaning.specs.Values.{Value, Int, Null, Thin, Fat, Handle, Key, O
 use Rattle.cyc_meaning.specs.Operators.{Result, Gives, Raises, Misfits, is_zero, binary_result, unary_result, unary_kind, truth, truth_of, decides, array_size}
 use Rattle.cyc_meaning.specs.Pointers.{element_count, pointer_result, takes_kind, Reach, At, Stops, Nowhere, followed}
 use Rattle.cyc_meaning.specs.Conversion.{conversion}
-use Rattle.cyc_meaning.specs.State.{Region, Lexical, Dynamic, Owner, InRegion, Unique, Object, World, Access, Found, Closed, Missing, region_at, Located, cell_at, Environment, Awaiting, ConvertTo, Operate, Chain, Apply, ApplyPointer, Decide, Store, StoreCell, Pass, Follow, FollowMember, Index, Advance, CountElements, FreeObject, CloseByKey, PlaceBy, BesideHandle, MakePlain, MakeFields, MakeArray, FillElement, Initialise, Choose, Test, Return, ThrowWith, OpenBy, AliasOf, AwaitingPlace, LoadFrom, TakeAddress, StoreTo, SwapLeft, SwapRight, Entry, Needs, NeedsPlace, Discard, Rest, Join, Loop, CloseRegion, CloseLexical, EndLoan, Handler, Caller, Main, Write, Focus, Evaluating, Locating, Given, GivenPlace, Executing, Proceeding, Calling, Entering, Binding, Naming, Writing, Beginning, Repeating, Swapping, Breaking, Continuing, Returning, Throwing, Catching, State, Running, Ended, Dead, Wrong}
+use Rattle.cyc_meaning.specs.State.{heap_number, Stack, Region, Lexical, Dynamic, Owner, InRegion, Unique, Object, World, Access, Found, Closed, Missing, region_at, Located, cell_at, Environment, Awaiting, ConvertTo, Operate, Chain, Apply, ApplyPointer, Decide, Store, StoreCell, Pass, Follow, FollowMember, Index, Advance, CountElements, FreeObject, CloseByKey, PlaceBy, BesideHandle, MakePlain, MakeFields, MakeArray, FillElement, Initialise, Choose, Test, Return, ThrowWith, OpenBy, AliasOf, AwaitingPlace, LoadFrom, TakeAddress, StoreTo, SwapLeft, SwapRight, Entry, Needs, NeedsPlace, Discard, Rest, Join, Loop, CloseRegion, CloseLexical, EndLoan, Handler, Caller, Main, Write, Focus, Evaluating, Locating, Given, GivenPlace, Executing, Proceeding, Calling, Entering, Binding, Naming, Writing, Beginning, Repeating, Swapping, Breaking, Continuing, Returning, Throwing, Catching, State, Running, Ended, Dead, Wrong}
 use Rattle.cyc_meaning.specs.Objects.{compared, created}
 use Rattle.cyc_meaning.specs.Parts.{computed, leads_to, object_of, read, loaded, loaded_from, stored, stored_at, step_writing, declared, closing}
 use Rattle.cyc_meaning.specs.Places.{arrives, member_of, locates_member, step_locating, loaded_at, step_given_place}
@@ -29,17 +29,18 @@ use Rattle.cyc_meaning.specs.Regions.{is_dynamic, closing_lexical, opened_by, op
 use Rattle.cyc_meaning.specs.Step.{values_of, called, step_calling, step_binding, passes, assigned, addressed, counts, step_evaluating, decided, tested, awaits_right, chained, tells, applies_pointer, chosen, looped, supplied, step_given, step_executing, declares, continues_with, step_proceeding, step_breaking, step_continuing, returned, ends_with, main_returned, step_returning, step_throwing, stepped}
 use Rattle.cyc_meaning.specs.Step as steps
 use Rattle.cyc_bound.specs.declared.costs.Measure.{Measure}
+use Rattle.cyc_bound.specs.declared.costs.Site.TheVariants as sites
 use Rattle.cyc_bound.specs.Costs.{too_many, step_cost, block_cost, size_of_bytes, written_length, elements_cost, array_cost, callee_cost, expression_cost, place_cost, initial_cost, fields_cost, converted_cost, arguments_cost, operations_cost, value_cost, thrown_cost, side_cost, loop_cost, caught_cost, statement_cost, items_cost, clauses_cost, function_cost, IsClosed, most_elements}
-use Rattle.cyc_bound.specs.inside.Remaining.{Delivery, Nothing, Anything, OfKind, delivered_by, number_of, focus_delivers, entry_delivers, is_unique, bytes_before, elements_left, awaiting_cost, stack_cost, swapping_cost, focus_cost, spent, CostsAtMost}
-use Rattle.cyc_bound.proofs.CostLemmas.{loop_is_free, kind_is, elements_fit, length_is, items_least, clauses_least, array_least, elements_from, elements_within, awaiting_least, awaiting_place_least, nothing, known, kept, get_or_map}
-use Rattle.cyc_bound.proofs.CostWorlds.{fields_size, elements_size, spent_opened, spent_opened_as, spent_closed, spent_variable, spent_created, spent_freed, spent_written}
+use Rattle.cyc_bound.specs.inside.Remaining.{Delivery, Nothing, Anything, OfKind, delivered_by, number_of, focus_delivers, entry_delivers, site_of_owner, bytes_before, elements_left, awaiting_cost, stack_cost, swapping_cost, focus_cost, TakesAtMost}
+use Rattle.cyc_bound.proofs.CostLemmas.{IsNoMore, initial_no_more, Fits, FitsIn, loop_is_free, kind_is, elements_fit, length_is, items_least, clauses_least, array_least, elements_from, elements_within, awaiting_least, awaiting_place_least, nothing, known, kept, get_or_map}
+use Rattle.cyc_bound.proofs.CostWorlds.{fields_size, elements_size, Counts}
 
 abbrev int : ℕ → Operand
 int n = record { kind = kinds.Int; value = Int n }
 
 -- ---- steps within one call
 
-module _ (program : Program) (m : Measure) (costs : List ℕ) (k : ℕ) (few : k + step_cost m < too_many) where
+module _ (program : Program) (m : Measure) (costs : List ℕ) (counted : World → ℕ) (adds : Counts m counted) (k : ℕ) (few : k + step_cost m < too_many) where
   abbrev t : ℕ
   t = step_cost m
 
@@ -47,13 +48,13 @@ module _ (program : Program) (m : Measure) (costs : List ℕ) (k : ℕ) (few : k
   S d stack = stack_cost m costs d stack
 
   abbrev A : List Entry → World → ℕ
-  A stack w = S Anything stack + spent m w
+  A stack w = S Anything stack + counted w
 
   abbrev X : Expression → ℕ
   X a = expression_cost m costs a
 
   abbrev B : State → Type 0
-  B s = CostsAtMost m costs k s
+  B s = TakesAtMost counted m costs k s
 
   either : (b : Bool) (s u : State) → B s → B u → B (if b then s else u)
   either true s u first second = first
@@ -74,7 +75,7 @@ module _ (program : Program) (m : Measure) (costs : List ℕ) (k : ℕ) (few : k
   returns_now o stack e w h = omega (arith, h, few, nothing m costs Anything stack (omega (arith, h, few)))
 
   -- what comes has this kind
-  computes_as : (kind : Kind) (r : Result) (stack : List Entry) (e : Environment) (w : World) → t + (S (OfKind kind None) stack + spent m w) ≤ k → B (computed kind r stack e w)
+  computes_as : (kind : Kind) (r : Result) (stack : List Entry) (e : Environment) (w : World) → t + (S (OfKind kind None) stack + counted w) ≤ k → B (computed kind r stack e w)
   computes_as kind (Gives value) stack e w h = omega (arith, h, kept m costs kind (number_of value) stack)
   computes_as kind (Raises tag) stack e w h = omega (arith, h, few, nothing m costs (OfKind kind None) stack (omega (arith, h, few)))
   computes_as kind Misfits stack e w h = tt
@@ -96,13 +97,13 @@ module _ (program : Program) (m : Measure) (costs : List ℕ) (k : ℕ) (few : k
   loads_from kind None stack e w h = tt
 
   stores : (a : Access Located) (object offset : ℕ) (v : Operand) (focus : Focus) (stack : List Entry) (e : Environment) (w : World) → cell_at w object offset ≡ a
-      → focus_cost m costs focus + (S (focus_delivers focus) stack + spent m w) ≤ k → B (stored a object offset v focus stack e w)
-  stores (Found at) object offset v focus stack e w is h = either (is_kind at.cell.kind v.kind) _ _ (omega (arith, h, spent_written m w object offset at v.value is)) tt
+      → focus_cost m costs focus + (S (focus_delivers focus) stack + counted w) ≤ k → B (stored a object offset v focus stack e w)
+  stores (Found at) object offset v focus stack e w is h = either (is_kind at.cell.kind v.kind) _ _ (omega (arith, h, adds.written w object offset at v.value is)) tt
   stores Closed object offset v focus stack e w is h = tt
   stores Missing object offset v focus stack e w is h = tt
 
   stores_at : (place : Value) (v : Operand) (focus : Focus) (stack : List Entry) (e : Environment) (w : World)
-      → focus_cost m costs focus + (S (focus_delivers focus) stack + spent m w) ≤ k → B (stored_at place v focus stack e w)
+      → focus_cost m costs focus + (S (focus_delivers focus) stack + counted w) ≤ k → B (stored_at place v focus stack e w)
   stores_at (Thin object offset) v focus stack e w h = stores (cell_at w object offset) object offset v focus stack e w refl h
   stores_at Null v focus stack e w h = tt
   stores_at (Int n) v focus stack e w h = tt
@@ -120,25 +121,25 @@ module _ (program : Program) (m : Measure) (costs : List ℕ) (k : ℕ) (few : k
   writing (x ∷ writes) result stack e w h = stores_at x.place x.operand (Writing writes result) stack e w (omega (arith, h, suc-mul (length writes) t))
 
   names : (a : Access Region) (focus : Focus) (number : ℕ) (kind : Kind) (content : Option Value) (stack : List Entry) (e : Environment) (w : World)
-      → focus_cost m costs focus + (S (focus_delivers focus) stack + spent m w) ≤ k → B (declared a focus number kind content stack e w)
-  names (Found r) focus number kind content stack e w h = omega (arith, h, spent_variable m w e.home kind content)
+      → focus_cost m costs focus + (S (focus_delivers focus) stack + counted w) ≤ k → B (declared a focus number kind content stack e w)
+  names (Found r) focus number kind content stack e w h = omega (arith, h, adds.named w e.home kind content)
   names Closed focus number kind content stack e w h = tt
   names Missing focus number kind content stack e w h = tt
 
   closes : (a : Access Region) (focus : Focus) (region home : ℕ) (stack : List Entry) (e : Environment) (w : World) → region_at w region ≡ a
-      → focus_cost m costs focus + (S (focus_delivers focus) stack + spent m w) ≤ k → B (closing a focus region home stack e w)
-  closes (Found r) focus region home stack e w is h = omega (arith, h, spent_closed m w region r is)
+      → focus_cost m costs focus + (S (focus_delivers focus) stack + counted w) ≤ k → B (closing a focus region home stack e w)
+  closes (Found r) focus region home stack e w is h = omega (arith, h, adds.closed w region r is)
   closes Closed focus region home stack e w is h = tt
   closes Missing focus region home stack e w is h = tt
 
   closes_lexical : (a : Access Region) (focus : Focus) (region : ℕ) (stack : List Entry) (e : Environment) (w : World) → region_at w region ≡ a
-      → focus_cost m costs focus + (S (focus_delivers focus) stack + spent m w) ≤ k → B (closing_lexical a focus region stack e w)
-  closes_lexical (Found r) focus region stack e w is h = omega (arith, h, spent_closed m w region r is)
+      → focus_cost m costs focus + (S (focus_delivers focus) stack + counted w) ≤ k → B (closing_lexical a focus region stack e w)
+  closes_lexical (Found r) focus region stack e w is h = omega (arith, h, adds.closed w region r is)
   closes_lexical Closed focus region stack e w is h = tt
   closes_lexical Missing focus region stack e w is h = tt
 
   putchar_prints : (arguments : List Value) (stack : List Entry) (e : Environment) (w : World) → t + A stack w ≤ k → B (steps.prints arguments stack e w)
-  putchar_prints (Int word ∷ []) stack e w h = gives_value (int (word % 256)) stack e (record w { output = w.output ++ word % 256 ∷ [] }) h
+  putchar_prints (Int word ∷ []) stack e w h = gives_value (int (word % 256)) stack e (record w { output = w.output ++ word % 256 ∷ [] }) (omega (arith, h, adds.printed w (w.output ++ word % 256 ∷ [])))
   putchar_prints [] stack e w h = tt
   putchar_prints (Int word ∷ value ∷ arguments) stack e w h = tt
   putchar_prints (Null ∷ arguments) stack e w h = tt
@@ -148,7 +149,7 @@ module _ (program : Program) (m : Measure) (costs : List ℕ) (k : ℕ) (few : k
   putchar_prints (Key region ∷ arguments) stack e w h = tt
 
   getchar_reads : (arguments : List Value) (stack : List Entry) (e : Environment) (w : World) → t + A stack w ≤ k → B (steps.reads arguments stack e w)
-  getchar_reads [] stack e w h = gives_value (int (unwrap_or (slice_get w.input 0) (2 ^ 32 - 1))) stack e (record w { input = drop 1 w.input }) h
+  getchar_reads [] stack e w h = gives_value (int (unwrap_or (slice_get w.input 0) (2 ^ 32 - 1))) stack e (record w { input = drop 1 w.input }) (omega (arith, h, adds.read w (drop 1 w.input)))
   getchar_reads (value ∷ arguments) stack e w h = tt
 
   binding : (number : ℕ) (types : List Ty) (arguments : List Operand) (body : Items) (stack : List Entry) (e : Environment) (w : World)
@@ -256,42 +257,42 @@ module _ (program : Program) (m : Measure) (costs : List ℕ) (k : ℕ) (few : k
   written_all object offset (v ∷ values) = ap (λ (n : ℕ). suc n) (written_all object (suc offset) values)
 
   filling : (a : Access World) (owner : Owner) (values : List Operand) (stack : List Entry) (e : Environment) (w : World) → created w owner (blanks_of values) ≡ a
-      → length values * t + 2 * t + (A stack w + block_cost m (is_unique owner) (block_size (blanks_of values))) ≤ k → B (filled a (length w.objects) values stack e w)
+      → length values * t + 2 * t + (A stack w + block_cost m (site_of_owner owner) (block_size (blanks_of values))) ≤ k → B (filled a (length w.objects) values stack e w)
   filling (Found new) owner values stack e w is h =
       let count : length (writes_from (length w.objects) 0 values) * t ≡ length values * t = ap (λ (n : ℕ). n * t) (written_all (length w.objects) 0 values) in
-      omega (arith, h, count, spent_created m w new owner (blanks_of values) is)
+      omega (arith, h, count, adds.created w new owner (blanks_of values) is)
   filling Closed owner values stack e w is h = tt
   filling Missing owner values stack e w is h = tt
 
   making : (owner : Owner) (values : List Operand) (stack : List Entry) (e : Environment) (w : World)
-      → length values * t + 2 * t + (A stack w + block_cost m (is_unique owner) (block_size (blanks_of values))) ≤ k → B (makes_of owner values stack e w)
+      → length values * t + 2 * t + (A stack w + block_cost m (site_of_owner owner) (block_size (blanks_of values))) ≤ k → B (makes_of owner values stack e w)
   making owner values stack e w h = filling (created w owner (blanks_of values)) owner values stack e w refl h
 
   making_plain : (owner : Owner) (kind : Kind) (v : Operand) (stack : List Entry) (e : Environment) (w : World)
-      → 3 * t + block_cost m (is_unique owner) (size_of_bytes (behind kind 0)) + A stack w ≤ k → B (makes_plain owner kind v stack e w)
+      → 3 * t + block_cost m (site_of_owner owner) (size_of_bytes (behind kind 0)) + A stack w ≤ k → B (makes_plain owner kind v stack e w)
   making_plain owner kind v stack e w h = either_by (is_kind v.kind kind) _ _ (λ same.
-      let size : block_cost m (is_unique owner) (size_of_bytes (behind v.kind 0)) ≡ block_cost m (is_unique owner) (size_of_bytes (behind kind 0)) =
-      ap (λ (a : Kind). block_cost m (is_unique owner) (size_of_bytes (behind a 0))) (kind_is v.kind kind same) in
+      let size : block_cost m (site_of_owner owner) (size_of_bytes (behind v.kind 0)) ≡ block_cost m (site_of_owner owner) (size_of_bytes (behind kind 0)) =
+      ap (λ (a : Kind). block_cost m (site_of_owner owner) (size_of_bytes (behind a 0))) (kind_is v.kind kind same) in
       making owner (v ∷ []) stack e w (omega (arith, h, size))) (λ other. tt)
 
   making_fields : (owner : Owner) (before : List Operand) (fields : Arguments) (stack : List Entry) (e : Environment) (w : World)
-      → fields_cost m costs (is_unique owner) (length before) (bytes_before before) fields + A stack w ≤ k → B (makes_fields owner before fields stack e w)
+      → fields_cost m costs (site_of_owner owner) (length before) (bytes_before before) fields + A stack w ≤ k → B (makes_fields owner before fields stack e w)
   making_fields owner before NoArguments stack e w h =
       let count : length (reverse before) * t ≡ length before * t = ap (λ (n : ℕ). n * t) (length-reverse before) in
-      let size : block_cost m (is_unique owner) (block_size (blanks_of (reverse before))) ≡ block_cost m (is_unique owner) (size_of_bytes (bytes_before before)) =
-      ap (λ (n : ℕ). block_cost m (is_unique owner) n) (fields_size before) in
+      let size : block_cost m (site_of_owner owner) (block_size (blanks_of (reverse before))) ≡ block_cost m (site_of_owner owner) (size_of_bytes (bytes_before before)) =
+      ap (λ (n : ℕ). block_cost m (site_of_owner owner) n) (fields_size before) in
       making owner (reverse before) stack e w (omega (arith, h, count, size))
   making_fields owner before (MoreArguments (Convert from to a) fields) stack e w h = omega (arith, h)
 
   begins : (a : Access World) (owner : Owner) (count level : ℕ) (kind : Kind) (element : Expression) (stack : List Entry) (e : Environment) (w : World) → created w owner (blanks count kind) ≡ a
-      → elements_cost m (expression_cost m costs element) count + block_cost m (is_unique owner) (size_of_bytes (count * bytes_of_kind kind)) + A stack w ≤ k + t
+      → elements_cost m (expression_cost m costs element) count + block_cost m (site_of_owner owner) (size_of_bytes (count * bytes_of_kind kind)) + A stack w ≤ k + t
       → B (begun a (length w.objects) count level kind element stack e w)
   begins (Found new) owner count level kind element stack e w is h =
-      let size : block_cost m (is_unique owner) (block_size (blanks count kind)) ≡ block_cost m (is_unique owner) (size_of_bytes (count * bytes_of_kind kind)) =
-      ap (λ (n : ℕ). block_cost m (is_unique owner) n) (elements_size count kind) in
+      let size : block_cost m (site_of_owner owner) (block_size (blanks count kind)) ≡ block_cost m (site_of_owner owner) (size_of_bytes (count * bytes_of_kind kind)) =
+      ap (λ (n : ℕ). block_cost m (site_of_owner owner) n) (elements_size count kind) in
       let all : (count - 0) * (t + expression_cost m costs element) ≡ count * (t + expression_cost m costs element) =
       ap (λ (n : ℕ). n * (t + expression_cost m costs element)) (none count) in
-      omega (arith, h, size, all, elements_from m costs (expression_cost m costs element) count 0 (omega arith), spent_created m w new owner (blanks count kind) is)
+      omega (arith, h, size, all, elements_from m costs (expression_cost m costs element) count 0 (omega arith), adds.created w new owner (blanks count kind) is)
     where
       none : (n : ℕ) → n - 0 ≡ n
       none n = omega arith
@@ -299,13 +300,13 @@ module _ (program : Program) (m : Measure) (costs : List ℕ) (k : ℕ) (few : k
   begins Missing owner count level kind element stack e w is h = tt
 
   making_array : (owner : Owner) (level : ℕ) (kind : Kind) (element : Expression) (value : Value) (stack : List Entry) (e : Environment) (w : World)
-      → array_cost m (is_unique owner) kind (expression_cost m costs element) (number_of value) + A stack w ≤ k → B (makes_array owner level kind element value stack e w)
+      → array_cost m (site_of_owner owner) kind (expression_cost m costs element) (number_of value) + A stack w ≤ k → B (makes_array owner level kind element value stack e w)
   making_array owner level kind element (Int count) stack e w h = either_by (nat_le (words_for (count * bytes_of_kind kind)) most_words) _ _ (λ fits.
       let same : min count (most_elements kind) ≡ count = elements_fit kind count (leb-true (words_for (count * bytes_of_kind kind)) most_words fits) in
-      let cost : elements_cost m (expression_cost m costs element) (min count (most_elements kind)) + block_cost m (is_unique owner) (size_of_bytes (min count (most_elements kind) * bytes_of_kind kind))
-      ≡ elements_cost m (expression_cost m costs element) count + block_cost m (is_unique owner) (size_of_bytes (count * bytes_of_kind kind)) =
-      ap (λ (n : ℕ). elements_cost m (expression_cost m costs element) n + block_cost m (is_unique owner) (size_of_bytes (n * bytes_of_kind kind))) same in
-      omega (arith, h, cost)) (λ long. throws_now array_size 0 stack e w (omega (arith, h, array_least m costs (is_unique owner) kind (expression_cost m costs element) (Some count))))
+      let cost : elements_cost m (expression_cost m costs element) (min count (most_elements kind)) + block_cost m (site_of_owner owner) (size_of_bytes (min count (most_elements kind) * bytes_of_kind kind))
+      ≡ elements_cost m (expression_cost m costs element) count + block_cost m (site_of_owner owner) (size_of_bytes (count * bytes_of_kind kind)) =
+      ap (λ (n : ℕ). elements_cost m (expression_cost m costs element) n + block_cost m (site_of_owner owner) (size_of_bytes (n * bytes_of_kind kind))) same in
+      omega (arith, h, cost)) (λ long. throws_now array_size 0 stack e w (omega (arith, h, array_least m costs (site_of_owner owner) kind (expression_cost m costs element) (Some count))))
   making_array owner level kind element Null stack e w h = tt
   making_array owner level kind element (Thin object offset) stack e w h = tt
   making_array owner level kind element (Fat object start count index) stack e w h = tt
@@ -332,11 +333,11 @@ module _ (program : Program) (m : Measure) (costs : List ℕ) (k : ℕ) (few : k
   filling_element object count index level kind element value stack e w h =
       either (is_kind value.kind kind) _ _ (stores (cell_at w object index) object index value (Repeating object count (suc index) level kind element) stack e w refl h) tt
 
-  making_initial : (owner : Owner) (initial : Initial) (stack : List Entry) (e : Environment) (w : World) → initial_cost m costs (is_unique owner) initial + A stack w ≤ k → B (makes owner initial stack e w)
+  making_initial : (owner : Owner) (initial : Initial) (stack : List Entry) (e : Environment) (w : World) → initial_cost m costs (site_of_owner owner) initial + A stack w ≤ k → B (makes owner initial stack e w)
   making_initial owner (Plain kind a) stack e w h = omega (arith, h)
   making_initial owner (Fields fields) stack e w h = making_fields owner [] fields stack e w h
   making_initial owner (Array place level count kind element) stack e w h =
-      omega (arith, h, length_is m (λ (n : Option ℕ). array_cost m (is_unique owner) kind (expression_cost m costs element) n) (written_length count))
+      omega (arith, h, length_is m (λ (n : Option ℕ). array_cost m (site_of_owner owner) kind (expression_cost m costs element) n) (written_length count))
 
   allocating : (placement : Placement) (initial : Initial) (type : Ty) (stack : List Entry) (e : Environment) (w : World)
       → expression_cost m costs (New placement initial type) + A stack w ≤ k + t → B (allocates placement initial stack e w)
@@ -344,13 +345,15 @@ module _ (program : Program) (m : Measure) (costs : List ℕ) (k : ℕ) (few : k
   allocating AsUnique initial type stack e w h = making_initial (Unique true) initial stack e w (omega (arith, h))
   allocating (ByHandle a) initial type stack e w h = omega (arith, h)
 
-  placing : (initial : Initial) (value : Value) (stack : List Entry) (e : Environment) (w : World) → initial_cost m costs false initial + t + A stack w ≤ k → B (makes_by initial value stack e w)
-  placing initial (Handle region) stack e w h = making_initial (InRegion region) initial (Needs (BesideHandle region) ∷ stack) e w (omega (arith, h))
-  placing initial Null stack e w h = tt
-  placing initial (Int n) stack e w h = tt
-  placing initial (Thin object offset) stack e w h = tt
-  placing initial (Fat object start count index) stack e w h = tt
-  placing initial (Key region) stack e w h = tt
+  placing : (initial : Initial) (value : Value) (stack : List Entry) (e : Environment) (w : World) → (value ≡ Handle heap_number → IsNoMore m) → initial_cost m costs sites.Region initial + t + A stack w ≤ k
+      → B (makes_by initial value stack e w)
+  placing initial (Handle zero) stack e w fits h = making_initial (InRegion 0) initial (Needs (BesideHandle 0) ∷ stack) e w (omega (arith, h, initial_no_more m costs (fits refl) initial))
+  placing initial (Handle (suc region)) stack e w fits h = making_initial (InRegion (suc region)) initial (Needs (BesideHandle (suc region)) ∷ stack) e w (omega (arith, h))
+  placing initial Null stack e w fits h = tt
+  placing initial (Int n) stack e w fits h = tt
+  placing initial (Thin object offset) stack e w fits h = tt
+  placing initial (Fat object start count index) stack e w fits h = tt
+  placing initial (Key region) stack e w fits h = tt
 
   -- ---- regions
 
@@ -370,7 +373,7 @@ module _ (program : Program) (m : Measure) (costs : List ℕ) (k : ℕ) (few : k
   opening_with number lent items (Handle region) stack e w h = tt
 
   closing_dynamic : (a : Access Region) (region : ℕ) (stack : List Entry) (e : Environment) (w : World) → region_at w region ≡ a → t + A stack w ≤ k → B (closes_dynamic a region stack e w)
-  closing_dynamic (Found r) region stack e w is h = either (is_dynamic r.sort) _ _ (omega (arith, h, spent_closed m w region r is)) tt
+  closing_dynamic (Found r) region stack e w is h = either (is_dynamic r.sort) _ _ (omega (arith, h, adds.closed w region r is)) tt
   closing_dynamic Closed region stack e w is h = tt
   closing_dynamic Missing region stack e w is h = tt
 
@@ -390,7 +393,7 @@ module _ (program : Program) (m : Measure) (costs : List ℕ) (k : ℕ) (few : k
   freeing_owned : (owner : Owner) (number : ℕ) (x : Object) (stack : List Entry) (e : Environment) (w : World) → slice_get w.objects number ≡ Some x → x.owner ≡ owner
       → t + A stack w ≤ k → B (frees_owned owner number x stack e w)
   freeing_owned (InRegion region) number x stack e w there is h = freeing_in_region (region_at w region) w
-  freeing_owned (Unique true) number x stack e w there is h = omega (arith, h, spent_freed m w number x there is)
+  freeing_owned (Unique true) number x stack e w there is h = omega (arith, h, adds.freed w number x there is)
   freeing_owned (Unique false) number x stack e w there is h = tt
 
   freeing_object : (o : Option Object) (number : ℕ) (stack : List Entry) (e : Environment) (w : World) → slice_get w.objects number ≡ o → t + A stack w ≤ k → B (frees_object o number stack e w)
@@ -421,8 +424,8 @@ module _ (program : Program) (m : Measure) (costs : List ℕ) (k : ℕ) (few : k
 
   catching_in : (value : ℕ) (number : Option ℕ) (items : Items) (stack : List Entry) (e : Environment) (w : World)
       → caught_cost m number (items_cost m costs items) + A stack w ≤ k → B (catches value number items stack e w)
-  catching_in value None items stack e w h = omega (arith, h, spent_opened m w)
-  catching_in value (Some number) items stack e w h = omega (arith, h, spent_opened m w)
+  catching_in value None items stack e w h = omega (arith, h, adds.opened Stack w)
+  catching_in value (Some number) items stack e w h = omega (arith, h, adds.opened Stack w)
 
   catching : (tag value : ℕ) (clauses : Clauses) (stack : List Entry) (e : Environment) (w : World) → clauses_cost m costs clauses + A stack w ≤ k + t → B (step_catching tag value clauses stack e w)
   catching tag value NoClauses stack e w h = throws_now tag value stack e w (omega (arith, h))
@@ -449,7 +452,7 @@ module _ (program : Program) (m : Measure) (costs : List ℕ) (k : ℕ) (few : k
   counting (Some index) stack e w h = gives_value (int index) stack e w h
   counting None stack e w h = tt
 
-  evaluating : (a : Expression) (stack : List Entry) (e : Environment) (w : World) → expression_cost m costs a + (S (delivered_by a) stack + spent m w) ≤ k + t → B (step_evaluating a stack e w)
+  evaluating : (a : Expression) (stack : List Entry) (e : Environment) (w : World) → expression_cost m costs a + (S (delivered_by a) stack + counted w) ≤ k + t → B (step_evaluating a stack e w)
   evaluating (Number n) stack e w h = omega (arith, h)
   evaluating NullPointer stack e w h = gives_value (record { kind = kinds.Nullable; value = Null }) stack e w (omega (arith, h))
   evaluating HeapRegion stack e w h = gives_value (record { kind = kinds.Handle; value = Handle 0 }) stack e w (omega (arith, h))
@@ -481,7 +484,7 @@ module _ (program : Program) (m : Measure) (costs : List ℕ) (k : ℕ) (few : k
   testing None operator b rest stack e w h = tt
 
   awaiting_right : (fits : Bool) (waiting : Awaiting) (b : Expression) (rest : Operations) (stack : List Entry) (e : Environment) (w : World)
-      → expression_cost m costs b + (S (delivered_by b) (Needs waiting ∷ Needs (Chain rest) ∷ stack) + spent m w) ≤ k → B (awaits_right fits waiting b rest stack e w)
+      → expression_cost m costs b + (S (delivered_by b) (Needs waiting ∷ Needs (Chain rest) ∷ stack) + counted w) ≤ k → B (awaits_right fits waiting b rest stack e w)
   awaiting_right true waiting b rest stack e w h = h
   awaiting_right false waiting b rest stack e w h = tt
 
@@ -537,55 +540,55 @@ module _ (program : Program) (m : Measure) (costs : List ℕ) (k : ℕ) (few : k
       omega (arith, h, free)
   looping None condition body stack e w h = tt
 
-  supplying : (a : Awaiting) (v : Operand) (stack : List Entry) (e : Environment) (w : World)
-      → awaiting_cost m costs (OfKind v.kind (number_of v.value)) a + S (entry_delivers (Needs a)) stack + spent m w ≤ k → B (supplied a v stack e w)
-  supplying (ConvertTo from to target) v stack e w h =
+  supplying : (a : Awaiting) (v : Operand) (stack : List Entry) (e : Environment) (w : World) → (v.value ≡ Handle heap_number → IsNoMore m)
+      → awaiting_cost m costs (OfKind v.kind (number_of v.value)) a + S (entry_delivers (Needs a)) stack + counted w ≤ k → B (supplied a v stack e w)
+  supplying (ConvertTo from to target) v stack e w fits h =
       either (is_kind v.kind from && leads_to w target (followed v.value)) _ _ (computes_as to (conversion to v.value) stack e w (omega (arith, h))) tt
-  supplying (Operate operator) v stack e w h = computes (unary_kind operator) (unary_result operator v.value) stack e w (omega (arith, h))
-  supplying (Chain rest) v stack e w h = chaining rest v stack e w (omega (arith, h))
-  supplying (Apply operator before) v stack e w h = computes kinds.Int (binary_result operator before.value v.value) stack e w (omega (arith, h))
-  supplying (ApplyPointer peek operator before) v stack e w h = applying_pointer operator before.value v.value stack e w (omega (arith, h))
-  supplying Decide v stack e w h = computes kinds.Int (truth_of (is_zero v.value)) stack e w (omega (arith, h))
-  supplying (Store place) v stack e w h = stores_given place v stack e w (omega (arith, h))
-  supplying (StoreCell peek place) v stack e w h = stores_given place v stack e w (omega (arith, h))
-  supplying (Pass callee before later) v stack e w h = passing callee (v ∷ before) later stack e w (omega (arith, h))
-  supplying (Follow pointer target) v stack e w h =
+  supplying (Operate operator) v stack e w fits h = computes (unary_kind operator) (unary_result operator v.value) stack e w (omega (arith, h))
+  supplying (Chain rest) v stack e w fits h = chaining rest v stack e w (omega (arith, h))
+  supplying (Apply operator before) v stack e w fits h = computes kinds.Int (binary_result operator before.value v.value) stack e w (omega (arith, h))
+  supplying (ApplyPointer peek operator before) v stack e w fits h = applying_pointer operator before.value v.value stack e w (omega (arith, h))
+  supplying Decide v stack e w fits h = computes kinds.Int (truth_of (is_zero v.value)) stack e w (omega (arith, h))
+  supplying (Store place) v stack e w fits h = stores_given place v stack e w (omega (arith, h))
+  supplying (StoreCell peek place) v stack e w fits h = stores_given place v stack e w (omega (arith, h))
+  supplying (Pass callee before later) v stack e w fits h = passing callee (v ∷ before) later stack e w (omega (arith, h))
+  supplying (Follow pointer target) v stack e w fits h =
       either (is_kind v.kind pointer && leads_to w target (followed v.value)) _ _ (arriving (followed v.value) stack e w (omega (arith, h))) tt
-  supplying (FollowMember pointer fields field) v stack e w h = either (is_kind v.kind pointer) _ _ (arriving (member_of w (followed v.value) fields field) stack e w (omega (arith, h))) tt
-  supplying (Index peek target index) v stack e w h = either (is_kind v.kind kinds.Fat) _ _ (omega (arith, h)) tt
-  supplying (Advance peek target base) v stack e w h = computes kinds.Fat (pointer_result pointers.AddFat base.value v.value) (Needs (Follow kinds.Fat target) ∷ stack) e w (omega (arith, h))
-  supplying CountElements v stack e w h = computes kinds.Int (element_count v.value) stack e w (omega (arith, h))
-  supplying FreeObject v stack e w h = freeing v.value stack e w (omega (arith, h))
-  supplying CloseByKey v stack e w h = closing_with v.value stack e w (omega (arith, h))
-  supplying (PlaceBy initial) v stack e w h = placing initial v.value stack e w (omega (arith, h))
-  supplying (BesideHandle region) v stack e w h = gives_value v stack e w (omega (arith, h))
-  supplying (MakePlain owner kind) v stack e w h = making_plain owner kind v stack e w (omega (arith, h))
-  supplying (MakeFields owner before fields) v stack e w h = making_fields owner (v ∷ before) fields stack e w (omega (arith, h))
-  supplying (MakeArray owner level kind element) v stack e w h = making_array owner level kind element v.value stack e w (omega (arith, h))
-  supplying (FillElement object count index level kind element) v stack e w h = filling_element object count index level kind element v stack e w (omega (arith, h))
-  supplying (Initialise number kind items) v stack e w h =
+  supplying (FollowMember pointer fields field) v stack e w fits h = either (is_kind v.kind pointer) _ _ (arriving (member_of w (followed v.value) fields field) stack e w (omega (arith, h))) tt
+  supplying (Index peek target index) v stack e w fits h = either (is_kind v.kind kinds.Fat) _ _ (omega (arith, h)) tt
+  supplying (Advance peek target base) v stack e w fits h = computes kinds.Fat (pointer_result pointers.AddFat base.value v.value) (Needs (Follow kinds.Fat target) ∷ stack) e w (omega (arith, h))
+  supplying CountElements v stack e w fits h = computes kinds.Int (element_count v.value) stack e w (omega (arith, h))
+  supplying FreeObject v stack e w fits h = freeing v.value stack e w (omega (arith, h))
+  supplying CloseByKey v stack e w fits h = closing_with v.value stack e w (omega (arith, h))
+  supplying (PlaceBy initial) v stack e w fits h = placing initial v.value stack e w fits (omega (arith, h))
+  supplying (BesideHandle region) v stack e w fits h = gives_value v stack e w (omega (arith, h))
+  supplying (MakePlain owner kind) v stack e w fits h = making_plain owner kind v stack e w (omega (arith, h))
+  supplying (MakeFields owner before fields) v stack e w fits h = making_fields owner (v ∷ before) fields stack e w (omega (arith, h))
+  supplying (MakeArray owner level kind element) v stack e w fits h = making_array owner level kind element v.value stack e w (omega (arith, h))
+  supplying (FillElement object count index level kind element) v stack e w fits h = filling_element object count index level kind element v stack e w (omega (arith, h))
+  supplying (Initialise number kind items) v stack e w fits h =
       either (is_kind v.kind kind) _ _ (names (region_at w e.home) Proceeding number kind (Some v.value) (Rest items ∷ stack) e w (omega (arith, h))) tt
-  supplying (Choose first second) v stack e w h = choosing (is_zero v.value) first second stack e w (omega (arith, h)) (omega (arith, h))
-  supplying (Test condition body) v stack e w h = looping (is_zero v.value) condition body stack e w (omega (arith, h))
-  supplying Return v stack e w h = returns_now (Some v) stack e w (omega (arith, h))
-  supplying (ThrowWith tag) v stack e w h = throwing_value tag v.value stack e w (omega (arith, h))
-  supplying (OpenBy number lent items) v stack e w h = opening_with number lent items v.value stack e w (omega (arith, h))
-  supplying (AliasOf number lent items) v stack e w h = omega (arith, h)
+  supplying (Choose first second) v stack e w fits h = choosing (is_zero v.value) first second stack e w (omega (arith, h)) (omega (arith, h))
+  supplying (Test condition body) v stack e w fits h = looping (is_zero v.value) condition body stack e w (omega (arith, h))
+  supplying Return v stack e w fits h = returns_now (Some v) stack e w (omega (arith, h))
+  supplying (ThrowWith tag) v stack e w fits h = throwing_value tag v.value stack e w (omega (arith, h))
+  supplying (OpenBy number lent items) v stack e w fits h = opening_with number lent items v.value stack e w (omega (arith, h))
+  supplying (AliasOf number lent items) v stack e w fits h = omega (arith, h)
 
-  given : (v : Operand) (stack : List Entry) (e : Environment) (w : World) → t + (S (OfKind v.kind (number_of v.value)) stack + spent m w) ≤ k + t → B (step_given v stack e w)
-  given v [] e w h = tt
-  given v (Needs a ∷ stack) e w h = supplying a v stack e w (omega (arith, h))
-  given v (Discard ∷ stack) e w h = omega (arith, h)
-  given v (NeedsPlace a ∷ stack) e w h = tt
-  given v (Rest items ∷ stack) e w h = tt
-  given v (Join ∷ stack) e w h = tt
-  given v (Loop condition body ∷ stack) e w h = tt
-  given v (CloseRegion region home ∷ stack) e w h = tt
-  given v (CloseLexical region ∷ stack) e w h = tt
-  given v (EndLoan lent ∷ stack) e w h = tt
-  given v (Handler handler ∷ stack) e w h = tt
-  given v (Caller outer ∷ stack) e w h = tt
-  given v (Main ∷ stack) e w h = tt
+  given : (v : Operand) (stack : List Entry) (e : Environment) (w : World) → (v.value ≡ Handle heap_number → IsNoMore m) → t + (S (OfKind v.kind (number_of v.value)) stack + counted w) ≤ k + t → B (step_given v stack e w)
+  given v [] e w fits h = tt
+  given v (Needs a ∷ stack) e w fits h = supplying a v stack e w fits (omega (arith, h))
+  given v (Discard ∷ stack) e w fits h = omega (arith, h)
+  given v (NeedsPlace a ∷ stack) e w fits h = tt
+  given v (Rest items ∷ stack) e w fits h = tt
+  given v (Join ∷ stack) e w fits h = tt
+  given v (Loop condition body ∷ stack) e w fits h = tt
+  given v (CloseRegion region home ∷ stack) e w fits h = tt
+  given v (CloseLexical region ∷ stack) e w fits h = tt
+  given v (EndLoan lent ∷ stack) e w fits h = tt
+  given v (Handler handler ∷ stack) e w fits h = tt
+  given v (Caller outer ∷ stack) e w fits h = tt
+  given v (Main ∷ stack) e w fits h = tt
 
   -- ---- statements
 
@@ -594,13 +597,13 @@ module _ (program : Program) (m : Measure) (costs : List ℕ) (k : ℕ) (few : k
   returning_value (Some (Convert from to a)) stack e w h = omega (arith, h)
 
   unwinds : (focus : Focus) (stack : List Entry) (e : Environment) (w : World) → focus_cost m costs focus ≡ t → focus_delivers focus ≡ Nothing → t + A stack w ≤ k
-      → focus_cost m costs focus + (S (focus_delivers focus) stack + spent m w) ≤ k
+      → focus_cost m costs focus + (S (focus_delivers focus) stack + counted w) ≤ k
   unwinds focus stack e w cost none h =
       let same : S (focus_delivers focus) stack ≡ S Nothing stack = ap (λ (d : Delivery). S d stack) none in
       omega (arith, h, few, cost, same, nothing m costs Anything stack (omega (arith, h, few)))
 
   executing : (s : Statement) (stack : List Entry) (e : Environment) (w : World) → statement_cost m costs s + A stack w ≤ k + t → B (step_executing s stack e w)
-  executing (Block region items) stack e w h = omega (arith, h, spent_opened m w)
+  executing (Block region items) stack e w h = omega (arith, h, adds.opened Stack w)
   executing Empty stack e w h = omega (arith, h)
   executing (Evaluate a) stack e w h = omega (arith, h)
   executing (Swap first right) stack e w h = swapping first right stack e w h
@@ -621,39 +624,39 @@ module _ (program : Program) (m : Measure) (costs : List ℕ) (k : ℕ) (few : k
   continuing_with NoItems stack e w h = h
   continuing_with (MoreItems (Execute s) items) stack e w h = omega (arith, h)
   continuing_with (MoreItems (Declare number type value) items) stack e w h = declaring number type value items stack e w h
-  continuing_with (MoreItems (DeclareRegion region number) items) stack e w h = omega (arith, h, spent_opened_as m Lexical w)
+  continuing_with (MoreItems (DeclareRegion region number) items) stack e w h = omega (arith, h, adds.opened Lexical w)
   continuing_with (MoreItems (OpenRegion region number p key) items) stack e w h = loads_from kinds.Key (e.locals key) (Needs (OpenBy number key items) ∷ stack) e w (omega (arith, h))
   continuing_with (MoreItems (DeclareAlias region number type p source) items) stack e w h =
       loads_from (kind_of type) (e.locals source) (Needs (AliasOf number source items) ∷ stack) e w (omega (arith, h))
-  continuing_with (MoreItems (DeclareKey region number) items) stack e w h = omega (arith, h, spent_opened_as m Dynamic w)
+  continuing_with (MoreItems (DeclareKey region number) items) stack e w h = omega (arith, h, adds.opened Dynamic w)
 
   -- ---- unwinding: each entry that is left costs a step at least
 
   abbrev N : Entry → List Entry → World → ℕ
-  N entry stack w = t + (S Nothing (entry ∷ stack) + spent m w)
+  N entry stack w = t + (S Nothing (entry ∷ stack) + counted w)
 
-  leaves_needs : (a : Awaiting) (stack : List Entry) (w : World) → N (Needs a) stack w ≤ k + t → t + (S Nothing stack + spent m w) ≤ k
+  leaves_needs : (a : Awaiting) (stack : List Entry) (w : World) → N (Needs a) stack w ≤ k + t → t + (S Nothing stack + counted w) ≤ k
   leaves_needs a stack w h =
       omega (arith, h, few, awaiting_least m costs a (omega (arith, h, few)), nothing m costs (entry_delivers (Needs a)) stack (omega (arith, h, few)))
 
-  leaves_place : (a : AwaitingPlace) (stack : List Entry) (w : World) → N (NeedsPlace a) stack w ≤ k + t → t + (S Nothing stack + spent m w) ≤ k
+  leaves_place : (a : AwaitingPlace) (stack : List Entry) (w : World) → N (NeedsPlace a) stack w ≤ k + t → t + (S Nothing stack + counted w) ≤ k
   leaves_place a stack w h = omega (arith, h, few, awaiting_place_least m costs a, nothing m costs Anything stack (omega (arith, h, few)))
 
-  leaves_rest : (items : Items) (stack : List Entry) (w : World) → N (Rest items) stack w ≤ k + t → t + (S Nothing stack + spent m w) ≤ k
+  leaves_rest : (items : Items) (stack : List Entry) (w : World) → N (Rest items) stack w ≤ k + t → t + (S Nothing stack + counted w) ≤ k
   leaves_rest items stack w h = omega (arith, h, few, items_least m costs items, nothing m costs Anything stack (omega (arith, h, few)))
 
-  leaves_loop : (condition : Expression) (body : Statement) (stack : List Entry) (w : World) → N (Loop condition body) stack w ≤ k + t → t + (S Nothing stack + spent m w) ≤ k
+  leaves_loop : (condition : Expression) (body : Statement) (stack : List Entry) (w : World) → N (Loop condition body) stack w ≤ k + t → t + (S Nothing stack + counted w) ≤ k
   leaves_loop condition body stack w h =
       let free = loop_is_free (t + (expression_cost m costs condition + statement_cost m costs body)) (omega (arith, h, few)) in
       omega (arith, h, few, free, nothing m costs Anything stack (omega (arith, h, few)))
 
-  leaves_handler : (handler : Clauses) (stack : List Entry) (w : World) → N (Handler handler) stack w ≤ k + t → t + (S Nothing stack + spent m w) ≤ k
+  leaves_handler : (handler : Clauses) (stack : List Entry) (w : World) → N (Handler handler) stack w ≤ k + t → t + (S Nothing stack + counted w) ≤ k
   leaves_handler handler stack w h = omega (arith, h, few, clauses_least m costs handler, nothing m costs Anything stack (omega (arith, h, few)))
 
-  leaves : (stack : List Entry) (w : World) → t + (t + S Anything stack + spent m w) ≤ k + t → t + (S Nothing stack + spent m w) ≤ k
+  leaves : (stack : List Entry) (w : World) → t + (t + S Anything stack + counted w) ≤ k + t → t + (S Nothing stack + counted w) ≤ k
   leaves stack w h = omega (arith, h, few, nothing m costs Anything stack (omega (arith, h, few)))
 
-  breaking : (stack : List Entry) (e : Environment) (w : World) → t + (S Nothing stack + spent m w) ≤ k + t → B (step_breaking stack e w)
+  breaking : (stack : List Entry) (e : Environment) (w : World) → t + (S Nothing stack + counted w) ≤ k + t → B (step_breaking stack e w)
   breaking [] e w h = tt
   breaking (Needs a ∷ stack) e w h = leaves_needs a stack w h
   breaking (NeedsPlace a ∷ stack) e w h = leaves_place a stack w h
@@ -668,7 +671,7 @@ module _ (program : Program) (m : Measure) (costs : List ℕ) (k : ℕ) (few : k
   breaking (Caller outer ∷ stack) e w h = tt
   breaking (Main ∷ stack) e w h = tt
 
-  continuing : (stack : List Entry) (e : Environment) (w : World) → t + (S Nothing stack + spent m w) ≤ k + t → B (step_continuing stack e w)
+  continuing : (stack : List Entry) (e : Environment) (w : World) → t + (S Nothing stack + counted w) ≤ k + t → B (step_continuing stack e w)
   continuing [] e w h = tt
   continuing (Needs a ∷ stack) e w h = leaves_needs a stack w h
   continuing (NeedsPlace a ∷ stack) e w h = leaves_place a stack w h
@@ -697,12 +700,12 @@ module _ (program : Program) (m : Measure) (costs : List ℕ) (k : ℕ) (few : k
 
 -- ---- steps that begin or end a call
 
-module _ (program : Program) (m : Measure) (costs : List ℕ) (closed : IsClosed program m costs) (k : ℕ) (few : k + step_cost m < too_many) where
+module _ (program : Program) (m : Measure) (costs : List ℕ) (closed : IsClosed program m costs) (counted : World → ℕ) (adds : Counts m counted) (k : ℕ) (few : k + step_cost m < too_many) where
   abbrev D : State → Type 0
-  D s = CostsAtMost m costs k s
+  D s = TakesAtMost counted m costs k s
 
   abbrev R : Delivery → List Entry → World → ℕ
-  R d stack w = stack_cost m costs d stack + spent m w
+  R d stack w = stack_cost m costs d stack + counted w
 
   -- a function that is called begins with its body, for which its cost is enough
   begins_call : (number : ℕ) (arguments : List Operand) (outer : Environment) (stack : List Entry) (w : World) (o : Option Function) → slice_get program.functions number ≡ o
@@ -710,12 +713,12 @@ module _ (program : Program) (m : Measure) (costs : List ℕ) (closed : IsClosed
   begins_call number arguments outer stack w None there h = tt
   begins_call number arguments outer stack w (Some f) there h =
       let cost = get_or_map (λ (g : Function). min too_many (function_cost m costs g)) program.functions number f there in
-      either program m costs k few (length arguments == length f.parameters) _ _ (omega (arith, h, few, cost, closed number)) tt
+      either program m costs counted adds k few (length arguments == length f.parameters) _ _ (omega (arith, h, few, cost, closed number)) tt
 
   calling : (callee : Callee) (arguments : List Operand) (stack : List Entry) (e : Environment) (w : World)
       → callee_cost m costs callee + R Anything stack w ≤ k + step_cost m → D (step_calling program callee arguments stack e w)
-  calling callees.Putchar arguments stack e w h = putchar_prints program m costs k few (values_of arguments) stack e w (omega (arith, h))
-  calling callees.Getchar arguments stack e w h = getchar_reads program m costs k few (values_of arguments) stack e w (omega (arith, h))
+  calling callees.Putchar arguments stack e w h = putchar_prints program m costs counted adds k few (values_of arguments) stack e w (omega (arith, h))
+  calling callees.Getchar arguments stack e w h = getchar_reads program m costs counted adds k few (values_of arguments) stack e w (omega (arith, h))
   calling (callees.Function number) arguments stack e w h = begins_call number (reverse arguments) e stack w (slice_get program.functions number) refl (omega (arith, h))
 
   proceeding : (stack : List Entry) (e : Environment) (w : World) → step_cost m + R Anything stack w ≤ k + step_cost m → D (step_proceeding stack e w)
@@ -723,77 +726,77 @@ module _ (program : Program) (m : Measure) (costs : List ℕ) (closed : IsClosed
   proceeding (Needs a ∷ stack) e w h = tt
   proceeding (NeedsPlace a ∷ stack) e w h = tt
   proceeding (Discard ∷ stack) e w h = omega (arith, h)
-  proceeding (Rest items ∷ stack) e w h = continuing_with program m costs k few items stack e w (omega (arith, h))
+  proceeding (Rest items ∷ stack) e w h = continuing_with program m costs counted adds k few items stack e w (omega (arith, h))
   proceeding (Join ∷ stack) e w h = omega (arith, h)
-  proceeding (Loop condition body ∷ stack) e w h = testing_loop program m costs k few condition body stack e w (omega (arith, h))
-  proceeding (CloseRegion region home ∷ stack) e w h = closes program m costs k few (region_at w region) Proceeding region home stack e w refl (omega (arith, h))
-  proceeding (CloseLexical region ∷ stack) e w h = closes_lexical program m costs k few (region_at w region) Proceeding region stack e w refl (omega (arith, h))
+  proceeding (Loop condition body ∷ stack) e w h = testing_loop program m costs counted adds k few condition body stack e w (omega (arith, h))
+  proceeding (CloseRegion region home ∷ stack) e w h = closes program m costs counted adds k few (region_at w region) Proceeding region home stack e w refl (omega (arith, h))
+  proceeding (CloseLexical region ∷ stack) e w h = closes_lexical program m costs counted adds k few (region_at w region) Proceeding region stack e w refl (omega (arith, h))
   proceeding (EndLoan lent ∷ stack) e w h = omega (arith, h)
   proceeding (Handler handler ∷ stack) e w h = omega (arith, h, clauses_least m costs handler)
   proceeding (Caller outer ∷ stack) e w h = omega (arith, h)
   proceeding (Main ∷ stack) e w h = tt
 
-  returning_to : (o : Option Operand) (stack : List Entry) (e : Environment) (w : World) → step_cost m + R Anything stack w ≤ k → CostsAtMost m costs k (returned o stack e w)
-  returning_to (Some v) stack e w h = gives_value program m costs k few v stack e w h
+  returning_to : (o : Option Operand) (stack : List Entry) (e : Environment) (w : World) → step_cost m + R Anything stack w ≤ k → TakesAtMost counted m costs k (returned o stack e w)
+  returning_to (Some v) stack e w h = gives_value program m costs counted adds k few v stack e w h
   returning_to None stack e w h = h
 
   returning : (o : Option Operand) (stack : List Entry) (e : Environment) (w : World) → step_cost m + R Nothing stack w ≤ k + step_cost m → D (step_returning o stack e w)
   returning o [] e w h = tt
-  returning o (Needs a ∷ stack) e w h = leaves_needs program m costs k few a stack w h
-  returning o (NeedsPlace a ∷ stack) e w h = leaves_place program m costs k few a stack w h
-  returning o (Discard ∷ stack) e w h = leaves program m costs k few stack w (omega (arith, h))
-  returning o (Rest items ∷ stack) e w h = leaves_rest program m costs k few items stack w h
-  returning o (Join ∷ stack) e w h = leaves program m costs k few stack w (omega (arith, h))
-  returning o (Loop condition body ∷ stack) e w h = leaves_loop program m costs k few condition body stack w h
-  returning o (CloseRegion region home ∷ stack) e w h = closes program m costs k few (region_at w region) (Returning o) region home stack e w refl (leaves program m costs k few stack w (omega (arith, h)))
-  returning o (CloseLexical region ∷ stack) e w h = closes_lexical program m costs k few (region_at w region) (Returning o) region stack e w refl (leaves program m costs k few stack w (omega (arith, h)))
-  returning o (EndLoan lent ∷ stack) e w h = leaves program m costs k few stack w (omega (arith, h))
-  returning o (Handler handler ∷ stack) e w h = leaves_handler program m costs k few handler stack w h
+  returning o (Needs a ∷ stack) e w h = leaves_needs program m costs counted adds k few a stack w h
+  returning o (NeedsPlace a ∷ stack) e w h = leaves_place program m costs counted adds k few a stack w h
+  returning o (Discard ∷ stack) e w h = leaves program m costs counted adds k few stack w (omega (arith, h))
+  returning o (Rest items ∷ stack) e w h = leaves_rest program m costs counted adds k few items stack w h
+  returning o (Join ∷ stack) e w h = leaves program m costs counted adds k few stack w (omega (arith, h))
+  returning o (Loop condition body ∷ stack) e w h = leaves_loop program m costs counted adds k few condition body stack w h
+  returning o (CloseRegion region home ∷ stack) e w h = closes program m costs counted adds k few (region_at w region) (Returning o) region home stack e w refl (leaves program m costs counted adds k few stack w (omega (arith, h)))
+  returning o (CloseLexical region ∷ stack) e w h = closes_lexical program m costs counted adds k few (region_at w region) (Returning o) region stack e w refl (leaves program m costs counted adds k few stack w (omega (arith, h)))
+  returning o (EndLoan lent ∷ stack) e w h = leaves program m costs counted adds k few stack w (omega (arith, h))
+  returning o (Handler handler ∷ stack) e w h = leaves_handler program m costs counted adds k few handler stack w h
   returning o (Caller outer ∷ stack) e w h = returning_to o stack outer w (omega (arith, h))
-  returning o (Main ∷ stack) e w h = ending_main program m costs k few o w
+  returning o (Main ∷ stack) e w h = ending_main program m costs counted adds k few o w
 
   throwing : (tag value : ℕ) (stack : List Entry) (e : Environment) (w : World) → step_cost m + R Nothing stack w ≤ k + step_cost m → D (step_throwing tag value stack e w)
   throwing tag value [] e w h = tt
-  throwing tag value (Needs a ∷ stack) e w h = leaves_needs program m costs k few a stack w h
-  throwing tag value (NeedsPlace a ∷ stack) e w h = leaves_place program m costs k few a stack w h
-  throwing tag value (Discard ∷ stack) e w h = leaves program m costs k few stack w (omega (arith, h))
-  throwing tag value (Rest items ∷ stack) e w h = leaves_rest program m costs k few items stack w h
-  throwing tag value (Join ∷ stack) e w h = leaves program m costs k few stack w (omega (arith, h))
-  throwing tag value (Loop condition body ∷ stack) e w h = leaves_loop program m costs k few condition body stack w h
-  throwing tag value (CloseRegion region home ∷ stack) e w h = closes program m costs k few (region_at w region) (Throwing tag value) region home stack e w refl (leaves program m costs k few stack w (omega (arith, h)))
-  throwing tag value (CloseLexical region ∷ stack) e w h = closes_lexical program m costs k few (region_at w region) (Throwing tag value) region stack e w refl (leaves program m costs k few stack w (omega (arith, h)))
-  throwing tag value (EndLoan lent ∷ stack) e w h = leaves program m costs k few stack w (omega (arith, h))
+  throwing tag value (Needs a ∷ stack) e w h = leaves_needs program m costs counted adds k few a stack w h
+  throwing tag value (NeedsPlace a ∷ stack) e w h = leaves_place program m costs counted adds k few a stack w h
+  throwing tag value (Discard ∷ stack) e w h = leaves program m costs counted adds k few stack w (omega (arith, h))
+  throwing tag value (Rest items ∷ stack) e w h = leaves_rest program m costs counted adds k few items stack w h
+  throwing tag value (Join ∷ stack) e w h = leaves program m costs counted adds k few stack w (omega (arith, h))
+  throwing tag value (Loop condition body ∷ stack) e w h = leaves_loop program m costs counted adds k few condition body stack w h
+  throwing tag value (CloseRegion region home ∷ stack) e w h = closes program m costs counted adds k few (region_at w region) (Throwing tag value) region home stack e w refl (leaves program m costs counted adds k few stack w (omega (arith, h)))
+  throwing tag value (CloseLexical region ∷ stack) e w h = closes_lexical program m costs counted adds k few (region_at w region) (Throwing tag value) region stack e w refl (leaves program m costs counted adds k few stack w (omega (arith, h)))
+  throwing tag value (EndLoan lent ∷ stack) e w h = leaves program m costs counted adds k few stack w (omega (arith, h))
   throwing tag value (Handler handler ∷ stack) e w h = omega (arith, h)
-  throwing tag value (Caller outer ∷ stack) e w h = throws_now program m costs k few tag value stack outer w (omega (arith, h))
-  throwing tag value (Main ∷ stack) e w h = leaves program m costs k few stack w (omega (arith, h))
+  throwing tag value (Caller outer ∷ stack) e w h = throws_now program m costs counted adds k few tag value stack outer w (omega (arith, h))
+  throwing tag value (Main ∷ stack) e w h = leaves program m costs counted adds k few stack w (omega (arith, h))
 
   -- ---- a step
 
-  stepping : (focus : Focus) (stack : List Entry) (e : Environment) (w : World)
+  stepping : (focus : Focus) (stack : List Entry) (e : Environment) (w : World) → Fits m focus
       → focus_cost m costs focus + R (focus_delivers focus) stack w ≤ k + step_cost m → D (stepped program focus stack e w)
-  stepping (Evaluating a) stack e w h = evaluating program m costs k few a stack e w h
-  stepping (Locating d) stack e w h = locating program m costs k few d stack e w h
-  stepping (Given v) stack e w h = given program m costs k few v stack e w h
-  stepping (GivenPlace place) stack e w h = given_place program m costs k few place stack e w h
-  stepping (Executing s) stack e w h = executing program m costs k few s stack e w h
-  stepping Proceeding stack e w h = proceeding stack e w h
-  stepping (Calling callee arguments) stack e w h = calling callee arguments stack e w h
-  stepping (Entering f arguments) stack e w h = omega (arith, h, spent_opened m w)
-  stepping (Binding number types arguments body) stack e w h = binding program m costs k few number types arguments body stack e w h
-  stepping (Naming number operand items) stack e w h =
-      names program m costs k few (region_at w e.home) Proceeding number operand.kind (Some operand.value) (Rest items ∷ stack) e w (omega (arith, h))
-  stepping (Writing writes result) stack e w h = writing program m costs k few writes result stack e w h
-  stepping (Beginning owner count level kind element) stack e w h = begins program m costs k few (created w owner (blanks count kind)) owner count level kind element stack e w refl h
-  stepping (Repeating object count index level kind element) stack e w h = repeating program m costs k few object count index level kind element stack e w h
-  stepping (Swapping kind first right before) stack e w h = swapping_values program m costs k few kind first right before stack e w h
-  stepping Breaking stack e w h = breaking program m costs k few stack e w h
-  stepping Continuing stack e w h = continuing program m costs k few stack e w h
-  stepping (Returning o) stack e w h = returning o stack e w h
-  stepping (Throwing tag value) stack e w h = throwing tag value stack e w h
-  stepping (Catching tag value handler) stack e w h = catching program m costs k few tag value handler stack e w h
+  stepping (Evaluating a) stack e w fits h = evaluating program m costs counted adds k few a stack e w h
+  stepping (Locating d) stack e w fits h = locating program m costs counted adds k few d stack e w h
+  stepping (Given v) stack e w fits h = given program m costs counted adds k few v stack e w fits h
+  stepping (GivenPlace place) stack e w fits h = given_place program m costs counted adds k few place stack e w h
+  stepping (Executing s) stack e w fits h = executing program m costs counted adds k few s stack e w h
+  stepping Proceeding stack e w fits h = proceeding stack e w h
+  stepping (Calling callee arguments) stack e w fits h = calling callee arguments stack e w h
+  stepping (Entering f arguments) stack e w fits h = omega (arith, h, adds.opened Stack w)
+  stepping (Binding number types arguments body) stack e w fits h = binding program m costs counted adds k few number types arguments body stack e w h
+  stepping (Naming number operand items) stack e w fits h =
+      names program m costs counted adds k few (region_at w e.home) Proceeding number operand.kind (Some operand.value) (Rest items ∷ stack) e w (omega (arith, h))
+  stepping (Writing writes result) stack e w fits h = writing program m costs counted adds k few writes result stack e w h
+  stepping (Beginning owner count level kind element) stack e w fits h = begins program m costs counted adds k few (created w owner (blanks count kind)) owner count level kind element stack e w refl h
+  stepping (Repeating object count index level kind element) stack e w fits h = repeating program m costs counted adds k few object count index level kind element stack e w h
+  stepping (Swapping kind first right before) stack e w fits h = swapping_values program m costs counted adds k few kind first right before stack e w h
+  stepping Breaking stack e w fits h = breaking program m costs counted adds k few stack e w h
+  stepping Continuing stack e w fits h = continuing program m costs counted adds k few stack e w h
+  stepping (Returning o) stack e w fits h = returning o stack e w h
+  stepping (Throwing tag value) stack e w fits h = throwing tag value stack e w h
+  stepping (Catching tag value handler) stack e w fits h = catching program m costs counted adds k few tag value handler stack e w h
 
-  pub step_costs : (s : State) → CostsAtMost m costs (k + step_cost m) s → CostsAtMost m costs k (steps.step program s)
-  step_costs (Running focus stack e w) h = stepping focus stack e w h
-  step_costs (Ended ending output input) h = tt
-  step_costs (Dead output input) h = tt
-  step_costs (Wrong output input) h = tt
+  pub step_costs : (s : State) → FitsIn m s → TakesAtMost counted m costs (k + step_cost m) s → TakesAtMost counted m costs k (steps.step program s)
+  step_costs (Running focus stack e w) fits h = stepping focus stack e w fits h
+  step_costs (Ended ending output input) fits h = tt
+  step_costs (Dead output input) fits h = tt
+  step_costs (Wrong output input) fits h = tt

@@ -1,5 +1,5 @@
 -- What is added up of lists so far, with what is still to come, and what nodes with lists cost.
-use Rattle.std.proofs.Common.{◌≡◌, ℕ, zero, suc, ◌+◌, ◌*◌, ◌<◌, ◌≤◌, min, max, Bool, List, [], ◌∷◌, length, get_or, drop, Option, Some, None, refl, sym, ap, subst, ◌∙◌, arith, suc-mul}
+use Rattle.std.proofs.Common.{◌≡◌, ℕ, zero, suc, ◌+◌, ◌*◌, ◌<◌, ◌≤◌, min, max, List, [], ◌∷◌, length, get_or, drop, Option, Some, None, refl, sym, ap, subst, ◌∙◌, arith, suc-mul}
 use Rattle.std.specs.Prelude.{map}
 use Rattle.std.proofs.lemmas.List.{drop_more, drop_all}
 use Rattle.std.specs.declared.vec.Vec.{Vec}
@@ -30,7 +30,8 @@ use Rattle.cyc_types.specs.TypedTreeView.{view_expression, view_placement, view_
 use Rattle.cyc_types.proofs.TypedTreeViewLemmas.{view_call, view_binary, view_fields, view_block, view_try}
 use Rattle.cyc_meaning.specs.Values.{behind}
 use Rattle.cyc_bound.specs.declared.costs.Measure.{Measure}
-use Rattle.cyc_bound.specs.Costs.{too_many, step_cost, most_elements, array_cost, loop_cost, callee_cost, expression_cost, makes_unique, written_length, placement_cost, initial_cost, fields_made_cost, fields_cost, converted_cost, arguments_cost, operations_cost, caught_cost, statement_cost, item_cost, items_cost, clauses_cost}
+use Rattle.cyc_bound.specs.declared.costs.Site.{Site}
+use Rattle.cyc_bound.specs.Costs.{too_many, step_cost, most_elements, array_cost, loop_cost, callee_cost, expression_cost, site_of, written_length, placement_cost, initial_cost, fields_made_cost, fields_cost, converted_cost, arguments_cost, operations_cost, caught_cost, statement_cost, item_cost, items_cost, clauses_cost}
 use Rattle.cyc_bound.specs.inside.ItemCosts.{operation_cost, clauses_then}
 
 -- ---- lists
@@ -45,9 +46,9 @@ OperationsLeft m costs os i total =
     (min too_many (total + operations_cost m costs (operations_of (drop i os))) ≡ min too_many (operations_cost m costs (operations_of os))) × (total ≤ too_many)
 
 -- and the bytes are few
-abbrev pub FieldsLeft : Measure → (costs : List ℕ) → Bool → List ConvertedCode → (i total bytes : ℕ) → Type 0
-FieldsLeft m costs unique cs i total bytes =
-    (min too_many (total + fields_cost m costs unique i bytes (arguments_of (drop i cs))) ≡ min too_many (fields_cost m costs unique 0 0 (arguments_of cs))) × (bytes ≤ 16 * i)
+abbrev pub FieldsLeft : Measure → (costs : List ℕ) → Site → List ConvertedCode → (i total bytes : ℕ) → Type 0
+FieldsLeft m costs site cs i total bytes =
+    (min too_many (total + fields_cost m costs site i bytes (arguments_of (drop i cs))) ≡ min too_many (fields_cost m costs site 0 0 (arguments_of cs))) × (bytes ≤ 16 * i)
 
 abbrev pub ItemsLeft : Measure → (costs : List ℕ) → List ItemCode → (i total : ℕ) → Type 0
 ItemsLeft m costs js i total = min too_many (total + items_cost m costs (items_of (drop i js))) ≡ min too_many (items_cost m costs (items_of js))
@@ -69,9 +70,9 @@ capped : (count step cost : ℕ) → min too_many (count * (step + min too_many 
 capped zero step cost = omega arith
 capped (suc count) step cost = omega (arith, capped count step cost, suc-mul count (step + min too_many cost), suc-mul count (step + cost))
 
-array_capped : (m : Measure) (unique : Bool) (kind : Kind) (element : ℕ) (n : Option ℕ) → min too_many (array_cost m unique kind (min too_many element) n) ≡ min too_many (array_cost m unique kind element n)
-array_capped m unique kind element None = omega (arith, capped (most_elements kind) (step_cost m) element)
-array_capped m unique kind element (Some n) = omega (arith, capped (min n (most_elements kind)) (step_cost m) element)
+array_capped : (m : Measure) (site : Site) (kind : Kind) (element : ℕ) (n : Option ℕ) → min too_many (array_cost m site kind (min too_many element) n) ≡ min too_many (array_cost m site kind element n)
+array_capped m site kind element None = omega (arith, capped (most_elements kind) (step_cost m) element)
+array_capped m site kind element (Some n) = omega (arith, capped (min n (most_elements kind)) (step_cost m) element)
 
 loop_capped : (turn : ℕ) → loop_cost (min too_many turn) ≡ min too_many (loop_cost turn)
 loop_capped zero = refl
@@ -136,24 +137,24 @@ module _ (m : Measure) (costs : List ℕ) where
   behind_few kinds.Handle bytes i few = omega (arith, few)
   behind_few kinds.Key bytes i few = omega (arith, few)
 
-  pub fields_next : (unique : Bool) (cs : List ConvertedCode) (i total bytes : ℕ) (c : ConvertedCode) (cost next more : ℕ) → i < length cs → c ≡ get_or cs i c → FieldsLeft m costs unique cs i total bytes
-      → cost ≡ min too_many (converted_cost m costs (view_converted c)) → next ≡ min too_many (total + cost) → more ≡ behind c.to bytes → FieldsLeft m costs unique cs (i + 1) next more
-  fields_next unique cs i total bytes c cost next more less at h one two is =
-      let first : fields_cost m costs unique i bytes (arguments_of (drop i cs)) ≡ converted_cost m costs (view_converted c) + fields_cost m costs unique (suc i) (behind c.to bytes) (arguments_of (drop (i + 1) cs)) =
-      ap (λ (l : List ConvertedCode). fields_cost m costs unique i bytes (arguments_of l)) (next_of cs i c less at) in
+  pub fields_next : (site : Site) (cs : List ConvertedCode) (i total bytes : ℕ) (c : ConvertedCode) (cost next more : ℕ) → i < length cs → c ≡ get_or cs i c → FieldsLeft m costs site cs i total bytes
+      → cost ≡ min too_many (converted_cost m costs (view_converted c)) → next ≡ min too_many (total + cost) → more ≡ behind c.to bytes → FieldsLeft m costs site cs (i + 1) next more
+  fields_next site cs i total bytes c cost next more less at h one two is =
+      let first : fields_cost m costs site i bytes (arguments_of (drop i cs)) ≡ converted_cost m costs (view_converted c) + fields_cost m costs site (suc i) (behind c.to bytes) (arguments_of (drop (i + 1) cs)) =
+      ap (λ (l : List ConvertedCode). fields_cost m costs site i bytes (arguments_of l)) (next_of cs i c less at) in
       let count : suc i ≡ i + 1 = omega arith in
       let so_far = one_more total cost next _ _ _ (ap (λ (n : ℕ). min too_many (total + n)) (sym first) ∙ h.0) one two in
-      let counted = subst (λ (n : ℕ). min too_many (next + fields_cost m costs unique n (behind c.to bytes) (arguments_of (drop (i + 1) cs))) ≡ min too_many (fields_cost m costs unique 0 0 (arguments_of cs))) count so_far in
-      subst (λ (n : ℕ). (min too_many (next + fields_cost m costs unique (i + 1) n (arguments_of (drop (i + 1) cs))) ≡ min too_many (fields_cost m costs unique 0 0 (arguments_of cs))) × (n ≤ 16 * (i + 1))) (sym is)
+      let counted = subst (λ (n : ℕ). min too_many (next + fields_cost m costs site n (behind c.to bytes) (arguments_of (drop (i + 1) cs))) ≡ min too_many (fields_cost m costs site 0 0 (arguments_of cs))) count so_far in
+      subst (λ (n : ℕ). (min too_many (next + fields_cost m costs site (i + 1) n (arguments_of (drop (i + 1) cs))) ≡ min too_many (fields_cost m costs site 0 0 (arguments_of cs))) × (n ≤ 16 * (i + 1))) (sym is)
       (counted, behind_few c.to bytes i h.1)
 
-  pub fields_all : (unique : Bool) (cs : List ConvertedCode) (i total bytes count made result : ℕ) → length cs ≤ i → i ≤ length cs → count ≡ length cs → FieldsLeft m costs unique cs i total bytes
-      → made ≡ min too_many (fields_made_cost m unique count bytes) → result ≡ min too_many (total + made) → result ≡ min too_many (fields_cost m costs unique 0 0 (arguments_of cs))
-  fields_all unique cs i total bytes count made result whole within is h one two =
+  pub fields_all : (site : Site) (cs : List ConvertedCode) (i total bytes count made result : ℕ) → length cs ≤ i → i ≤ length cs → count ≡ length cs → FieldsLeft m costs site cs i total bytes
+      → made ≡ min too_many (fields_made_cost m site count bytes) → result ≡ min too_many (total + made) → result ≡ min too_many (fields_cost m costs site 0 0 (arguments_of cs))
+  fields_all site cs i total bytes count made result whole within is h one two =
       let here : count ≡ i = omega (arith, whole, within, is) in
-      let last : fields_cost m costs unique i bytes (arguments_of (drop i cs)) ≡ fields_made_cost m unique count bytes =
-      ap (λ (l : List ConvertedCode). fields_cost m costs unique i bytes (arguments_of l)) (drop_all i cs whole) ∙ ap (λ (n : ℕ). fields_made_cost m unique n bytes) (sym here) in
-      both total made result (fields_made_cost m unique count bytes) one two ∙ ap (λ (n : ℕ). min too_many (total + n)) (sym last) ∙ h.0
+      let last : fields_cost m costs site i bytes (arguments_of (drop i cs)) ≡ fields_made_cost m site count bytes =
+      ap (λ (l : List ConvertedCode). fields_cost m costs site i bytes (arguments_of l)) (drop_all i cs whole) ∙ ap (λ (n : ℕ). fields_made_cost m site n bytes) (sym here) in
+      both total made result (fields_made_cost m site count bytes) one two ∙ ap (λ (n : ℕ). min too_many (total + n)) (sym last) ∙ h.0
     where
       both : (total made result cost : ℕ) → made ≡ min too_many cost → result ≡ min too_many (total + made) → result ≡ min too_many (total + cost)
       both total made result cost one two = omega (arith, one, two)
@@ -234,28 +235,28 @@ module _ (m : Measure) (costs : List ℕ) where
       ∙ ap (λ (x : Expr). 2 * step_cost m + (expression_cost m costs (view_expression x) + operations_cost m costs (operations_of v.items))) (sym at)
       ∙ ap (λ (os : List Operation). 2 * step_cost m + (expression_cost m costs (view_expression first) + operations_cost m costs (operations_of os))) (sym same)
 
-  pub new_costs : (value : Expr) {w : _} (p : PlacementCode) (b : Box Initial Heap) (t : TyCode) → value ≡ expr.New w p b t → (i : Initial) → i ≡ b.value → (unique : Bool) → unique ≡ makes_unique (view_placement p)
-      → expression_cost m costs (view_expression value) ≡ 1 * step_cost m + (placement_cost m costs (view_placement p) + initial_cost m costs unique (view_initial i))
-  new_costs value {w} p b t is i at unique same =
+  pub new_costs : (value : Expr) {w : _} (p : PlacementCode) (b : Box Initial Heap) (t : TyCode) → value ≡ expr.New w p b t → (i : Initial) → i ≡ b.value → (site : Site) → site ≡ site_of (view_placement p)
+      → expression_cost m costs (view_expression value) ≡ 1 * step_cost m + (placement_cost m costs (view_placement p) + initial_cost m costs site (view_initial i))
+  new_costs value {w} p b t is i at site same =
       ap (λ (x : Expr). expression_cost m costs (view_expression x)) is
-      ∙ ap (λ (x : Initial). step_cost m + (placement_cost m costs (view_placement p) + initial_cost m costs (makes_unique (view_placement p)) (view_initial x))) (sym at)
-      ∙ ap (λ (u : Bool). step_cost m + (placement_cost m costs (view_placement p) + initial_cost m costs u (view_initial i))) (sym same) ∙ omega arith
+      ∙ ap (λ (x : Initial). step_cost m + (placement_cost m costs (view_placement p) + initial_cost m costs (site_of (view_placement p)) (view_initial x))) (sym at)
+      ∙ ap (λ (u : Site). step_cost m + (placement_cost m costs (view_placement p) + initial_cost m costs u (view_initial i))) (sym same) ∙ omega arith
 
-  pub fields_costs : (unique : Bool) (value : Initial) (v : Vec ConvertedCode Heap) → value ≡ initial.Fields v → (items : List ConvertedCode) → items ≡ v.items
-      → initial_cost m costs unique (view_initial value) ≡ fields_cost m costs unique 0 0 (arguments_of items)
-  fields_costs unique value v is items same =
-      ap (λ (x : Initial). initial_cost m costs unique (view_initial x)) is ∙ ap (λ (x : typed.Initial). initial_cost m costs unique x) (view_fields v)
-      ∙ ap (λ (cs : List ConvertedCode). fields_cost m costs unique 0 0 (arguments_of cs)) (sym same)
+  pub fields_costs : (site : Site) (value : Initial) (v : Vec ConvertedCode Heap) → value ≡ initial.Fields v → (items : List ConvertedCode) → items ≡ v.items
+      → initial_cost m costs site (view_initial value) ≡ fields_cost m costs site 0 0 (arguments_of items)
+  fields_costs site value v is items same =
+      ap (λ (x : Initial). initial_cost m costs site (view_initial x)) is ∙ ap (λ (x : typed.Initial). initial_cost m costs site x) (view_fields v)
+      ∙ ap (λ (cs : List ConvertedCode). fields_cost m costs site 0 0 (arguments_of cs)) (sym same)
 
-  pub array_costs : (unique : Bool) (value : Initial) {w : _} (level : ℕ) (n : Expr) (k : Kind) (e : Expr) → value ≡ initial.Array w level n k e → (counted turn : ℕ) (written : Option ℕ) (made result : ℕ)
+  pub array_costs : (site : Site) (value : Initial) {w : _} (level : ℕ) (n : Expr) (k : Kind) (e : Expr) → value ≡ initial.Array w level n k e → (counted turn : ℕ) (written : Option ℕ) (made result : ℕ)
       → counted ≡ min too_many (expression_cost m costs (view_expression n)) → turn ≡ min too_many (expression_cost m costs (view_expression e)) → written ≡ written_length (view_expression n)
-      → made ≡ min too_many (array_cost m unique k turn written) → result ≡ min too_many (counted + made) → result ≡ min too_many (initial_cost m costs unique (view_initial value))
-  array_costs unique value {w} level n k e is counted turn written made result one two three four five =
-      let whole : initial_cost m costs unique (view_initial value) ≡ expression_cost m costs (view_expression n) + array_cost m unique k (expression_cost m costs (view_expression e)) (written_length (view_expression n)) =
-      ap (λ (x : Initial). initial_cost m costs unique (view_initial x)) is in
-      let array : made ≡ min too_many (array_cost m unique k (expression_cost m costs (view_expression e)) (written_length (view_expression n))) =
-      four ∙ ap (λ (x : ℕ). min too_many (array_cost m unique k x written)) two ∙ array_capped m unique k (expression_cost m costs (view_expression e)) written
-      ∙ ap (λ (o : Option ℕ). min too_many (array_cost m unique k (expression_cost m costs (view_expression e)) o)) three in
+      → made ≡ min too_many (array_cost m site k turn written) → result ≡ min too_many (counted + made) → result ≡ min too_many (initial_cost m costs site (view_initial value))
+  array_costs site value {w} level n k e is counted turn written made result one two three four five =
+      let whole : initial_cost m costs site (view_initial value) ≡ expression_cost m costs (view_expression n) + array_cost m site k (expression_cost m costs (view_expression e)) (written_length (view_expression n)) =
+      ap (λ (x : Initial). initial_cost m costs site (view_initial x)) is in
+      let array : made ≡ min too_many (array_cost m site k (expression_cost m costs (view_expression e)) (written_length (view_expression n))) =
+      four ∙ ap (λ (x : ℕ). min too_many (array_cost m site k x written)) two ∙ array_capped m site k (expression_cost m costs (view_expression e)) written
+      ∙ ap (λ (o : Option ℕ). min too_many (array_cost m site k (expression_cost m costs (view_expression e)) o)) three in
       both counted made result _ _ one array five ∙ ap (λ (x : ℕ). min too_many x) (sym whole)
     where
       both : (first second result a b : ℕ) → first ≡ min too_many a → second ≡ min too_many b → result ≡ min too_many (first + second) → result ≡ min too_many (a + b)

@@ -8,9 +8,15 @@ pub mod CostWorlds
 pub mod CostLemmas
 pub mod CostSteps
 pub mod CostRuns
+pub mod FrameSteps
+pub mod KeptSteps
+pub mod OutermostRuns
 pub mod MoreLemmas
 pub mod RoundLemmas
 pub mod PageRuns
 pub mod UniqueLemmas
+pub mod ReachedLemmas
+pub mod AtOnceFound
+pub mod PageSums
 pub mod BoundExamples
 pub mod CostExamples

@@ -1,5 +1,5 @@
 -- Where functions cost more, nothing that calls them costs less.
-use Rattle.std.proofs.Common.{ℕ, zero, suc, ◌+◌, ◌≤◌, min, Bool, List, [], ◌∷◌, Option, Some, None, arith, mul-le-mul_left}
+use Rattle.std.proofs.Common.{ℕ, zero, suc, ◌+◌, ◌≤◌, min, List, [], ◌∷◌, Option, Some, None, arith, mul-le-mul_left}
 use Rattle.std.specs.Prelude.{map}
 use Rattle.cyc_types.specs.declared.typed.Kind.{Kind}
 use Rattle.cyc_types.specs.declared.typed.Callee.{Callee}
@@ -7,7 +7,8 @@ use Rattle.cyc_types.specs.declared.typed.Callee.TheVariants as callees
 use Rattle.cyc_types.specs.TypedTrees.{Expression, Number, NullPointer, HeapRegion, Counter, Copy, Move, Peek, Load, AddressOf, AddressOfCell, NumberOfElements, FreeUnique, FreeKey, Call, Unary, Binary, Assign, Store, New, Dereference, Target, Member, Element, Placement, OnHeap, AsUnique, ByHandle, Initial, Plain, Fields, Array, Converted, Convert, Arguments, NoArguments, MoreArguments, Operations, NoOperations, ThenCompute, ThenTest, ThenPointer, ThenPointerPeek, Side, VariableSide, CellSide, Statement, Block, Empty, Evaluate, Swap, If, While, Return, Break, Continue, Throw, Try, Item, Items, NoItems, MoreItems, Execute, Declare, DeclareRegion, OpenRegion, DeclareAlias, DeclareKey, Clauses, NoClauses, Default, Case, Function, Program}
 use Rattle.cyc_meaning.specs.Values.{behind}
 use Rattle.cyc_bound.specs.declared.costs.Measure.{Measure}
-use Rattle.cyc_bound.specs.Costs.{too_many, step_cost, most_elements, elements_cost, array_cost, callee_cost, expression_cost, makes_unique, written_length, place_cost, placement_cost, initial_cost, fields_cost, converted_cost, arguments_cost, operations_cost, value_cost, thrown_cost, side_cost, loop_cost, caught_cost, statement_cost, item_cost, items_cost, clauses_cost, function_cost, next_costs, Below}
+use Rattle.cyc_bound.specs.declared.costs.Site.{Site}
+use Rattle.cyc_bound.specs.Costs.{too_many, step_cost, most_elements, elements_cost, array_cost, callee_cost, expression_cost, site_of, written_length, place_cost, placement_cost, initial_cost, fields_cost, converted_cost, arguments_cost, operations_cost, value_cost, thrown_cost, side_cost, loop_cost, caught_cost, statement_cost, item_cost, items_cost, clauses_cost, function_cost, next_costs, Below}
 
 loop_more : (m n : ℕ) → m ≤ n → loop_cost m ≤ loop_cost n
 loop_more zero n less = omega arith
@@ -23,9 +24,9 @@ elements_more m element other count less =
     let turn : step_cost m + element ≤ step_cost m + other = omega (arith, less) in
     omega (arith, mul-le-mul_left count turn)
 
-array_more : (m : Measure) (unique : Bool) (kind : Kind) (element other : ℕ) (n : Option ℕ) → element ≤ other → array_cost m unique kind element n ≤ array_cost m unique kind other n
-array_more m unique kind element other None less = omega (arith, elements_more m element other (most_elements kind) less)
-array_more m unique kind element other (Some n) less = omega (arith, elements_more m element other (min n (most_elements kind)) less)
+array_more : (m : Measure) (site : Site) (kind : Kind) (element other : ℕ) (n : Option ℕ) → element ≤ other → array_cost m site kind element n ≤ array_cost m site kind other n
+array_more m site kind element other None less = omega (arith, elements_more m element other (most_elements kind) less)
+array_more m site kind element other (Some n) less = omega (arith, elements_more m element other (min n (most_elements kind)) less)
 
 module _ (m : Measure) (costs others : List ℕ) (below : Below costs others) where
   callee_more : (callee : Callee) → callee_cost m costs callee ≤ callee_cost m others callee
@@ -53,7 +54,7 @@ module _ (m : Measure) (costs others : List ℕ) (below : Below costs others) wh
     expression_more (Binary a rest t) = omega (arith, expression_more a, operations_more rest)
     expression_more (Assign place c t) = omega (arith, converted_more c)
     expression_more (Store d c t) = omega (arith, place_more d, converted_more c)
-    expression_more (New placement initial t) = omega (arith, placement_more placement, initial_more (makes_unique placement) initial)
+    expression_more (New placement initial t) = omega (arith, placement_more placement, initial_more (site_of placement) initial)
 
     place_more : (d : Dereference) → place_cost m costs d ≤ place_cost m others d
     place_more (Target pointer a t) = omega (arith, expression_more a)
@@ -65,15 +66,15 @@ module _ (m : Measure) (costs others : List ℕ) (below : Below costs others) wh
     placement_more AsUnique = omega arith
     placement_more (ByHandle a) = omega (arith, expression_more a)
 
-    initial_more : (unique : Bool) (initial : Initial) → initial_cost m costs unique initial ≤ initial_cost m others unique initial
-    initial_more unique (Plain kind a) = omega (arith, expression_more a)
-    initial_more unique (Fields cs) = fields_more unique 0 0 cs
-    initial_more unique (Array place level n kind a) =
-        omega (arith, expression_more n, array_more m unique kind (expression_cost m costs a) (expression_cost m others a) (written_length n) (expression_more a))
+    initial_more : (site : Site) (initial : Initial) → initial_cost m costs site initial ≤ initial_cost m others site initial
+    initial_more site (Plain kind a) = omega (arith, expression_more a)
+    initial_more site (Fields cs) = fields_more site 0 0 cs
+    initial_more site (Array place level n kind a) =
+        omega (arith, expression_more n, array_more m site kind (expression_cost m costs a) (expression_cost m others a) (written_length n) (expression_more a))
 
-    fields_more : (unique : Bool) (count bytes : ℕ) (cs : Arguments) → fields_cost m costs unique count bytes cs ≤ fields_cost m others unique count bytes cs
-    fields_more unique count bytes NoArguments = omega arith
-    fields_more unique count bytes (MoreArguments (Convert from to a) cs) = omega (arith, expression_more a, fields_more unique (suc count) (behind to bytes) cs)
+    fields_more : (site : Site) (count bytes : ℕ) (cs : Arguments) → fields_cost m costs site count bytes cs ≤ fields_cost m others site count bytes cs
+    fields_more site count bytes NoArguments = omega arith
+    fields_more site count bytes (MoreArguments (Convert from to a) cs) = omega (arith, expression_more a, fields_more site (suc count) (behind to bytes) cs)
 
     converted_more : (c : Converted) → converted_cost m costs c ≤ converted_cost m others c
     converted_more (Convert from to a) = omega (arith, expression_more a)

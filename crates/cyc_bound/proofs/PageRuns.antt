@@ -1,6 +1,7 @@
 -- No run asks for more pages than its costs tell.
-use Rattle.std.proofs.Common.{◌≡◌, ℕ, zero, suc, ◌+◌, ◌-◌, ◌*◌, ◌/◌, ◌<◌, ◌≤◌, max, Bool, true, false, List, [], ◌∷◌, set, length, get_or, Option, Some, None, refl, sym, ap, subst, ◌∙◌, inl, inr, arith, div-mul-le_self}
+use Rattle.std.proofs.Common.{◌≡◌, ℕ, zero, suc, ◌+◌, ◌-◌, ◌*◌, ◌/◌, ◌<◌, ◌≤◌, max, Bool, true, false, List, [], ◌∷◌, drop, set, length, get_or, Option, Some, None, refl, sym, ap, subst, ◌∙◌, inl, inr, arith, div-mul-le_self}
 use Rattle.std.specs.Prelude.{◌==◌, ◌&&◌, nat_le, if◌then◌else◌, slice_get}
+use Rattle.std.specs.List.{AllByRecursion}
 use Rattle.std.proofs.lemmas.Bool.{cases_eq, le-leb, leb-false, eq-eqb}
 use Rattle.std.proofs.lemmas.List.{length-set, get_or-set_same, get_or-set_other}
 use Rattle.std.proofs.lemmas.Nat.{le-div}
@@ -8,45 +9,60 @@ use Rattle.cyc_words.specs.Demand.{page_words, pages_from, region_pages, greates
 use Rattle.cyc_words.specs.Ending.{Full}
 use Rattle.cyc_types.specs.TypedTrees.{Function, Program}
 use Rattle.cyc_meaning.specs.Values.{block_size}
-use Rattle.cyc_meaning.specs.State.{Sort, Heap, Globals, Stack, Lexical, Dynamic, Region, Owner, InRegion, Unique, Object, World, first_world, first_classes, has_pages, counted, Main, no_locals, Entering, State, HasEnded, GoesOn, Running, Ended, Dead, Wrong, output_of, input_of, demand, depth}
+use Rattle.cyc_meaning.specs.State.{Sort, Heap, Globals, Stack, Lexical, Dynamic, Region, Owner, InRegion, Unique, Object, World, first_world, first_classes, has_pages, counted, Main, no_locals, Environment, Entry, Focus, Given, Entering, State, HasEnded, GoesOn, Running, Ended, Dead, Wrong, output_of, input_of, demand, depth}
 use Rattle.cyc_meaning.specs.Objects.{class_of_cells, is_live_in, live_in}
 use Rattle.cyc_meaning.specs.Parts.{wrong}
 use Rattle.cyc_meaning.specs.Step.{called, step}
 use Rattle.cyc_meaning.specs.Run.{start, run, is_within, limited_steps, limited_run}
 use Rattle.cyc_meaning.specs.inside.Effects.{printed_by, read_by, Changes, Keeps, Opens, Closes, Makes, MakesIn, MakesUnique, Frees, Writes, Prints, Reads, ChangesIn}
+use Rattle.cyc_meaning.specs.inside.Nesting.{is_scope, is_open_scope, IsNested, Nests}
 use Rattle.cyc_meaning.proofs.RunLaws.{step_changes, steps-last, limited_over_stays}
+use Rattle.cyc_meaning.proofs.Nested.{nests_run}
 use Rattle.cyc_bound.specs.declared.costs.Measure.{Measure}
 use Rattle.cyc_bound.specs.declared.costs.Measure.TheVariants as measures
+use Rattle.cyc_bound.specs.declared.costs.Site.{Site}
+use Rattle.cyc_bound.specs.declared.costs.Site.TheVariants as sites
 use Rattle.cyc_bound.specs.Costs.{too_many, step_cost, block_cost, run_cost, IsRunCost}
-use Rattle.cyc_bound.specs.Pages.{unique_pages, most_pages, AreCounted}
-use Rattle.cyc_bound.specs.inside.Remaining.{is_unique, blocks_spent, sort_spent, regions_spent, objects_spent, spent, CostsAtMost}
+use Rattle.cyc_bound.specs.AtOnce.{IsAtOnce}
+use Rattle.cyc_bound.specs.Pages.{IsForPages, AreCounted, further_pages, unique_pages, most_region_pages, most_pages}
+use Rattle.cyc_bound.specs.inside.Remaining.{blocks_spent, sort_spent, regions_spent, object_spent, objects_spent, spent, CostsAtMost}
+use Rattle.cyc_bound.specs.inside.Outermost.{IsOwn, focus_own, IsLeft, AreSorted, IsKept}
+use Rattle.cyc_bound.proofs.CostLemmas.{IsNoMore, Fits, FitsIn, always_fits}
 use Rattle.cyc_bound.proofs.CostWorlds.{spent_unique}
 use Rattle.cyc_bound.proofs.CostRuns.{run_costs}
+use Rattle.cyc_bound.proofs.OutermostRuns.{since, IsRegional, Facts, Split, Outside, Inside, IsSplit, none_open, run_kept, run_split}
 
 -- ---- regions
 
--- what is filled in order has no more pages than blocks, and two that stand side by side have more words than one
-abbrev Grows : (pages filled : ℕ) → (sizes : List ℕ) → (after : ℕ) → Type 0
-Grows pages filled sizes after =
-    (after ≤ pages + blocks_spent measures.Blocks sizes) × ((suc page_words * after ≤ suc page_words * pages + filled + 2 * blocks_spent measures.Words sizes) × (pages ≤ after))
+-- the one counts the blocks that are made at a site, and the other their words
+pub record AreBlocks (ones sums : Measure) (site : Site) : Type 0 where
+  pub one : (size : ℕ) → block_cost ones site size ≡ 1
+  pub all : (size : ℕ) → block_cost sums site size ≡ size
 
-pages_grow : (pages filled : ℕ) (sizes : List ℕ) → Grows pages filled sizes (pages_from pages filled sizes)
-pages_grow pages filled [] = (omega arith, (omega arith, omega arith))
-pages_grow pages filled (size ∷ sizes) = go (nat_le (filled + size) page_words) refl (pages_grow pages (filled + size) sizes) (pages_grow (suc pages) size sizes)
+-- what is filled in order has no more pages than blocks, and two that stand side by side have more words than one
+abbrev Grows : (ones sums : Measure) → Site → (pages filled : ℕ) → (sizes : List ℕ) → (after : ℕ) → Type 0
+Grows ones sums site pages filled sizes after =
+    (after ≤ pages + blocks_spent ones site sizes) × ((suc page_words * after ≤ suc page_words * pages + filled + 2 * blocks_spent sums site sizes) × (pages ≤ after))
+
+pages_grow : (ones sums : Measure) (site : Site) → AreBlocks ones sums site → (pages filled : ℕ) (sizes : List ℕ) → Grows ones sums site pages filled sizes (pages_from pages filled sizes)
+pages_grow ones sums site are pages filled [] = (omega arith, (omega arith, omega arith))
+pages_grow ones sums site are pages filled (size ∷ sizes) =
+    go (nat_le (filled + size) page_words) refl (pages_grow ones sums site are pages (filled + size) sizes) (pages_grow ones sums site are (suc pages) size sizes)
   where
-    go : (b : Bool) → nat_le (filled + size) page_words ≡ b → Grows pages (filled + size) sizes (pages_from pages (filled + size) sizes) → Grows (suc pages) size sizes (pages_from (suc pages) size sizes)
-        → Grows pages filled (size ∷ sizes) (if b then pages_from pages (filled + size) sizes else pages_from (suc pages) size sizes)
-    go true is fits past = (omega (arith, fits.0), (omega (arith, fits.1.0), fits.1.1))
+    go : (b : Bool) → nat_le (filled + size) page_words ≡ b → Grows ones sums site pages (filled + size) sizes (pages_from pages (filled + size) sizes)
+        → Grows ones sums site (suc pages) size sizes (pages_from (suc pages) size sizes)
+        → Grows ones sums site pages filled (size ∷ sizes) (if b then pages_from pages (filled + size) sizes else pages_from (suc pages) size sizes)
+    go true is fits past = (omega (arith, fits.0, are.one size), (omega (arith, fits.1.0, are.all size), fits.1.1))
     go false is fits past =
         let more = leb-false (filled + size) page_words is in
-        (omega (arith, past.0), (omega (arith, past.1.0, more), omega (arith, past.1.1)))
+        (omega (arith, past.0, are.one size), (omega (arith, past.1.0, more, are.all size), omega (arith, past.1.1)))
 
--- the pages of regions are one for each and some behind the first ones
-pub record RegionsAsk (regions : List Region) (pages : ℕ) : Type 0 where
+-- the pages of regions, of which the first one is at a site and the others have handles, are one for each and some behind the first ones
+pub record RegionsAsk (ones sums : Measure) (site : Site) (regions : List Region) (pages : ℕ) : Type 0 where
   pub further : ℕ
-  pub all : pages ≤ regions_spent measures.Openings regions + further
-  pub by_blocks : further ≤ regions_spent measures.Blocks regions
-  pub by_words : suc page_words * further ≤ 2 * regions_spent measures.Words regions
+  pub all : pages ≤ regions_spent measures.Openings site regions + further
+  pub by_blocks : further ≤ regions_spent ones site regions
+  pub by_words : suc page_words * further ≤ 2 * regions_spent sums site regions
 
 abbrev pages_of : List Region → ℕ
 pages_of regions = demand_of (counted regions) []
@@ -58,12 +74,13 @@ sort_costs Stack flag has = absurd (let e : false ≡ true = has in cc)
 sort_costs Lexical flag has = refl
 sort_costs Dynamic flag has = refl
 
-more_pages : (r : Region) (regions : List Region) → RegionsAsk regions (pages_of regions) → RegionsAsk (r ∷ regions) (pages_of (r ∷ regions))
-more_pages r regions h = go (has_pages r.sort r.is_open) refl
+more_pages : (ones sums : Measure) (site : Site) → AreBlocks ones sums site → (r : Region) (regions : List Region) → RegionsAsk ones sums sites.Region regions (pages_of regions)
+    → RegionsAsk ones sums site (r ∷ regions) (pages_of (r ∷ regions))
+more_pages ones sums site are r regions h = go (has_pages r.sort r.is_open) refl
   where
-    go : (b : Bool) → has_pages r.sort r.is_open ≡ b → RegionsAsk (r ∷ regions) (demand_of (if b then r.blocks ∷ counted regions else counted regions) [])
+    go : (b : Bool) → has_pages r.sort r.is_open ≡ b → RegionsAsk ones sums site (r ∷ regions) (demand_of (if b then r.blocks ∷ counted regions else counted regions) [])
     go true has =
-        let g = pages_grow 1 0 r.blocks in
+        let g = pages_grow ones sums site are 1 0 r.blocks in
         let one = sort_costs r.sort r.is_open has in
         record {
           further = region_pages r.blocks - 1 + h.further;
@@ -78,9 +95,9 @@ more_pages r regions h = go (has_pages r.sort r.is_open) refl
       by_words = omega (arith, h.by_words);
     }
 
-regions_ask : (regions : List Region) → RegionsAsk regions (pages_of regions)
-regions_ask [] = record { further = 0; all = omega arith; by_blocks = omega arith; by_words = omega arith }
-regions_ask (r ∷ regions) = more_pages r regions (regions_ask regions)
+regions_ask : (ones sums : Measure) (site : Site) → AreBlocks ones sums site → AreBlocks ones sums sites.Region → (regions : List Region) → RegionsAsk ones sums site regions (pages_of regions)
+regions_ask ones sums site are others [] = record { further = 0; all = omega arith; by_blocks = omega arith; by_words = omega arith }
+regions_ask ones sums site are others (r ∷ regions) = more_pages ones sums site are r regions (regions_ask ones sums sites.Region others others regions)
 
 demand_split : (regions : List (List ℕ)) (classes : List ℕ) → demand_of regions classes ≡ demand_of regions [] + total classes
 demand_split [] classes = omega arith
@@ -94,6 +111,13 @@ over : (program : Program) (pages more limit count : ℕ) (output input : List �
 over program pages more limit count output input =
     limited_over_stays program pages limit count (Ended Full output input) (λ going. let e : HasEnded Full ≡ GoesOn = going in cc)
     ∙ sym (limited_over_stays program more limit count (Ended Full output input) (λ going. let e : HasEnded Full ≡ GoesOn = going in cc))
+
+-- the regions of a state ask for no more pages
+abbrev RegionsWithin : ℕ → State → Type 0
+RegionsWithin most (Running focus stack e w) = pages_of w.regions ≤ most
+RegionsWithin most (Ended ending output input) = Unit {0}
+RegionsWithin most (Dead output input) = Unit {0}
+RegionsWithin most (Wrong output input) = Unit {0}
 
 abbrev spent_in : Measure → State → ℕ
 spent_in m (Running focus stack e w) = spent m w
@@ -117,7 +141,7 @@ live_within class (x ∷ objects) = go x.owner (live_within class objects)
 
     go : (owner : Owner) → live_in class objects ≤ objects_spent (measures.Uniques class) objects
         → (if is_live_in class owner x.cells then suc (live_in class objects) else live_in class objects)
-        ≤ (if is_unique owner then block_cost (measures.Uniques class) true (block_size x.cells) else 0) + objects_spent (measures.Uniques class) objects
+        ≤ object_spent (measures.Uniques class) owner (block_size x.cells) + objects_spent (measures.Uniques class) objects
     go (InRegion region) less = omega (arith, less)
     go (Unique true) less = counts (class_of_cells x.cells == class) (live_in class objects) (objects_spent (measures.Uniques class) objects) less
     go (Unique false) less = omega (arith, less)
@@ -220,9 +244,9 @@ module _ (program : Program) (cost : Measure → ℕ) where
   IsSpent (Wrong output input) = Unit {0}
 
   -- no state has spent more than a run costs
-  spent_most : (m : Measure) (most : ℕ) (input : List ℕ) (n : ℕ) → step_cost m ≡ 0 → IsRunCost program m most × (most < too_many) → spent_in m (run program input n) ≤ most
-  spent_most m most input n free ((costs, are, is), less) =
-      within (run program input n) (run_costs program m costs are.0 (omega (arith, is, less)) input n free)
+  spent_most : (m : Measure) (most : ℕ) (input : List ℕ) (n : ℕ) → step_cost m ≡ 0 → ((i : ℕ) → FitsIn m (run program input i)) → IsRunCost program m most × (most < too_many) → spent_in m (run program input n) ≤ most
+  spent_most m most input n free fits ((costs, are, is), less) =
+      within (run program input n) (run_costs program m costs are.0 (omega (arith, is, less)) input free n (λ i below. fits i))
     where
       within : (s : State) → CostsAtMost m costs (run_cost program m costs) s → spent_in m s ≤ most
       within (Running focus stack e w) h = omega (arith, h, is)
@@ -230,9 +254,14 @@ module _ (program : Program) (cost : Measure → ℕ) where
       within (Dead output input) h = omega arith
       within (Wrong output input) h = omega arith
 
-  module _ (are : AreCounted program cost) (input : List ℕ) where
+  -- unique blocks by what they cost
+  abbrev pub UniquesCost : Type 0
+  UniquesCost = (class : ℕ) → class ≤ greatest_class → IsRunCost program (measures.Uniques class) (cost (measures.Uniques class)) × (cost (measures.Uniques class) < too_many)
+
+  module _ (are : UniquesCost) (input : List ℕ) where
     uniques_spent : (n class : ℕ) → class ≤ greatest_class → spent_in (measures.Uniques class) (run program input n) ≤ cost (measures.Uniques class)
-    uniques_spent n class below = spent_most (measures.Uniques class) (cost (measures.Uniques class)) input n refl (are (measures.Uniques class) below)
+    uniques_spent n class below =
+        spent_most (measures.Uniques class) (cost (measures.Uniques class)) input n refl (λ i. always_fits (measures.Uniques class) ((λ size. omega arith), omega arith) (run program input i)) (are class below)
 
     are_spent : (s : State) → ((class : ℕ) → class ≤ greatest_class → spent_in (measures.Uniques class) s ≤ cost (measures.Uniques class)) → IsSpent s
     are_spent (Running focus stack e w) h = h
@@ -285,43 +314,218 @@ module _ (program : Program) (cost : Measure → ℕ) where
         let spends = are_spent (run program input (suc n)) (uniques_spent (suc n)) in
         subst IsFew (sym last) (few_next (run program input n) (subst IsSpent last spends) (few_all n))
 
-    asks : (s : State) → IsFew s → spent_in measures.Openings s ≤ cost measures.Openings → spent_in measures.Blocks s ≤ cost measures.Blocks
-        → spent_in measures.Words s ≤ cost measures.Words → demand s ≤ most_pages cost
-    asks (Running focus stack e w) h openings blocks words =
-        let r = regions_ask w.regions in
-        let by_words : r.further ≤ 2 * cost measures.Words / suc page_words = le-div r.further (2 * cost measures.Words) (suc page_words) (omega arith) (omega (arith, r.by_words, words)) in
-        omega (arith, demand_split (counted w.regions) w.classes, r.all, r.by_blocks, by_words, openings, blocks, total_few w.classes h)
-    asks (Ended ending output input) h openings blocks words = omega arith
-    asks (Dead output input) h openings blocks words = omega arith
-    asks (Wrong output input) h openings blocks words = omega arith
+    -- with the pages of regions
+    within_pages : (s : State) (regions : ℕ) → IsFew s → RegionsWithin regions s → demand s ≤ regions + unique_pages cost (suc greatest_class)
+    within_pages (Running focus stack e w) regions h less = omega (arith, demand_split (counted w.regions) w.classes, less, total_few w.classes h)
+    within_pages (Ended ending output input) regions h less = omega arith
+    within_pages (Dead output input) regions h less = omega arith
+    within_pages (Wrong output input) regions h less = omega arith
 
-    pub demand_within : (n : ℕ) → demand (run program input n) ≤ most_pages cost
-    demand_within n =
-        asks (run program input n) (few_all n)
-        (spent_most measures.Openings (cost measures.Openings) input n refl (are measures.Openings tt))
-        (spent_most measures.Blocks (cost measures.Blocks) input n refl (are measures.Blocks tt))
-        (spent_most measures.Words (cost measures.Words) input n refl (are measures.Words tt))
+    pub demand_by : (regions n : ℕ) → RegionsWithin regions (run program input n) → demand (run program input n) ≤ regions + unique_pages cost (suc greatest_class)
+    demand_by regions n less = within_pages (run program input n) regions (few_all n) less
 
-    pub pages_within : (pages limit n : ℕ) → most_pages cost ≤ pages → is_within pages limit (run program input n) ≡ nat_le (depth (run program input n)) limit
-    pages_within pages limit n enough = ap (λ (b : Bool). b && nat_le (depth (run program input n)) limit) (le-leb (demand (run program input n)) pages (omega (arith, demand_within n, enough)))
+-- ---- where nothing is taken off
 
-    -- under both limits a step comes to the same
-    alike : (pages more limit : ℕ) → most_pages cost ≤ pages → most_pages cost ≤ more → (count n : ℕ)
-        → limited_steps program pages limit count (run program input n) ≡ limited_steps program more limit count (run program input n)
-    alike pages more limit enough also zero n = refl
-    alike pages more limit enough also (suc count) n =
-        let s = run program input n in
-        let last = steps-last program n (start program input) in
-        let same : is_within pages limit (step program s) ≡ is_within more limit (step program s) =
-        ap (λ (u : State). is_within pages limit u) (sym last) ∙ pages_within pages limit (suc n) enough ∙ sym (pages_within more limit (suc n) also) ∙ ap (λ (u : State). is_within more limit u) last in
-        ap (λ (b : Bool). limited_steps program pages limit count (if b then step program s else Ended Full (output_of s) (input_of s))) same
-        ∙ go (is_within more limit (step program s)) (subst (λ (u : State). limited_steps program pages limit count u ≡ limited_steps program more limit count u) last (alike pages more limit enough also count (suc n)))
+sum_blocks : (site : Site) → (site ≡ sites.Unique → ⊥) → AreBlocks measures.Blocks measures.Words site
+sum_blocks sites.Heap region = record { one = λ size. refl; all = λ size. refl }
+sum_blocks sites.Region region = record { one = λ size. refl; all = λ size. refl }
+sum_blocks sites.Unique region = absurd (region refl)
+
+heap_blocks : AreBlocks measures.HeapBlocks measures.HeapWords sites.Heap
+heap_blocks = record { one = λ size. refl; all = λ size. refl }
+
+region_blocks : AreBlocks measures.RegionBlocks measures.RegionWords sites.Region
+region_blocks = record { one = λ size. refl; all = λ size. refl }
+
+further_within : (further blocks words : ℕ) → further ≤ blocks → suc page_words * further ≤ 2 * words → further ≤ further_pages blocks words
+further_within further blocks words by_blocks by_words =
+    let less : further ≤ 2 * words / suc page_words = le-div further (2 * words) (suc page_words) (omega arith) (omega (arith, by_words)) in
+    omega (arith, by_blocks, less)
+
+-- more blocks and words ask for no fewer
+further_more : (further blocks words most all : ℕ) → further ≤ blocks → suc page_words * further ≤ 2 * words → blocks ≤ most → words ≤ all → further ≤ further_pages most all
+further_more further blocks words most all by_blocks by_words less few = further_within further most all (omega (arith, by_blocks, less)) (omega (arith, by_words, few))
+
+module _ (program : Program) (cost : Measure → ℕ) (input : List ℕ) where
+  uniques_of : (gives_back : Bool) → AreCounted program gives_back cost → UniquesCost program cost
+  uniques_of true are class below = are.1 (measures.Uniques class) below
+  uniques_of false are class below = are.1 (measures.Uniques class) below
+
+  module _ (are : AreCounted program false cost) where
+    all_spent : (m : Measure) → IsForPages false m → step_cost m ≡ 0 → IsNoMore m → IsRunCost program m (cost m) × (cost m < too_many) → (n : ℕ) → spent_in m (run program input n) ≤ cost m
+    all_spent m there free no_more is n = spent_most program cost m (cost m) input n free (λ i. always_fits m no_more (run program input i)) is
+
+    all_within : (s : State) → spent_in measures.Openings s ≤ cost measures.Openings → spent_in measures.Blocks s ≤ cost measures.Blocks → spent_in measures.Words s ≤ cost measures.Words
+        → RegionsWithin (most_region_pages false cost) s
+    all_within (Running focus stack e w) openings blocks words =
+        let r = regions_ask measures.Blocks measures.Words sites.Heap (sum_blocks sites.Heap (λ is. let e : sites.Heap ≡ sites.Unique = is in cc)) (sum_blocks sites.Region (λ is. let e : sites.Region ≡ sites.Unique = is in cc)) w.regions in
+        let further = further_more r.further (regions_spent measures.Blocks sites.Heap w.regions) (regions_spent measures.Words sites.Heap w.regions) (cost measures.Blocks) (cost measures.Words) r.by_blocks r.by_words (omega (arith, blocks)) (omega (arith, words)) in
+        omega (arith, r.all, openings, further)
+    all_within (Ended ending output input) openings blocks words = tt
+    all_within (Dead output input) openings blocks words = tt
+    all_within (Wrong output input) openings blocks words = tt
+
+    sum_within : (n : ℕ) → RegionsWithin (most_region_pages false cost) (run program input n)
+    sum_within n =
+        all_within (run program input n)
+        (all_spent measures.Openings tt refl ((λ size. omega arith), omega arith) (are.1 measures.Openings tt) n)
+        (all_spent measures.Blocks tt refl ((λ size. omega arith), omega arith) (are.1 measures.Blocks tt) n)
+        (all_spent measures.Words tt refl ((λ size. omega arith), omega arith) (are.1 measures.Words tt) n)
+
+  -- ---- where lexical regions give back
+
+  module _ (are : AreCounted program true cost) where
+    abbrev tables : Measure → List ℕ
+    tables measures.Openings = (are.1 measures.Openings tt).0.0
+    tables measures.RegionBlocks = (are.1 measures.RegionBlocks tt).0.0
+    tables measures.RegionWords = (are.1 measures.RegionWords tt).0.0
+    tables m = []
+
+    facts_of : (m : Measure) → step_cost m ≡ 0 → IsNoMore m → (h : IsAtOnce program m (cost m)) → cost m < too_many → Facts program m h.0 (cost m)
+    facts_of m free no_more (costs, closed, rows, least) few = record {
+      closed = closed.0;
+      few = few;
+      free = free;
+      no_more = no_more;
+      rows = λ f count row. omega (arith, rows f count row, few);
+    }
+
+    facts : (m : Measure) → IsRegional m → Facts program m (tables m) (cost m)
+    facts measures.Openings regional = facts_of measures.Openings refl ((λ size. omega arith), omega arith) (are.1 measures.Openings tt).0 (are.1 measures.Openings tt).1
+    facts measures.RegionBlocks regional = facts_of measures.RegionBlocks refl ((λ size. omega arith), omega arith) (are.1 measures.RegionBlocks tt).0 (are.1 measures.RegionBlocks tt).1
+    facts measures.RegionWords regional = facts_of measures.RegionWords refl ((λ size. omega arith), omega arith) (are.1 measures.RegionWords tt).0 (are.1 measures.RegionWords tt).1
+    facts m regional = absurd regional
+
+    abbrev lasting : List ℕ
+    lasting = are.0.0
+
+    -- nothing that may last is made
+    free : (n : ℕ) → CostsAtMost measures.Lasting lasting 0 (run program input n)
+    free n =
+        let none : run_cost program measures.Lasting lasting ≡ 0 = sym are.0.2 in
+        subst (λ (k : ℕ). CostsAtMost measures.Lasting lasting k (run program input n)) none
+        (run_costs program measures.Lasting lasting are.0.1.0 (omega (arith, none)) input refl n (λ i below. always_fits measures.Lasting ((λ size. omega arith), omega arith) (run program input i)))
+
+    kept : (n : ℕ) → IsKept true measures.Openings (tables measures.Openings) (cost measures.Openings) (run program input n)
+    kept n = run_kept program lasting tables cost facts input free measures.Openings (facts measures.Openings tt) n
+
+    -- no handle of the heap is handed on
+    own_fits : (m : Measure) (s : State) → IsKept true measures.Openings (tables measures.Openings) (cost measures.Openings) s → FitsIn m s
+    own_fits m (Running focus stack e w) h = go focus h.0.0
       where
-        go : (b : Bool) → limited_steps program pages limit count (step program (run program input n)) ≡ limited_steps program more limit count (step program (run program input n))
-            → limited_steps program pages limit count (if b then step program (run program input n) else Ended Full (output_of (run program input n)) (input_of (run program input n)))
-            ≡ limited_steps program more limit count (if b then step program (run program input n) else Ended Full (output_of (run program input n)) (input_of (run program input n)))
-        go true same = same
-        go false same = over program pages more limit count (output_of (run program input n)) (input_of (run program input n))
+        go : (focus : Focus) → focus_own focus → Fits m focus
+        go (Given v) own = λ is. absurd (subst IsOwn is own)
+        go focus own = tt
+    own_fits m (Ended ending output input) h = tt
+    own_fits m (Dead output input) h = tt
+    own_fits m (Wrong output input) h = tt
 
-    pub runs_alike : (pages more limit count : ℕ) → most_pages cost ≤ pages → most_pages cost ≤ more → limited_run program pages limit input count ≡ limited_run program more limit input count
-    runs_alike pages more limit count enough also = alike pages more limit enough also count 0
+    heap_spent : (m : Measure) → step_cost m ≡ 0 → IsRunCost program m (cost m) × (cost m < too_many) → (n : ℕ) → spent_in m (run program input n) ≤ cost m
+    heap_spent m free is n = spent_most program cost m (cost m) input n free (λ i. own_fits m (run program input i) (kept i)) is
+
+    -- neither the heap nor a dynamic region has pages where it is no open lexical region
+    left_pages : (sort : Sort) (flag : Bool) → IsLeft sort → has_pages sort flag ≡ is_scope sort flag
+    left_pages Heap flag left = absurd left
+    left_pages Globals flag left = refl
+    left_pages Stack flag left = refl
+    left_pages Lexical flag left = refl
+    left_pages Dynamic flag left = absurd left
+
+    skipped : (from : ℕ) (regions : List Region) → AllByRecursion (λ (r : Region). IsLeft r.sort) regions → ((n : ℕ) → is_open_scope (slice_get regions n) ≡ true → from ≤ n) → pages_of regions ≡ pages_of (drop from regions)
+    skipped zero regions left h = refl
+    skipped (suc from) [] left h = refl
+    skipped (suc from) (r ∷ regions) left h = go (has_pages r.sort r.is_open) refl (skipped from regions left.1 (λ n opens. omega (arith, h (suc n) opens)))
+      where
+        go : (b : Bool) → has_pages r.sort r.is_open ≡ b → pages_of regions ≡ pages_of (drop from regions)
+            → demand_of (if b then r.blocks ∷ counted regions else counted regions) [] ≡ pages_of (drop from regions)
+        go true has rest = absurd (omega (arith, h 0 (sym (left_pages r.sort r.is_open left.0) ∙ has)))
+        go false has rest = rest
+
+    none_there : (regions : List Region) → AllByRecursion (λ (r : Region). IsLeft r.sort) regions → ((n : ℕ) → is_open_scope (slice_get regions n) ≡ false) → pages_of regions ≡ 0
+    none_there [] left h = refl
+    none_there (r ∷ regions) left h = go (has_pages r.sort r.is_open) refl (none_there regions left.1 (λ n. h (suc n)))
+      where
+        go : (b : Bool) → has_pages r.sort r.is_open ≡ b → pages_of regions ≡ 0 → demand_of (if b then r.blocks ∷ counted regions else counted regions) [] ≡ 0
+        go true has rest = absurd (let e : true ≡ false = sym has ∙ (left_pages r.sort r.is_open left.0 ∙ h 0) in cc)
+        go false has rest = rest
+
+    -- the pages of lexical regions that are open at once
+    abbrev AtOnce : ℕ
+    AtOnce = cost measures.Openings + further_pages (cost measures.RegionBlocks) (cost measures.RegionWords)
+
+    since_within : (from : ℕ) (heap : Region) (regions : List Region) (e : World) → e.regions ≡ heap ∷ regions → AllByRecursion (λ (r : Region). IsLeft r.sort) regions
+        → ((n : ℕ) → is_open_scope (slice_get (heap ∷ regions) n) ≡ true → suc from ≤ n) → ((m : Measure) → IsRegional m → since m (suc from) e ≤ cost m) → pages_of regions ≤ AtOnce
+    since_within from heap regions w is left h less =
+        let r = regions_ask measures.RegionBlocks measures.RegionWords sites.Region region_blocks region_blocks (drop from regions) in
+        let at : (m : Measure) → since m (suc from) w ≡ regions_spent m sites.Region (drop from regions) = λ m. ap (λ (rs : List Region). regions_spent m sites.Region (drop (suc from) rs)) is in
+        let further = further_more r.further (regions_spent measures.RegionBlocks sites.Region (drop from regions)) (regions_spent measures.RegionWords sites.Region (drop from regions)) (cost measures.RegionBlocks) (cost measures.RegionWords)
+        r.by_blocks r.by_words (omega (arith, at measures.RegionBlocks, less measures.RegionBlocks tt)) (omega (arith, at measures.RegionWords, less measures.RegionWords tt)) in
+        omega (arith, skipped from regions left (λ n opens. omega (arith, h (suc n) opens)), r.all, at measures.Openings, less measures.Openings tt, further)
+
+    others_within : (focus : Focus) (stack : List Entry) (e : Environment) (w : World) (heap : Region) (regions : List Region) → w.regions ≡ heap ∷ regions → AllByRecursion (λ (r : Region). IsLeft r.sort) regions
+        → IsNested stack e w → Split program lasting tables cost focus w stack → pages_of regions ≤ AtOnce
+    others_within focus stack e w heap regions is left nested (Outside _ out) =
+        let none = none_there regions left (λ n. ap (λ (rs : List Region). is_open_scope (slice_get rs (suc n))) (sym is) ∙ none_open program lasting tables cost facts stack e w nested out (suc n)) in
+        omega (arith, none)
+    others_within focus _ e w heap regions is left nested (Inside from entry rest below out open_from h) =
+        since_within from heap regions w is left (λ n opens. open_from.0 n (ap (λ (rs : List Region). is_open_scope (slice_get rs n)) is ∙ opens)) (λ m regional. omega (arith, h m regional))
+
+    heap_within : (w : World) (heap : Region) (regions : List Region) → w.regions ≡ heap ∷ regions → heap.sort ≡ Heap → spent measures.HeapBlocks w ≤ cost measures.HeapBlocks → spent measures.HeapWords w ≤ cost measures.HeapWords
+        → pages_of regions ≤ AtOnce → pages_of w.regions ≤ most_region_pages true cost
+    heap_within w heap regions is sort blocks words less =
+        let g = pages_grow measures.HeapBlocks measures.HeapWords sites.Heap heap_blocks 1 0 heap.blocks in
+        let at : (m : Measure) → regions_spent m sites.Heap w.regions ≡ regions_spent m sites.Heap (heap ∷ regions) = λ m. ap (λ (rs : List Region). regions_spent m sites.Heap rs) is in
+        let further = further_more (region_pages heap.blocks - 1) (blocks_spent measures.HeapBlocks sites.Heap heap.blocks) (blocks_spent measures.HeapWords sites.Heap heap.blocks) (cost measures.HeapBlocks) (cost measures.HeapWords)
+        (omega (arith, g.0)) (omega (arith, g.1.0, g.1.1)) (omega (arith, blocks, at measures.HeapBlocks)) (omega (arith, words, at measures.HeapWords)) in
+        let whole : pages_of w.regions ≡ pages_of (heap ∷ regions) = ap pages_of is in
+        let there : pages_of (heap ∷ regions) ≡ region_pages heap.blocks + pages_of regions = ap (λ (s : Sort). demand_of (if has_pages s heap.is_open then heap.blocks ∷ counted regions else counted regions) []) sort in
+        omega (arith, whole, there, g.1.1, further, less)
+
+    back_in : (s : State) → Nests s → IsKept true measures.Openings (tables measures.Openings) (cost measures.Openings) s → IsSplit program lasting tables cost s
+        → spent_in measures.HeapBlocks s ≤ cost measures.HeapBlocks → spent_in measures.HeapWords s ≤ cost measures.HeapWords → RegionsWithin (most_region_pages true cost) s
+    back_in (Running focus stack e w) nested h split blocks words = go w.regions refl h.1.1.0
+      where
+        go : (rs : List Region) → w.regions ≡ rs → AreSorted rs → pages_of w.regions ≤ most_region_pages true cost
+        go [] is sorted = absurd sorted
+        go (heap ∷ regions) is sorted = heap_within w heap regions is sorted.0 blocks words (others_within focus stack e w heap regions is sorted.1 nested split)
+    back_in (Ended ending output input) nested h split blocks words = tt
+    back_in (Dead output input) nested h split blocks words = tt
+    back_in (Wrong output input) nested h split blocks words = tt
+
+    back_within : (n : ℕ) → RegionsWithin (most_region_pages true cost) (run program input n)
+    back_within n =
+        back_in (run program input n) (nests_run program input n) (kept n) (run_split program lasting tables cost facts input free n)
+        (heap_spent measures.HeapBlocks refl (are.1 measures.HeapBlocks tt) n) (heap_spent measures.HeapWords refl (are.1 measures.HeapWords tt) n)
+
+  -- ---- both
+
+  pub demand_within : (gives_back : Bool) → AreCounted program gives_back cost → (n : ℕ) → demand (run program input n) ≤ most_pages gives_back cost
+  demand_within true are n = demand_by program cost (uniques_of true are) input (most_region_pages true cost) n (back_within are n)
+  demand_within false are n = demand_by program cost (uniques_of false are) input (most_region_pages false cost) n (sum_within are n)
+
+-- ---- limits
+
+module _ (program : Program) (input : List ℕ) (most : ℕ) (least : (n : ℕ) → demand (run program input n) ≤ most) where
+  pub pages_within : (pages limit n : ℕ) → most ≤ pages → is_within pages limit (run program input n) ≡ nat_le (depth (run program input n)) limit
+  pages_within pages limit n enough = ap (λ (b : Bool). b && nat_le (depth (run program input n)) limit) (le-leb (demand (run program input n)) pages (omega (arith, least n, enough)))
+
+  -- under both limits a step comes to the same
+  alike : (pages more limit : ℕ) → most ≤ pages → most ≤ more → (count n : ℕ)
+      → limited_steps program pages limit count (run program input n) ≡ limited_steps program more limit count (run program input n)
+  alike pages more limit enough also zero n = refl
+  alike pages more limit enough also (suc count) n =
+      let s = run program input n in
+      let last = steps-last program n (start program input) in
+      let same : is_within pages limit (step program s) ≡ is_within more limit (step program s) =
+      ap (λ (u : State). is_within pages limit u) (sym last) ∙ pages_within pages limit (suc n) enough ∙ sym (pages_within more limit (suc n) also) ∙ ap (λ (u : State). is_within more limit u) last in
+      ap (λ (b : Bool). limited_steps program pages limit count (if b then step program s else Ended Full (output_of s) (input_of s))) same
+      ∙ go (is_within more limit (step program s)) (subst (λ (u : State). limited_steps program pages limit count u ≡ limited_steps program more limit count u) last (alike pages more limit enough also count (suc n)))
+    where
+      go : (b : Bool) → limited_steps program pages limit count (step program (run program input n)) ≡ limited_steps program more limit count (step program (run program input n))
+          → limited_steps program pages limit count (if b then step program (run program input n) else Ended Full (output_of (run program input n)) (input_of (run program input n)))
+          ≡ limited_steps program more limit count (if b then step program (run program input n) else Ended Full (output_of (run program input n)) (input_of (run program input n)))
+      go true same = same
+      go false same = over program pages more limit count (output_of (run program input n)) (input_of (run program input n))
+
+  pub runs_alike : (pages more limit count : ℕ) → most ≤ pages → most ≤ more → limited_run program pages limit input count ≡ limited_run program more limit input count
+  runs_alike pages more limit count enough also = alike pages more limit enough also count 0

@@ -7,7 +7,7 @@ use Rattle.cyc_types.specs.TypedTrees.{Program}
 use Rattle.cyc_bound.specs.declared.costs.Measure.{Measure}
 use Rattle.cyc_bound.specs.declared.costs.Measure.TheVariants as measures
 use Rattle.cyc_bound.specs.Costs.{too_many, IsRunCost, StillGrow}
-use Rattle.cyc_bound.specs.Pages.{further_pages, unique_pages, most_pages, AreCounted}
+use Rattle.cyc_bound.specs.Pages.{unique_pages}
 use Rattle.cyc_bound.specs.inside.ItemCosts.{UniquesSoFar}
 use Rattle.cyc_bound.specs.inside.Rounds.{IsFound}
 
@@ -96,29 +96,3 @@ module _ (program : Program) where
   -- a page more is a number still
   pub so_far_fits : (class pages blocks more : ℕ) → class ≤ greatest_class → UniquesSoFar program class pages → blocks < too_many → more ≡ pages_for class blocks → pages + more < 2 ^ 64
   so_far_fits class pages blocks more below (cost, h) few one = omega (arith, below, h.1.0, one, few_pages class blocks below few)
-
-  -- ---- all that is counted
-
-  abbrev costs_of : (openings blocks words : ℕ) → (Measure → ℕ) → Measure → ℕ
-  costs_of openings blocks words uniques measures.Steps = 0
-  costs_of openings blocks words uniques measures.Openings = openings
-  costs_of openings blocks words uniques measures.Blocks = blocks
-  costs_of openings blocks words uniques measures.Words = words
-  costs_of openings blocks words uniques (measures.Uniques class) = uniques (measures.Uniques class)
-
-  uniques_same : (openings blocks words : ℕ) (uniques : Measure → ℕ) (classes : ℕ) → unique_pages (costs_of openings blocks words uniques) classes ≡ unique_pages uniques classes
-  uniques_same openings blocks words uniques zero = refl
-  uniques_same openings blocks words uniques (suc class) = omega (arith, uniques_same openings blocks words uniques class)
-
-  pub pages_all : (openings blocks words further pages count : ℕ) → IsRunCost program measures.Openings openings → IsRunCost program measures.Blocks blocks → IsRunCost program measures.Words words
-      → openings < too_many → blocks < too_many → words < too_many → UniquesSoFar program (suc greatest_class) pages → further ≡ further_pages blocks words → count ≡ openings + further + pages
-      → (cost : Measure → ℕ) × AreCounted program cost × (count ≡ most_pages cost)
-  pages_all openings blocks words further pages count one two three few also too (uniques, h) is whole =
-      (costs_of openings blocks words uniques, counted, omega (arith, whole, is, h.0, uniques_same openings blocks words uniques (suc greatest_class)))
-    where
-      counted : AreCounted program (costs_of openings blocks words uniques)
-      counted measures.Steps there = absurd there
-      counted measures.Openings there = (one, few)
-      counted measures.Blocks there = (two, also)
-      counted measures.Words there = (three, too)
-      counted (measures.Uniques class) there = h.1.1 class (omega (arith, there))

@@ -1,17 +1,19 @@
 -- What a run costs at most, read off a typed tree: its steps, or the regions or the blocks of one sort that it makes. Costs of parts that
 -- are executed one after the other are added, of two of which one is executed the greater one counts, and an array's element counts as
 -- often as it may be evaluated. A loop that costs anything has no bound, and its cost is as great as is counted. (This project's own choice.)
-use Rattle.std.specs.Prelude.{◌≡◌, ◌<◌, ◌≤◌, ℕ, zero, suc, ◌+◌, ◌*◌, ◌^◌, ◌==◌, Bool, true, false, if◌then◌else◌, min, max, List, [], map, length, Option, None, Some, get_or}
+use Rattle.std.specs.Prelude.{◌≡◌, ◌<◌, ◌≤◌, ℕ, zero, suc, ◌+◌, ◌*◌, ◌^◌, ◌==◌, if◌then◌else◌, min, max, List, [], map, length, Option, None, Some, get_or}
 use Rattle.cyc_words.specs.Demand.{class_of}
 use Rattle.cyc_types.specs.declared.typed.Kind.{Kind}
 use Rattle.cyc_types.specs.declared.typed.Kind.TheVariants as kinds
 use Rattle.cyc_types.specs.declared.typed.Callee.{Callee}
 use Rattle.cyc_types.specs.declared.typed.Callee.TheVariants as callees
-use Rattle.cyc_types.specs.TypedTrees.{Expression, Number, Load, AddressOfCell, NumberOfElements, FreeUnique, FreeKey, Call, Unary, Binary, Assign, Store, New, Dereference, Target, Member, Element, Placement, OnHeap, AsUnique, ByHandle, Initial, Plain, Fields, Array, Converted, Convert, Arguments, NoArguments, MoreArguments, Operations, NoOperations, ThenCompute, ThenTest, ThenPointer, ThenPointerPeek, Side, VariableSide, CellSide, Statement, Block, Evaluate, Swap, If, While, Return, Throw, Try, Item, Items, NoItems, MoreItems, Execute, Declare, DeclareRegion, OpenRegion, DeclareAlias, DeclareKey, Clauses, NoClauses, Default, Case, Function, Program}
+use Rattle.cyc_types.specs.TypedTrees.{Expression, Number, HeapRegion, Load, AddressOfCell, NumberOfElements, FreeUnique, FreeKey, Call, Unary, Binary, Assign, Store, New, Dereference, Target, Member, Element, Placement, OnHeap, AsUnique, ByHandle, Initial, Plain, Fields, Array, Converted, Convert, Arguments, NoArguments, MoreArguments, Operations, NoOperations, ThenCompute, ThenTest, ThenPointer, ThenPointerPeek, Side, VariableSide, CellSide, Statement, Block, Evaluate, Swap, If, While, Return, Throw, Try, Item, Items, NoItems, MoreItems, Execute, Declare, DeclareRegion, OpenRegion, DeclareAlias, DeclareKey, Clauses, NoClauses, Default, Case, Function, Program}
 use Rattle.cyc_meaning.specs.Values.{bytes_of_kind, behind, words_for}
 use Rattle.cyc_meaning.specs.Allocation.{most_words}
 use Rattle.cyc_bound.specs.declared.costs.Measure.{Measure}
 use Rattle.cyc_bound.specs.declared.costs.Measure.TheVariants as measures
+use Rattle.cyc_bound.specs.declared.costs.Site.{Site}
+use Rattle.cyc_bound.specs.declared.costs.Site.TheVariants as sites
 use Rattle.cyc_bound.specs.declared.steps.StepBound.{StepBound}
 use Rattle.cyc_bound.specs.declared.steps.StepBound.TheVariants as bounds
 
@@ -31,19 +33,36 @@ abbrev pub opening_cost : Measure → ℕ
 opening_cost measures.Openings = 1
 opening_cost m = 0
 
--- a block of so many words, by whether it is unique or in a region
-abbrev pub block_cost : Measure → (is_unique : Bool) → (size : ℕ) → ℕ
-block_cost measures.Blocks false size = 1
-block_cost measures.Words false size = size
-block_cost (measures.Uniques class) true size = if class_of size == class then 1 else 0
-block_cost m is_unique size = 0
+-- what may outlast every lexical region: the heap's handle where it is a value, and a dynamic region
+abbrev pub lasting_cost : Measure → ℕ
+lasting_cost measures.Lasting = 1
+lasting_cost m = 0
+
+-- a block of so many words, by where it is made: on the heap, by a handle, or as a unique one
+abbrev pub block_cost : Measure → Site → (size : ℕ) → ℕ
+block_cost measures.Blocks sites.Heap size = 1
+block_cost measures.Blocks sites.Region size = 1
+block_cost measures.Words sites.Heap size = size
+block_cost measures.Words sites.Region size = size
+block_cost measures.HeapBlocks sites.Heap size = 1
+block_cost measures.HeapWords sites.Heap size = size
+block_cost measures.RegionBlocks sites.Region size = 1
+block_cost measures.RegionWords sites.Region size = size
+block_cost (measures.Uniques class) sites.Unique size = if class_of size == class then 1 else 0
+block_cost m site size = 0
 
 -- a block of an array whose length is not known
-abbrev pub array_block_cost : Measure → (is_unique : Bool) → ℕ
-array_block_cost measures.Blocks false = 1
-array_block_cost measures.Words false = most_words
-array_block_cost (measures.Uniques class) true = 1
-array_block_cost m is_unique = 0
+abbrev pub array_block_cost : Measure → Site → ℕ
+array_block_cost measures.Blocks sites.Heap = 1
+array_block_cost measures.Blocks sites.Region = 1
+array_block_cost measures.Words sites.Heap = most_words
+array_block_cost measures.Words sites.Region = most_words
+array_block_cost measures.HeapBlocks sites.Heap = 1
+array_block_cost measures.HeapWords sites.Heap = most_words
+array_block_cost measures.RegionBlocks sites.Region = 1
+array_block_cost measures.RegionWords sites.Region = most_words
+array_block_cost (measures.Uniques class) sites.Unique = 1
+array_block_cost m site = 0
 
 -- ---- new objects
 
@@ -62,26 +81,28 @@ abbrev pub written_length : Expression → Option ℕ
 written_length (Number n) = Some n
 written_length a = None
 
-abbrev pub makes_unique : Placement → Bool
-makes_unique AsUnique = true
-makes_unique placement = false
+-- where an object is made that is placed so
+abbrev pub site_of : Placement → Site
+site_of OnHeap = sites.Heap
+site_of AsUnique = sites.Unique
+site_of (ByHandle a) = sites.Region
 
 -- A cell that is made and written: its block, one step for it, one for the write and two to hand the pointer on.
-abbrev pub plain_cost : Measure → (is_unique : Bool) → Kind → ℕ
-plain_cost m is_unique kind = 3 * step_cost m + block_cost m is_unique (size_of_bytes (behind kind 0))
+abbrev pub plain_cost : Measure → Site → Kind → ℕ
+plain_cost m site kind = 3 * step_cost m + block_cost m site (size_of_bytes (behind kind 0))
 
 -- so many fields are there, and so many bytes
-abbrev pub fields_made_cost : Measure → (is_unique : Bool) → (count bytes : ℕ) → ℕ
-fields_made_cost m is_unique count bytes = count * step_cost m + (2 * step_cost m + block_cost m is_unique (size_of_bytes bytes))
+abbrev pub fields_made_cost : Measure → Site → (count bytes : ℕ) → ℕ
+fields_made_cost m site count bytes = count * step_cost m + (2 * step_cost m + block_cost m site (size_of_bytes bytes))
 
 -- an array of so many elements, each of which costs so much
 abbrev pub elements_cost : Measure → (element count : ℕ) → ℕ
 elements_cost m element count = count * (step_cost m + element) + 3 * step_cost m
 
-abbrev pub array_cost : Measure → (is_unique : Bool) → Kind → (element : ℕ) → Option ℕ → ℕ
-array_cost m is_unique kind element None = elements_cost m element (most_elements kind) + array_block_cost m is_unique
-array_cost m is_unique kind element (Some n) =
-    elements_cost m element (min n (most_elements kind)) + block_cost m is_unique (size_of_bytes (min n (most_elements kind) * bytes_of_kind kind))
+abbrev pub array_cost : Measure → Site → Kind → (element : ℕ) → Option ℕ → ℕ
+array_cost m site kind element None = elements_cost m element (most_elements kind) + array_block_cost m site
+array_cost m site kind element (Some n) =
+    elements_cost m element (min n (most_elements kind)) + block_cost m site (size_of_bytes (min n (most_elements kind) * bytes_of_kind kind))
 
 -- ---- expressions
 
@@ -92,6 +113,7 @@ callee_cost m costs service = 2 * step_cost m
 
 abbrev mutual
   pub expression_cost : Measure → (costs : List ℕ) → Expression → ℕ
+  expression_cost m costs HeapRegion = 2 * step_cost m + lasting_cost m
   expression_cost m costs (Load d) = 2 * step_cost m + place_cost m costs d
   expression_cost m costs (AddressOfCell d t) = 2 * step_cost m + place_cost m costs d
   expression_cost m costs (NumberOfElements a) = 2 * step_cost m + expression_cost m costs a
@@ -102,7 +124,7 @@ abbrev mutual
   expression_cost m costs (Binary a os t) = 2 * step_cost m + (expression_cost m costs a + operations_cost m costs os)
   expression_cost m costs (Assign l c t) = 2 * step_cost m + converted_cost m costs c
   expression_cost m costs (Store d c t) = 2 * step_cost m + (place_cost m costs d + converted_cost m costs c)
-  expression_cost m costs (New w i t) = step_cost m + (placement_cost m costs w + initial_cost m costs (makes_unique w) i)
+  expression_cost m costs (New w i t) = step_cost m + (placement_cost m costs w + initial_cost m costs (site_of w) i)
   expression_cost m costs a = 2 * step_cost m
 
   pub place_cost : Measure → (costs : List ℕ) → Dereference → ℕ
@@ -116,17 +138,17 @@ abbrev mutual
   placement_cost m costs AsUnique = 0
   placement_cost m costs (ByHandle a) = expression_cost m costs a + step_cost m
 
-  pub initial_cost : Measure → (costs : List ℕ) → (is_unique : Bool) → Initial → ℕ
-  initial_cost m costs is_unique (Plain k a) = expression_cost m costs a + plain_cost m is_unique k
-  initial_cost m costs is_unique (Fields cs) = fields_cost m costs is_unique 0 0 cs
-  initial_cost m costs is_unique (Array p l n k a) =
-      expression_cost m costs n + array_cost m is_unique k (expression_cost m costs a) (written_length n)
+  pub initial_cost : Measure → (costs : List ℕ) → Site → Initial → ℕ
+  initial_cost m costs site (Plain k a) = expression_cost m costs a + plain_cost m site k
+  initial_cost m costs site (Fields cs) = fields_cost m costs site 0 0 cs
+  initial_cost m costs site (Array p l n k a) =
+      expression_cost m costs n + array_cost m site k (expression_cost m costs a) (written_length n)
 
   -- behind so many fields, which have so many bytes
-  pub fields_cost : Measure → (costs : List ℕ) → (is_unique : Bool) → (count bytes : ℕ) → Arguments → ℕ
-  fields_cost m costs is_unique count bytes NoArguments = fields_made_cost m is_unique count bytes
-  fields_cost m costs is_unique count bytes (MoreArguments (Convert from to a) cs) =
-      expression_cost m costs a + step_cost m + fields_cost m costs is_unique (suc count) (behind to bytes) cs
+  pub fields_cost : Measure → (costs : List ℕ) → Site → (count bytes : ℕ) → Arguments → ℕ
+  fields_cost m costs site count bytes NoArguments = fields_made_cost m site count bytes
+  fields_cost m costs site count bytes (MoreArguments (Convert from to a) cs) =
+      expression_cost m costs a + step_cost m + fields_cost m costs site (suc count) (behind to bytes) cs
 
   -- evaluated and converted
   pub converted_cost : Measure → (costs : List ℕ) → Converted → ℕ
@@ -187,7 +209,7 @@ abbrev mutual
   item_cost m costs (DeclareRegion r n) = 3 * step_cost m + opening_cost m
   item_cost m costs (OpenRegion r n p k) = 4 * step_cost m
   item_cost m costs (DeclareAlias r n t p l) = 4 * step_cost m
-  item_cost m costs (DeclareKey r n) = 2 * step_cost m + opening_cost m
+  item_cost m costs (DeclareKey r n) = 2 * step_cost m + (opening_cost m + lasting_cost m)
 
   pub items_cost : Measure → (costs : List ℕ) → Items → ℕ
   items_cost m costs NoItems = step_cost m

@@ -7,5 +7,11 @@ pub mod Walk
 pub mod Remaining
 -- parts of lists, as costs are added up
 pub mod ItemCosts
+-- what holds where lexical regions give back
+pub mod Outermost
 -- rounds in which the costs of functions settle
 pub mod Rounds
+-- the functions that `main` leads to
+pub mod Reached
+-- regions that are open at once
+pub mod RegionCosts

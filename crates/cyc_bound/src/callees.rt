@@ -230,7 +230,7 @@ fn add_item(item: &Item, found: &mut Vec<usize>) -> Result<(), AllocError>
 }
 
 #[cycle(statements)]
-fn add_items(items: &[Item], found: &mut Vec<usize>) -> Result<(), AllocError>
+pub(crate) fn add_items(items: &[Item], found: &mut Vec<usize>) -> Result<(), AllocError>
     ensures { OnOk result (found.new.items ≡ found.old.items ++ items_callees (items_of items.now)) }
 {
     for item in items {

@@ -2,7 +2,7 @@
 ghost use Rattle.std.specs.Prelude.{◌≡◌, ◌+◌, ◌*◌, ◌^◌, ◌≤◌, min, max, get_or};
 ghost use Rattle.cyc_words.specs.Demand.{class_of};
 ghost use Rattle.cyc_meaning.specs.Values.{bytes_of_kind, behind};
-ghost use Rattle.cyc_bound.specs.Costs.{too_many, step_cost, opening_cost, block_cost, array_block_cost, size_of_bytes, most_elements, plain_cost, fields_made_cost, elements_cost, array_cost, loop_cost, caught_cost};
+ghost use Rattle.cyc_bound.specs.Costs.{too_many, step_cost, opening_cost, lasting_cost, block_cost, array_block_cost, size_of_bytes, most_elements, plain_cost, fields_made_cost, elements_cost, array_cost, loop_cost, caught_cost};
 
 use cyc_types::typed::Kind;
 
@@ -17,8 +17,27 @@ pub enum Measure {
     Blocks,
     /// Their words.
     Words,
+    /// The blocks that `new` makes on the heap, and their words.
+    HeapBlocks,
+    HeapWords,
+    /// The blocks that are made by handles, and their words.
+    RegionBlocks,
+    RegionWords,
     /// The unique blocks of this class.
     Uniques { class: u32 },
+    /// What may outlast every lexical region: the heap's handle where it is a value, and dynamic regions.
+    Lasting,
+}
+
+/// Where an object is made.
+#[derive(Clone, Copy)]
+pub enum Site {
+    /// On the heap.
+    Heap,
+    /// In the region of a handle.
+    Region,
+    /// In no region: the object is unique.
+    Unique,
 }
 
 /// As much as is counted: what costs more is not told apart.
@@ -62,6 +81,16 @@ pub(crate) fn opening_cost(measure: Measure) -> u64
 {
     match measure {
         Measure::Openings => 1,
+        _ => 0,
+    }
+}
+
+/// What it costs that something may outlast every lexical region.
+pub(crate) fn lasting_cost(measure: Measure) -> u64
+    ensures { result ≡ lasting_cost measure }
+{
+    match measure {
+        Measure::Lasting => 1,
         _ => 0,
     }
 }
@@ -123,25 +152,33 @@ fn class_of(size: u128) -> u32
 }
 
 /// What a block of so many words costs.
-pub(crate) fn block_cost(measure: Measure, is_unique: bool, size: u128) -> u64
-    ensures { result ≡ min too_many (block_cost measure is_unique size) }
+pub(crate) fn block_cost(measure: Measure, site: Site, size: u128) -> u64
+    ensures { result ≡ min too_many (block_cost measure site size) }
 {
-    match (measure, is_unique) {
-        (Measure::Blocks, false) => 1,
-        (Measure::Words, false) => size.min(1 << 50) as u64,
-        (Measure::Uniques { class }, true) if class_of(size) == class => 1,
+    match (measure, site) {
+        (Measure::Blocks, Site::Heap | Site::Region)
+        | (Measure::HeapBlocks, Site::Heap)
+        | (Measure::RegionBlocks, Site::Region) => 1,
+        (Measure::Words, Site::Heap | Site::Region)
+        | (Measure::HeapWords, Site::Heap)
+        | (Measure::RegionWords, Site::Region) => size.min(1 << 50) as u64,
+        (Measure::Uniques { class }, Site::Unique) if class_of(size) == class => 1,
         _ => 0,
     }
 }
 
 /// What a block of an array costs whose length is not known.
-pub(crate) fn array_block_cost(measure: Measure, is_unique: bool) -> u64
-    ensures { result ≡ array_block_cost measure is_unique }
+pub(crate) fn array_block_cost(measure: Measure, site: Site) -> u64
+    ensures { result ≡ array_block_cost measure site }
 {
-    match (measure, is_unique) {
-        (Measure::Blocks, false) => 1,
-        (Measure::Words, false) => 1000,
-        (Measure::Uniques { .. }, true) => 1,
+    match (measure, site) {
+        (Measure::Blocks, Site::Heap | Site::Region)
+        | (Measure::HeapBlocks, Site::Heap)
+        | (Measure::RegionBlocks, Site::Region)
+        | (Measure::Uniques { .. }, Site::Unique) => 1,
+        (Measure::Words, Site::Heap | Site::Region)
+        | (Measure::HeapWords, Site::Heap)
+        | (Measure::RegionWords, Site::Region) => 1000,
         _ => 0,
     }
 }
@@ -189,23 +226,19 @@ fn most_elements(kind: Kind) -> u64
 }
 
 /// A cell that is made and written.
-pub(crate) fn plain_cost(measure: Measure, is_unique: bool, kind: Kind) -> u64
-    ensures { result ≡ min too_many (plain_cost measure is_unique kind) }
+pub(crate) fn plain_cost(measure: Measure, site: Site, kind: Kind) -> u64
+    ensures { result ≡ min too_many (plain_cost measure site kind) }
 {
     let size = size_of_bytes(bytes_behind(kind, 0));
-    with_steps(measure, 3, block_cost(measure, is_unique, size))
+    with_steps(measure, 3, block_cost(measure, site, size))
 }
 
 /// An object of so many fields, which have so many bytes.
-pub(crate) fn fields_made_cost(measure: Measure, is_unique: bool, count: usize, bytes: u128) -> u64
+pub(crate) fn fields_made_cost(measure: Measure, site: Site, count: usize, bytes: u128) -> u64
     requires { bytes ≤ 2 ^ 101 }
-    ensures { result ≡ min too_many (fields_made_cost measure is_unique count bytes) }
+    ensures { result ≡ min too_many (fields_made_cost measure site count bytes) }
 {
-    let made = with_steps(
-        measure,
-        2,
-        block_cost(measure, is_unique, size_of_bytes(bytes)),
-    );
+    let made = with_steps(measure, 2, block_cost(measure, site, size_of_bytes(bytes)));
     with_steps(measure, count as u64, made)
 }
 
@@ -220,25 +253,25 @@ fn elements_cost(measure: Measure, element: u64, count: u64) -> u64
 /// An array, whose length may be written.
 pub(crate) fn array_cost(
     measure: Measure,
-    is_unique: bool,
+    site: Site,
     kind: Kind,
     element: u64,
     length: Option<u64>,
 ) -> u64
-    ensures { result ≡ min too_many (array_cost measure is_unique kind element length) }
+    ensures { result ≡ min too_many (array_cost measure site kind element length) }
 {
     let most = most_elements(kind);
     match length {
         None => plus(
             elements_cost(measure, element, most),
-            array_block_cost(measure, is_unique),
+            array_block_cost(measure, site),
         ),
         Some(length) => {
             let count = if length < most { length } else { most };
             let size = size_of_bytes(count as u128 * bytes_of_kind(kind));
             plus(
                 elements_cost(measure, element, count),
-                block_cost(measure, is_unique, size),
+                block_cost(measure, site, size),
             )
         }
     }

@@ -5,10 +5,10 @@
 ghost use Rattle.std.specs.Prelude.{◌≡◌, true, false, max, get_or, set, vec_len, IfOk};
 ghost use Rattle.cyc_types.specs.TypedTreeView.{view_program};
 ghost use Rattle.cyc_bound.specs.Costs.{next_costs, IsClosed};
-ghost use Rattle.cyc_bound.specs.inside.Rounds.{raised, AreRaised, AreFound};
+ghost use Rattle.cyc_bound.specs.inside.Rounds.{raised, AreRaised, AreFound, AreEnoughFound};
 
 use crate::callees::callees_of;
-use crate::costs::{Measure, known_cost};
+use crate::costs::{Measure, TOO_MANY, known_cost};
 use crate::tree_costs::function_cost;
 use cyc_types::typed::TypedTree;
 use std::alloc::{AllocError, Global};
@@ -115,6 +115,44 @@ pub(crate) fn costs_of(
         if is_closed(tree, measure, &costs) {
             return Ok(Some(costs));
         }
+    }
+    Ok(None)
+}
+
+/// Makes as much as is counted of what each function costs for whose body it is not enough.
+fn give_up_all(tree: &TypedTree, measure: Measure, costs: &mut Vec<u64>) {
+    for function in 0..tree.functions.len() {
+        let next = next_cost(tree, measure, costs, function);
+        if function < costs.len() && next > known_cost(costs, function) {
+            costs[function] = TOO_MANY;
+        }
+    }
+}
+
+/// What is enough for the functions of a program: what they cost, or where that still grows after the last round, as much as is counted of
+/// those of which it does and of those that call them.
+pub(crate) fn enough_costs(
+    alloc: Global,
+    tree: &TypedTree,
+    order: &[usize],
+    measure: Measure,
+) -> Result<Option<Vec<u64>>, AllocError>
+    ensures { IfOk result (λ found. AreEnoughFound (view_program tree.now) measure found) }
+{
+    let found = costs_of(alloc, tree, order, measure)?;
+    if found.is_some() {
+        return Ok(found);
+    }
+    let mut costs = Vec::new(alloc);
+    costs.resize(tree.functions.len(), 0)?;
+    for _round in 0..MOST_ROUNDS {
+        raise_all(tree, measure, order, &mut costs);
+    }
+    for _function in 0..=tree.functions.len() {
+        if is_closed(tree, measure, &costs) {
+            return Ok(Some(costs));
+        }
+        give_up_all(tree, measure, &mut costs);
     }
     Ok(None)
 }

@@ -1,6 +1,6 @@
 //! What the bound on calls says of runs. Each function does nothing: its contract is the law, and so it is proved with the crate.
 
-ghost use Rattle.std.specs.Prelude.{◌≡◌, ℕ, ◌<◌, ◌≤◌, List, nat_le};
+ghost use Rattle.std.specs.Prelude.{◌≡◌, ℕ, ◌<◌, ◌≤◌, Bool, List, nat_le};
 ghost use Rattle.cyc_types.specs.TypedTrees.{Program};
 ghost use Rattle.cyc_meaning.specs.State.{demand, depth};
 ghost use Rattle.cyc_meaning.specs.Run.{run, is_within, limited_run};
@@ -37,10 +37,10 @@ pub fn steps_end()
 /// No state of any run asks for more pages than its costs tell. So a limit that allows as many pages is kept by every state, and is as
 /// good as any greater one: no run is full because of pages.
 pub fn pages_stay_within()
-    ensures demand { (program : Program) (cost : Measure → ℕ) (input : List ℕ) (count : ℕ) → AreCounted program cost → demand (run program input count) ≤ most_pages cost }
-    ensures within { (program : Program) (cost : Measure → ℕ) (pages calls : ℕ) (input : List ℕ) (count : ℕ) → AreCounted program cost → most_pages cost ≤ pages
+    ensures demand { (program : Program) (gives_back : Bool) (cost : Measure → ℕ) (input : List ℕ) (count : ℕ) → AreCounted program gives_back cost → demand (run program input count) ≤ most_pages gives_back cost }
+    ensures within { (program : Program) (gives_back : Bool) (cost : Measure → ℕ) (pages calls : ℕ) (input : List ℕ) (count : ℕ) → AreCounted program gives_back cost → most_pages gives_back cost ≤ pages
         → is_within pages calls (run program input count) ≡ nat_le (depth (run program input count)) calls }
-    ensures alike { (program : Program) (cost : Measure → ℕ) (pages more calls : ℕ) (input : List ℕ) (count : ℕ) → AreCounted program cost → most_pages cost ≤ pages → most_pages cost ≤ more
+    ensures alike { (program : Program) (gives_back : Bool) (cost : Measure → ℕ) (pages more calls : ℕ) (input : List ℕ) (count : ℕ) → AreCounted program gives_back cost → most_pages gives_back cost ≤ pages → most_pages gives_back cost ≤ more
         → limited_run program pages calls input count ≡ limited_run program more calls input count }
 {}
 

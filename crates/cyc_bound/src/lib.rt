@@ -2,11 +2,12 @@
 #![tactic(auto)]
 
 pub use bound::{CallBound, MOST_CALLS, bound_of_calls};
-pub use costs::{Measure, TOO_MANY};
+pub use costs::{Measure, Site, TOO_MANY};
 pub use loops::{loop_of_pages, loop_of_steps};
 pub use pages::{PageBound, pages_of};
 pub use steps::{StepBound, steps_of};
 
+mod at_once;
 mod bound;
 mod callees;
 mod costs;
@@ -14,5 +15,6 @@ mod function_costs;
 pub mod laws;
 mod loops;
 mod pages;
+mod reached;
 mod steps;
 mod tree_costs;

@@ -1,15 +1,20 @@
-//! Which loop stands in the way of a bound, for who is told that there is none: a loop of which a turn costs something. Nothing is promised
-//! of it.
-use crate::callees::callees_of;
+//! Which loop stands in the way of a bound, for who is told that there is none: a loop of which a turn costs something. Where lexical regions
+//! give back, that is one inside a region, or one that makes something on the heap or a unique object. Nothing is promised of it.
+use crate::at_once::opens;
+use crate::callees::add_items;
 use crate::costs::{Measure, TOO_MANY, known_cost};
-use crate::function_costs::{costs_of, order_of};
-use crate::tree_costs::statement_cost;
+use crate::function_costs::{costs_of, enough_costs, order_of};
+use crate::pages::gives_back;
+use crate::reached::reached;
+use crate::tree_costs::{items_cost, statement_cost};
 use cyc_types::typed::{Body, Clause, Item, Stmt, TypedTree};
 use cyc_words::Span;
 use std::alloc::{AllocError, Global};
 
 /// The classes of unique blocks.
 const CLASSES: u32 = 11;
+
+// ---- loops
 
 #[cycle(loops)]
 fn statement_loop(measure: Measure, costs: &[u64], statement: &Stmt) -> Option<Span> {
@@ -69,14 +74,14 @@ fn default_loop(measure: Measure, costs: &[u64], default: &Option<Body>) -> Opti
     }
 }
 
-/// The first of the functions that this one calls of which it is not counted what it costs.
+/// The first of the functions that items call of which it is not counted what it costs.
 fn costly_callee(
     alloc: Global,
-    tree: &TypedTree,
     costs: &[u64],
-    function: usize,
+    items: &[Item],
 ) -> Result<Option<usize>, AllocError> {
-    let callees = callees_of(alloc, tree, function)?;
+    let mut callees = Vec::new(alloc);
+    add_items(items, &mut callees)?;
     for callee in &callees {
         if known_cost(costs, *callee) >= TOO_MANY {
             return Ok(Some(*callee));
@@ -85,7 +90,31 @@ fn costly_callee(
     Ok(None)
 }
 
-/// The first loop that costs something by this measure: one of `main`, or else one of a function that it calls, and so on.
+/// The first loop that costs something: one of this function, or else one of a function that it calls, and so on.
+fn loop_from(
+    alloc: Global,
+    tree: &TypedTree,
+    measure: Measure,
+    costs: &[u64],
+    function: usize,
+) -> Result<Option<Span>, AllocError> {
+    let mut number = function;
+    for _ in 0..tree.functions.len() {
+        let Some(function) = tree.functions.get(number) else {
+            return Ok(None);
+        };
+        if let Some(span) = items_loop(measure, costs, &function.body) {
+            return Ok(Some(span));
+        }
+        match costly_callee(alloc, costs, &function.body)? {
+            Some(callee) => number = callee,
+            None => return Ok(None),
+        }
+    }
+    Ok(None)
+}
+
+/// The first loop that costs something by this measure, from `main` on.
 fn first_loop(
     alloc: Global,
     tree: &TypedTree,
@@ -95,21 +124,155 @@ fn first_loop(
     let Some(costs) = costs_of(alloc, tree, order, measure)? else {
         return Ok(None);
     };
-    let mut number = tree.main;
-    for _ in 0..tree.functions.len() {
-        let Some(function) = tree.functions.get(number) else {
-            return Ok(None);
-        };
-        if let Some(span) = items_loop(measure, &costs, &function.body) {
+    loop_from(alloc, tree, measure, &costs, tree.main)
+}
+
+// ---- loops inside of regions
+
+/// The first loop in an outermost region of which it is not counted what it costs: one that stands in it, or one of a function that is called
+/// there, and so on.
+#[cycle(inside)]
+fn statement_inside(
+    alloc: Global,
+    tree: &TypedTree,
+    measure: Measure,
+    costs: &[u64],
+    statement: &Stmt,
+) -> Result<Option<Span>, AllocError> {
+    match statement {
+        Stmt::Block { items, .. } => items_inside(alloc, tree, measure, costs, items),
+        Stmt::If {
+            then,
+            otherwise,
+            ..
+        } => {
+            let first = statement_inside(alloc, tree, measure, costs, then)?;
+            Ok(first.or(statement_inside(alloc, tree, measure, costs, otherwise)?))
+        }
+        Stmt::While { body, .. } => statement_inside(alloc, tree, measure, costs, body),
+        Stmt::Try {
+            body,
+            clauses,
+            default,
+            ..
+        } => {
+            let tried = statement_inside(alloc, tree, measure, costs, body)?;
+            let caught = clauses_inside(alloc, tree, measure, costs, clauses)?;
+            let last = default_inside(alloc, tree, measure, costs, default)?;
+            Ok(tried.or(caught).or(last))
+        }
+        _ => Ok(None),
+    }
+}
+
+/// A region is open to the end of its block.
+fn loop_to_end(
+    alloc: Global,
+    tree: &TypedTree,
+    measure: Measure,
+    costs: &[u64],
+    items: &[Item],
+) -> Result<Option<Span>, AllocError> {
+    if items_cost(measure, costs, items) < TOO_MANY {
+        return Ok(None);
+    }
+    if let Some(span) = items_loop(measure, costs, items) {
+        return Ok(Some(span));
+    }
+    match costly_callee(alloc, costs, items)? {
+        Some(callee) => loop_from(alloc, tree, measure, costs, callee),
+        None => Ok(None),
+    }
+}
+
+#[cycle(inside)]
+fn item_inside(
+    alloc: Global,
+    tree: &TypedTree,
+    measure: Measure,
+    costs: &[u64],
+    item: &Item,
+) -> Result<Option<Span>, AllocError> {
+    match item {
+        Item::Execute { statement } => statement_inside(alloc, tree, measure, costs, statement),
+        _ => Ok(None),
+    }
+}
+
+#[cycle(inside)]
+fn items_inside(
+    alloc: Global,
+    tree: &TypedTree,
+    measure: Measure,
+    costs: &[u64],
+    items: &[Item],
+) -> Result<Option<Span>, AllocError> {
+    let mut place = 0;
+    for item in items {
+        if opens(item) {
+            return loop_to_end(alloc, tree, measure, costs, &items[place..]);
+        }
+        if let Some(span) = item_inside(alloc, tree, measure, costs, item)? {
             return Ok(Some(span));
         }
-        match costly_callee(alloc, tree, &costs, number)? {
-            Some(callee) => number = callee,
-            None => return Ok(None),
+        place += 1;
+    }
+    Ok(None)
+}
+
+#[cycle(inside)]
+fn clauses_inside(
+    alloc: Global,
+    tree: &TypedTree,
+    measure: Measure,
+    costs: &[u64],
+    clauses: &[Clause],
+) -> Result<Option<Span>, AllocError> {
+    for clause in clauses {
+        if let Some(span) = items_inside(alloc, tree, measure, costs, &clause.items)? {
+            return Ok(Some(span));
         }
     }
     Ok(None)
 }
+
+#[cycle(inside)]
+fn default_inside(
+    alloc: Global,
+    tree: &TypedTree,
+    measure: Measure,
+    costs: &[u64],
+    default: &Option<Body>,
+) -> Result<Option<Span>, AllocError> {
+    match default {
+        Some(body) => items_inside(alloc, tree, measure, costs, &body.items),
+        None => Ok(None),
+    }
+}
+
+/// The first loop in a region that costs something by this measure, of the functions that `main` leads to.
+fn first_loop_inside(
+    alloc: Global,
+    tree: &TypedTree,
+    order: &[usize],
+    measure: Measure,
+) -> Result<Option<Span>, AllocError> {
+    let Some(costs) = enough_costs(alloc, tree, order, measure)? else {
+        return Ok(None);
+    };
+    let functions = reached(alloc, tree)?;
+    for number in &functions {
+        let Some(function) = tree.functions.get(*number) else {
+            return Ok(None);
+        };
+        if let Some(span) = items_inside(alloc, tree, measure, &costs, &function.body)? {
+            return Ok(Some(span));
+        }
+    }
+    Ok(None)
+}
+
+// ---- what is told
 
 /// The place of a loop that stands in the way of a bound on steps, where one does.
 pub fn loop_of_steps(alloc: Global, tree: &TypedTree) -> Result<Option<Span>, AllocError> {
@@ -117,13 +280,30 @@ pub fn loop_of_steps(alloc: Global, tree: &TypedTree) -> Result<Option<Span>, Al
     first_loop(alloc, tree, &order, Measure::Steps)
 }
 
-/// The place of a loop that stands in the way of a bound on pages, where one does: each of its turns opens or makes something.
+/// The place of a loop that stands in the way of a bound on the pages of regions, where one does.
+fn loop_of_regions(
+    alloc: Global,
+    tree: &TypedTree,
+    order: &[usize],
+) -> Result<Option<Span>, AllocError> {
+    if gives_back(alloc, tree, order)? {
+        for measure in [Measure::Openings, Measure::RegionBlocks] {
+            if let Some(span) = first_loop_inside(alloc, tree, order, measure)? {
+                return Ok(Some(span));
+            }
+        }
+        return first_loop(alloc, tree, order, Measure::HeapBlocks);
+    }
+    let opening = first_loop(alloc, tree, order, Measure::Openings)?;
+    Ok(opening.or(first_loop(alloc, tree, order, Measure::Blocks)?))
+}
+
+/// The place of a loop that stands in the way of a bound on pages, where one does: each of its turns opens or makes something that is not
+/// given back at its end.
 pub fn loop_of_pages(alloc: Global, tree: &TypedTree) -> Result<Option<Span>, AllocError> {
     let order = order_of(alloc, tree)?;
-    for measure in [Measure::Openings, Measure::Blocks] {
-        if let Some(span) = first_loop(alloc, tree, &order, measure)? {
-            return Ok(Some(span));
-        }
+    if let Some(span) = loop_of_regions(alloc, tree, &order)? {
+        return Ok(Some(span));
     }
     for class in 0..CLASSES {
         if let Some(span) = first_loop(alloc, tree, &order, Measure::Uniques { class })? {

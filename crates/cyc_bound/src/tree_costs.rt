@@ -1,12 +1,12 @@
 //! What a typed tree costs: a walk that adds up the costs of its parts, by what functions cost.
 ghost use Rattle.std.specs.Prelude.{◌≡◌, ◌≤◌, min, option_map};
 ghost use Rattle.cyc_types.specs.TypedTreeView.{view_expression, view_dereference, view_placement, view_initial, view_converted, view_side, view_statement, view_item, view_function, arguments_of, operations_of, items_of, default_of};
-ghost use Rattle.cyc_bound.specs.Costs.{too_many, callee_cost, expression_cost, place_cost, makes_unique, placement_cost, initial_cost, fields_cost, converted_cost, arguments_cost, operations_cost, written_length, value_cost, thrown_cost, side_cost, statement_cost, item_cost, items_cost, clauses_cost, function_cost};
+ghost use Rattle.cyc_bound.specs.Costs.{too_many, callee_cost, expression_cost, place_cost, site_of, placement_cost, initial_cost, fields_cost, converted_cost, arguments_cost, operations_cost, written_length, value_cost, thrown_cost, side_cost, statement_cost, item_cost, items_cost, clauses_cost, function_cost};
 ghost use Rattle.cyc_bound.specs.inside.ItemCosts.{operation_cost, clauses_then};
 
 use crate::costs::{
-    Measure, array_cost, bytes_behind, caught_cost, fields_made_cost, greater, known_cost,
-    loop_cost, opening_cost, plain_cost, plus, step_cost, with_steps,
+    Measure, Site, array_cost, bytes_behind, caught_cost, fields_made_cost, greater, known_cost,
+    lasting_cost, loop_cost, opening_cost, plain_cost, plus, step_cost, with_steps,
 };
 use cyc_types::typed::{
     Body, Callee, Clause, Converted, Dereference, Expr, Function, Initial, Item, Operation,
@@ -84,12 +84,12 @@ fn expression_cost(measure: Measure, costs: &[u64], value: &Expr) -> u64
             ..
         } => {
             let placed = placement_cost(measure, costs, placement);
-            let made = initial_cost(measure, costs, makes_unique(placement), initial);
+            let made = initial_cost(measure, costs, site_of(placement), initial);
             with_steps(measure, 1, plus(placed, made))
         }
+        Expr::HeapRegion => with_steps(measure, 2, lasting_cost(measure)),
         Expr::Number { .. }
         | Expr::NullPointer
-        | Expr::HeapRegion
         | Expr::Counter { .. }
         | Expr::Copy { .. }
         | Expr::Move { .. }
@@ -98,11 +98,15 @@ fn expression_cost(measure: Measure, costs: &[u64], value: &Expr) -> u64
     }
 }
 
-/// Whether an object that is made there is unique.
-fn makes_unique(placement: &Placement) -> bool
-    ensures { result ≡ makes_unique (view_placement placement.now) }
+/// Where an object is made that is placed so.
+fn site_of(placement: &Placement) -> Site
+    ensures { result ≡ site_of (view_placement placement.now) }
 {
-    matches!(placement, Placement::AsUnique)
+    match placement {
+        Placement::OnHeap => Site::Heap,
+        Placement::AsUnique => Site::Unique,
+        Placement::ByHandle { .. } => Site::Region,
+    }
 }
 
 #[cycle(expressions)]
@@ -137,15 +141,15 @@ fn place_cost(measure: Measure, costs: &[u64], place: &Dereference) -> u64
 }
 
 #[cycle(expressions)]
-fn initial_cost(measure: Measure, costs: &[u64], is_unique: bool, initial: &Initial) -> u64
-    ensures { result ≡ min too_many (initial_cost measure costs.now is_unique (view_initial initial.now)) }
+fn initial_cost(measure: Measure, costs: &[u64], site: Site, initial: &Initial) -> u64
+    ensures { result ≡ min too_many (initial_cost measure costs.now site (view_initial initial.now)) }
 {
     match initial {
         Initial::Plain { kind, value } => {
             let evaluated = expression_cost(measure, costs, value);
-            plus(evaluated, plain_cost(measure, is_unique, *kind))
+            plus(evaluated, plain_cost(measure, site, *kind))
         }
-        Initial::Fields { values } => fields_cost(measure, costs, is_unique, values),
+        Initial::Fields { values } => fields_cost(measure, costs, site, values),
         Initial::Array {
             length,
             kind,
@@ -156,15 +160,15 @@ fn initial_cost(measure: Measure, costs: &[u64], is_unique: bool, initial: &Init
             let turn = expression_cost(measure, costs, element);
             plus(
                 counted,
-                array_cost(measure, is_unique, *kind, turn, written_length(length)),
+                array_cost(measure, site, *kind, turn, written_length(length)),
             )
         }
     }
 }
 
 #[cycle(expressions)]
-fn fields_cost(measure: Measure, costs: &[u64], is_unique: bool, values: &[Converted]) -> u64
-    ensures { result ≡ min too_many (fields_cost measure costs.now is_unique 0 0 (arguments_of values.now)) }
+fn fields_cost(measure: Measure, costs: &[u64], site: Site, values: &[Converted]) -> u64
+    ensures { result ≡ min too_many (fields_cost measure costs.now site 0 0 (arguments_of values.now)) }
 {
     let mut total = 0;
     let mut bytes = 0;
@@ -172,10 +176,7 @@ fn fields_cost(measure: Measure, costs: &[u64], is_unique: bool, values: &[Conve
         total = plus(total, converted_cost(measure, costs, value));
         bytes = bytes_behind(value.to, bytes);
     }
-    plus(
-        total,
-        fields_made_cost(measure, is_unique, values.len(), bytes),
-    )
+    plus(total, fields_made_cost(measure, site, values.len(), bytes))
 }
 
 #[cycle(expressions)]
@@ -308,13 +309,16 @@ fn item_cost(measure: Measure, costs: &[u64], item: &Item) -> u64
         Item::Execute { statement } => statement_cost(measure, costs, statement),
         Item::Local { value, .. } => with_steps(measure, 1, value_cost(measure, costs, value)),
         Item::Region { .. } => with_steps(measure, 3, opening_cost(measure)),
-        Item::DynamicRegion { .. } => with_steps(measure, 2, opening_cost(measure)),
+        Item::DynamicRegion { .. } => {
+            let opened = plus(opening_cost(measure), lasting_cost(measure));
+            with_steps(measure, 2, opened)
+        }
         Item::Open { .. } | Item::Alias { .. } => with_steps(measure, 4, 0),
     }
 }
 
 #[cycle(statements)]
-fn items_cost(measure: Measure, costs: &[u64], items: &[Item]) -> u64
+pub(crate) fn items_cost(measure: Measure, costs: &[u64], items: &[Item]) -> u64
     ensures { result ≡ min too_many (items_cost measure costs.now (items_of items.now)) }
 {
     let mut total = 0;

@@ -10,8 +10,8 @@ use Rattle.cyc_bound.specs.declared.costs.Measure.{Measure}
 use Rattle.cyc_bound.specs.declared.costs.Measure.TheVariants as measures
 use Rattle.cyc_bound.specs.declared.pages.PageBound.{PageBound}
 use Rattle.cyc_bound.specs.declared.pages.PageBound.TheVariants as bounds
-use Rattle.cyc_bound.specs.Costs.{too_many, step_cost, expression_cost, caught_cost, items_cost, IsRunCost}
-use Rattle.cyc_bound.specs.Pages.{unique_pages, IsPageAnswer}
+use Rattle.cyc_bound.specs.Costs.{too_many, step_cost, expression_cost, caught_cost, items_cost, IsRunCost, StillGrow}
+use Rattle.cyc_bound.specs.Pages.{unique_pages}
 
 -- one operator of a chain, with its right operand
 abbrev pub operation_cost : Measure → (costs : List ℕ) → Operation → ℕ
@@ -36,5 +36,5 @@ UniquesSoFar program class pages = (cost : Measure → ℕ) × AreUniquesSoFar p
 -- the pages of all classes, or what is told in their place
 abbrev pub IsUniqueAnswer : Program → PageBound → Type 0
 IsUniqueAnswer program (bounds.Pages pages) = UniquesSoFar program (suc greatest_class) pages
-IsUniqueAnswer program bounds.TooMany = IsPageAnswer program bounds.TooMany
-IsUniqueAnswer program bounds.Circle = IsPageAnswer program bounds.Circle
+IsUniqueAnswer program bounds.TooMany = (class : ℕ) × (class ≤ greatest_class) × IsRunCost program (measures.Uniques class) too_many
+IsUniqueAnswer program bounds.Circle = (class : ℕ) × (class ≤ greatest_class) × StillGrow program (measures.Uniques class)

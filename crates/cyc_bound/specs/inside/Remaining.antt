@@ -1,14 +1,16 @@
 -- What a run still costs at most in each of its states: the cost of what is done next, and that of each entry that waits, down to `main`.
 -- No step makes it more, and one that makes something makes it less by as much. Each entry costs a step at least, by which it is left.
 -- (This project's own choice.)
-use Rattle.std.specs.Prelude.{ℕ, suc, ◌+◌, ◌*◌, ◌-◌, Bool, true, false, nat_le, if◌then◌else◌, max, ◌≤◌, List, [], ◌∷◌, length, Option, None, Some}
+use Rattle.std.specs.Prelude.{ℕ, zero, suc, ◌+◌, ◌*◌, ◌-◌, nat_le, if◌then◌else◌, max, ◌≤◌, List, [], ◌∷◌, length, Option, None, Some}
 use Rattle.cyc_types.specs.declared.typed.Kind.{Kind}
 use Rattle.cyc_types.specs.declared.typed.Kind.TheVariants as kinds
 use Rattle.cyc_types.specs.TypedTrees.{Expression}
 use Rattle.cyc_meaning.specs.Values.{Value, Int, Operand, bytes_of_kind, behind, block_size}
 use Rattle.cyc_meaning.specs.State.{Sort, Heap, Lexical, Dynamic, Region, Owner, InRegion, Unique, Object, World, Awaiting, ConvertTo, Chain, Pass, Index, Advance, PlaceBy, MakePlain, MakeFields, MakeArray, FillElement, Initialise, Choose, Test, OpenBy, AliasOf, AwaitingPlace, StoreTo, SwapLeft, SwapRight, Entry, Needs, NeedsPlace, Rest, Loop, Handler, Focus, Evaluating, Locating, Given, Executing, Calling, Entering, Binding, Naming, Writing, Beginning, Repeating, Swapping, Breaking, Continuing, Returning, Throwing, Catching, State, Running, Ended, Dead, Wrong}
 use Rattle.cyc_bound.specs.declared.costs.Measure.{Measure}
-use Rattle.cyc_bound.specs.Costs.{too_many, step_cost, opening_cost, block_cost, size_of_bytes, written_length, plain_cost, elements_cost, array_cost, callee_cost, expression_cost, place_cost, initial_cost, fields_cost, converted_cost, arguments_cost, operations_cost, side_cost, loop_cost, statement_cost, items_cost, clauses_cost, function_cost}
+use Rattle.cyc_bound.specs.declared.costs.Site.{Site}
+use Rattle.cyc_bound.specs.declared.costs.Site.TheVariants as sites
+use Rattle.cyc_bound.specs.Costs.{too_many, step_cost, opening_cost, lasting_cost, block_cost, size_of_bytes, written_length, plain_cost, elements_cost, array_cost, callee_cost, expression_cost, place_cost, initial_cost, fields_cost, converted_cost, arguments_cost, operations_cost, side_cost, loop_cost, statement_cost, items_cost, clauses_cost, function_cost}
 
 -- ---- what is known of a value before it is there
 
@@ -45,9 +47,11 @@ entry_delivers entry = Anything
 
 -- ---- entries
 
-abbrev pub is_unique : Owner → Bool
-is_unique (InRegion region) = false
-is_unique (Unique live) = true
+-- where the object of an owner is made: the first region is the heap
+abbrev pub site_of_owner : Owner → Site
+site_of_owner (InRegion zero) = sites.Heap
+site_of_owner (InRegion (suc region)) = sites.Region
+site_of_owner (Unique live) = sites.Unique
 
 -- the bytes of fields whose values are these, newest first
 abbrev pub bytes_before : List Operand → ℕ
@@ -74,12 +78,12 @@ awaiting_cost m costs d (Chain rest) = operations_cost m costs rest + step_cost 
 awaiting_cost m costs d (Pass callee before arguments) = arguments_cost m costs arguments + callee_cost m costs callee
 awaiting_cost m costs d (Index peek target index) = expression_cost m costs index + 2 * step_cost m
 awaiting_cost m costs d (Advance peek target base) = 2 * step_cost m
-awaiting_cost m costs d (PlaceBy initial) = initial_cost m costs false initial + step_cost m
-awaiting_cost m costs d (MakePlain owner kind) = plain_cost m (is_unique owner) kind
+awaiting_cost m costs d (PlaceBy initial) = initial_cost m costs sites.Region initial + step_cost m
+awaiting_cost m costs d (MakePlain owner kind) = plain_cost m (site_of_owner owner) kind
 awaiting_cost m costs d (MakeFields owner before fields) =
-    field_awaited m (λ (kind : Kind). fields_cost m costs (is_unique owner) (suc (length before)) (behind kind (bytes_before before)) fields) d
+    field_awaited m (λ (kind : Kind). fields_cost m costs (site_of_owner owner) (suc (length before)) (behind kind (bytes_before before)) fields) d
 awaiting_cost m costs d (MakeArray owner level kind element) =
-    length_awaited m (λ (n : Option ℕ). array_cost m (is_unique owner) kind (expression_cost m costs element) n) d
+    length_awaited m (λ (n : Option ℕ). array_cost m (site_of_owner owner) kind (expression_cost m costs element) n) d
 awaiting_cost m costs d (FillElement object count index level kind element) = elements_left m (expression_cost m costs element) count (suc index)
 awaiting_cost m costs d (Initialise number kind items) = step_cost m + items_cost m costs items
 awaiting_cost m costs d (Choose first second) = step_cost m + max (statement_cost m costs first) (statement_cost m costs second)
@@ -122,7 +126,7 @@ focus_cost m costs (Binding number types arguments body) = length types * step_c
 focus_cost m costs (Naming number operand items) = 2 * step_cost m + items_cost m costs items
 focus_cost m costs (Writing writes result) = length writes * step_cost m + 2 * step_cost m
 focus_cost m costs (Beginning owner count level kind element) =
-    elements_cost m (expression_cost m costs element) count + block_cost m (is_unique owner) (size_of_bytes (count * bytes_of_kind kind))
+    elements_cost m (expression_cost m costs element) count + block_cost m (site_of_owner owner) (size_of_bytes (count * bytes_of_kind kind))
 focus_cost m costs (Repeating object count index level kind element) = elements_left m (expression_cost m costs element) count index
 focus_cost m costs (Swapping kind left right before) = swapping_cost m before
 focus_cost m costs (Catching tag value clauses) = clauses_cost m costs clauses
@@ -130,37 +134,43 @@ focus_cost m costs focus = step_cost m
 
 -- ---- what is spent
 
-abbrev pub blocks_spent : Measure → List ℕ → ℕ
-blocks_spent m [] = 0
-blocks_spent m (size ∷ sizes) = block_cost m false size + blocks_spent m sizes
+abbrev pub blocks_spent : Measure → Site → List ℕ → ℕ
+blocks_spent m site [] = 0
+blocks_spent m site (size ∷ sizes) = block_cost m site size + blocks_spent m site sizes
 
 abbrev pub sort_spent : Measure → Sort → ℕ
 sort_spent m Heap = opening_cost m
 sort_spent m Lexical = opening_cost m
-sort_spent m Dynamic = opening_cost m
+sort_spent m Dynamic = opening_cost m + lasting_cost m
 sort_spent m sort = 0
 
--- the regions that were opened and all that was made in them, whether they are open or not
-abbrev pub regions_spent : Measure → List Region → ℕ
-regions_spent m [] = 0
-regions_spent m (r ∷ regions) = sort_spent m r.sort + (blocks_spent m r.blocks + regions_spent m regions)
+-- the regions that were opened and all that was made in them, whether they are open or not: the first one is at this site, and the others
+-- have handles
+abbrev pub regions_spent : Measure → Site → List Region → ℕ
+regions_spent m site [] = 0
+regions_spent m site (r ∷ regions) = sort_spent m r.sort + (blocks_spent m site r.blocks + regions_spent m sites.Region regions)
 
-abbrev pub object_spent : Measure → Object → ℕ
-object_spent m x = if is_unique x.owner then block_cost m true (block_size x.cells) else 0
+abbrev pub object_spent : Measure → Owner → (size : ℕ) → ℕ
+object_spent m (InRegion region) size = 0
+object_spent m (Unique live) size = block_cost m sites.Unique size
 
 -- the unique objects that were made, whether they are given back or not
 abbrev pub objects_spent : Measure → List Object → ℕ
 objects_spent m [] = 0
-objects_spent m (x ∷ objects) = object_spent m x + objects_spent m objects
+objects_spent m (x ∷ objects) = object_spent m x.owner (block_size x.cells) + objects_spent m objects
 
 abbrev pub spent : Measure → World → ℕ
-spent m w = regions_spent m w.regions + objects_spent m w.objects
+spent m w = regions_spent m sites.Heap w.regions + objects_spent m w.objects
 
 -- ---- states
 
--- what is spent, and what is still to come, is no more than this
+-- what is spent, as this counts it, and what is still to come, is no more than this
+abbrev pub TakesAtMost : (counted : World → ℕ) → Measure → (costs : List ℕ) → (most : ℕ) → State → Type 0
+TakesAtMost counted m costs most (Running focus stack e w) = focus_cost m costs focus + (stack_cost m costs (focus_delivers focus) stack + counted w) ≤ most
+TakesAtMost counted m costs most (Ended ending output input) = Unit {0}
+TakesAtMost counted m costs most (Dead output input) = Unit {0}
+TakesAtMost counted m costs most (Wrong output input) = Unit {0}
+
+-- where all that is spent counts
 abbrev pub CostsAtMost : Measure → (costs : List ℕ) → (most : ℕ) → State → Type 0
-CostsAtMost m costs most (Running focus stack e w) = focus_cost m costs focus + (stack_cost m costs (focus_delivers focus) stack + spent m w) ≤ most
-CostsAtMost m costs most (Ended ending output input) = Unit {0}
-CostsAtMost m costs most (Dead output input) = Unit {0}
-CostsAtMost m costs most (Wrong output input) = Unit {0}
+CostsAtMost m costs most s = TakesAtMost (spent m) m costs most s

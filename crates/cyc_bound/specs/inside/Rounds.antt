@@ -4,6 +4,7 @@ use Rattle.std.specs.declared.vec.Vec.{Vec}
 use Rattle.std.specs.declared.alloc.Global.{Global as Heap}
 use Rattle.cyc_types.specs.TypedTrees.{Program}
 use Rattle.cyc_bound.specs.declared.costs.Measure.{Measure}
+use Rattle.cyc_bound.specs.AtOnce.{AreEnough}
 use Rattle.cyc_bound.specs.Costs.{next_costs, Below, IsClosed, AreCosts, IsRunCost, StillGrow}
 
 -- what a function costs is made enough for its body
@@ -22,6 +23,11 @@ pub record AreRaised (program : Program) (m : Measure) (before after : List ℕ)
 abbrev pub AreFound : Program → Measure → Option (Vec ℕ Heap) → Type 0
 AreFound program m (Some costs) = AreCosts program m costs.items
 AreFound program m None = StillGrow program m
+
+-- costs that are enough, or that they still grow
+abbrev pub AreEnoughFound : Program → Measure → Option (Vec ℕ Heap) → Type 0
+AreEnoughFound program m (Some costs) = AreEnough program m costs.items
+AreEnoughFound program m None = StillGrow program m
 
 -- what a run costs, or that it still grows
 abbrev pub IsFound : Program → Measure → Option ℕ → Type 0

@@ -11,14 +11,14 @@ loop-class-init c = so_far_none (view_program c.args.tree.now)
 pub returns-in_default : goal.returns-in_default
 returns-in_default c =
     let m = measures.Uniques c.loop-class.class in
-    (m, omega (arith, c.loop-class-test.true), not_found (view_program c.args.tree.now) m _ c.in_default.not-Some c.in_ok-blocks.ensures)
+    (c.loop-class.class, omega (arith, c.loop-class-test.true), not_found (view_program c.args.tree.now) m _ c.in_default.not-Some c.in_ok-blocks.ensures)
 
 pub returns-then-blocks-ge-TOO_MANY : goal.returns-then-blocks-ge-TOO_MANY
 returns-then-blocks-ge-TOO_MANY c =
     let p = view_program c.args.tree.now in
     let m = measures.Uniques c.loop-class.class in
     let is = subst (λ (o : Option ℕ). IsFound p m o) c.in-Some.is c.in_ok-blocks.ensures in
-    (m, omega (arith, c.loop-class-test.true), too_many_cost p m c.in-Some.blocks is (omega (arith, c.if-blocks-ge-TOO_MANY.true)))
+    (c.loop-class.class, omega (arith, c.loop-class-test.true), too_many_cost p m c.in-Some.blocks is (omega (arith, c.if-blocks-ge-TOO_MANY.true)))
 
 pub loop-class-preserved : goal.loop-class-preserved
 loop-class-preserved c =

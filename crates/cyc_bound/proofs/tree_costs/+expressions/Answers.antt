@@ -28,20 +28,20 @@ expression_cost-returns-in-New t c =
     let m = c.args.measure in
     let costs = c.args.costs.now in
     let i = c.deref-in-New.result.now in
-    let unique = c.makes_unique.result in
-    two_parts_cost (1 * step_cost m) (placement_cost m costs (view_placement c.in-New.placement)) (initial_cost m costs unique (view_initial i)) c.placement_cost-placed.result c.initial_cost-made.result c.plus-in-New.result c.with_steps-in-New.result
-    (expression_cost m costs (view_expression c.args.value.now)) (new_costs m costs c.args.value.now c.in-New.placement c.in-New.initial c.in-New.of_type c.in-New.is i c.deref-in-New.ensures unique c.makes_unique.ensures)
+    let site = c.site_of.result in
+    two_parts_cost (1 * step_cost m) (placement_cost m costs (view_placement c.in-New.placement)) (initial_cost m costs site (view_initial i)) c.placement_cost-placed.result c.initial_cost-made.result c.plus-in-New.result c.with_steps-in-New.result
+    (expression_cost m costs (view_expression c.args.value.now)) (new_costs m costs c.args.value.now c.in-New.placement c.in-New.initial c.in-New.of_type c.in-New.is i c.deref-in-New.ensures site c.site_of.ensures)
     c.placement_cost-placed.ensures c.initial_cost-made.ensures c.plus-in-New.ensures c.with_steps-in-New.ensures
 
 pub initial_cost-returns-in-Fields : goal.initial_cost-returns-in-Fields
 initial_cost-returns-in-Fields t c =
     c.fields_cost.ensures
-    ∙ ap (λ n. min too_many n) (sym (fields_costs c.args.measure c.args.costs.now c.args.is_unique c.args.initial.now c.in-Fields.values c.in-Fields.is c.deref.result.now c.deref.ensures.value))
+    ∙ ap (λ n. min too_many n) (sym (fields_costs c.args.measure c.args.costs.now c.args.site c.args.initial.now c.in-Fields.values c.in-Fields.is c.deref.result.now c.deref.ensures.value))
 
 pub initial_cost-returns-in-Array : goal.initial_cost-returns-in-Array
 initial_cost-returns-in-Array t c =
     let initial = c.in-Array in
-    array_costs c.args.measure c.args.costs.now c.args.is_unique c.args.initial.now initial.level initial.length initial.kind initial.element initial.is c.expression_cost-counted.result c.expression_cost-turn.result c.written_length.result c.array_cost.result c.plus-in-Array.result
+    array_costs c.args.measure c.args.costs.now c.args.site c.args.initial.now initial.level initial.length initial.kind initial.element initial.is c.expression_cost-counted.result c.expression_cost-turn.result c.written_length.result c.array_cost.result c.plus-in-Array.result
     c.expression_cost-counted.ensures c.expression_cost-turn.ensures c.written_length.ensures c.array_cost.ensures c.plus-in-Array.ensures
 
 pub fields_cost-bytes_behind-bytes-requires : goal.fields_cost-bytes_behind-bytes-requires
@@ -49,18 +49,18 @@ fields_cost-bytes_behind-bytes-requires t c = omega (arith, c.loop-value.invaria
 
 pub fields_cost-loop-value-preserved : goal.fields_cost-loop-value-preserved
 fields_cost-loop-value-preserved t c =
-    fields_next c.args.measure c.args.costs.now c.args.is_unique c.args.values.now c.loop-value.value-index c.loop-value.total c.loop-value.bytes c.value-item.result c.converted_cost.result c.plus-total.result c.bytes_behind-bytes.result
+    fields_next c.args.measure c.args.costs.now c.args.site c.args.values.now c.loop-value.value-index c.loop-value.total c.loop-value.bytes c.value-item.result c.converted_cost.result c.plus-total.result c.bytes_behind-bytes.result
     c.loop-value-test.true c.value-item.is c.loop-value.invariant c.converted_cost.ensures c.plus-total.ensures c.bytes_behind-bytes.ensures
 
 pub fields_cost-loop-value-init : goal.fields_cost-loop-value-init
-fields_cost-loop-value-init t c = (ap (λ n. min too_many n) (none (fields_cost c.args.measure c.args.costs.now c.args.is_unique 0 0 (arguments_of c.args.values.now))), omega arith)
+fields_cost-loop-value-init t c = (ap (λ n. min too_many n) (none (fields_cost c.args.measure c.args.costs.now c.args.site 0 0 (arguments_of c.args.values.now))), omega arith)
   where
     none : (n : ℕ) → 0 + n ≡ n
     none n = omega arith
 
 pub fields_cost-returns : goal.fields_cost-returns
 fields_cost-returns t c =
-    fields_all c.args.measure c.args.costs.now c.args.is_unique c.args.values.now c.loop-value.value-index c.loop-value.total c.loop-value.bytes (length c.args.values.now) c.fields_made_cost.result c.plus.result
+    fields_all c.args.measure c.args.costs.now c.args.site c.args.values.now c.loop-value.value-index c.loop-value.total c.loop-value.bytes (length c.args.values.now) c.fields_made_cost.result c.plus.result
     c.loop-value-test.false c.loop-value.auto.value-index-end refl c.loop-value.invariant c.fields_made_cost.ensures c.plus.ensures
 
 pub arguments_cost-loop-argument-preserved : goal.arguments_cost-loop-argument-preserved
