@@ -7,6 +7,8 @@ pub mod Start
 -- the same as a machine among others, and what no step changes
 pub mod WorldMachine
 pub mod Shape
+-- what is told of an instruction that prints a byte or wants one
+pub mod Exchanging
 -- the machine over a store of some type
 pub mod Held
 -- how the code keeps its memory, which only the crate's own functions speak of

@@ -54,6 +54,17 @@ pub enum Event {
     NoMemory,
 }
 
+/// What an instruction exchanges with the devices.
+#[derive(Clone, Copy, Debug, PartialEq, Eq)]
+pub enum Exchange {
+    /// Nothing, or what only a step tells. No instruction was executed, and nothing changed.
+    Nothing,
+    /// The program wants a byte of input: nothing goes on until the byte is given.
+    Wants,
+    /// The program printed this byte.
+    Puts(u8),
+}
+
 /// So many instructions, of which all but the last told only that they ran, and what the last one told: an event that is not `Ran`,
 /// or `Ran`, where there were to be no more. Where that event is `NoMemory`, the instruction that wanted memory is not counted.
 #[derive(Clone, Copy, Debug, PartialEq, Eq)]

@@ -17,7 +17,7 @@ mod results;
 mod start;
 mod text;
 
-pub use event::{Cause, End, Event, Stretch};
+pub use event::{Cause, End, Event, Exchange, Stretch};
 pub use fault::LoadFault;
 pub use limits::Limits;
 pub use machine::Machine;

@@ -1,6 +1,6 @@
 -- The loop of the engine: what it has done so far is a run of the machine on every input that goes on from what was
 -- read.
-use Rattle.std.proofs.Common.{◌≡◌, ℕ, zero, suc, ◌+◌, ◌-◌, ◌<◌, ◌≤◌, List, [], ◌∷◌, ◌++◌, drop, Bool, true, false, Option, None, Some, Result, Ok, Err, refl, sym, ap, subst, ◌∙◌, arith, append_assoc, append-nil, inl, inr}
+use Rattle.std.proofs.Common.{◌≡◌, ℕ, zero, suc, ◌+◌, ◌<◌, ◌≤◌, List, [], ◌∷◌, ◌++◌, drop, Bool, true, false, Option, None, Some, Result, Ok, Err, refl, sym, ap, subst, ◌∙◌, arith, append_assoc, append-nil, inl, inr}
 use Rattle.std.specs.Prelude.{unwrap_or, slice_get, MatchBool, length, IfSome}
 use Rattle.std.specs.Io.KnownBytes.{Keeps, Appends, Consumes, IsAtEnd}
 use Rattle.std.proofs.lemmas.List.{length-append}
@@ -11,7 +11,7 @@ use Rattle.cyc_machine.specs.declared.event.Event.TheVariants.{Ran, WantsByte, P
 use Rattle.cyc_machine.specs.declared.phase.Phase.TheVariants.{Running, Waiting}
 use Rattle.cyc_machine.specs.State.{State}
 use Rattle.cyc_machine.specs.Step.{Step, StepOver, given, given_in}
-use Rattle.cyc_machine.specs.Run.{World, told, Goes, Run, RunsQuietly, TellsLast, IsStretch, end_in}
+use Rattle.cyc_machine.specs.Run.{World, told, Goes, Run, RunsQuietly, end_in}
 use Rattle.cyc_elf.specs.declared.fault.ElfFault.{ElfFault}
 use Rattle.cyc_elf.specs.Image.{ImageContents}
 use Rattle.cyc_machine.specs.declared.fault.LoadFault.TheVariants as load
@@ -31,7 +31,7 @@ use Rattle.cyc_system.specs.declared.report.RunFault.TheVariants.{Elf, Load, Rea
 use Rattle.cyc_system.specs.Engine.{Devices, Rests, Tells, Leaves, Counted, HasPeaks, Executes, Runs, uses_in, higher, Refuses, Starts, Answers, AnswersAnew, IsReported, limit_at}
 use Rattle.cyc_system.specs.Faults.{is_read, is_write}
 use Rattle.cyc_system.specs.inside.Loading.{Declines, Loads}
-use Rattle.cyc_system.specs.inside.Turn.{Asked, Turned, after_byte, counted_at}
+use Rattle.cyc_system.specs.inside.Turn.{Asked, Turned, TurnedOver, after_byte, counted_at}
 
 -- one more instruction at the end of a run
 pub Run-more : (count : ℕ) (u v w : World) → Run count u v → Goes v w → Run (suc count) u w
@@ -209,32 +209,6 @@ Progress-quiet start old now count (suc more) x machine machine' p (mid, run, st
     (Progress-turn start old now now (count + more) x x None mid machine' (Progress-quiet start old now count more x machine mid p run)
     (Ran, machine', step, (refl, refl, (Keeps-refl now.remaining, Keeps-refl now.written))))
 
--- a stretch that ends with something else than that it ran, or that memory is wanted
-pub tells_last : (grows : Bool) (most : ℕ) (old : State) (count : ℕ) (event : Event) (new : State) → (event ≡ Ran → ⊥) → (event ≡ NoMemory → ⊥) → IsStretch grows most old count event new
-    → TellsLast most old count event new
-tells_last grows most old count Ran new other memory stretch = absurd (other refl)
-tells_last grows most old count WantsByte new other memory stretch = stretch
-tells_last grows most old count (Puts byte) new other memory stretch = stretch
-tells_last grows most old count (Ended end) new other memory stretch = stretch
-tells_last grows most old count NoMemory new other memory stretch = absurd (memory refl)
-
--- it has an instruction
-pub stretch_some : (grows : Bool) (most : ℕ) (old : State) (count : ℕ) (event : Event) (new : State) → (event ≡ Ran → ⊥) → (event ≡ NoMemory → ⊥) → IsStretch grows most old count event new → 1 ≤ count
-stretch_some grows most old count event new other memory stretch =
-    let t = tells_last grows most old count event new other memory stretch in omega (arith, t.counted)
-
--- no stretch is too long
-pub stretch_few : (grows : Bool) (most : ℕ) (old : State) (count : ℕ) (event : Event) (new : State) → IsStretch grows most old count event new → count ≤ most
-stretch_few grows most old count Ran new stretch = omega (arith, stretch.0)
-stretch_few grows most old count WantsByte new stretch = stretch.few
-stretch_few grows most old count (Puts byte) new stretch = stretch.few
-stretch_few grows most old count (Ended end) new stretch = stretch.few
-stretch_few grows most old count NoMemory new stretch = omega (arith, stretch.0)
-
--- a stretch that does not
-pub only_ran : (grows : Bool) (most : ℕ) (old : State) (count : ℕ) (event : Event) (new : State) → event ≡ Ran → IsStretch grows most old count event new → RunsQuietly count old new
-only_ran grows most old count event new ran stretch = (subst (λ (e : Event). IsStretch grows most old count e new) ran stretch).1
-
 -- What the loop answers.
 
 -- the rest of the input, where the reader tells it: one that fits what was read
@@ -351,7 +325,7 @@ stops_at start old now new count budget x x' peaks machine machine' end p few (s
     subst (λ y. IsReported start budget old new (reported (stops.End end) (count + 1) y (counted_at peaks machine') machine')) (sym same) all
 
 -- a device fails
-pub fails_at : (grows : Bool) (start : List ℕ → World) (old now new : Devices) (count budget : ℕ) (x x' : Exchanged) (peaks : Option Peaks) (machine machine' : State) (e : RunFault) → Progress start old now count x peaks machine → count < budget
+fails_at : (grows : Bool) (start : List ℕ → World) (old now new : Devices) (count budget : ℕ) (x x' : Exchanged) (peaks : Option Peaks) (machine machine' : State) (e : RunFault) → Progress start old now count x peaks machine → count < budget
     → Turned machine machine' x x' now new (Err e) → Runs grows start budget old new (Err e)
 fails_at grows start old now new count budget x x' peaks machine machine' Read p below (s, step, rests) =
     let rest = rest_of old.remaining now.remaining in
@@ -364,6 +338,17 @@ fails_at grows start old now new count budget x x' peaks machine machine' Write 
 fails_at grows start old now new count budget x x' peaks machine machine' (Elf f) p below none = absurd none
 fails_at grows start old now new count budget x x' peaks machine machine' (Load f) p below none = absurd none
 fails_at grows start old now new count budget x x' peaks machine machine' Memory p below none = absurd none
+
+-- or the store wanted memory, and no device was used
+pub fails_turn : (grows : Bool) (start : List ℕ → World) (old now new : Devices) (count budget : ℕ) (x x' : Exchanged) (peaks : Option Peaks) (machine machine' : State) (e : RunFault) → Progress start old now count x peaks machine → count < budget
+    → TurnedOver grows machine machine' x x' now new (Err e) → Runs grows start budget old new (Err e)
+fails_turn grows start old now new count budget x x' peaks machine machine' Read p below turned = fails_at grows start old now new count budget x x' peaks machine machine' Read p below turned
+fails_turn grows start old now new count budget x x' peaks machine machine' Write p below turned = fails_at grows start old now new count budget x x' peaks machine machine' Write p below turned
+fails_turn grows start old now new count budget x x' peaks machine machine' (Elf f) p below turned = absurd turned
+fails_turn grows start old now new count budget x x' peaks machine machine' (Load f) p below turned = absurd turned
+fails_turn grows start old now new count budget x x' peaks machine machine' Memory p below (wants, rests) =
+    let here : World = record { machine = machine; output = p.output; input = rest_of old.remaining now.remaining } in
+    (count, here, executes_kept start old now new count here (executes_of start old now count x peaks machine p) rests, below, ap end_in p.running, wants)
 
 -- a loaded image is run
 loaded : (inside : Bool) (refused runs : Type 0) → (inside ≡ true → ⊥) → runs → MatchBool inside refused runs
@@ -463,43 +448,7 @@ pub early_memory : (read : Result ImageContents ElfFault) (limits : Bounds) (bud
 early_memory read limits budget old new result (store, _, answers) is =
     early_answers store read limits budget old new (subst (λ r. Answers false store read limits budget old new r) is answers)
 
--- A stretch that ends with something else than that it ran: what was told is answered.
-
-pub Progress-stretch : (grows : Bool) (start : List ℕ → World) (old now new : Devices) (count most more : ℕ) (x x' : Exchanged) (machine mid machine' : State) (event : Event) → Progress start old now count x None machine
-    → (event ≡ Ran → ⊥) → (event ≡ NoMemory → ⊥) → IsStretch grows most machine more event mid → ((before : State) → Step before event mid → Turned before machine' x x' now new (Ok None))
-    → Progress start old new (count + more) x' None machine'
-Progress-stretch grows start old now new count most more x x' machine mid machine' event p other memory stretch turned =
-    let t = tells_last grows most machine more event mid other memory stretch in
-    let same : count + t.quiet + 1 ≡ count + more = omega (arith, t.counted) in
-    subst (λ (k : ℕ). Progress start old new k x' None machine') same
-    (Progress-turn start old now new (count + t.quiet) x x' None t.before machine' (Progress-quiet start old now count t.quiet x machine t.before p t.runs) (turned t.before t.last))
-
-pub stops_after : (grows : Bool) (start : List ℕ → World) (old now new : Devices) (count budget more : ℕ) (x x' : Exchanged) (machine mid machine' : State) (event : Event) (end : End) → Progress start old now count x None machine → count < budget
-    → (event ≡ Ran → ⊥) → (event ≡ NoMemory → ⊥) → IsStretch grows (budget - count) machine more event mid → ((before : State) → Step before event mid → Turned before machine' x x' now new (Ok (Some end)))
-    → IsReported start budget old new (reported (stops.End end) (count + more) x' None machine')
-stops_after grows start old now new count budget more x x' machine mid machine' event end p below other memory stretch turned =
-    let t = tells_last grows (budget - count) machine more event mid other memory stretch in
-    let same : count + t.quiet + 1 ≡ count + more = omega (arith, t.counted) in
-    let few : count + t.quiet + 1 ≤ budget = omega (arith, below, same, stretch_few grows (budget - count) machine more event mid stretch) in
-    subst (λ (k : ℕ). IsReported start budget old new (reported (stops.End end) k x' None machine')) same
-    (stops_at start old now new (count + t.quiet) budget x x' None t.before machine' end (Progress-quiet start old now count t.quiet x machine t.before p t.runs) few (turned t.before t.last))
-
-pub fails_after : (grows : Bool) (start : List ℕ → World) (old now new : Devices) (count budget more : ℕ) (x x' : Exchanged) (machine mid machine' : State) (event : Event) (e : RunFault) → Progress start old now count x None machine → count < budget
-    → (event ≡ Ran → ⊥) → (event ≡ NoMemory → ⊥) → IsStretch grows (budget - count) machine more event mid → ((before : State) → Step before event mid → Turned before machine' x x' now new (Err e))
-    → Runs grows start budget old new (Err e)
-fails_after grows start old now new count budget more x x' machine mid machine' event e p below other memory stretch turned =
-    let t = tells_last grows (budget - count) machine more event mid other memory stretch in
-    fails_at grows start old now new (count + t.quiet) budget x x' None t.before machine' e (Progress-quiet start old now count t.quiet x machine t.before p t.runs) (omega (arith, t.counted, t.few)) (turned t.before t.last)
-
--- The store wants memory, before any more is executed.
-pub wants_after : (grows : Bool) (start : List ℕ → World) (old now : Devices) (count budget more : ℕ) (x : Exchanged) (machine mid : State) → Progress start old now count x None machine → count < budget
-    → IsStretch grows (budget - count) machine more NoMemory mid → Runs grows start budget old now (Err Memory)
-wants_after grows start old now count budget more x machine mid p below (few, runs, wants) =
-    let q = Progress-quiet start old now count more x machine mid p runs in
-    let here : World = record { machine = mid; output = q.output; input = rest_of old.remaining now.remaining } in
-    (count + more, here, executes_of start old now (count + more) x None mid q, (omega (arith, few)), ap end_in q.running, wants)
-
--- One instruction, where each is looked at.
+-- One instruction by a step.
 
 pub told_step : (grows : Bool) (old : State) (event : Event) (new : State) → (event ≡ NoMemory → ⊥) → StepOver grows old event new → Step old event new
 told_step grows old Ran new memory step = step
@@ -508,8 +457,11 @@ told_step grows old (Puts byte) new memory step = step
 told_step grows old (Ended end) new memory step = step
 told_step grows old NoMemory new memory step = absurd (memory refl)
 
-pub wants_at : (grows : Bool) (start : List ℕ → World) (old now : Devices) (count budget : ℕ) (x : Exchanged) (peaks : Option Peaks) (machine new : State) → Progress start old now count x peaks machine → count < budget
-    → StepOver grows machine NoMemory new → Runs grows start budget old now (Err Memory)
-wants_at grows start old now count budget x peaks machine new p below (wants, same) =
-    let here : World = record { machine = machine; output = p.output; input = rest_of old.remaining now.remaining } in
-    (count, here, executes_of start old now count x peaks machine p, below, ap end_in p.running, wants)
+-- what was turned with no want of memory
+pub turned_over : (grows : Bool) (machine machine' : State) (x x' : Exchanged) (old new : Devices) (result : Result (Option End) RunFault) → Turned machine machine' x x' old new result → TurnedOver grows machine machine' x x' old new result
+turned_over grows machine machine' x x' old new (Ok end) turned = turned
+turned_over grows machine machine' x x' old new (Err Read) turned = turned
+turned_over grows machine machine' x x' old new (Err Write) turned = turned
+turned_over grows machine machine' x x' old new (Err (Elf f)) turned = turned
+turned_over grows machine machine' x x' old new (Err (Load f)) turned = turned
+turned_over grows machine machine' x x' old new (Err Memory) turned = absurd turned

@@ -7,12 +7,12 @@ use Rattle.cyc_machine.specs.declared.event.End.{End}
 use Rattle.cyc_machine.specs.declared.event.Event.{Event}
 use Rattle.cyc_machine.specs.declared.event.Event.TheVariants.{Ran, WantsByte, Puts, Ended, NoMemory}
 use Rattle.cyc_machine.specs.State.{State}
-use Rattle.cyc_machine.specs.Step.{Step, given}
+use Rattle.cyc_machine.specs.Step.{Step, WantsMemory, given}
 use Rattle.cyc_system.specs.Engine.{Devices, Rests, higher, uses_at}
 use Rattle.cyc_system.specs.declared.engine.Exchanged.{Exchanged}
 use Rattle.cyc_system.specs.declared.report.Peaks.{Peaks}
 use Rattle.cyc_system.specs.declared.report.RunFault.{RunFault}
-use Rattle.cyc_system.specs.declared.report.RunFault.TheVariants.{Read, Write}
+use Rattle.cyc_system.specs.declared.report.RunFault.TheVariants.{Read, Write, Memory}
 
 -- what the reader gives: nothing at all once its end was seen
 abbrev pub Asked : Bool → Option ℕ → Option (List ℕ) → Option (List ℕ) → Type 0
@@ -42,6 +42,11 @@ Turned machine machine' x x' old new (Ok (Some end)) = Step machine (Ended end) 
 Turned machine machine' x x' old new (Err Read) = (s : State) × Step machine WantsByte s × Rests old new
 Turned machine machine' x x' old new (Err Write) = (byte : ℕ) × (s : State) × Step machine (Puts byte) s × Rests old new
 Turned machine machine' x x' old new (Err e) = ⊥
+
+-- the same of what may find that the store wants memory, before the instruction was done
+abbrev pub TurnedOver : (grows : Bool) (machine machine' : State) (x x' : Exchanged) (old new : Devices) → Result (Option End) RunFault → Type 0
+TurnedOver grows machine machine' x x' old new (Err Memory) = WantsMemory grows machine × Rests old new
+TurnedOver grows machine machine' x x' old new result = Turned machine machine' x x' old new result
 
 -- the peaks after one instruction more, where they are counted
 abbrev pub counted_at : Option Peaks → State → Option Peaks
