@@ -1,5 +1,0 @@
-use Rattle.cyc_syntax.proofs.TreeViewLemmas.{view_call}
-use Rattle.cyc_parse.proofs.expressions.call.Goals as goal
-
-pub returns : goal.returns
-returns c = view_call c.args.function c.args.arguments
