@@ -136,7 +136,8 @@ impl fmt::Display for Whereabouts<'_> {
             }
         }
         let left = self.trail.calls.len().saturating_sub(told);
-        match self.trail.others.saturating_add(left as u32) {
+        // Of a trail's calls at most one is not told.
+        match self.trail.others.saturating_add(left.min(1) as u32) {
             0 => Ok(()),
             others => write!(f, "    .. and {others} more calls\n"),
         }
