@@ -130,6 +130,11 @@ class Calls:
         inside = [self.loops_in(rest, is_making) for rest in outermost_regions(bodies)]
         return self.loops(is_lasting).union(*inside)
 
+    def grows_elsewhere(self, is_counted):
+        """Whether a function leads back to itself, with a part that is counted on the way, to which `main` does not lead."""
+        counted = self.counted(is_counted)
+        return any(name in self.reached(self.sites[name]) for name in counted - self.reached())
+
     def fault_of_circle(self, lines):
         """What is wrong with a circle that is told, if anything is."""
         found = [LINE.fullmatch(line) for line in lines]
@@ -154,8 +159,11 @@ class Told:
             self.lines[word].append(line)
         self.numbers = {word: int(lines[0].split(" ")[1]) for word, lines in self.lines.items() if lines and lines[0].split(" ")[1].isdigit()}
 
-    def fault_of_loop(self, word, loops):
-        """What is wrong with a loop that is told to stand in the way, or with a number where one does."""
+    def fault_of_loop(self, word, loops, grows):
+        """What is wrong with a loop that is told to stand in the way, or with a number where one does. Where what is counted grows in a
+        circle of calls, also one that `main` does not lead to, there may be no number and no loop."""
+        if grows and self.lines[word] == [f"{word} unbounded"]:
+            return None
         found = [LOOP.fullmatch(line) for line in self.lines[word][1:]]
         if not loops:
             return None if word in self.numbers else f"has no loop in the way, and {self.lines[word]}"
@@ -194,7 +202,9 @@ class Tried:
             return calls.fault_of_circle(told.lines["calls"][1:]) if told.lines["calls"][0] == "calls unbounded" else f"says {told.lines['calls']}"
         if told.lines["calls"] != [f"calls {height}"]:
             return f"says {told.lines['calls']}, not {height}"
-        return told.fault_of_loop("pages", calls.loops_of_pages()) or told.fault_of_loop("steps", calls.loops(lambda part: True))
+        return told.fault_of_loop("pages", calls.loops_of_pages(), calls.grows_elsewhere(is_making)) or told.fault_of_loop(
+            "steps", calls.loops(lambda part: True), calls.grows_elsewhere(lambda part: True)
+        )
 
     def fault_of_run(self, folder, source, given, told):
         """What is wrong with what a run takes beside what is told, if anything is."""
