@@ -1009,6 +1009,7 @@ run)
     read -r count
     read -r last
     if [ "$4" -lt "$count" ]; then last='budget spent'; else cat; fi
+    echo "{\\"instructions\\": $count}" > "$6"
     echo "$last" >&2;;
 esac
 """
