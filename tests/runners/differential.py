@@ -30,6 +30,7 @@ import in_c
 import makers
 import reference
 import shrink
+from bounded import parts_of
 from language import runs
 
 # A program whose evaluation takes more calls and passes of loops than this is not used.
@@ -43,6 +44,29 @@ KINDS_SHOWN = 3
 SHRINKING = 60
 
 
+class FramedRun(reference.Run):
+    """A run that tells how deep calls were of functions that call or have loops: those have frames, and others may stand in the place of
+    their calls."""
+
+    def __init__(self, program, given, *limits, **more):
+        super().__init__(program, given, *limits, **more)
+        self.framed = 0
+        self.leaves = {
+            name
+            for name, function in program.functions.items()
+            if not any(part.kind == "while" or part.kind == "call" and part.name in program.functions for part in parts_of(function.body))
+        }
+
+    def call(self, name, arguments):
+        if name == "main" or name not in self.leaves:
+            self.framed = max(self.framed, min(self.depth + 1, self.calls))
+        return super().call(name, arguments)
+
+    def peaks(self):
+        """The most calls and pages, as a report has them where each call has a frame."""
+        return {"most_calls": self.deepest, "most_pages": self.store.most}
+
+
 class Wanted:
     """A program, the ways to run it, and what each has to give: output, last line and exit status; and texts with their verdicts."""
 
@@ -54,7 +78,7 @@ class Wanted:
         for given in self.inputs:
             self.add(given)
         run = self.evaluated(self.inputs[0])
-        self.peaks = {"most_calls": run.deepest, "most_pages": run.store.most}
+        self.peaked = run
         for calls in sorted({run.deepest, max(run.deepest - 1, 1), numbers.randint(1, run.deepest)}):
             self.add(self.inputs[0], calls=calls)
         for pages in sorted({max(run.store.most, 3), max(run.store.most - 1, 3)}) if profile not in makers.OF_NUMBERS else []:
@@ -99,7 +123,7 @@ class Wanted:
         return bytes(numbers.choice([0, 1, 10, 48, 65, 255, numbers.randrange(256)]) for _ in range(numbers.randint(0, 12)))
 
     def evaluated(self, given, calls=reference.CALLS, pages=reference.PAGES):
-        done = reference.Run(self.program, given, calls, STEPS_AT_MOST, pages)
+        done = FramedRun(self.program, given, calls, STEPS_AT_MOST, pages)
         done.line, done.status = self.ended(done, self.text)
         return done
 
@@ -172,28 +196,26 @@ class Tried:
         got = self.answer("run", self.image, *options, given=given)
         self.want(f"run {' '.join(options)} on {given}", expected, got, lambda text: self.run_again(text, given, options))
 
-    def counted(self, given, deepest):
-        """The most calls and pages of a run, as its report has them, where its deepest call is known; None of who answers as the program
-        does, but makes no reports. A report may have one call less: a function that stands in the place of its call has no frame."""
+    def counted(self, given, run):
+        """The most calls and pages of a run, as its report has them; None of who answers as the program does, but makes no reports. A report
+        may have one call less where no call that deep is of a function that surely has a frame."""
         if self.answer("run", self.image, "--report", self.report, "--peaks", given=given)[1] == "usage":
             return None
         with open(self.report, encoding="ascii") as file:
             report = json.load(file)
         calls = report["most_calls"]
-        return {"most_calls": deepest if calls == deepest - 1 else calls, "most_pages": report["most_pages"]}
+        return {"most_calls": run.deepest if run.framed <= calls <= run.deepest else calls, "most_pages": report["most_pages"]}
 
-    def count(self, given, peaks):
-        got = self.counted(given, peaks["most_calls"])
+    def count(self, given, run):
+        peaks, got = run.peaks(), self.counted(given, run)
         if got is not None and self.fault is None and got != peaks:
             self.want(f"the peaks of a run on {given}", (b"", str(peaks), 0), (b"", str(got), 0), lambda text: self.count_again(text, given))
 
     def count_again(self, text, given):
         self.run_again(text, given, [])
-        program = reference.Program(text)
-        done = reference.Run(program, given, steps=STEPS_AT_MOST)
+        done = FramedRun(reference.Program(text), given, steps=STEPS_AT_MOST)
         done.end()
-        peaks, got = {"most_calls": done.deepest, "most_pages": done.store.most}, self.counted(given, done.deepest)
-        return (b"", str(peaks), 0), (b"", str(got), 0)
+        return (b"", str(done.peaks()), 0), (b"", str(self.counted(given, done)), 0)
 
     def over_stores(self, given, options):
         """A run over both stores: each has its output, its end and its count of instructions from `cyc_runner`."""
@@ -287,7 +309,7 @@ def try_program(tried, wanted, only_check):
         tried.run_over_stores(given, options)
     given, _, expected = wanted.runs[0]
     tried.run_some(given, wanted.steps, expected)
-    tried.count(given, wanted.peaks)
+    tried.count(given, wanted.peaked)
     if wanted.profile in makers.BESIDE_C:
         tried.run_in_c(wanted.program, wanted.runs)
     tried.compile(wanted.full)
