@@ -20,7 +20,7 @@ use Rattle.cyc_machine.specs.State.{text_base}
 use Rattle.cyc_asm.specs.inside.Text.{stretch, own, IsTextInOrder, IsTextOf}
 use Rattle.cyc_asm.specs.inside.Words.{assembled}
 use Rattle.cyc_asm.specs.inside.Machine.{Runs}
-use Rattle.cyc_asm.proofs.Moving.{not_true}
+use Rattle.cyc_asm.proofs.Moving.{false_from_not}
 use Rattle.cyc_asm.proofs.Fillings.{filled_moves}
 use Rattle.cyc_asm.proofs.Lengths.{length-arranged}
 use Rattle.cyc_asm.proofs.Exchanging.{IsExchange, exchange_runs}
@@ -149,7 +149,7 @@ module _ (globals : List ℕ) (code : List Line) (from : ℕ) (i : Instr) (found
       let last = passes_at code from (from + suc count) in
       let both = and_right (passes_all code from count) last may in
       one_more count (sinks count (and_left (passes_all code from count) last may))
-      (not_true (is_named code (from + suc count)) (and_left (not (is_named code (from + suc count))) (passes_line (slice_get code from) (slice_get code (from + suc count))) both))
+      (false_from_not (is_named code (from + suc count)) (and_left (not (is_named code (from + suc count))) (passes_line (slice_get code from) (slice_get code (from + suc count))) both))
       (and_right (not (is_named code (from + suc count))) (passes_line (slice_get code from) (slice_get code (from + suc count))) both)
 
 -- ---- the order of all

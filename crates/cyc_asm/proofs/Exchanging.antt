@@ -22,7 +22,7 @@ use Rattle.cyc_select.specs.declared.code.Line.TheVariants as lines
 use Rattle.cyc_select.specs.inside.Labelled.{Labelled, is_ordinary}
 use Rattle.cyc_select.specs.inside.Machine as labelled
 use Rattle.cyc_select.specs.inside.Machine.{Configuration, IsReturnPoint, machine_of, world_of, word_in, holds_of}
-use Rattle.cyc_select.proofs.Laws.{lawful}
+use Rattle.cyc_select.proofs.Laws.{code_is_lawful}
 use Rattle.cyc_asm.specs.inside.Slots.{is_movable, label_of, is_named}
 use Rattle.cyc_asm.specs.inside.Order.{passes}
 use Rattle.cyc_asm.specs.inside.Text.{own}
@@ -265,7 +265,7 @@ module _ (code : Labelled) (exchanged : List Line) (number : ℕ) (first second 
   follows : (store : StoreState) (calls : ℕ) (input : List ℕ) → NeverFails above (labelled.start code store calls input)
       → Follows above below [] here_only (labelled.start code store calls input) (labelled.start new_code store calls input)
   follows store calls input never =
-      simulates above below matching matched (lawful new_code addresses) [] (labelled.start code store calls input) never (labelled.start new_code store calls input) refl (inl (refl, (λ same. omega (arith, same))))
+      simulates above below matching matched (code_is_lawful new_code addresses) [] (labelled.start code store calls input) never (labelled.start new_code store calls input) refl (inl (refl, (λ same. omega (arith, same))))
 
   -- own places that cost the same
   module _ (one other : ℕ → List ℕ) (same : (price : ℕ → ℕ) (line : ℕ) → sum_by price (one line) ≡ sum_by price (other line)) (from : labelled.State) (w : World) where
@@ -298,6 +298,6 @@ module _ (code : Labelled) (exchanged : List Line) (number : ℕ) (first second 
       let goes_with = follows store calls input never in
       let from : labelled.State = labelled.start code store calls input in
       let between : labelled.State = labelled.start new_code store calls input in
-      let never_below = follows-never_fails above below (lawful code addresses) [] here_only from between goes_with in
+      let never_below = follows-never_fails above below (code_is_lawful code addresses) [] here_only from between goes_with in
       by_other (λ line. flat_map (own addresses) (here_only line)) (own addresses) (λ price line. ap (sum_by price) (append-nil (own addresses line))) from (start code words store calls input)
       (in_a_row above below world_machine [] here_only [] (own addresses) from between (start code words store calls input) goes_with (runs store calls input few never_below))

@@ -76,7 +76,7 @@ either_none true = refl
 either_none false = refl
 
 -- no text is found at an address behind it
-pub no_text : (words : List ℕ) (address : ℕ) → text_base + 4 * length words ≤ text_end → text_end ≤ address → text_at (text_of words) address ≡ None
-no_text words address inside behind =
+pub no_text_past_end : (words : List ℕ) (address : ℕ) → text_base + 4 * length words ≤ text_end → text_end ≤ address → text_at (text_of words) address ≡ None
+no_text_past_end words address inside behind =
     let past : length (text_of words) ≤ word_number text_base address = omega (arith, length-map words (λ (word : ℕ). Some word)) in
     ap (λ (x : Option ℕ). cond (nat_le text_base address) x None) (get_or_past (text_of words) (word_number text_base address) None past) ∙ either_none (nat_le text_base address)

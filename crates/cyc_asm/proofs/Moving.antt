@@ -40,9 +40,9 @@ or_right : (a b : Bool) → (a || b) ≡ false → b ≡ false
 or_right true b none = absurd (let e : true ≡ false = none in cc)
 or_right false b none = none
 
-pub not_true : (b : Bool) → not b ≡ true → b ≡ false
-not_true true is = absurd (let e : false ≡ true = is in cc)
-not_true false is = refl
+pub false_from_not : (b : Bool) → not b ≡ true → b ≡ false
+false_from_not true is = absurd (let e : false ≡ true = is in cc)
+false_from_not false is = refl
 
 numbers_apart : (a b : ℕ) → (a == b) ≡ false → a ≢ b
 numbers_apart a b none same = let e : true ≡ false = sym (eq-eqb a b same) ∙ none in cc
@@ -210,8 +210,8 @@ sets-stays c (MoveFrom Low d) n movable none = register-other (core_of c) d.numb
 sets-stays c (MultiplyDivide op l r) n movable none = refl
 sets-stays c (Arithmetic op d l r) n movable none = register-other (core_of c) d.number _ n (numbers_apart d.number n none)
 
-pub stays : (c : Configuration) (i : Instr) (n : ℕ) → is_movable i ≡ true → writes i n ≡ false → word_in (did c i) n ≡ word_in c n
-stays c i n movable none = go (n == 0) refl
+pub unwritten_stays : (c : Configuration) (i : Instr) (n : ℕ) → is_movable i ≡ true → writes i n ≡ false → word_in (did c i) n ≡ word_in c n
+unwritten_stays c i n movable none = go (n == 0) refl
   where
     go : (b : Bool) → (n == 0) ≡ b → word_in (did c i) n ≡ word_in c n
     go true zero =
@@ -222,10 +222,10 @@ stays c i n movable none = go (n == 0) refl
 -- so a branch is taken behind it where it is taken before it
 pub holds_stays : (c : Configuration) (i : Instr) (condition : Condition) → is_movable i ≡ true → leaves i condition ≡ true → holds_of (word_in (did c i)) condition ≡ holds_of (word_in c) condition
 holds_stays c i (conditions.Registers op left right) movable free =
-    ap (λ (x : ℕ). branch_taken op x (word_in (did c i) right.number)) (stays c i left.number movable (not_true (writes i left.number) (and_left _ _ free)))
-    ∙ ap (branch_taken op (word_in c left.number)) (stays c i right.number movable (not_true (writes i right.number) (and_right (not (writes i left.number)) _ free)))
+    ap (λ (x : ℕ). branch_taken op x (word_in (did c i) right.number)) (unwritten_stays c i left.number movable (false_from_not (writes i left.number) (and_left _ _ free)))
+    ∙ ap (branch_taken op (word_in c left.number)) (unwritten_stays c i right.number movable (false_from_not (writes i right.number) (and_right (not (writes i left.number)) _ free)))
 holds_stays c i (conditions.Sign op source) movable free =
-    ap (branch_zero_taken op) (stays c i source.number movable (not_true (writes i source.number) free))
+    ap (branch_zero_taken op) (unwritten_stays c i source.number movable (false_from_not (writes i source.number) free))
 
 -- ---- it does not see what it does not read
 

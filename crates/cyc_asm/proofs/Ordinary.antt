@@ -29,7 +29,7 @@ use Rattle.cyc_machine.specs.WorldMachine.{seen_of}
 use Rattle.cyc_select.specs.inside.Labelled.{is_ordinary}
 use Rattle.cyc_select.specs.inside.Machine.{Configuration, machine_of, memory_of, world_of, from_world}
 use Rattle.cyc_asm.specs.inside.Text.{text_of}
-use Rattle.cyc_asm.proofs.Fetching.{world_at, no_text}
+use Rattle.cyc_asm.proofs.Fetching.{world_at, no_text_past_end}
 
 -- ---- loads and stores
 
@@ -92,7 +92,7 @@ module _ (words : List ℕ) (inside : text_base + 4 * length words ≤ text_end)
   known address there =
       range_known (text_at (text_of words) address) (in_globals address) (in_stack address) (in_store address) address
       (ap (λ (found : Option ℕ). place_by found (in_globals address) (in_stack address) (in_store address) address) (none_found address)) refl
-      (λ within. no_text words address inside (above address within)) there
+      (λ within. no_text_past_end words address inside (above address within)) there
 
   -- ---- refusals
 

@@ -11,7 +11,7 @@ use Rattle.cyc_machine.specs.Step.{cause_of}
 use Rattle.cyc_select.specs.inside.Machine.{Configuration, machine_of, word_in}
 use Rattle.cyc_asm.specs.inside.Slots.{is_movable}
 use Rattle.cyc_asm.specs.inside.Order.{is_apart, passes}
-use Rattle.cyc_asm.proofs.Moving.{not_true, did, with_word, stays, commutes, same_refusal}
+use Rattle.cyc_asm.proofs.Moving.{false_from_not, did, with_word, unwritten_stays, commutes, same_refusal}
 
 -- what is passed may move itself, and is never refused
 pub passed_movable : (i j : Instr) → passes i j ≡ true → is_movable j ≡ true
@@ -49,10 +49,10 @@ passed_allowed c i (MultiplyDivide op l r) may = cc
 -- ---- a register that the other sets
 
 apart_reads : (i : Instr) (r : Register) → is_apart i r ≡ true → reads i r.number ≡ false
-apart_reads i r apart = not_true (reads i r.number) (and_left (not (reads i r.number)) (not (writes i r.number)) apart)
+apart_reads i r apart = false_from_not (reads i r.number) (and_left (not (reads i r.number)) (not (writes i r.number)) apart)
 
 apart_writes : (i : Instr) (r : Register) → is_apart i r ≡ true → writes i r.number ≡ false
-apart_writes i r apart = not_true (writes i r.number) (and_right (not (reads i r.number)) (not (writes i r.number)) apart)
+apart_writes i r apart = false_from_not (writes i r.number) (and_right (not (reads i r.number)) (not (writes i r.number)) apart)
 
 -- register 0 stays as it is
 unset : (c : Configuration) (n w : ℕ) → (n == 0) ≡ true → with_word c n w ≡ c
@@ -81,7 +81,7 @@ set_before c i r w w' movable apart same =
 
 -- a register that the instruction does not set has its word in both
 same_word : (c : Configuration) (i : Instr) (r : Register) → is_movable i ≡ true → not (writes i r.number) ≡ true → word_in (did c i) r.number ≡ word_in c r.number
-same_word c i r movable free = stays c i r.number movable (not_true (writes i r.number) free)
+same_word c i r movable free = unwritten_stays c i r.number movable (false_from_not (writes i r.number) free)
 
 pub either_order : (c : Configuration) (i j : Instr) → is_movable i ≡ true → passes i j ≡ true → did (did c i) j ≡ did (did c j) i
 either_order c i (Immediate op t b h) movable may =

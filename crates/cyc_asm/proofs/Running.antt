@@ -29,8 +29,8 @@ over_of phases.Waiting ending ended = absurd (running_ended ending ended)
 over_of (phases.Over end) ending ended = (end, refl)
 
 -- what was printed stays printed, and a run that is over stays as it is
-pub lawful : IsLawful world_machine
-lawful = record {
+pub world_is_lawful : IsLawful world_machine
+world_is_lawful = record {
   grows = λ old new goes. (Goes-output old new goes, Goes-input old new goes);
   stays = λ old new ending ended goes. let (end, over) = over_of old.machine.phase ending ended in Goes-over old new end over goes;
   rests = λ w ending ended. let (end, over) = over_of w.machine.phase ending ended in Goes-rests w end over;
@@ -52,7 +52,7 @@ started code store calls input = record {
 
 pub runs_in_order : (code : Labelled) (addresses : ℕ → ℕ) (words : List ℕ) → IsTextInOrder code code addresses words → Runs code addresses words
 runs_in_order code addresses words text store calls input few never =
-    simulates (above code addresses words text) world_machine (matching code addresses words text) (matched code addresses words text) lawful []
+    simulates (above code addresses words text) world_machine (matching code addresses words text) (matched code addresses words text) world_is_lawful []
     (labelled.start code store calls input) never (start code words store calls input) refl (
       (let nothing : ℕ = 0 in let long = length-replicate (words_per_call * calls) nothing in omega (arith, long, few)),
       ap (λ (a : ℕ). world_at words (started code store calls input) a (add_of a 4) false) (sym text.first),

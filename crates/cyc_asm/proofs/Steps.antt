@@ -45,7 +45,7 @@ use Rattle.cyc_asm.specs.inside.Slots.{is_movable, leaves, moves, label_of, fill
 use Rattle.cyc_asm.specs.inside.Layout.{is_near}
 use Rattle.cyc_asm.specs.inside.Text.{IsAt, IsJumpAt, IsTextInOrder, Stands, StandsBranch, StandsFrom, StandsFilled, StandsOrdinary, own, nothing, branch_of, inverse_of, return_register}
 use Rattle.cyc_asm.proofs.Fetching.{world_at, fetches, goes_to, through}
-use Rattle.cyc_asm.proofs.Moving.{not_true, did, performs_did, performs_refused, with_word, movable_ordinary, movable_does, after_runs, same_stack, stays, holds_stays, commutes, same_refusal}
+use Rattle.cyc_asm.proofs.Moving.{false_from_not, did, performs_did, performs_refused, with_word, movable_ordinary, movable_does, after_runs, same_stack, unwritten_stays, holds_stays, commutes, same_refusal}
 use Rattle.cyc_asm.proofs.Ordinary.{Shown, same_cause, performed}
 use Rattle.cyc_asm.proofs.Fillings.{is_jump, IsFilled, filled, filled_moves, named_empty, behind_empty, ordinary_empty}
 use Rattle.cyc_asm.proofs.Stretches.{in_own}
@@ -250,8 +250,8 @@ module _ (code : Labelled) (addresses : ℕ → ℕ) (words : List ℕ) (text : 
   headed_moves number (lines.Call label) c i may =
       let free = and_right (is_movable i) (not (reads i RETURN_ADDRESS) && not (writes i RETURN_ADDRESS)) may in
       commutes c i RETURN_ADDRESS (addresses (suc number)) (and_left (is_movable i) (not (reads i RETURN_ADDRESS) && not (writes i RETURN_ADDRESS)) may)
-      (not_true (reads i RETURN_ADDRESS) (and_left (not (reads i RETURN_ADDRESS)) (not (writes i RETURN_ADDRESS)) free))
-      (not_true (writes i RETURN_ADDRESS) (and_right (not (reads i RETURN_ADDRESS)) (not (writes i RETURN_ADDRESS)) free))
+      (false_from_not (reads i RETURN_ADDRESS) (and_left (not (reads i RETURN_ADDRESS)) (not (writes i RETURN_ADDRESS)) free))
+      (false_from_not (writes i RETURN_ADDRESS) (and_right (not (reads i RETURN_ADDRESS)) (not (writes i RETURN_ADDRESS)) free))
   headed_moves number lines.Return c i may = refl
 
   headed_allowed : (number : ℕ) (line : Line) (c : Configuration) (i : Instr) → moves i line ≡ true → cause_of (machine_of c) i ≡ None → cause_of (machine_of (headed number line c)) i ≡ None
@@ -261,7 +261,7 @@ module _ (code : Labelled) (addresses : ℕ → ℕ) (words : List ℕ) (text : 
   headed_allowed number (lines.Call label) c i may allowed =
       let free = and_right (is_movable i) (not (reads i RETURN_ADDRESS) && not (writes i RETURN_ADDRESS)) may in
       same_refusal c i RETURN_ADDRESS (addresses (suc number)) (and_left (is_movable i) (not (reads i RETURN_ADDRESS) && not (writes i RETURN_ADDRESS)) may)
-      (not_true (reads i RETURN_ADDRESS) (and_left (not (reads i RETURN_ADDRESS)) (not (writes i RETURN_ADDRESS)) free)) ∙ allowed
+      (false_from_not (reads i RETURN_ADDRESS) (and_left (not (reads i RETURN_ADDRESS)) (not (writes i RETURN_ADDRESS)) free)) ∙ allowed
   headed_allowed number lines.Return c i may allowed = allowed
 
   -- and leaves where it leads
@@ -273,7 +273,7 @@ module _ (code : Labelled) (addresses : ℕ → ℕ) (words : List ℕ) (text : 
   leads_moves number (lines.Jump label) c i may = refl
   leads_moves number (lines.Call label) c i may = refl
   leads_moves number lines.Return c i may =
-      sym (stays c i RETURN_ADDRESS (and_left (is_movable i) (not (writes i RETURN_ADDRESS)) may) (not_true (writes i RETURN_ADDRESS) (and_right (is_movable i) (not (writes i RETURN_ADDRESS)) may)))
+      sym (unwritten_stays c i RETURN_ADDRESS (and_left (is_movable i) (not (writes i RETURN_ADDRESS)) may) (false_from_not (writes i RETURN_ADDRESS) (and_right (is_movable i) (not (writes i RETURN_ADDRESS)) may)))
 
   -- it does so in the slot
   slot_goes : (c : Configuration) (small : length c.stack ≤ 1048576) (i : Instr) → is_movable i ≡ true → cause_of (machine_of c) i ≡ None → (at next : ℕ) → IsAt words at i → at % 4 ≡ 0

@@ -15,7 +15,7 @@ use Rattle.cyc_types.specs.declared.typed.Clause.{Clause}
 use Rattle.cyc_types.specs.declared.typed.Body.{Body}
 use Rattle.cyc_types.specs.TypedTrees.{Statement, Clauses, NoClauses, Program}
 use Rattle.cyc_types.specs.TypedTreeView.{view_statement, view_item, items_of, clauses_of, default_of}
-use Rattle.cyc_types.proofs.TypedTreeViewLemmas.{view_block, view_try}
+use Rattle.cyc_types.proofs.TypedTreeViewLemmas.{view_block, view_typed_try}
 use Rattle.cyc_bound.specs.declared.costs.Measure.{Measure}
 use Rattle.cyc_bound.specs.Bound.{Row}
 use Rattle.cyc_bound.specs.Costs.{too_many, items_cost}
@@ -37,8 +37,8 @@ ClausesLeft m costs cs i most =
 next_of : {A : Type 0} (xs : List A) (i : ℕ) (x : A) → i < length xs → x ≡ get_or xs i x → drop i xs ≡ x ∷ drop (i + 1) xs
 next_of xs i x less at = drop_more xs i x less ∙ ap (λ y. y ∷ drop (i + 1) xs) (sym at)
 
-one_more : (most cost next part rest whole : ℕ) → min too_many (max most (max part rest)) ≡ whole → cost ≡ min too_many part → next ≡ max most cost → min too_many (max next rest) ≡ whole
-one_more most cost next part rest whole so_far one two = omega (arith, so_far, one, two)
+one_at_once_more : (most cost next part rest whole : ℕ) → min too_many (max most (max part rest)) ≡ whole → cost ≡ min too_many part → next ≡ max most cost → min too_many (max next rest) ≡ whole
+one_at_once_more most cost next part rest whole so_far one two = omega (arith, so_far, one, two)
 
 module _ (m : Measure) (costs : List ℕ) where
   -- an item that declares no region
@@ -64,7 +64,7 @@ module _ (m : Measure) (costs : List ℕ) where
   items_next js i most j cost next less at closed h one two =
       let first : items_at_once m costs (items_of (drop i js)) ≡ max (item_at_once m costs (view_item j)) (items_at_once m costs (items_of (drop (i + 1) js))) =
       ap (λ (l : List ItemCode). items_at_once m costs (items_of l)) (next_of js i j less at) ∙ item_first j (drop (i + 1) js) closed in
-      (one_more most cost next _ _ _ (ap (λ (n : ℕ). min too_many (max most n)) (sym first) ∙ h.0) one two, omega (arith, h.1, one, two))
+      (one_at_once_more most cost next _ _ _ (ap (λ (n : ℕ). min too_many (max most n)) (sym first) ∙ h.0) one two, omega (arith, h.1, one, two))
 
   pub items_opened : (js : List ItemCode) (i most : ℕ) (j : ItemCode) (rest : List ItemCode) (cost result : ℕ) → i < length js → j ≡ get_or js i j → opens (view_item j) ≡ true → ItemsLeft m costs js i most
       → rest ≡ drop i js → cost ≡ min too_many (items_cost m costs (items_of rest)) → result ≡ max most cost → result ≡ min too_many (items_at_once m costs (items_of js))
@@ -90,7 +90,7 @@ module _ (m : Measure) (costs : List ℕ) where
   clauses_next cs i most c cost next less at h one two =
       let first : clauses_at_once m costs (clauses_of (drop i cs) NoClauses) ≡ max (items_at_once m costs (items_of c.items.items)) (clauses_at_once m costs (clauses_of (drop (i + 1) cs) NoClauses)) =
       ap (λ (l : List Clause). clauses_at_once m costs (clauses_of l NoClauses)) (next_of cs i c less at) in
-      (one_more most cost next _ _ _ (ap (λ (n : ℕ). min too_many (max most n)) (sym first) ∙ h.0) one two, omega (arith, h.1, one, two))
+      (one_at_once_more most cost next _ _ _ (ap (λ (n : ℕ). min too_many (max most n)) (sym first) ∙ h.0) one two, omega (arith, h.1, one, two))
 
   pub clauses_all : (cs : List Clause) (i most : ℕ) → length cs ≤ i → ClausesLeft m costs cs i most → most ≡ min too_many (clauses_at_once m costs (clauses_of cs NoClauses))
   clauses_all cs i most whole h =
@@ -115,7 +115,7 @@ module _ (m : Measure) (costs : List ℕ) where
       → last ≡ min too_many (clauses_at_once m costs (default_of d)) → both ≡ max caught last → result ≡ max tried both → result ≡ min too_many (statement_at_once m costs (view_statement value))
   try_at_once value {w} b v d is body at clauses same tried caught last both result one two three four five =
       let whole : statement_at_once m costs (view_statement value) ≡ max (statement_at_once m costs (view_statement body)) (clauses_at_once m costs (clauses_of clauses (default_of d))) =
-      ap (λ (x : Stmt). statement_at_once m costs (view_statement x)) is ∙ ap (λ (s : Statement). statement_at_once m costs s) (view_try w b v d)
+      ap (λ (x : Stmt). statement_at_once m costs (view_statement x)) is ∙ ap (λ (s : Statement). statement_at_once m costs s) (view_typed_try w b v d)
       ∙ ap (λ (x : Stmt). max (statement_at_once m costs (view_statement x)) (clauses_at_once m costs (clauses_of v.items (default_of d)))) (sym at)
       ∙ ap (λ (cs : List Clause). max (statement_at_once m costs (view_statement body)) (clauses_at_once m costs (clauses_of cs (default_of d)))) (sym same) in
       numbers _ _ _ _ _ (clauses_with clauses (default_of d)) whole one two three

@@ -43,9 +43,9 @@ pub both : (P : ℕ → Type 0) (xs ys : List ℕ) → AllByRecursion P (xs ++ y
 both P [] ys h = (tt, h)
 both P (x ∷ xs) ys h = let k = both P xs ys h.1 in ((h.0, k.0), k.1)
 
-pub joined : (P : ℕ → Type 0) (xs ys : List ℕ) → AllByRecursion P xs → AllByRecursion P ys → AllByRecursion P (xs ++ ys)
-joined P [] ys first second = second
-joined P (x ∷ xs) ys first second = (first.0, joined P xs ys first.1 second)
+pub all_joined : (P : ℕ → Type 0) (xs ys : List ℕ) → AllByRecursion P xs → AllByRecursion P ys → AllByRecursion P (xs ++ ys)
+all_joined P [] ys first second = second
+all_joined P (x ∷ xs) ys first second = (first.0, all_joined P xs ys first.1 second)
 
 all_contained : (P : ℕ → Type 0) (xs : List ℕ) → ((x : ℕ) → Contains xs x → P x) → AllByRecursion P xs
 all_contained P [] h = tt

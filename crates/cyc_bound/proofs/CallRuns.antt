@@ -7,7 +7,7 @@ use Rattle.cyc_types.specs.TypedTrees.{Program}
 use Rattle.cyc_meaning.specs.State.{first_world, Main, State, Running, Ended, Dead, Wrong, output_of, input_of, demand, depth}
 use Rattle.cyc_meaning.specs.Step.{step}
 use Rattle.cyc_meaning.specs.Run.{start, steps, run, is_within, limited_step, limited_steps, limited_run}
-use Rattle.cyc_meaning.proofs.RunLaws.{limited_either}
+use Rattle.cyc_meaning.proofs.RunLaws.{limited_cases}
 use Rattle.cyc_bound.specs.Bound.{IsAtMost}
 use Rattle.cyc_bound.proofs.CallLemmas.{row_of}
 use Rattle.cyc_bound.proofs.CallSteps.{IsInSome, calls_function, step_in}
@@ -52,7 +52,7 @@ module _ (program : Program) where
         let same : is_within pages calls (step program s) ≡ is_within pages more (step program s) = within_in pages calls enough (step program s) next ∙ sym (within_in pages more also (step program s) next) in
         ap (λ (b : Bool). limited_steps program pages calls count (if b then step program s else Ended Full (output_of s) (input_of s))) same
         ∙ limited_alike pages calls more enough also count (limited_step program pages more s)
-        (limited_either (IsInSome program) pages more s (step program s) (λ within. next) (λ full. (0, tt)))
+        (limited_cases (IsInSome program) pages more s (step program s) (λ within. next) (λ full. (0, tt)))
 
     pub runs_alike : (pages calls more : ℕ) → bound ≤ calls → bound ≤ more → (input : List ℕ) (count : ℕ) → limited_run program pages calls input count ≡ limited_run program pages more input count
     runs_alike pages calls more enough also input count = limited_alike pages calls more enough also count (start program input) (starts_in input)

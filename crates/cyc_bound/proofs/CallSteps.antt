@@ -28,7 +28,7 @@ use Rattle.cyc_meaning.specs.Step as steps
 use Rattle.cyc_bound.specs.Callees.{callee_of, expression_callees, dereference_callees, placement_callees, initial_callees, converted_callees, arguments_callees, operations_callees, value_callees, thrown_callees, side_callees, statement_callees, items_callees, clauses_callees}
 use Rattle.cyc_bound.specs.Bound.{Calls}
 use Rattle.cyc_bound.specs.inside.UnderWay.{awaiting_callees, focus_callees, AreOf, Waits, IsIn}
-use Rattle.cyc_bound.proofs.CallLemmas.{both, joined, body_is_of}
+use Rattle.cyc_bound.proofs.CallLemmas.{both, all_joined, body_is_of}
 
 -- in a run that goes on some function's call is the newest
 abbrev pub IsInSome : Program → State → Type 0
@@ -292,7 +292,7 @@ module _ (program : Program) (f : ℕ) where
   passing callee before (MoreArguments (Convert from to a) later) stack e w now h =
       let k = split (expression_callees a ++ arguments_callees later) (callee_of callee) now in
       let l = split (expression_callees a) (arguments_callees later) k.0 in
-      (l.0, (tt, (joined (λ (callee : ℕ). Calls program f callee) (arguments_callees later) (callee_of callee) l.1 k.1, h)))
+      (l.0, (tt, (all_joined (λ (callee : ℕ). Calls program f callee) (arguments_callees later) (callee_of callee) l.1 k.1, h)))
 
   assigns : (o : Option ℕ) (c : Converted) (stack : List Entry) (e : Environment) (w : World) → C (converted_callees c) → W stack → I (assigned o c stack e w)
   assigns (Some object) (Convert from to a) stack e w now h = (now, (tt, (tt, h)))

@@ -19,7 +19,7 @@ use Rattle.cyc_types.specs.declared.typed.Clause.{Clause}
 use Rattle.cyc_types.specs.declared.typed.Body.{Body}
 use Rattle.cyc_types.specs.TypedTrees.{Clauses, NoClauses}
 use Rattle.cyc_types.specs.TypedTreeView.{view_expression, view_initial, view_statement, arguments_of, operations_of, items_of, clauses_of, default_of}
-use Rattle.cyc_types.proofs.TypedTreeViewLemmas.{view_call, view_binary, view_fields, view_block, view_try}
+use Rattle.cyc_types.proofs.TypedTreeViewLemmas.{view_typed_call, view_typed_binary, view_typed_fields, view_block, view_typed_try}
 use Rattle.cyc_bound.specs.Callees.{callee_of, expression_callees, initial_callees, arguments_callees, operations_callees, statement_callees, items_callees, clauses_callees}
 
 -- ---- lists
@@ -39,8 +39,8 @@ ClausesLeft cs i old found = found ++ clauses_callees (clauses_of (drop i cs) No
 
 -- ---- parts one behind the other
 
-pub one_part : (new old a whole : List ℕ) → whole ≡ a → new ≡ old ++ a → new ≡ old ++ whole
-one_part new old a whole is added = added ∙ ap (λ (l : List ℕ). old ++ l) (sym is)
+pub one_part_found : (new old a whole : List ℕ) → whole ≡ a → new ≡ old ++ a → new ≡ old ++ whole
+one_part_found new old a whole is added = added ∙ ap (λ (l : List ℕ). old ++ l) (sym is)
 
 pub two_parts : (new middle old a b whole : List ℕ) → whole ≡ a ++ b → middle ≡ old ++ a → new ≡ middle ++ b → new ≡ old ++ whole
 two_parts new middle old a b whole is first second =
@@ -51,20 +51,20 @@ two_parts new middle old a b whole is first second =
 pub call_calls : (value : Expr) {w : _} (f : Callee) (v : Vec ConvertedCode Heap) (t : ValueTypeCode) → value ≡ expr.Call w f v t → (items : List ConvertedCode) → items ≡ v.items
     → expression_callees (view_expression value) ≡ arguments_callees (arguments_of items) ++ callee_of f
 call_calls value {w} f v t is items same =
-    ap (λ (x : Expr). expression_callees (view_expression x)) is ∙ ap expression_callees (view_call w f v t)
+    ap (λ (x : Expr). expression_callees (view_expression x)) is ∙ ap expression_callees (view_typed_call w f v t)
     ∙ ap (λ (cs : List ConvertedCode). arguments_callees (arguments_of cs) ++ callee_of f) (sym same)
 
 pub binary_calls : (value : Expr) (b : Box Expr Heap) (v : Vec Operation Heap) (t : TyCode) → value ≡ expr.Binary b v t → (first : Expr) → first ≡ b.value → (items : List Operation) → items ≡ v.items
     → expression_callees (view_expression value) ≡ expression_callees (view_expression first) ++ operations_callees (operations_of items)
 binary_calls value b v t is first at items same =
-    ap (λ (x : Expr). expression_callees (view_expression x)) is ∙ ap expression_callees (view_binary b v t)
+    ap (λ (x : Expr). expression_callees (view_expression x)) is ∙ ap expression_callees (view_typed_binary b v t)
     ∙ ap (λ (x : Expr). expression_callees (view_expression x) ++ operations_callees (operations_of v.items)) (sym at)
     ∙ ap (λ (os : List Operation). expression_callees (view_expression first) ++ operations_callees (operations_of os)) (sym same)
 
 pub fields_call : (value : Initial) (v : Vec ConvertedCode Heap) → value ≡ initial.Fields v → (items : List ConvertedCode) → items ≡ v.items
     → initial_callees (view_initial value) ≡ arguments_callees (arguments_of items)
 fields_call value v is items same =
-    ap (λ (x : Initial). initial_callees (view_initial x)) is ∙ ap initial_callees (view_fields v)
+    ap (λ (x : Initial). initial_callees (view_initial x)) is ∙ ap initial_callees (view_typed_fields v)
     ∙ ap (λ (cs : List ConvertedCode). arguments_callees (arguments_of cs)) (sym same)
 
 pub block_calls : (value : Stmt) (r : ℕ) (v : Vec ItemCode Heap) → value ≡ stmt.Block r v → (items : List ItemCode) → items ≡ v.items
@@ -82,7 +82,7 @@ clauses_with (c ∷ cs) default =
 pub try_calls : (value : Stmt) {w : _} (b : Box Stmt Heap) (v : Vec Clause Heap) (d : Option Body) → value ≡ stmt.Try w b v d → (body : Stmt) → body ≡ b.value → (clauses : List Clause) → clauses ≡ v.items
     → statement_callees (view_statement value) ≡ (statement_callees (view_statement body) ++ clauses_callees (clauses_of clauses NoClauses)) ++ clauses_callees (default_of d)
 try_calls value {w} b v d is body at clauses same =
-    ap (λ (x : Stmt). statement_callees (view_statement x)) is ∙ ap statement_callees (view_try w b v d)
+    ap (λ (x : Stmt). statement_callees (view_statement x)) is ∙ ap statement_callees (view_typed_try w b v d)
     ∙ ap (λ (l : List ℕ). statement_callees (view_statement b.value) ++ l) (clauses_with v.items (default_of d))
     ∙ sym (append_assoc (statement_callees (view_statement b.value)) (clauses_callees (clauses_of v.items NoClauses)) (clauses_callees (default_of d)))
     ∙ ap (λ (x : Stmt). (statement_callees (view_statement x) ++ clauses_callees (clauses_of v.items NoClauses)) ++ clauses_callees (default_of d)) (sym at)

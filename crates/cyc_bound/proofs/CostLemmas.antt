@@ -39,17 +39,17 @@ kind_of_number (suc (suc (suc (suc zero)))) = kinds.Handle
 kind_of_number (suc (suc (suc (suc (suc zero))))) = kinds.Key
 kind_of_number (suc (suc (suc (suc (suc (suc n)))))) = kinds.Char
 
-kind_again : (kind : Kind) → kind_of_number (number_of_kind kind) ≡ kind
-kind_again kinds.Int = refl
-kind_again kinds.Char = refl
-kind_again kinds.Nullable = refl
-kind_again kinds.NonNull = refl
-kind_again kinds.Fat = refl
-kind_again kinds.Handle = refl
-kind_again kinds.Key = refl
+kind_by_number : (kind : Kind) → kind_of_number (number_of_kind kind) ≡ kind
+kind_by_number kinds.Int = refl
+kind_by_number kinds.Char = refl
+kind_by_number kinds.Nullable = refl
+kind_by_number kinds.NonNull = refl
+kind_by_number kinds.Fat = refl
+kind_by_number kinds.Handle = refl
+kind_by_number kinds.Key = refl
 
 pub kind_is : (a b : Kind) → is_kind a b ≡ true → a ≡ b
-kind_is a b same = sym (kind_again a) ∙ ap (λ (n : ℕ). kind_of_number n) (eqb-true (number_of_kind a) (number_of_kind b) same) ∙ kind_again b
+kind_is a b same = sym (kind_by_number a) ∙ ap (λ (n : ℕ). kind_of_number n) (eqb-true (number_of_kind a) (number_of_kind b) same) ∙ kind_by_number b
 
 -- ---- arrays
 

@@ -27,7 +27,7 @@ use Rattle.cyc_types.specs.declared.typed.Function.{Function as FunctionCode}
 use Rattle.cyc_types.specs.TypedTrees.{Expression, Statement, Clauses, Function}
 use Rattle.cyc_types.specs.TypedTrees as typed
 use Rattle.cyc_types.specs.TypedTreeView.{view_expression, view_placement, view_initial, view_converted, view_statement, view_item, view_function, arguments_of, operations_of, items_of, clauses_of, default_of}
-use Rattle.cyc_types.proofs.TypedTreeViewLemmas.{view_call, view_binary, view_fields, view_block, view_try}
+use Rattle.cyc_types.proofs.TypedTreeViewLemmas.{view_typed_call, view_typed_binary, view_typed_fields, view_block, view_typed_try}
 use Rattle.cyc_meaning.specs.Values.{behind}
 use Rattle.cyc_bound.specs.declared.costs.Measure.{Measure}
 use Rattle.cyc_bound.specs.declared.costs.Site.{Site}
@@ -84,8 +84,8 @@ loop_capped (suc turn) = go (min too_many (suc turn)) (omega arith)
 
 -- ---- one part more
 
-one_more : (total cost next part rest whole : ℕ) → min too_many (total + (part + rest)) ≡ whole → cost ≡ min too_many part → next ≡ min too_many (total + cost) → min too_many (next + rest) ≡ whole
-one_more total cost next part rest whole so_far one two = omega (arith, so_far, one, two)
+one_cost_more : (total cost next part rest whole : ℕ) → min too_many (total + (part + rest)) ≡ whole → cost ≡ min too_many part → next ≡ min too_many (total + cost) → min too_many (next + rest) ≡ whole
+one_cost_more total cost next part rest whole so_far one two = omega (arith, so_far, one, two)
 
 operation_first : (m : Measure) (costs : List ℕ) (o : Operation) (os : List Operation) → operations_cost m costs (operations_of (o ∷ os)) ≡ operation_cost m costs o + operations_cost m costs (operations_of os)
 operation_first m costs (operation.Compute w operator e) os = refl
@@ -103,7 +103,7 @@ module _ (m : Measure) (costs : List ℕ) where
   arguments_next cs i total c cost next less at h one two =
       let first : arguments_cost m costs (arguments_of (drop i cs)) ≡ converted_cost m costs (view_converted c) + arguments_cost m costs (arguments_of (drop (i + 1) cs)) =
       ap (λ (l : List ConvertedCode). arguments_cost m costs (arguments_of l)) (next_of cs i c less at) in
-      (one_more total cost next _ _ _ (ap (λ (n : ℕ). min too_many (total + n)) (sym first) ∙ h.0) one two, omega (arith, two))
+      (one_cost_more total cost next _ _ _ (ap (λ (n : ℕ). min too_many (total + n)) (sym first) ∙ h.0) one two, omega (arith, two))
 
   pub arguments_all : (cs : List ConvertedCode) (i total : ℕ) → length cs ≤ i → ArgumentsLeft m costs cs i total → total ≡ min too_many (arguments_cost m costs (arguments_of cs))
   arguments_all cs i total whole h =
@@ -118,7 +118,7 @@ module _ (m : Measure) (costs : List ℕ) where
   operations_next os i total o cost next less at h one two =
       let first : operations_cost m costs (operations_of (drop i os)) ≡ operation_cost m costs o + operations_cost m costs (operations_of (drop (i + 1) os)) =
       ap (λ (l : List Operation). operations_cost m costs (operations_of l)) (next_of os i o less at) ∙ operation_first m costs o (drop (i + 1) os) in
-      (one_more total cost next _ _ _ (ap (λ (n : ℕ). min too_many (total + n)) (sym first) ∙ h.0) one two, omega (arith, two))
+      (one_cost_more total cost next _ _ _ (ap (λ (n : ℕ). min too_many (total + n)) (sym first) ∙ h.0) one two, omega (arith, two))
 
   pub operations_all : (os : List Operation) (i total : ℕ) → length os ≤ i → OperationsLeft m costs os i total → total ≡ min too_many (operations_cost m costs (operations_of os))
   operations_all os i total whole h =
@@ -143,7 +143,7 @@ module _ (m : Measure) (costs : List ℕ) where
       let first : fields_cost m costs site i bytes (arguments_of (drop i cs)) ≡ converted_cost m costs (view_converted c) + fields_cost m costs site (suc i) (behind c.to bytes) (arguments_of (drop (i + 1) cs)) =
       ap (λ (l : List ConvertedCode). fields_cost m costs site i bytes (arguments_of l)) (next_of cs i c less at) in
       let count : suc i ≡ i + 1 = omega arith in
-      let so_far = one_more total cost next _ _ _ (ap (λ (n : ℕ). min too_many (total + n)) (sym first) ∙ h.0) one two in
+      let so_far = one_cost_more total cost next _ _ _ (ap (λ (n : ℕ). min too_many (total + n)) (sym first) ∙ h.0) one two in
       let counted = subst (λ (n : ℕ). min too_many (next + fields_cost m costs site n (behind c.to bytes) (arguments_of (drop (i + 1) cs))) ≡ min too_many (fields_cost m costs site 0 0 (arguments_of cs))) count so_far in
       subst (λ (n : ℕ). (min too_many (next + fields_cost m costs site (i + 1) n (arguments_of (drop (i + 1) cs))) ≡ min too_many (fields_cost m costs site 0 0 (arguments_of cs))) × (n ≤ 16 * (i + 1))) (sym is)
       (counted, behind_few c.to bytes i h.1)
@@ -164,7 +164,7 @@ module _ (m : Measure) (costs : List ℕ) where
   items_next js i total j cost next less at h one two =
       let first : items_cost m costs (items_of (drop i js)) ≡ item_cost m costs (view_item j) + items_cost m costs (items_of (drop (i + 1) js)) =
       ap (λ (l : List ItemCode). items_cost m costs (items_of l)) (next_of js i j less at) in
-      one_more total cost next _ _ _ (ap (λ (n : ℕ). min too_many (total + n)) (sym first) ∙ h) one two
+      one_cost_more total cost next _ _ _ (ap (λ (n : ℕ). min too_many (total + n)) (sym first) ∙ h) one two
 
   pub items_all : (js : List ItemCode) (i total result : ℕ) → length js ≤ i → ItemsLeft m costs js i total → result ≡ min too_many (1 * step_cost m + total) → result ≡ min too_many (items_cost m costs (items_of js))
   items_all js i total result whole h is =
@@ -225,13 +225,13 @@ module _ (m : Measure) (costs : List ℕ) where
   pub call_costs : (value : Expr) {w : _} (f : Callee) (v : Vec ConvertedCode Heap) (t : ValueTypeCode) → value ≡ expr.Call w f v t → (items : List ConvertedCode) → items ≡ v.items
       → expression_cost m costs (view_expression value) ≡ 1 * step_cost m + (arguments_cost m costs (arguments_of items) + callee_cost m costs f)
   call_costs value {w} f v t is items same =
-      ap (λ (x : Expr). expression_cost m costs (view_expression x)) is ∙ ap (λ (a : Expression). expression_cost m costs a) (view_call w f v t)
+      ap (λ (x : Expr). expression_cost m costs (view_expression x)) is ∙ ap (λ (a : Expression). expression_cost m costs a) (view_typed_call w f v t)
       ∙ ap (λ (cs : List ConvertedCode). step_cost m + (arguments_cost m costs (arguments_of cs) + callee_cost m costs f)) (sym same) ∙ omega arith
 
   pub binary_costs : (value : Expr) (b : Box Expr Heap) (v : Vec Operation Heap) (t : TyCode) → value ≡ expr.Binary b v t → (first : Expr) → first ≡ b.value → (items : List Operation) → items ≡ v.items
       → expression_cost m costs (view_expression value) ≡ 2 * step_cost m + (expression_cost m costs (view_expression first) + operations_cost m costs (operations_of items))
   binary_costs value b v t is first at items same =
-      ap (λ (x : Expr). expression_cost m costs (view_expression x)) is ∙ ap (λ (a : Expression). expression_cost m costs a) (view_binary b v t)
+      ap (λ (x : Expr). expression_cost m costs (view_expression x)) is ∙ ap (λ (a : Expression). expression_cost m costs a) (view_typed_binary b v t)
       ∙ ap (λ (x : Expr). 2 * step_cost m + (expression_cost m costs (view_expression x) + operations_cost m costs (operations_of v.items))) (sym at)
       ∙ ap (λ (os : List Operation). 2 * step_cost m + (expression_cost m costs (view_expression first) + operations_cost m costs (operations_of os))) (sym same)
 
@@ -245,7 +245,7 @@ module _ (m : Measure) (costs : List ℕ) where
   pub fields_costs : (site : Site) (value : Initial) (v : Vec ConvertedCode Heap) → value ≡ initial.Fields v → (items : List ConvertedCode) → items ≡ v.items
       → initial_cost m costs site (view_initial value) ≡ fields_cost m costs site 0 0 (arguments_of items)
   fields_costs site value v is items same =
-      ap (λ (x : Initial). initial_cost m costs site (view_initial x)) is ∙ ap (λ (x : typed.Initial). initial_cost m costs site x) (view_fields v)
+      ap (λ (x : Initial). initial_cost m costs site (view_initial x)) is ∙ ap (λ (x : typed.Initial). initial_cost m costs site x) (view_typed_fields v)
       ∙ ap (λ (cs : List ConvertedCode). fields_cost m costs site 0 0 (arguments_of cs)) (sym same)
 
   pub array_costs : (site : Site) (value : Initial) {w : _} (level : ℕ) (n : Expr) (k : Kind) (e : Expr) → value ≡ initial.Array w level n k e → (counted turn : ℕ) (written : Option ℕ) (made result : ℕ)
@@ -284,7 +284,7 @@ module _ (m : Measure) (costs : List ℕ) where
   pub try_costs : (value : Stmt) {w : _} (b : Box Stmt Heap) (v : Vec Clause Heap) (d : Option Body) → value ≡ stmt.Try w b v d → (body : Stmt) → body ≡ b.value → (clauses : List Clause) → clauses ≡ v.items
       → statement_cost m costs (view_statement value) ≡ 1 * step_cost m + (statement_cost m costs (view_statement body) + clauses_cost m costs (clauses_of clauses (default_of d)))
   try_costs value {w} b v d is body at clauses same =
-      ap (λ (x : Stmt). statement_cost m costs (view_statement x)) is ∙ ap (λ (s : Statement). statement_cost m costs s) (view_try w b v d)
+      ap (λ (x : Stmt). statement_cost m costs (view_statement x)) is ∙ ap (λ (s : Statement). statement_cost m costs s) (view_typed_try w b v d)
       ∙ ap (λ (x : Stmt). step_cost m + (statement_cost m costs (view_statement x) + clauses_cost m costs (clauses_of v.items (default_of d)))) (sym at)
       ∙ ap (λ (cs : List Clause). step_cost m + (statement_cost m costs (view_statement body) + clauses_cost m costs (clauses_of cs (default_of d)))) (sym same) ∙ omega arith
 

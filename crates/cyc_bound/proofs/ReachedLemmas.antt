@@ -20,8 +20,8 @@ noted_before marks found f are is = record {
 }
 
 -- one that is not is added
-pub noted_now : (marks : List Bool) (found : List ℕ) (f : ℕ) → AreMarked marks found → IsNoted found f (set marks f true) (found ++ f ∷ [])
-noted_now marks found f are = record {
+pub is_noted_now : (marks : List Bool) (found : List ℕ) (f : ℕ) → AreMarked marks found → IsNoted found f (set marks f true) (found ++ f ∷ [])
+is_noted_now marks found f are = record {
   marked = λ g is. elim (cases_eq g f) [
     | inl same ↦ subst (λ (n : ℕ). Contains (found ++ f ∷ []) n) (sym same) (Contains-push found f)
     | inr other ↦ Contains-append_left found (f ∷ []) g (are g (sym (get_or-set_other marks f g true false other) ∙ is))

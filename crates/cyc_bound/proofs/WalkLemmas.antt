@@ -156,8 +156,8 @@ longer old now f m n is first second = omega (arith, first, second, ap (λ (l : 
 -- ---- what the code computes
 
 -- the greater of two numbers
-pub greater : (a b : ℕ) → ord_max nat_cmp a b ≡ max a b
-greater a b = go (nat_cmp b a) (ranked b a (nat_cmp b a) refl)
+pub greater_is_max : (a b : ℕ) → ord_max nat_cmp a b ≡ max a b
+greater_is_max a b = go (nat_cmp b a) (ranked b a (nat_cmp b a) refl)
   where
     go : (o : Ordering) → MatchOrdering o (b < a) (b ≡ a) (a < b) → (if is_lt o then a else b) ≡ max a b
     go Less h = omega (arith, h)

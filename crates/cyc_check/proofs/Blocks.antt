@@ -20,7 +20,7 @@ use Rattle.cyc_scope.specs.declared.scope.Mark.{Mark}
 use Rattle.cyc_scope.specs.inside.Marks.{mark_of, left_to}
 use Rattle.cyc_check.specs.inside.Walks.{IsBehindItems, behind_block, behind_labelled}
 use Rattle.cyc_check.specs.inside.Inside.{Inside}
-use Rattle.cyc_check.proofs.Inside.{inside_itself, inside_through, inside_local, inside_opened, inside_region, inside_key, inside_behind, inside_block, inside_labelled, numbered_as, left}
+use Rattle.cyc_check.proofs.Inside.{inside_itself, inside_through, inside_local, inside_opened, inside_region, inside_key, inside_behind, inside_block, inside_labelled, numbered_as, left_numbered}
 use Rattle.cyc_expressions.proofs.Loops.{onto, with_front, regroup, onto_nothing}
 
 -- what was made of the items so far, and where the walk stands
@@ -105,7 +105,7 @@ walk_gives start now made whole w = sym w.gives ∙ ap Ok (onto_items made)
 pub block_left : (g n : Scope) (is : Items) → IsBehindItems (in_block g) is n → left_to (mark_of g) n ≡ behind_block g is
 block_left g n is b =
     let count : n.next_region ≡ g.next_region + suc (item_regions is) = omega (arith, b.regions) in
-    left g n (inside_through g (in_block g) n (inside_block g) b.inside)
+    left_numbered g n (inside_through g (in_block g) n (inside_block g) b.inside)
     ∙ ap (λ (k : ℕ). record (numbered_as g n) { next_local = k }) b.numbers
     ∙ ap (λ (k : ℕ). record (numbered_as g n) { next_local = g.next_local + item_locals is; next_region = k }) count
     ∙ ap (λ (ns : List ℕ). record (behind_block g is) { taken = ns }) b.taken
@@ -113,7 +113,7 @@ block_left g n is b =
 pub labelled_left : (g n : Scope) (l : Named) (is : Items) → IsBehindItems (in_labelled l g) is n → left_to (mark_of g) n ≡ behind_labelled g l is
 labelled_left g n l is b =
     let count : n.next_region ≡ g.next_region + suc (item_regions is) = omega (arith, b.regions) in
-    left g n (inside_through g (in_labelled l g) n (inside_labelled l g) b.inside)
+    left_numbered g n (inside_through g (in_labelled l g) n (inside_labelled l g) b.inside)
     ∙ ap (λ (k : ℕ). record (numbered_as g n) { next_local = k }) b.numbers
     ∙ ap (λ (k : ℕ). record (numbered_as g n) { next_local = g.next_local + item_locals is; next_region = k }) count
     ∙ ap (λ (ns : List ℕ). record (behind_labelled g l is) { taken = ns }) (b.taken ∙ sym (append_assoc (item_names is) (l.name ∷ []) g.taken))

@@ -20,7 +20,7 @@ use Rattle.cyc_scope.specs.declared.scope.Mark.{Mark}
 use Rattle.cyc_scope.specs.inside.Marks.{IsInOrder, mark_of, left_to}
 use Rattle.cyc_check.specs.inside.Walks.{IsBehindItems, behind_block, behind_clauses, view_clause}
 use Rattle.cyc_check.specs.inside.Inside.{Inside}
-use Rattle.cyc_check.proofs.Inside.{inside_itself, inside_through, inside_local, inside_block, numbered_as, left, order_left}
+use Rattle.cyc_check.proofs.Inside.{inside_itself, inside_through, inside_local, inside_block, numbered_as, left_numbered, order_left}
 
 -- ---- one clause with others behind it
 
@@ -40,11 +40,11 @@ with_rest (Ok n) (Ok js) v r c (Err f) h = refl
 with_rest (Ok n) (Err f) v r c rest h = absurd (cc)
 with_rest (Err f) b v r c rest h = absurd (cc)
 
-stopped : (a : Checked ℕ) (b : Checked typed.Items) (v : Option ℕ) (r : ℕ) (rest : Checked typed.Clauses) (e : Stop) → Stops e (assembled a b v r (Ok typed.NoClauses)) → Stops e (assembled a b v r rest)
-stopped a b v r rest stops.Memory h = tt
-stopped (Ok n) (Ok js) v r rest (stops.Refused f) h = absurd (cc)
-stopped (Ok n) (Err g) v r rest (stops.Refused f) h = h
-stopped (Err g) b v r rest (stops.Refused f) h = h
+stopped_before_rest : (a : Checked ℕ) (b : Checked typed.Items) (v : Option ℕ) (r : ℕ) (rest : Checked typed.Clauses) (e : Stop) → Stops e (assembled a b v r (Ok typed.NoClauses)) → Stops e (assembled a b v r rest)
+stopped_before_rest a b v r rest stops.Memory h = tt
+stopped_before_rest (Ok n) (Ok js) v r rest (stops.Refused f) h = absurd (cc)
+stopped_before_rest (Ok n) (Err g) v r rest (stops.Refused f) h = h
+stopped_before_rest (Err g) b v r rest (stops.Refused f) h = h
 
 -- ---- all of them
 
@@ -56,9 +56,9 @@ clauses-append : (made : List ClauseCode) (c : ClauseCode) (ds : typed.Clauses) 
 clauses-append [] c ds = refl
 clauses-append (d ∷ ds) c es = ap (typed.Case d.tag d.number d.region (view.items_of d.items.items)) (clauses-append ds c es)
 
-regrouped : (made : List ClauseCode) (c : ClauseCode) (checked : Checked typed.Clauses) → behind_made made (and_then checked (λ ds. Ok (view.clauses_of (c ∷ []) ds))) ≡ behind_made (made ++ c ∷ []) checked
-regrouped made c (Ok ds) = ap Ok (sym (clauses-append made c ds))
-regrouped made c (Err f) = refl
+regrouped_clauses : (made : List ClauseCode) (c : ClauseCode) (checked : Checked typed.Clauses) → behind_made made (and_then checked (λ ds. Ok (view.clauses_of (c ∷ []) ds))) ≡ behind_made (made ++ c ∷ []) checked
+regrouped_clauses made c (Ok ds) = ap Ok (sym (clauses-append made c ds))
+regrouped_clauses made c (Err f) = refl
 
 -- where the walk stands; a clause leaves nothing but numbers and names that are taken
 pub record CaughtSoFar (start now : Scope) (before : List ℕ) (made : List ClauseCode) (rest whole : Clauses) : Type 0 where
@@ -84,7 +84,7 @@ catch_goes_on start now new before made x v is rest whole c w h n =
     subst (λ (g : Scope). CaughtSoFar start g (x.name ∷ before) (made ++ c ∷ []) rest whole) (sym (n ∙ alone now x v is)) (record {
       gives =
           sym (ap (behind_made made) (with_rest (run (caught now (exception_among now.exceptions x.name) before x v)) (run (rule_items (with_caught v (in_block now)) is)) (option_map (λ (y : Named). now.next_local) v) now.next_region c (run (rule_clauses (behind_one now v is) (x.name ∷ before) rest)) h)
-          ∙ regrouped made c (run (rule_clauses (behind_one now v is) (x.name ∷ before) rest)))
+          ∙ regrouped_clauses made c (run (rule_clauses (behind_one now v is) (x.name ∷ before) rest)))
           ∙ w.gives;
       same = ap (λ (g : Scope). record g { next_local = now.next_local + (counted v + item_locals is); next_region = now.next_region + suc (item_regions is); taken = item_names is ++ now.taken }) w.same;
       numbers = omega (arith, w.numbers);
@@ -97,7 +97,7 @@ pub catch_stops : (e : Stop) (start now : Scope) (before : List ℕ) (made : Lis
 catch_stops stops.Memory start now before made x v is rest whole w h = tt
 catch_stops (stops.Refused f) start now before made x v is rest whole w h =
     sym w.gives
-    ∙ ap (behind_made made) (stopped (run (caught now (exception_among now.exceptions x.name) before x v)) (run (rule_items (with_caught v (in_block now)) is)) (option_map (λ (y : Named). now.next_local) v) now.next_region (run (rule_clauses (behind_one now v is) (x.name ∷ before) rest)) (stops.Refused f) h)
+    ∙ ap (behind_made made) (stopped_before_rest (run (caught now (exception_among now.exceptions x.name) before x v)) (run (rule_items (with_caught v (in_block now)) is)) (option_map (λ (y : Named). now.next_local) v) now.next_region (run (rule_clauses (behind_one now v is) (x.name ∷ before) rest)) (stops.Refused f) h)
 
 -- ---- with a default clause behind them
 
@@ -106,9 +106,9 @@ then_default typed.NoClauses d = d
 then_default (typed.Default r js) d = typed.Default r js
 then_default (typed.Case n v r js cs) d = typed.Case n v r js (then_default cs d)
 
-default_view : (made : List ClauseCode) (d : typed.Clauses) → then_default (view.clauses_of made typed.NoClauses) d ≡ view.clauses_of made d
-default_view [] d = refl
-default_view (c ∷ cs) d = ap (typed.Case c.tag c.number c.region (view.items_of c.items.items)) (default_view cs d)
+made_then_default : (made : List ClauseCode) (d : typed.Clauses) → then_default (view.clauses_of made typed.NoClauses) d ≡ view.clauses_of made d
+made_then_default [] d = refl
+made_then_default (c ∷ cs) d = ap (typed.Case c.tag c.number c.region (view.items_of c.items.items)) (made_then_default cs d)
 
 -- clauses, and then the items of the default one, whose region has this number
 abbrev defaulted : Checked typed.Clauses → Checked typed.Items → ℕ → Checked typed.Clauses
@@ -169,7 +169,7 @@ pub default_gives : (g : Scope) (cs : List Clause) (made : List ClauseCode) (is 
     → and_then (default_items g cs is) (λ js. Ok (typed.Default (behind_clauses g (clauses_of cs NoClauses)).next_region js)) ≡ Ok d → run (rule_clauses g [] (clauses_of cs (Default is))) ≡ Ok (view.clauses_of made d)
 default_gives g cs made is d h k =
     with_default g [] cs is ∙ ap (λ o. defaulted o (default_items g cs is) (behind_clauses g (clauses_of cs NoClauses)).next_region) h
-    ∙ last (default_items g cs is) (behind_clauses g (clauses_of cs NoClauses)).next_region k ∙ ap Ok (default_view made d)
+    ∙ last (default_items g cs is) (behind_clauses g (clauses_of cs NoClauses)).next_region k ∙ ap Ok (made_then_default made d)
   where
     last : (items : Checked typed.Items) (q : ℕ) → and_then items (λ js. Ok (typed.Default q js)) ≡ Ok d
         → and_then items (λ ks. Ok (then_default (view.clauses_of made typed.NoClauses) (typed.Default q ks))) ≡ Ok (then_default (view.clauses_of made typed.NoClauses) d)
@@ -244,7 +244,7 @@ pub clause_left : (g n : Scope) (x : Named) (v : Option Named) (is : Items) → 
 clause_left g n x v is b =
     let count : n.next_local ≡ g.next_local + (counted v + item_locals is) = omega (arith, b.numbers, local_caught v (in_block g)) in
     let regions : n.next_region ≡ g.next_region + suc (item_regions is) = omega (arith, b.regions, region_caught v (in_block g)) in
-    left g n (inside_clause g n v is b)
+    left_numbered g n (inside_clause g n v is b)
     ∙ ap (λ (k : ℕ). record (numbered_as g n) { next_local = k }) count
     ∙ ap (λ (k : ℕ). record (numbered_as g n) { next_local = g.next_local + (counted v + item_locals is); next_region = k }) regions
     ∙ ap (λ (ns : List ℕ). record (behind_one g v is) { taken = ns }) (b.taken ∙ ap (λ ns. item_names is ++ ns) (taken_caught v (in_block g)))

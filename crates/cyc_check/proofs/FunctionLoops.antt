@@ -27,26 +27,26 @@ HasNoBody (Exceptions cs) = Unit {0}
 HasNoBody (Global w x v) = Unit {0}
 HasNoBody (Function r x ps b) = ⊥
 
-pub passes : (front : List FunctionCode) (p : Program) (d : Declaration) (zs tree : List Declaration) (whole : Checked (List typed.Function)) → zs ≡ d ∷ tree → HasNoBody d
+pub passes_declaration : (front : List FunctionCode) (p : Program) (d : Declaration) (zs tree : List Declaration) (whole : Checked (List typed.Function)) → zs ≡ d ∷ tree → HasNoBody d
     → with_functions front (run (rule_functions p zs)) ≡ whole → with_functions front (run (rule_functions p tree)) ≡ whole
-passes front p (StructType s rs ms) zs tree whole is u so_far = sym (ap (λ us. with_functions front (run (rule_functions p us))) is) ∙ so_far
-passes front p (Exceptions cs) zs tree whole is u so_far = sym (ap (λ us. with_functions front (run (rule_functions p us))) is) ∙ so_far
-passes front p (Global w x v) zs tree whole is u so_far = sym (ap (λ us. with_functions front (run (rule_functions p us))) is) ∙ so_far
-passes front p (Function r x ps b) zs tree whole is u so_far = absurd u
+passes_declaration front p (StructType s rs ms) zs tree whole is u so_far = sym (ap (λ us. with_functions front (run (rule_functions p us))) is) ∙ so_far
+passes_declaration front p (Exceptions cs) zs tree whole is u so_far = sym (ap (λ us. with_functions front (run (rule_functions p us))) is) ∙ so_far
+passes_declaration front p (Global w x v) zs tree whole is u so_far = sym (ap (λ us. with_functions front (run (rule_functions p us))) is) ∙ so_far
+passes_declaration front p (Function r x ps b) zs tree whole is u so_far = absurd u
 
 -- a function of this declaration
 abbrev pub one_function : Program → Option WrittenType → Named → Parameters → Body → Checked typed.Function
 one_function p r x ps b = run (rule_function p (signature_of p.known r ps) x ps b)
 
-by_function : (p : Program) (r : Option WrittenType) (x : Named) (ps : Parameters) (b : Body) (d : Declaration) (zs tree : List Declaration) → zs ≡ d ∷ tree → d ≡ Function r x ps b
+function_first : (p : Program) (r : Option WrittenType) (x : Named) (ps : Parameters) (b : Body) (d : Declaration) (zs tree : List Declaration) → zs ≡ d ∷ tree → d ≡ Function r x ps b
     → run (rule_functions p zs) ≡ and_then (one_function p r x ps b) (λ h. and_then (run (rule_functions p tree)) (λ hs. Ok (h ∷ hs)))
-by_function p r x ps b d zs tree is e = ap (λ us. run (rule_functions p us)) (is ∙ ap (λ c. c ∷ tree) e)
+function_first p r x ps b d zs tree is e = ap (λ us. run (rule_functions p us)) (is ∙ ap (λ c. c ∷ tree) e)
 
 pub adds : (front : List FunctionCode) (p : Program) (r : Option WrittenType) (x : Named) (ps : Parameters) (b : Body) (d : Declaration) (zs tree : List Declaration) (f : FunctionCode) (whole : Checked (List typed.Function))
     → zs ≡ d ∷ tree → d ≡ Function r x ps b → one_function p r x ps b ≡ Ok (view_function f)
     → with_functions front (run (rule_functions p zs)) ≡ whole → with_functions (front ++ f ∷ []) (run (rule_functions p tree)) ≡ whole
 adds front p r x ps b d zs tree f whole is e h so_far =
-    sym (ap (with_functions front) (by_function p r x ps b d zs tree is e ∙ ap (λ o. and_then o (λ h. and_then (run (rule_functions p tree)) (λ hs. Ok (h ∷ hs)))) h)
+    sym (ap (with_functions front) (function_first p r x ps b d zs tree is e ∙ ap (λ o. and_then o (λ h. and_then (run (rule_functions p tree)) (λ hs. Ok (h ∷ hs)))) h)
     ∙ regroup view_function (λ f fs. f ∷ fs) front f (run (rule_functions p tree)))
     ∙ so_far
 
@@ -54,8 +54,8 @@ onto_functions : (front : List FunctionCode) → onto view_function (λ f fs. f 
 onto_functions [] = refl
 onto_functions (f ∷ fs) = ap (λ gs. view_function f ∷ gs) (onto_functions fs)
 
-pub ends : (front : List FunctionCode) (p : Program) (zs : List Declaration) (whole : Checked (List typed.Function)) → zs ≡ [] → with_functions front (run (rule_functions p zs)) ≡ whole → whole ≡ Ok (map view_function front)
-ends front p zs whole is so_far = sym so_far ∙ ap (λ us. with_functions front (run (rule_functions p us))) is ∙ ap Ok (onto_functions front)
+pub functions_end : (front : List FunctionCode) (p : Program) (zs : List Declaration) (whole : Checked (List typed.Function)) → zs ≡ [] → with_functions front (run (rule_functions p zs)) ≡ whole → whole ≡ Ok (map view_function front)
+functions_end front p zs whole is so_far = sym so_far ∙ ap (λ us. with_functions front (run (rule_functions p us))) is ∙ ap Ok (onto_functions front)
 
 -- ---- the scope of a body, and its items
 

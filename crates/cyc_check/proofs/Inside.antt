@@ -65,8 +65,8 @@ inside_body g s = record { locals = []; names = []; opened = []; same = refl }
 
 -- ---- leaving
 
-rest_of : {A : Type 0} (xs ys : List A) → drop (length (xs ++ ys) - length ys) (xs ++ ys) ≡ ys
-rest_of xs ys =
+rest_of_append : {A : Type 0} (xs ys : List A) → drop (length (xs ++ ys) - length ys) (xs ++ ys) ≡ ys
+rest_of_append xs ys =
     let n : length (xs ++ ys) - length ys ≡ length xs = omega (arith, length-append xs ys) in
     ap (λ (k : ℕ). drop k (xs ++ ys)) n ∙ front xs
   where
@@ -78,13 +78,13 @@ rest_of xs ys =
 abbrev pub numbered_as : Scope → Scope → Scope
 numbered_as g n = record g { taken = n.taken; next_local = n.next_local; next_region = n.next_region }
 
-pub left : (g n : Scope) → Inside g n → left_to (mark_of g) n ≡ numbered_as g n
-left g n i =
+pub left_numbered : (g n : Scope) → Inside g n → left_to (mark_of g) n ≡ numbered_as g n
+left_numbered g n i =
     ap (left_to (mark_of g)) i.same
-    ∙ ap (λ (ls : List LocalVariable). record (numbered_as g n) { locals = ls; names = drop (length (i.names ++ g.names) - length g.names) (i.names ++ g.names); regions = record g.regions { opened = drop (length (i.opened ++ g.regions.opened) - length g.regions.opened) (i.opened ++ g.regions.opened) } }) (rest_of i.locals g.locals)
-    ∙ ap (λ (ns : List RegionName). record (numbered_as g n) { names = ns; regions = record g.regions { opened = drop (length (i.opened ++ g.regions.opened) - length g.regions.opened) (i.opened ++ g.regions.opened) } }) (rest_of i.names g.names)
-    ∙ ap (λ (os : List Opened). record (numbered_as g n) { regions = record g.regions { opened = os } }) (rest_of i.opened g.regions.opened)
+    ∙ ap (λ (ls : List LocalVariable). record (numbered_as g n) { locals = ls; names = drop (length (i.names ++ g.names) - length g.names) (i.names ++ g.names); regions = record g.regions { opened = drop (length (i.opened ++ g.regions.opened) - length g.regions.opened) (i.opened ++ g.regions.opened) } }) (rest_of_append i.locals g.locals)
+    ∙ ap (λ (ns : List RegionName). record (numbered_as g n) { names = ns; regions = record g.regions { opened = drop (length (i.opened ++ g.regions.opened) - length g.regions.opened) (i.opened ++ g.regions.opened) } }) (rest_of_append i.names g.names)
+    ∙ ap (λ (os : List Opened). record (numbered_as g n) { regions = record g.regions { opened = os } }) (rest_of_append i.opened g.regions.opened)
 
 -- regions stay in order
 pub order_left : (g n : Scope) → IsInOrder g → Inside g n → g.next_region ≤ n.next_region → IsInOrder (left_to (mark_of g) n)
-order_left g n o i le = subst IsInOrder (sym (left g n i)) (record { locals = o.locals; inside = omega (arith, o.inside, le) })
+order_left g n o i le = subst IsInOrder (sym (left_numbered g n i)) (record { locals = o.locals; inside = omega (arith, o.inside, le) })

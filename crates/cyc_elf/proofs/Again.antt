@@ -361,8 +361,8 @@ each_stored i segments good same =
     (good.each k (segment_contents d) (omega (arith, length-map i.segments.items segment_contents))).stored)
 
 -- how many headers it has, as the code counts them
-pub counted : (i : Image) (len more : ℕ) (segments : List Segment) → len ≡ length segments → more ≡ note_count i.note → segments ≡ i.segments.items → len + more ≡ headers_count (contents_of i)
-counted i len more segments many one same = omega (arith, many, one, ap length same, length-map i.segments.items segment_contents)
+pub headers_counted : (i : Image) (len more : ℕ) (segments : List Segment) → len ≡ length segments → more ≡ note_count i.note → segments ≡ i.segments.items → len + more ≡ headers_count (contents_of i)
+headers_counted i len more segments many one same = omega (arith, many, one, ap length same, length-map i.segments.items segment_contents)
 
 -- the five parts, one behind the other
 pub written : (i : ImageContents) (a b c d e : List ℕ) → a ≡ file_header i.entry (headers_count i)

@@ -22,10 +22,10 @@ walk_from file known count i place lt =
     rw k refl
 
 -- the loop goes on behind a header that keeps its own rules
-pub goes_on : (front : List ProgramHeader) (file : List ℕ) (known : Option (ℕ × ℕ)) (count i place : ℕ) (h : ProgramHeader) (total : Walk) → i < count → h ≡ program_header_at file place → None ≡ first_fault (own_rules file (is_some known) h)
+pub headers_go_on : (front : List ProgramHeader) (file : List ℕ) (known : Option (ℕ × ℕ)) (count i place : ℕ) (h : ProgramHeader) (total : Walk) → i < count → h ≡ program_header_at file place → None ≡ first_fault (own_rules file (is_some known) h)
     → with_front front (walk file known (headers_from file place (count - i))) ≡ total
     → with_front (cond (is_load h) (front ++ h ∷ []) front) (walk file (noted file known h) (headers_from file (place + 32) (count - (i + 1)))) ≡ total
-goes_on front file known count i place h total lt here keeps so_far =
+headers_go_on front file known count i place h total lt here keeps so_far =
     let rest = walk file (noted file known h) (headers_from file (place + 32) (count - (i + 1))) in
     let one : walk file known (headers_from file place (count - i)) ≡ step known h None rest
     = walk_from file known count i place lt ∙ rw (← here, ← keeps) refl in
@@ -36,10 +36,10 @@ goes_on front file known count i place h total lt here keeps so_far =
     taken front h rest false = refl
 
 -- the loop ends at a header that breaks one
-pub ends : (front : List ProgramHeader) (file : List ℕ) (known : Option (ℕ × ℕ)) (count i place : ℕ) (h : ProgramHeader) (f : ElfFault) (total : Walk) → i < count → h ≡ program_header_at file place → Some f ≡ first_fault (own_rules file (is_some known) h)
+pub fault_ends : (front : List ProgramHeader) (file : List ℕ) (known : Option (ℕ × ℕ)) (count i place : ℕ) (h : ProgramHeader) (f : ElfFault) (total : Walk) → i < count → h ≡ program_header_at file place → Some f ≡ first_fault (own_rules file (is_some known) h)
     → with_front front (walk file known (headers_from file place (count - i))) ≡ total
     → record { loads = front; note = known; fault = Some f } ≡ total
-ends front file known count i place h f total lt here breaks so_far =
+fault_ends front file known count i place h f total lt here breaks so_far =
     let rest = walk file (noted file known h) (headers_from file (place + 32) (count - (i + 1))) in
     let one : walk file known (headers_from file place (count - i)) ≡ step known h (Some f) rest
     = walk_from file known count i place lt ∙ rw (← here, ← breaks) refl in

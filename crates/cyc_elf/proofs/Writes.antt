@@ -34,8 +34,8 @@ pub record IsAt (out start : List ℕ) (rest whole : List ProgramHeader) : Type 
   pub words : All IsInWords rest → All IsInWords whole
 
 -- one header more
-pub goes_on : (out after start : List ℕ) (h : ProgramHeader) (rest rest' whole : List ProgramHeader) → rest ≡ h ∷ rest' → after ≡ out ++ program_header h → IsInWords h → IsAt out start rest whole → IsAt after start rest' whole
-goes_on out after start h rest rest' whole split put fits at =
+pub is_at_next : (out after start : List ℕ) (h : ProgramHeader) (rest rest' whole : List ProgramHeader) → rest ≡ h ∷ rest' → after ≡ out ++ program_header h → IsInWords h → IsAt out start rest whole → IsAt after start rest' whole
+is_at_next out after start h rest rest' whole split put fits at =
     let fit : All (λ g. g.offset < 2 ^ 32) (h ∷ rest') = subst (All (λ g. g.offset < 2 ^ 32)) split at.fit in
     record {
       fit = All-tail (λ g. g.offset < 2 ^ 32) h rest' fit;

@@ -49,16 +49,16 @@ looked_unnamed g e walked h = refl
 abbrev pub behind_values : List typed.Expression → Checked (List typed.Expression) → Checked (List typed.Expression)
 behind_values xs checked = and_then checked (λ as'. Ok (xs ++ as'))
 
-regrouped : (xs : List typed.Expression) (a : typed.Expression) (checked : Checked (List typed.Expression)) → behind_values xs (and_then checked (λ as'. Ok (a ∷ as'))) ≡ behind_values (xs ++ a ∷ []) checked
-regrouped xs a (Ok as') = ap Ok (sym (append_assoc xs (a ∷ []) as'))
-regrouped xs a (Err f) = refl
+regrouped_values : (xs : List typed.Expression) (a : typed.Expression) (checked : Checked (List typed.Expression)) → behind_values xs (and_then checked (λ as'. Ok (a ∷ as'))) ≡ behind_values (xs ++ a ∷ []) checked
+regrouped_values xs a (Ok as') = ap Ok (sym (append_assoc xs (a ∷ []) as'))
+regrouped_values xs a (Err f) = refl
 
 pub values_go_on : (g : Scope) (xs ys : List typed.Expression) (zs us : List Expr) (z : Expr) (a : typed.Expression) (whole : Checked (List typed.Expression)) → zs ≡ z ∷ us
     → run (rule g (view_expression z)) ≡ Ok a → ys ≡ xs ++ a ∷ [] → behind_values xs (run (rule_all g (expressions_of zs))) ≡ whole → behind_values ys (run (rule_all g (expressions_of us))) ≡ whole
 values_go_on g xs ys zs us z a whole is h more so_far =
     let step : run (rule_all g (expressions_of zs)) ≡ and_then (run (rule_all g (expressions_of us))) (λ as'. Ok (a ∷ as')) =
     ap (λ vs. run (rule_all g (expressions_of vs))) is ∙ ap (λ o. and_then o (λ b. and_then (run (rule_all g (expressions_of us))) (λ as'. Ok (b ∷ as')))) h in
-    ap (λ vs. behind_values vs (run (rule_all g (expressions_of us)))) more ∙ sym (regrouped xs a (run (rule_all g (expressions_of us)))) ∙ sym (ap (behind_values xs) step) ∙ so_far
+    ap (λ vs. behind_values vs (run (rule_all g (expressions_of us)))) more ∙ sym (regrouped_values xs a (run (rule_all g (expressions_of us)))) ∙ sym (ap (behind_values xs) step) ∙ so_far
 
 -- ---- chains
 
@@ -69,9 +69,9 @@ then_all xs os = onto put_operation (λ f rest. f rest) xs os
 abbrev pub behind_operations : List Operation → Checked (typed.Operations × Ty) → Checked (typed.Operations × Ty)
 behind_operations xs checked = and_then checked (λ bs. Ok (then_all xs bs.0, bs.1))
 
-chained : (xs : List Operation) (o : Operation) (checked : Checked (typed.Operations × Ty)) → behind_operations xs (and_then checked (λ bs. Ok (put_operation o bs.0, bs.1))) ≡ behind_operations (xs ++ o ∷ []) checked
-chained xs o (Ok bs) = ap (λ os. Ok (os, bs.1)) (sym (onto-append put_operation (λ f rest. f rest) xs o bs.0))
-chained xs o (Err f) = refl
+chained_behind : (xs : List Operation) (o : Operation) (checked : Checked (typed.Operations × Ty)) → behind_operations xs (and_then checked (λ bs. Ok (put_operation o bs.0, bs.1))) ≡ behind_operations (xs ++ o ∷ []) checked
+chained_behind xs o (Ok bs) = ap (λ os. Ok (os, bs.1)) (sym (onto-append put_operation (λ f rest. f rest) xs o bs.0))
+chained_behind xs o (Err f) = refl
 
 pub chain_goes_on : (g : Scope) (p : Place) (k : Option ℕ) (left : ValueType) (xs ys : List Operation) (zs us : List OperationCode) (z : OperationCode) (o : Operation) (t : Ty) (whole : Checked (typed.Operations × Ty)) → zs ≡ z ∷ us
     → one_operation g p k left z.operator (view_expression z.operand) ≡ Ok (put_operation o, t) → ys ≡ xs ++ o ∷ []
@@ -80,7 +80,7 @@ chain_goes_on g p k left xs ys zs us z o t whole is h more so_far =
     let step : run (rule_chain g p k left (operations_of zs)) ≡ and_then (run (rule_chain g p None (Value t) (operations_of us))) (λ bs. Ok (put_operation o bs.0, bs.1)) =
     ap (λ vs. run (rule_chain g p k left (operations_of vs))) is
     ∙ ap (λ c. and_then c (λ put. and_then (run (rule_chain g p None (Value put.1) (operations_of us))) (λ bs. Ok (put.0 bs.0, bs.1)))) h in
-    ap (λ vs. behind_operations vs (run (rule_chain g p None (Value t) (operations_of us)))) more ∙ sym (chained xs o (run (rule_chain g p None (Value t) (operations_of us)))) ∙ sym (ap (behind_operations xs) step) ∙ so_far
+    ap (λ vs. behind_operations vs (run (rule_chain g p None (Value t) (operations_of us)))) more ∙ sym (chained_behind xs o (run (rule_chain g p None (Value t) (operations_of us)))) ∙ sym (ap (behind_operations xs) step) ∙ so_far
 
 pub then_all_view : (xs : List Operation) → then_all xs typed.NoOperations ≡ view.operations_of xs
 then_all_view [] = refl

@@ -26,6 +26,6 @@ module _ {X Y B : Type 0} (view : X → Y) (add : Y → B → B) where
   onto_nothing (Err e) = refl
 
 -- where a loop has read no item yet
-pub first_of : {A : Type 0} (xs : List A) (i : ℕ) → i < length xs → (x : A) × (drop i xs ≡ x ∷ drop (i + 1) xs)
-first_of [] i lt = absurd (omega (arith, lt))
-first_of (x ∷ xs) i lt = (get_or (x ∷ xs) i x, drop_more (x ∷ xs) i x lt)
+pub next_element : {A : Type 0} (xs : List A) (i : ℕ) → i < length xs → (x : A) × (drop i xs ≡ x ∷ drop (i + 1) xs)
+next_element [] i lt = absurd (omega (arith, lt))
+next_element (x ∷ xs) i lt = (get_or (x ∷ xs) i x, drop_more (x ∷ xs) i x lt)

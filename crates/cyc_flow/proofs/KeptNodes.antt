@@ -23,7 +23,7 @@ use Rattle.cyc_types.specs.declared.typed.ValueType.{ValueType}
 use Rattle.cyc_types.specs.TypeView.{view_ty, view_value_type}
 use Rattle.cyc_types.specs.TypedTrees.{Expression, Initial, Statement, Call, Binary, Fields, Block, While, Try, Default}
 use Rattle.cyc_types.specs.TypedTreeView.{view_expression, view_initial, arguments_of, operations_of, view_side, view_statement, items_of, default_of, clauses_of}
-use Rattle.cyc_types.proofs.TypedTreeViewLemmas.{view_call, view_binary, view_fields, view_block, view_try}
+use Rattle.cyc_types.proofs.TypedTreeViewLemmas.{view_typed_call, view_typed_binary, view_typed_fields, view_block, view_typed_try}
 use Rattle.cyc_types.specs.Rules.{Checked, and_then, run}
 use Rattle.cyc_types.proofs.RuleLaws.{then_on}
 use Rattle.cyc_types.specs.flow.States.{State, emptied}
@@ -42,7 +42,7 @@ module _ (value : Expr) {w' : Span} (f : Callee) (v : Vec ConvertedCode Heap) (o
   pub kept_call : Leads r w (run (rule_arguments q (arguments_of items) s)) (touched_arguments (arguments_of items) ns) start → Leads r w (run (rule q (view_expression value) s)) (touched (view_expression value) ns) start
   kept_call h =
       let e : view_expression value ≡ Call f (arguments_of items) (view_value_type of_type)
-      = ap view_expression is ∙ view_call w' f v of_type ∙ ap (λ (cs : List ConvertedCode). Call f (arguments_of cs) (view_value_type of_type)) (sym same) in
+      = ap view_expression is ∙ view_typed_call w' f v of_type ∙ ap (λ (cs : List ConvertedCode). Call f (arguments_of cs) (view_value_type of_type)) (sym same) in
       let P : Expression → Type 0 = λ a. Leads r w (run (rule q a s)) (touched a ns) start in
       subst P (sym e) h
 
@@ -51,7 +51,7 @@ module _ (value : Expr) (b : Box Expr Heap) (v : Vec Operation Heap) (of_type : 
       → Leads r w (run (rule_operations q (operations_of items) behind)) (touched_operations (operations_of items) touches) now → Leads r w (run (rule q (view_expression value) s)) (touched (view_expression value) ns) start
   kept_binary k d n h =
       let e : view_expression value ≡ Binary (view_expression first) (operations_of items) (view_ty of_type)
-      = ap view_expression is ∙ view_binary b v of_type ∙ ap (λ (os : List Operation). Binary (view_expression b.value) (operations_of os) (view_ty of_type)) (sym same) ∙ ap (λ (x : Expr). Binary (view_expression x) (operations_of items) (view_ty of_type)) (sym at) in
+      = ap view_expression is ∙ view_typed_binary b v of_type ∙ ap (λ (os : List Operation). Binary (view_expression b.value) (operations_of os) (view_ty of_type)) (sym same) ∙ ap (λ (x : Expr). Binary (view_expression x) (operations_of items) (view_ty of_type)) (sym at) in
       let P : Expression → Type 0 = λ a. Leads r w (run (rule q a s)) (touched a ns) start in
       let Q : List ℕ → Type 0 = λ ms. Leads r w (run (rule_operations q (operations_of items) behind)) (touched_operations (operations_of items) ms) start in
       let R : Checked State → Type 0 = λ o. Leads r w (and_then o (λ g. run (rule_operations q (operations_of items) g))) (touched_operations (operations_of items) (touched (view_expression first) ns)) start in
@@ -61,7 +61,7 @@ module _ (value : Expr) (b : Box Expr Heap) (v : Vec Operation Heap) (of_type : 
 module _ (value : InitialCode) (v : Vec ConvertedCode Heap) (is : value ≡ initial.Fields v) (items : List ConvertedCode) (same : items ≡ v.items) (r : Result (Unit {0}) Stop) (w : Evaluation) (q : List ℕ) (s : State) (ns : List ℕ) (start : State) where
   pub kept_fields : Leads r w (run (rule_arguments q (arguments_of items) s)) (touched_arguments (arguments_of items) ns) start → Leads r w (run (rule_initial q (view_initial value) s)) (touched_initial (view_initial value) ns) start
   kept_fields h =
-      let e : view_initial value ≡ Fields (arguments_of items) = ap view_initial is ∙ view_fields v ∙ ap (λ (cs : List ConvertedCode). Fields (arguments_of cs)) (sym same) in
+      let e : view_initial value ≡ Fields (arguments_of items) = ap view_initial is ∙ view_typed_fields v ∙ ap (λ (cs : List ConvertedCode). Fields (arguments_of cs)) (sym same) in
       let P : Initial → Type 0 = λ a. Leads r w (run (rule_initial q a s)) (touched_initial a ns) start in
       subst P (sym e) h
 
@@ -104,7 +104,7 @@ module _
     (touches : ts ≡ touched_statement (view_statement body) new) (starts : start ≡ emptied ts before) (adds : all ≡ ns ++ ts) where
   whole : view_statement statement ≡ Try (view_statement body) (clauses_of items (default_of d))
   whole =
-      ap view_statement is ∙ view_try span b v d ∙ ap (λ (s : Stmt). Try (view_statement s) (clauses_of v.items (default_of d))) (sym at)
+      ap view_statement is ∙ view_typed_try span b v d ∙ ap (λ (s : Stmt). Try (view_statement s) (clauses_of v.items (default_of d))) (sym at)
       ∙ ap (λ (cs : List Clause). Try (view_statement body) (clauses_of cs (default_of d))) (sym same)
 
   touches_all : ts ≡ touched_statement (view_statement body) []

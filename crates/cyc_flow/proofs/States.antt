@@ -16,10 +16,10 @@ views = map view_fullness
 abbrev pub Lowered : List FullnessCode → List FullnessCode → ℕ → List Fullness → Type 0
 Lowered xs ys i whole = map view_fullness (take i xs) ++ lower_each (map view_fullness (drop i xs)) (map view_fullness (drop i ys)) ≡ whole
 
-none_left : (xs ys : List FullnessCode) → min (length xs) (length ys) ≡ 0 → lower_each (views xs) (views ys) ≡ []
-none_left [] ys h = refl
-none_left (x ∷ xs) [] h = refl
-none_left (x ∷ xs) (y ∷ ys) h = absurd (omega arith)
+none_lowered : (xs ys : List FullnessCode) → min (length xs) (length ys) ≡ 0 → lower_each (views xs) (views ys) ≡ []
+none_lowered [] ys h = refl
+none_lowered (x ∷ xs) [] h = refl
+none_lowered (x ∷ xs) (y ∷ ys) h = absurd (omega arith)
 
 append_none : (xs ys : List Fullness) → ys ≡ [] → xs ++ ys ≡ xs
 append_none [] ys e = e
@@ -29,7 +29,7 @@ pub lowered_all : (xs ys : List FullnessCode) (whole : List Fullness) (i n : ℕ
 lowered_all xs ys whole i n d e k =
     let h : Lowered xs ys n whole = let P : ℕ → Type 0 = λ m. Lowered xs ys m whole in subst P d k in
     let none : min (length (drop n xs)) (length (drop n ys)) ≡ 0 = omega (arith, length-drop n xs, length-drop n ys) in
-    sym (append_none (views (take n xs)) (lower_each (views (drop n xs)) (views (drop n ys))) (none_left (drop n xs) (drop n ys) none)) ∙ h
+    sym (append_none (views (take n xs)) (lower_each (views (drop n xs)) (views (drop n ys))) (none_lowered (drop n xs) (drop n ys) none)) ∙ h
 
 -- ---- nothing is emptier
 
@@ -80,7 +80,7 @@ both_known : {X : Type 0} (view : X → Ty) (a b : FullnessCode) (ts us : List X
 both_known view a b [] us = each_known view b us
 both_known view a b (t ∷ ts) us = ap (λ as'. view_fullness a ∷ as') (both_known view a b ts us)
 
-pub all_known : {X : Type 0} (view : X → Ty) (a b : FullnessCode) (n m : ℕ) (ts us : List X) → n ≡ length ts → m ≡ length us
+pub fullness_of_each : {X : Type 0} (view : X → Ty) (a b : FullnessCode) (n m : ℕ) (ts us : List X) → n ≡ length ts → m ≡ length us
     → map view_fullness (replicate n a ++ replicate m b) ≡ each_is (view_fullness a) (map view ts) ++ each_is (view_fullness b) (map view us)
-all_known view a b n m ts us d e =
+fullness_of_each view a b n m ts us d e =
     ap (λ (k : ℕ). map view_fullness (replicate k a ++ replicate m b)) d ∙ ap (λ (k : ℕ). map view_fullness (replicate (length ts) a ++ replicate k b)) e ∙ both_known view a b ts us

@@ -9,14 +9,14 @@ use Rattle.cyc_types.specs.flow.Touched.{touched_operations}
 use Rattle.cyc_types.specs.flow.Expressions.{rule, rule_operations}
 use Rattle.cyc_flow.specs.inside.Steps.{rule_operation, touched_operation}
 
-met : {X : Type 0} (r : Checked State) (f : State) (next : State → Checked X) → and_then r (λ g. next (meet f g)) ≡ and_then (and_then r (λ g. Ok (meet f g))) next
-met (Ok g) f next = refl
-met (Err x) f next = refl
+met_before_next : {X : Type 0} (r : Checked State) (f : State) (next : State → Checked X) → and_then r (λ g. next (meet f g)) ≡ and_then (and_then r (λ g. Ok (meet f g))) next
+met_before_next (Ok g) f next = refl
+met_before_next (Err x) f next = refl
 
 pub operation_run : (q : List ℕ) (o : Operation) (os : List Operation) (f : State)
     → run (rule_operations q (operations_of (o ∷ os)) f) ≡ and_then (run (rule_operation q o f)) (λ g. run (rule_operations q (operations_of os) g))
 operation_run q (operation.Compute w o e) os f = refl
-operation_run q (operation.Test o e) os f = met (run (rule q (view_expression e) f)) f (λ g. run (rule_operations q (operations_of os) g))
+operation_run q (operation.Test o e) os f = met_before_next (run (rule q (view_expression e) f)) f (λ g. run (rule_operations q (operations_of os) g))
 operation_run q (operation.Pointer o e) os f = refl
 operation_run q (operation.PointerPeek n o e) os f = refl
 

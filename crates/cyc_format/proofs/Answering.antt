@@ -8,7 +8,7 @@ use Rattle.cyc_syntax.specs.declared.tokens.Token.{Token as CodeToken}
 use Rattle.cyc_syntax.specs.Tokens.{Token, spelling_of, token_of}
 use Rattle.cyc_syntax.specs.TokenRule.{AreTokensOf}
 use Rattle.cyc_lex.specs.Refusals.{IsAccepted, IsRefused}
-use Rattle.cyc_lex.proofs.AnswerLemmas.{is_decided}
+use Rattle.cyc_lex.proofs.AnswerLemmas.{text_is_decided}
 use Rattle.cyc_format.specs.Formatted.{HasSameTokens, kinds_of}
 use Rattle.cyc_format.proofs.SameTokens.{same_kinds}
 
@@ -17,7 +17,7 @@ module _ {X : Type 0} (view : X → List ℕ) (text : List ℕ) where
   pub laid_out : (x : X) (tokens others : List Token) → IsAccepted text tokens → IsAccepted (view x) others → kinds_of others ≡ kinds_of tokens
       → Decides (IsAccepted text) (λ ts y. HasSameTokens ts (view y)) (IsRefused text) (IsRefused text) (Ok x)
   laid_out x tokens others accepted also same =
-      decides (IsAccepted text) (λ ts y. HasSameTokens ts (view y)) (IsRefused text) (IsRefused text) (is_decided text) (Ok x) (tokens, accepted, (others, also, same)) tt
+      decides (IsAccepted text) (λ ts y. HasSameTokens ts (view y)) (IsRefused text) (IsRefused text) (text_is_decided text) (Ok x) (tokens, accepted, (others, also, same)) tt
 
   -- what was compared with the text
   pub kept : (x : X) (ts us : List CodeToken) → (a : List Token) × IsAccepted text a × (map (token_of text) ts ≡ a) → AreTokensOf text ts
@@ -30,4 +30,4 @@ module _ {X : Type 0} (view : X → List ℕ) (text : List ℕ) where
   -- its fault, or want of memory
   pub refused : (fault : Fault) → (fault ≡ memory_fault) ⊎ IsRefused text fault
       → Decides (IsAccepted text) (λ ts y. HasSameTokens ts (view y)) (IsRefused text) (IsRefused text) (Err fault)
-  refused fault why = decides (IsAccepted text) (λ ts y. HasSameTokens ts (view y)) (IsRefused text) (IsRefused text) (is_decided text) (Err fault) tt why
+  refused fault why = decides (IsAccepted text) (λ ts y. HasSameTokens ts (view y)) (IsRefused text) (IsRefused text) (text_is_decided text) (Err fault) tt why

@@ -44,11 +44,11 @@ module _ (text other : List ℕ) where
       ap (λ (k : Kind). k ∷ kinds_of (map (token_of other) us)) here ∙ ap (λ (ks : List Kind). kind_of (spelling_of text t) t.kind ∷ ks) rest
 
 -- one token more that is spelled alike
-pub one_more : (text other : List ℕ) (ts us : List CodeToken) (i : ℕ) (d e : CodeToken) → i < length ts → i < length us
+pub one_token_more : (text other : List ℕ) (ts us : List CodeToken) (i : ℕ) (d e : CodeToken) → i < length ts → i < length us
     → map (spelling_of text) (take i ts) ≡ map (spelling_of other) (take i us)
     → spelling_of text (get_or ts i d) ≡ spelling_of other (get_or us i e)
     → map (spelling_of text) (take (i + 1) ts) ≡ map (spelling_of other) (take (i + 1) us)
-one_more text other ts us i d e within also before here =
+one_token_more text other ts us i d e within also before here =
     ap (map (spelling_of text)) (take_more ts i d within) ∙ map-append (spelling_of text) (take i ts) (get_or ts i d ∷ [])
     ∙ ap (λ (a : List (List ℕ)). a ++ spelling_of text (get_or ts i d) ∷ []) before
     ∙ ap (λ (b : List ℕ). map (spelling_of other) (take i us) ++ b ∷ []) here

@@ -43,10 +43,10 @@ noted_whole table ps =
     ∙ take_all (length table) (noted_places table ps) (omega (arith, long))
 
 -- the region of a table at a variable's number
-pub known_at : (table : List (Option Region)) (n : ℕ) (o : Option Region) (d : Region) → slice_get table n ≡ Some o → slice_index_or (instance_in table) n d ≡ unwrap_or o Heap
-known_at [] n o d h = absurd (cc)
-known_at (x ∷ xs) zero o d h = ap (λ y. unwrap_or y Heap) (same_Some x o h)
-known_at (x ∷ xs) (suc n) o d h = known_at xs n o d h
+pub instance_at : (table : List (Option Region)) (n : ℕ) (o : Option Region) (d : Region) → slice_get table n ≡ Some o → slice_index_or (instance_in table) n d ≡ unwrap_or o Heap
+instance_at [] n o d h = absurd (cc)
+instance_at (x ∷ xs) zero o d h = ap (λ y. unwrap_or y Heap) (same_Some x o h)
+instance_at (x ∷ xs) (suc n) o d h = instance_at xs n o d h
 
 pub unknown_at : (table : List (Option Region)) (n : ℕ) (d : Region) → slice_get table n ≡ None → slice_index_or (instance_in table) n d ≡ d
 unknown_at [] n d h = refl
@@ -179,27 +179,27 @@ noted_from-not (o ∷ os) n r s h =
     ap (λ x. x ∷ noted_from os (suc n) (r, s)) (noted_one-not o n r s (h n (omega arith)))
     ∙ ap (λ xs. o ∷ xs) (noted_from-not os (suc n) r s (λ k le. h k (omega (arith, le))))
 
-below : (m k : ℕ) → m < k → region_eq (Variable m) (Variable k) ≡ false
-below m k l = grind (arith, nat_tests)
+below_is_another : (m k : ℕ) → m < k → region_eq (Variable m) (Variable k) ≡ false
+below_is_another m k l = grind (arith, nat_tests)
 
-above : (m k : ℕ) → m < k → region_eq (Variable k) (Variable m) ≡ false
-above m k l = grind (arith, nat_tests)
+above_is_another : (m k : ℕ) → m < k → region_eq (Variable k) (Variable m) ≡ false
+above_is_another m k l = grind (arith, nat_tests)
 
-same : (m k : ℕ) → m ≡ k → region_eq (Variable m) (Variable k) ≡ true
-same m k e = eq-eqb m k e
+same_variable : (m k : ℕ) → m ≡ k → region_eq (Variable m) (Variable k) ≡ true
+same_variable m k e = eq-eqb m k e
 
 -- the table at a variable's number is where its first place stands
 noted_from-at : (table : List (Option Region)) (n m : ℕ) (s : Region) → noted_from table n (Variable (n + m), s) ≡ noted_at (slice_get table m) m s table
 noted_from-at [] n m s = refl
 noted_from-at (o ∷ os) n zero s =
-    ap (λ xs. noted_one o n (Variable (n + 0), s) ∷ xs) (noted_from-not os (suc n) (Variable (n + 0)) s (λ k le. below (n + 0) k (omega (arith, le))))
+    ap (λ xs. noted_one o n (Variable (n + 0), s) ∷ xs) (noted_from-not os (suc n) (Variable (n + 0)) s (λ k le. below_is_another (n + 0) k (omega (arith, le))))
     ∙ at_head o
   where
     at_head : (o : Option Region) → noted_one o n (Variable (n + 0), s) ∷ os ≡ noted_at (Some o) 0 s (o ∷ os)
     at_head (Some r) = refl
-    at_head None = ap (λ b. cond b (Some s) None ∷ os) (same (n + 0) n (omega arith))
+    at_head None = ap (λ b. cond b (Some s) None ∷ os) (same_variable (n + 0) n (omega arith))
 noted_from-at (o ∷ os) n (suc m) s =
-    ap (λ x. x ∷ noted_from os (suc n) (Variable (n + suc m), s)) (noted_one-not o n (Variable (n + suc m)) s (above n (n + suc m) (omega arith)))
+    ap (λ x. x ∷ noted_from os (suc n) (Variable (n + suc m), s)) (noted_one-not o n (Variable (n + suc m)) s (above_is_another n (n + suc m) (omega arith)))
     ∙ ap (λ k. o ∷ noted_from os (suc n) (Variable k, s)) (next n m)
     ∙ ap (λ xs. o ∷ xs) (noted_from-at os (suc n) m s) ∙ behind (slice_get os m)
   where

@@ -134,8 +134,8 @@ set_more (c ∷ cs) (u ∷ ts) (suc i) t h =
 
 -- ---- calls
 
-pub counted : (cs : List ConvertedCode) (ts : List TyCode) → nat_eq (length (map value_in cs)) (length (map view_ty ts)) ≡ nat_eq (length cs) (length ts)
-counted cs ts = ap (λ n. nat_eq n (length (map view_ty ts))) (length-map cs value_in) ∙ ap (nat_eq (length cs)) (length-map ts view_ty)
+pub as_many_values : (cs : List ConvertedCode) (ts : List TyCode) → nat_eq (length (map value_in cs)) (length (map view_ty ts)) ≡ nat_eq (length cs) (length ts)
+as_many_values cs ts = ap (λ n. nat_eq n (length (map view_ty ts))) (length-map cs value_in) ∙ ap (nat_eq (length cs)) (length-map ts view_ty)
 
 -- what a value is converted to is the same at each call
 passed_alike : (m : List Region) (as' : List typed.Expression) (ts : List Ty) → passed as' (map (substituted_ty m) ts) ≡ passed as' ts

@@ -24,8 +24,8 @@ settled_four known k l m n as' bs cs ds h i j e =
 
 -- ---- what two lists of demands settle to, each by itself
 
-between : (k m n : ℕ) → nat_lt m n ≡ true → nat_lt k m ≡ true → nat_lt k n ≡ true
-between k m n g h = grind (arith, nat_tests)
+less_of_less : (k m n : ℕ) → nat_lt m n ≡ true → nat_lt k m ≡ true → nat_lt k n ≡ true
+less_of_less k m n g h = grind (arith, nat_tests)
 
 not_between : (k m n : ℕ) → nat_lt m n ≡ false → nat_lt k m ≡ false → nat_lt k n ≡ false
 not_between k m n g h = grind (arith, nat_tests)
@@ -55,7 +55,7 @@ lesser_lesser (Some e) f g =
     let m = number_of e.code in
     let n = number_of f.code in
     let k = number_of g.code in
-    first_test (nat_lt n m) e f g ∙ by_tests (nat_lt n m) (nat_lt k n) (nat_lt k m) e f g (between k n m) (not_between k n m) ∙ sym (second_test (nat_lt k n) e f g)
+    first_test (nat_lt n m) e f g ∙ by_tests (nat_lt n m) (nat_lt k n) (nat_lt k m) e f g (less_of_less k n m) (not_between k n m) ∙ sym (second_test (nat_lt k n) e f g)
 
 merged_noted : (known : Option Fault) (d : Demand) (o : Option Fault) → merged (noted known d) o ≡ merged known (merged (noted None d) o)
 merged_noted known d o = by_test d.kept o

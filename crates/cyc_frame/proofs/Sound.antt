@@ -99,8 +99,8 @@ some_large program place fault some code line column =
     }
 
 -- a program with small frames has none that is too large
-pub not_both : (program : Program) (fault : Fault) → HasSmallFrames program → IsTooLarge program fault → ⊥
-not_both program fault small large = omega (arith, small large.function large.is_function, large.large)
+pub not_small_and_large : (program : Program) (fault : Fault) → HasSmallFrames program → IsTooLarge program fault → ⊥
+not_small_and_large program fault small large = omega (arith, small large.function large.is_function, large.large)
 
 same_fault : (f g : Fault) → f.code ≡ g.code → f.line ≡ g.line → f.column ≡ g.column → f ≡ g
 same_fault f g code line column = λ i. record { code = code i; line = line i; column = column i }
@@ -282,22 +282,22 @@ layout_is_decided program =
     record {
       one = λ a b first second. first.0 ∙ sym second.0;
       same = one_first program;
-      never_refused = λ a fault accepted large. not_both program fault (subst HasSmallFrames accepted.0 accepted.1) large;
-      never_faulty = λ a fault accepted large. not_both program fault (subst HasSmallFrames accepted.0 accepted.1) large;
+      never_refused = λ a fault accepted large. not_small_and_large program fault (subst HasSmallFrames accepted.0 accepted.1) large;
+      never_faulty = λ a fault accepted large. not_small_and_large program fault (subst HasSmallFrames accepted.0 accepted.1) large;
     }
 
 abbrev Answers : Program → Result (List Frame) Fault → Type 0
 Answers program result = Decides (IsAccepted program) AreFrames (IsTooLarge program) (IsTooLarge program) result
 
-refused : (program : Program) (fault : Fault) → (fault ≡ memory_fault) ⊎ IsTooLarge program fault → Answers program (Err fault)
-refused program fault why =
+answers_refused : (program : Program) (fault : Fault) → (fault ≡ memory_fault) ⊎ IsTooLarge program fault → Answers program (Err fault)
+answers_refused program fault why =
     decides (IsAccepted program) AreFrames (IsTooLarge program) (IsTooLarge program) (layout_is_decided program) (Err fault) tt why
 
 module _ (program : Program) (functions : List Function) (are : map routine_of functions ≡ program.functions) where
   pub too_large : (place : Span) (fault : Fault) → first_too_large (map routine_of functions) ≡ Some place
       → fault.code ≡ faults.FrameTooLarge → fault.line ≡ place.line → fault.column ≡ place.column → Answers program (Err fault)
   too_large place fault some code line column =
-      refused program fault (inr (some_large program place fault (ap first_too_large (sym are) ∙ some) code line column))
+      answers_refused program fault (inr (some_large program place fault (ap first_too_large (sym are) ∙ some) code line column))
 
   pub small_frames : first_too_large (map routine_of functions) ≡ None → HasSmallFrames program
   small_frames none = none_large program (ap first_too_large (sym are) ∙ none)

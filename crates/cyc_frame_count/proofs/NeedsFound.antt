@@ -22,7 +22,7 @@ use Rattle.cyc_types.specs.Types.{Ty, words_of}
 use Rattle.cyc_types.specs.TypeView.{view_ty, view_value_type}
 use Rattle.cyc_types.specs.TypedTrees.{type_of, Arguments, Clauses, NoClauses}
 use Rattle.cyc_types.specs.TypedTreeView.{view_expression, view_initial, view_statement, arguments_of, operations_of, items_of, clauses_of, default_of}
-use Rattle.cyc_types.proofs.TypedTreeViewLemmas.{view_call, view_binary, view_fields, view_block, view_try}
+use Rattle.cyc_types.proofs.TypedTreeViewLemmas.{view_typed_call, view_typed_binary, view_typed_fields, view_block, view_typed_try}
 use Rattle.cyc_meaning.specs.FrameCount.{result_words, operand_words, expression_need, initial_value_need, argument_words, arguments_need, operations_need, statement_need, items_need, clauses_need, kept_by, kept_by_items, kept_by_clauses, words_of_all}
 use Rattle.cyc_frame_count.specs.inside.Needs.{operands_need}
 
@@ -57,9 +57,9 @@ abbrev pub ClausesKeptLeft : List Clause → (i words : ℕ) → Type 0
 ClausesKeptLeft cs i words = words + kept_by_clauses (clauses_of (drop i cs) NoClauses) ≡ kept_by_clauses (clauses_of cs NoClauses)
 
 -- the default clause stands behind the others
-pub clauses_with : (cs : List Clause) (default : Clauses) → clauses_need (clauses_of cs default) ≡ max (clauses_need (clauses_of cs NoClauses)) (clauses_need default)
-clauses_with [] default = omega arith
-clauses_with (c ∷ cs) default = omega (arith, clauses_with cs default)
+pub clauses_need_with : (cs : List Clause) (default : Clauses) → clauses_need (clauses_of cs default) ≡ max (clauses_need (clauses_of cs NoClauses)) (clauses_need default)
+clauses_need_with [] default = omega arith
+clauses_need_with (c ∷ cs) default = omega (arith, clauses_need_with cs default)
 
 pub clauses_kept_with : (cs : List Clause) (default : Clauses) → kept_by_clauses (clauses_of cs default) ≡ kept_by_clauses (clauses_of cs NoClauses) + kept_by_clauses default
 clauses_kept_with [] default = omega arith
@@ -84,19 +84,19 @@ nothing_before cs own = omega arith
 pub call_needs : (value : Expr) {w : _} (f : Callee) (v : Vec ConvertedCode Heap) (t : ValueTypeCode) → value ≡ expr.Call w f v t → (items : List ConvertedCode) → items ≡ v.items
     → expression_need (view_expression value) ≡ operands_need (arguments_of items) 0 (result_words (view_value_type t))
 call_needs value {w} f v t is items same =
-    ap (λ (x : Expr). expression_need (view_expression x)) is ∙ ap expression_need (view_call w f v t) ∙ nothing_before (arguments_of v.items) (result_words (view_value_type t))
+    ap (λ (x : Expr). expression_need (view_expression x)) is ∙ ap expression_need (view_typed_call w f v t) ∙ nothing_before (arguments_of v.items) (result_words (view_value_type t))
     ∙ ap (λ (cs : List ConvertedCode). operands_need (arguments_of cs) 0 (result_words (view_value_type t))) (sym same)
 
 pub fields_need : (value : Initial) (v : Vec ConvertedCode Heap) (handle own : ℕ) → value ≡ initial.Fields v → (items : List ConvertedCode) → items ≡ v.items
     → initial_value_need (view_initial value) handle own ≡ operands_need (arguments_of items) handle own
 fields_need value v handle own is items same =
-    ap (λ (x : Initial). initial_value_need (view_initial x) handle own) is ∙ ap (λ x. initial_value_need x handle own) (view_fields v)
+    ap (λ (x : Initial). initial_value_need (view_initial x) handle own) is ∙ ap (λ x. initial_value_need x handle own) (view_typed_fields v)
     ∙ ap (λ (cs : List ConvertedCode). operands_need (arguments_of cs) handle own) (sym same)
 
 pub binary_needs : (value : Expr) (b : Box Expr Heap) (v : Vec Operation Heap) (t : TyCode) → value ≡ expr.Binary b v t → (first : Expr) → first ≡ b.value → (items : List Operation) → items ≡ v.items
     → expression_need (view_expression value) ≡ max (expression_need (view_expression first)) (operations_need (operations_of items) (view_ty t) (operand_words (type_of (view_expression first))))
 binary_needs value b v t is first at items same =
-    ap (λ (x : Expr). expression_need (view_expression x)) is ∙ ap expression_need (view_binary b v t)
+    ap (λ (x : Expr). expression_need (view_expression x)) is ∙ ap expression_need (view_typed_binary b v t)
     ∙ ap (λ (x : Expr). max (expression_need (view_expression x)) (operations_need (operations_of v.items) (view_ty t) (operand_words (type_of (view_expression x))))) (sym at)
     ∙ ap (λ (os : List Operation). max (expression_need (view_expression first)) (operations_need (operations_of os) (view_ty t) (operand_words (type_of (view_expression first))))) (sym same)
 
@@ -111,14 +111,14 @@ block_keeps value r v is items same =
 module _ (value : Stmt) {w : _} (b : Box Stmt Heap) (v : Vec Clause Heap) (d : Option Body) (is : value ≡ stmt.Try w b v d) (body : Stmt) (at : body ≡ b.value) (clauses : List Clause) (same : clauses ≡ v.items) where
   pub try_needs : statement_need (view_statement value) ≡ max (statement_need (view_statement body)) (max (clauses_need (clauses_of clauses NoClauses)) (clauses_need (default_of d)))
   try_needs =
-      ap (λ (x : Stmt). statement_need (view_statement x)) is ∙ ap statement_need (view_try w b v d)
-      ∙ ap (λ (n : ℕ). max (statement_need (view_statement b.value)) n) (clauses_with v.items (default_of d))
+      ap (λ (x : Stmt). statement_need (view_statement x)) is ∙ ap statement_need (view_typed_try w b v d)
+      ∙ ap (λ (n : ℕ). max (statement_need (view_statement b.value)) n) (clauses_need_with v.items (default_of d))
       ∙ ap (λ (x : Stmt). max (statement_need (view_statement x)) (max (clauses_need (clauses_of v.items NoClauses)) (clauses_need (default_of d)))) (sym at)
       ∙ ap (λ (cs : List Clause). max (statement_need (view_statement body)) (max (clauses_need (clauses_of cs NoClauses)) (clauses_need (default_of d)))) (sym same)
 
   pub try_keeps : kept_by (view_statement value) ≡ 6 + kept_by (view_statement body) + (kept_by_clauses (clauses_of clauses NoClauses) + kept_by_clauses (default_of d))
   try_keeps =
-      ap (λ (x : Stmt). kept_by (view_statement x)) is ∙ ap kept_by (view_try w b v d)
+      ap (λ (x : Stmt). kept_by (view_statement x)) is ∙ ap kept_by (view_typed_try w b v d)
       ∙ ap (λ (n : ℕ). 6 + kept_by (view_statement b.value) + n) (clauses_kept_with v.items (default_of d))
       ∙ ap (λ (x : Stmt). 6 + kept_by (view_statement x) + (kept_by_clauses (clauses_of v.items NoClauses) + kept_by_clauses (default_of d))) (sym at)
       ∙ ap (λ (cs : List Clause). 6 + kept_by (view_statement body) + (kept_by_clauses (clauses_of cs NoClauses) + kept_by_clauses (default_of d))) (sym same)

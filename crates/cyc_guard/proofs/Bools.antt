@@ -29,9 +29,9 @@ same_told n = grind (arith, nat_tests)
 pub not_false : (b : Bool) → b ≡ false → not b ≡ true
 not_false b h = ap not h
 
-pub or_false : (b : Bool) → b ≡ (b || false)
-or_false true = refl
-or_false false = refl
+pub from_or_false : (b : Bool) → b ≡ (b || false)
+from_or_false true = refl
+from_or_false false = refl
 
 pub or_true : (b : Bool) → (b || true) ≡ true
 or_true true = refl

@@ -4,7 +4,7 @@ use Rattle.std.proofs.Common.{◌≡◌, ◌⊎◌, ℕ, Bool, true, false, cond
 use Rattle.std.proofs.lemmas.Bool.{not-true}
 use Rattle.cyc_types.specs.flow.States.{Fullness, Vacant, Locked, Full, State, Unreached, Reached, lower, meet, fullness, with_fullness, with_each, is_vacant, is_locked, emptied}
 use Rattle.cyc_guard.specs.inside.Held.{Held, Holds, IsAtLeast, updated, Guard, peeking}
-use Rattle.cyc_guard.proofs.Bools.{Told, same, other, told, not_false, or_false, or_true, or_assoc, refuted, has, has_append}
+use Rattle.cyc_guard.proofs.Bools.{Told, same, other, told, not_false, from_or_false, or_true, or_assoc, refuted, has, has_append}
 use Rattle.cyc_guard.proofs.States.{is_full, held_of, set_there, set_other, set_at, lower_at, at_least_trans, emptied_one, emptied_never, Emptied, emptied_at, refilled_never, Refilled, refilled_at}
 
 abbrev pub FitsAt : Guard → ℕ → Fullness → Type 0
@@ -49,16 +49,16 @@ pub not_relied : (p : Guard) (n : ℕ) (ns : List ℕ) → Rests p ns → has ns
 not_relied p n ns r h k = refuted (p.relied n) (p.locked n) (λ s. r n s h) k
 
 -- a number that is not locked gets a value
-pub filled : (p : Guard) (e : Bool) (f : State) (n : ℕ) → Fits p e f → p.locked n ≡ false → Fits p e (with_fullness Full f n)
-filled p true f n h k = ap (λ x. with_fullness Full x n) h
-filled p false Unreached n h k = tt
-filled p false (Reached as') n h k = fits_set p as' n Full h (full_fits p n k)
+pub filled_fits : (p : Guard) (e : Bool) (f : State) (n : ℕ) → Fits p e f → p.locked n ≡ false → Fits p e (with_fullness Full f n)
+filled_fits p true f n h k = ap (λ x. with_fullness Full x n) h
+filled_fits p false Unreached n h k = tt
+filled_fits p false (Reached as') n h k = fits_set p as' n Full h (full_fits p n k)
 
 -- a number that is not locked, and on which nothing relies, is emptied
-pub vacated : (p : Guard) (e : Bool) (f : State) (n : ℕ) → Fits p e f → p.locked n ≡ false → p.relied n ≡ false → Fits p e (with_fullness Vacant f n)
-vacated p true f n h k l = ap (λ x. with_fullness Vacant x n) h
-vacated p false Unreached n h k l = tt
-vacated p false (Reached as') n h k l = fits_set p as' n Vacant h (vacant_fits p n k l)
+pub vacated_fits : (p : Guard) (e : Bool) (f : State) (n : ℕ) → Fits p e f → p.locked n ≡ false → p.relied n ≡ false → Fits p e (with_fullness Vacant f n)
+vacated_fits p true f n h k l = ap (λ x. with_fullness Vacant x n) h
+vacated_fits p false Unreached n h k l = tt
+vacated_fits p false (Reached as') n h k l = fits_set p as' n Vacant h (vacant_fits p n k l)
 
 -- the same where only the rules say that it is not locked
 pub moved_out : (p : Guard) (e : Bool) (f : State) (n : ℕ) (ns : List ℕ) → Fits p e f → Rests p ns → has ns n ≡ true → not (is_locked (fullness f n)) ≡ true → Fits p e (with_fullness Vacant f n)
@@ -116,7 +116,7 @@ Leaves ls p false o false = (n : ℕ) → LeavesAt (has ls n) p o n
 
 pub leaves_none : (p : Guard) (e : Bool) → Leaves [] p e p e
 leaves_none p true = tt
-leaves_none p false = λ n. (or_false (p.locked n), λ h. absurd (cc), λ s. s)
+leaves_none p false = λ n. (from_or_false (p.locked n), λ h. absurd (cc), λ s. s)
 
 composed_lock : (w0 w1 h1 h2 : Bool) → w1 ≡ (w0 || h1) → (h1 ≡ true → w0 ≡ false) → (h2 ≡ true → w1 ≡ false) → (h1 || h2) ≡ true → w0 ≡ false
 composed_lock w0 w1 true h2 a b c h = b refl
@@ -152,7 +152,7 @@ module _ (ls : List ℕ) (p o : Guard) (as' : List Fullness) (x : (n : ℕ) → 
       go : (b : Bool) → has ls n ≡ b → FitsAt o n (get_or bs n Vacant)
       go true l = subst (FitsAt o n) (sym (full n l (listed_full n l))) (full_fits o n ((x n).1 l))
       go false l =
-          subst (FitsAt o n) (sym (rest n l)) ((h n).0 ∙ (x n).0 ∙ ap (λ t. o.locked n || t) l ∙ sym (or_false (o.locked n)), λ s. (h n).1 ((x n).2 s))
+          subst (FitsAt o n) (sym (rest n l)) ((h n).0 ∙ (x n).0 ∙ ap (λ t. o.locked n || t) l ∙ sym (from_or_false (o.locked n)), λ s. (h n).1 ((x n).2 s))
 
   again_full : (bs : List Fullness) → ((n : ℕ) → has ls n ≡ false → get_or bs n Vacant ≡ get_or as' n Vacant) → (n : ℕ) → is_full bs n ≡ true → is_full as' n ≡ true
   again_full bs rest n = go (has ls n) refl
@@ -194,7 +194,7 @@ leaves_lent p m h n = go (nat_eq m n) (told m n)
     go : (b : Bool) → Told m n b
         → (cond b true (p.locked n) ≡ (p.locked n || (b || false))) × ((b || false) ≡ true → p.locked n ≡ false) × (p.relied n ≡ true → p.relied n ≡ true)
     go true (same e) = (sym (or_true (p.locked n)), λ k. subst (λ i. p.locked i ≡ false) e h, λ s. s)
-    go false (other k) = (or_false (p.locked n), λ l. absurd (cc), λ s. s)
+    go false (other k) = (from_or_false (p.locked n), λ l. absurd (cc), λ s. s)
 
 -- behind an item that lends one out and declares another
 pub record Lent (p : Guard) (e : Bool) (m : ℕ) (f : State) : Type 0 where
@@ -211,11 +211,11 @@ fits_lent p as' m h v n = go (nat_eq m n) (told m n)
         (ap is_locked l, λ s. ap is_vacant l)
     go false (other k) = subst (FitsAt p n) (sym (set_other as' m Locked n k)) (h n)
 
-pub lent : (p : Guard) (e : Bool) (n m : ℕ) (f : State) → Fits p e f → updated p.locked m true n ≡ false → not (is_vacant (fullness f m)) ≡ true → not (is_locked (fullness f m)) ≡ true
+pub lent_filled : (p : Guard) (e : Bool) (n m : ℕ) (f : State) → Fits p e f → updated p.locked m true n ≡ false → not (is_vacant (fullness f m)) ≡ true → not (is_locked (fullness f m)) ≡ true
     → Lent p e m (with_fullness Full (with_fullness Locked f m) n)
-lent p true n m f h new v l = record { never = true; leaves = tt; fits = ap (λ x. with_fullness Full (with_fullness Locked x m) n) h }
-lent p false n m Unreached h new v l = record { never = true; leaves = tt; fits = refl }
-lent p false n m (Reached as') h new v l = record {
+lent_filled p true n m f h new v l = record { never = true; leaves = tt; fits = ap (λ x. with_fullness Full (with_fullness Locked x m) n) h }
+lent_filled p false n m Unreached h new v l = record { never = true; leaves = tt; fits = refl }
+lent_filled p false n m (Reached as') h new v l = record {
   never = false;
   leaves = leaves_lent p m (not_locked p as' m h l);
   fits = fits_set (lending m p) (slice_set as' m Locked) n Full (fits_lent p as' m h (not-true (is_vacant (get_or as' m Vacant)) v)) (full_fits (lending m p) n new);

@@ -14,7 +14,7 @@ use Rattle.cyc_guard.specs.inside.Held.{IsAtLeast, Guard}
 use Rattle.cyc_guard.specs.inside.Statements.{behind_item}
 use Rattle.cyc_guard.proofs.Bools.{has_left, has_right, has_last, updated_true}
 use Rattle.cyc_guard.proofs.States.{held_of, at_least_same, at_least_trans, meet_left}
-use Rattle.cyc_guard.proofs.Fitting.{Fits, Rests, fits_never, filled, vacated, moved_out, put_in, not_relied, fits_meet, emptied_fits, Leaves, leaves_none, leaves_append, unlocked, lending, Lent, lent}
+use Rattle.cyc_guard.proofs.Fitting.{Fits, Rests, fits_never, filled_fits, vacated_fits, moved_out, put_in, not_relied, fits_meet, emptied_fits, Leaves, leaves_none, leaves_append, unlocked, lending, Lent, lent_filled}
 use Rattle.cyc_guard.proofs.Numbers.{IsFreshCaught, IsFresh, AreFresh, IsFreshItem, AreFreshClauses}
 
 -- ---- what is touched before is touched behind
@@ -225,8 +225,8 @@ module _ (p : Guard) (e : Bool) where
 
   pub followed_declaration : (n : ℕ) (v : Option Converted) (f g : State) (ns : List ℕ) → Fits p e f → p.locked n ≡ false → Rests p (touched_declaration n v ns)
       → Derives (rule_declared n v f) g → Fits p e g
-  followed_declaration n None f g ns h new r (u, eq) = subst (Fits p e) (sym eq) (vacated p e f n h new (not_relied p n (and_local n ns) r (has_last ns n) new))
-  followed_declaration n (Some c) f g ns h new r (b, x, (u, eq)) = subst (Fits p e) (sym eq) (filled p e b n (followed_converted c [] f b ns h r x) new)
+  followed_declaration n None f g ns h new r (u, eq) = subst (Fits p e) (sym eq) (vacated_fits p e f n h new (not_relied p n (and_local n ns) r (has_last ns n) new))
+  followed_declaration n (Some c) f g ns h new r (b, x, (u, eq)) = subst (Fits p e) (sym eq) (filled_fits p e b n (followed_converted c [] f b ns h r x) new)
 
 -- ---- statements
 
@@ -252,7 +252,7 @@ lent_fits p e o d m l x b = (x.never, x.leaves, x.fits, b)
 
 pub caught_fits : (p : Guard) (e : Bool) (n : Option ℕ) (f : State) → Fits p e f → IsFreshCaught p.locked n → Fits p e (with_caught n f)
 caught_fits p e None f h new = h
-caught_fits p e (Some n) f h new = filled p e f n h new
+caught_fits p e (Some n) f h new = filled_fits p e f n h new
 
 mutual
   pub followed_statement : (p : Guard) (e : Bool) (o : Guard) (d : Bool) (c : Around) (s : Statement) (k l : Known) (ns : List ℕ)
@@ -310,13 +310,13 @@ mutual
   followed_item p e o d c (Declare n t v) k l ns h i w new r (f, x, (u, eq)) =
       subst (ItemFits (Declare n t v) p e o d) (sym eq) (e, leaves_none p e, followed_declaration p e n v k.now f ns h new r x, i)
   followed_item p e o d c (DeclareRegion b n) k l ns h i w new r (u, eq) =
-      subst (ItemFits (DeclareRegion b n) p e o d) (sym eq) (e, leaves_none p e, filled p e k.now n h new, i)
+      subst (ItemFits (DeclareRegion b n) p e o d) (sym eq) (e, leaves_none p e, filled_fits p e k.now n h new, i)
   followed_item p e o d c (OpenRegion b n q m) k l ns h i w new r (f, ((k1, (k2, v)), is), (u, eq)) =
-      subst (ItemFits (OpenRegion b n q m) p e o d) (sym eq) (lent_fits p e o d m (at f k) (subst (Lent p e m) (sym is) (lent p e n m k.now h new k1 k2)) i)
+      subst (ItemFits (OpenRegion b n q m) p e o d) (sym eq) (lent_fits p e o d m (at f k) (subst (Lent p e m) (sym is) (lent_filled p e n m k.now h new k1 k2)) i)
   followed_item p e o d c (DeclareAlias b n t q m) k l ns h i w new r (f, ((k1, (k2, v)), is), (u, eq)) =
-      subst (ItemFits (DeclareAlias b n t q m) p e o d) (sym eq) (lent_fits p e o d m (at f k) (subst (Lent p e m) (sym is) (lent p e n m k.now h new k1 k2)) i)
+      subst (ItemFits (DeclareAlias b n t q m) p e o d) (sym eq) (lent_fits p e o d m (at f k) (subst (Lent p e m) (sym is) (lent_filled p e n m k.now h new k1 k2)) i)
   followed_item p e o d c (DeclareKey b n) k l ns h i w new r (u, eq) =
-      subst (ItemFits (DeclareKey b n) p e o d) (sym eq) (e, leaves_none p e, filled p e k.now n h new, i)
+      subst (ItemFits (DeclareKey b n) p e o d) (sym eq) (e, leaves_none p e, filled_fits p e k.now n h new, i)
 
   pub followed_clauses : (p : Guard) (e : Bool) (o : Guard) (d : Bool) (c : Around) (start : State) (cs : Clauses) (k l : Known) (ns : List ℕ)
       → Fits p e start → Fits p e k.now → Fits o d k.breaks → Leaves c.locks p e o d → AreFreshClauses p.locked cs → Rests p (touched_clauses cs ns) → Derives (rule_clauses c start cs k) l

@@ -11,7 +11,7 @@ use Rattle.cyc_types.specs.flow.Statements as published
 use Rattle.cyc_guard.specs.inside.Held.{Held, IsAtLeast, with_held, and_held, Guard, peeking, relying, IsSeen, IsUsable, IsAssignable, IsSpared, IsReliable, at_catch}
 use Rattle.cyc_guard.specs.inside.Expressions.{KeepsUse, KeepsAssignment, Keeps, KeepsPlace, KeepsPlacement, KeepsInitial, KeepsConverted, KeepsArguments, KeepsOperations}
 use Rattle.cyc_guard.specs.inside.Statements.{Exits, KeepsValue, KeepsThrown, KeepsSide, IsSwappable, KeepsBreak, KeepsContinue, behind_item, KeepsDeclaration, KeepsLoan, KeepsStatement, KeepsItems, KeepsItem, KeepsClauses}
-use Rattle.cyc_guard.proofs.Bools.{or_false, or_true, has, has_append, has_last}
+use Rattle.cyc_guard.proofs.Bools.{from_or_false, or_true, has, has_append, has_last}
 use Rattle.cyc_guard.proofs.States.{is_full, held_of, at_least_same, at_least_trans, meet_left, meet_right, tested, filled_at_least, emptied_at_least, lent_at_least, emptied_one, emptied_never, Emptied, emptied_at}
 use Rattle.cyc_guard.proofs.Fitting.{FitsAt, Fits, Rests, not_locked, not_relied, fits_meet, emptied_fits, Leaves, leaves_none, leaves_append, unlocked, unlocked_at_least, peeking_fits, peeking_rests}
 use Rattle.cyc_guard.proofs.Numbers.{IsFresh, AreFresh, IsFreshItem, AreFreshClauses}
@@ -24,7 +24,7 @@ Waits p q = (n : ℕ) → p.peeked n ≡ has q n
 
 peek_added : (t x y : Bool) → x ≡ y → cond t true x ≡ (y || (t || false))
 peek_added true x y h = sym (or_true y)
-peek_added false x y h = h ∙ or_false y
+peek_added false x y h = h ∙ from_or_false y
 
 waits_more : (o : Option ℕ) (p : Guard) (q : List ℕ) → Waits p q → Waits (peeking o p) (and_peeked o q)
 waits_more None p q h = h

@@ -45,8 +45,8 @@ lent_below w m k h l n = go (nat_eq k n) (told k n)
     go true (same e) x = omega arith
     go false (other y) x = h n x
 
-below_next : (w : ℕ → Bool) (c : Context) → AreBelow w c.next_local → AreBelow w (suc c.next_local)
-below_next w c h = below_more w c.next_local (suc c.next_local) (omega arith) h
+below_next_local : (w : ℕ → Bool) (c : Context) → AreBelow w c.next_local → AreBelow w (suc c.next_local)
+below_next_local w c h = below_more w c.next_local (suc c.next_local) (omega arith) h
 
 pub next_in_scope : (c : Context) → InScope c.locals c.next_local → (c.next_local < suc c.next_local) × InScope c.locals (suc c.next_local)
 next_in_scope c k = (omega arith, in_scope_more c.locals c.next_local (suc c.next_local) (omega arith) k)
@@ -78,15 +78,15 @@ mutual
   items_fresh w c (MoreItems (Execute s) js) h k (x, y) =
       let m = c.next_local + length (declared_types s) in
       (statement_fresh w c s h k x, items_fresh w (behind c s) js (below_more w c.next_local m (omega arith) h) (in_scope_more c.locals c.next_local m (omega arith) k) y)
-  items_fresh w c (MoreItems (Declare n t v) js) h k (x, i, y) = (next_fresh w c.next_local n h x.0, items_fresh w _ js (below_next w c h) (next_in_scope c k) y)
-  items_fresh w c (MoreItems (DeclareRegion r n) js) h k (q, x, y) = (next_fresh w c.next_local n h x.0, items_fresh w _ js (below_next w c h) (next_in_scope c k) y)
+  items_fresh w c (MoreItems (Declare n t v) js) h k (x, i, y) = (next_fresh w c.next_local n h x.0, items_fresh w _ js (below_next_local w c h) (next_in_scope c k) y)
+  items_fresh w c (MoreItems (DeclareRegion r n) js) h k (q, x, y) = (next_fresh w c.next_local n h x.0, items_fresh w _ js (below_next_local w c h) (next_in_scope c k) y)
   items_fresh w c (MoreItems (OpenRegion r n q m) js) h k (v, x, y) =
       let l : AreBelow (updated w m true) c.next_local = lent_below w c.next_local m h (found_below c.locals c.next_local m _ _ k v.0.1) in
-      (next_fresh (updated w m true) c.next_local n l x.0, items_fresh (updated w m true) _ js (below_next (updated w m true) c l) (next_in_scope c k) y)
+      (next_fresh (updated w m true) c.next_local n l x.0, items_fresh (updated w m true) _ js (below_next_local (updated w m true) c l) (next_in_scope c k) y)
   items_fresh w c (MoreItems (DeclareAlias r n t q m) js) h k (z, v, x, y) =
       let l : AreBelow (updated w m true) c.next_local = lent_below w c.next_local m h (found_below c.locals c.next_local m _ _ k v.1.0.1) in
-      (next_fresh (updated w m true) c.next_local n l x.0, items_fresh (updated w m true) _ js (below_next (updated w m true) c l) (next_in_scope c k) y)
-  items_fresh w c (MoreItems (DeclareKey r n) js) h k (q, x, y) = (next_fresh w c.next_local n h x.0, items_fresh w _ js (below_next w c h) (next_in_scope c k) y)
+      (next_fresh (updated w m true) c.next_local n l x.0, items_fresh (updated w m true) _ js (below_next_local (updated w m true) c l) (next_in_scope c k) y)
+  items_fresh w c (MoreItems (DeclareKey r n) js) h k (q, x, y) = (next_fresh w c.next_local n h x.0, items_fresh w _ js (below_next_local w c h) (next_in_scope c k) y)
 
   clauses_fresh : (w : ℕ → Bool) (c : Context) (cs : Clauses) → AreBelow w c.next_local → InScope c.locals c.next_local → WellTypedClauses c cs → AreFreshClauses w cs
   clauses_fresh w c NoClauses h k x = tt
@@ -97,7 +97,7 @@ mutual
   clauses_fresh w c (Case e (Some n) r js cs) h k (has, x, g, q, y, z) =
       let m = c.next_local + (1 + length (item_types js)) in (
         caught_fresh w c has n h g,
-        items_fresh w _ js (below_next w c h) (next_in_scope c k) y,
+        items_fresh w _ js (below_next_local w c h) (next_in_scope c k) y,
         clauses_fresh w (behind_clause c (Some n) js) cs (below_more w c.next_local m (omega arith) h) (in_scope_more c.locals c.next_local m (omega arith) k) z,
       )
 

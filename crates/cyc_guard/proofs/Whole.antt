@@ -39,9 +39,9 @@ never_ends : (f : State) → not (is_reached f) ≡ true → held_of f ≡ Never
 never_ends Unreached h = refl
 never_ends (Reached as') h = absurd (cc)
 
-ends : (t : Option Ty) (h : Function) (f : State) → AllKept (end_demanded t h.end f) → EndsIn t (held_of f)
-ends None h f k = tt
-ends (Some t) h f (k, u) = never_ends f k
+kept_ends_in : (t : Option Ty) (h : Function) (f : State) → AllKept (end_demanded t h.end f) → EndsIn t (held_of f)
+kept_ends_in None h f k = tt
+kept_ends_in (Some t) h f (k, u) = never_ends f k
 
 -- ---- all functions
 
@@ -52,7 +52,7 @@ function_guarded h new (k, x, (kept, eq)) = (
   full_start h.parameters h.locals,
   kept_items no_guard no_guard false in_function h.body (record { now = start_of h; breaks = Unreached }) k [] (held_of k.now) (held_of k.breaks) (fits_start h.parameters h.locals) tt (leaves_none no_guard false) new
       (λ n s m. absurd (cc)) (λ n. refl) x (at_least_same (held_of k.now)) (at_least_same (held_of k.breaks)),
-  ends h.result h k.now kept,
+  kept_ends_in h.result h k.now kept,
 )
 
 abbrev pub AreAllFresh : List Function → Type 0

@@ -10,8 +10,8 @@ use Rattle.cyc_inline.specs.inside.Opened.{passing}
 use Rattle.cyc_inline.specs.inside.Sites.{chosen_call, place_in}
 use Rattle.cyc_inline.specs.inside.Emission.{part, part_origins, part_count, opened_code, opened_origins, opened_places, opened_end}
 
-pub goes_on : {A : Type 0} (all old new next rest whole : List A) → new ≡ old ++ next → whole ≡ next ++ rest → old ++ whole ≡ all → new ++ rest ≡ all
-goes_on {A} all old new next rest whole is parts before =
+pub rest_goes_on : {A : Type 0} (all old new next rest whole : List A) → new ≡ old ++ next → whole ≡ next ++ rest → old ++ whole ≡ all → new ++ rest ≡ all
+rest_goes_on {A} all old new next rest whole is parts before =
     ap (λ (l : List A). l ++ rest) is ∙ append_assoc old next rest ∙ ap (λ (l : List A). old ++ l) (sym parts) ∙ before
 
 -- one word more is moved
@@ -24,7 +24,7 @@ passed_next destination source count word all old new below is before =
     let to : destination + word + 1 ≡ destination + (word + 1) = omega arith in
     let from : source + word + 1 ≡ source + (word + 1) = omega arith in
     let one : List Instruction = instructions.Move (destination + word) (operands.Slot (source + word)) ∷ [] in
-    goes_on all old new one (passing (destination + (word + 1)) (source + (word + 1)) (count - (word + 1)))
+    rest_goes_on all old new one (passing (destination + (word + 1)) (source + (word + 1)) (count - (word + 1)))
     (passing (destination + word) (source + word) (count - word)) is
     (ap (passing (destination + word) (source + word)) left
     ∙ ap (λ (n : ℕ). one ++ passing n (source + word + 1) (count - (word + 1))) to
@@ -36,7 +36,7 @@ pub repeated_next : {A : Type 0} (x : A) (count word : ℕ) (all old new : List 
     → old ++ replicate (count - word) x ≡ all → new ++ replicate (count - (word + 1)) x ≡ all
 repeated_next {A} x count word all old new below is before =
     let left : count - word ≡ suc (count - (word + 1)) = omega (arith, below) in
-    goes_on all old new (x ∷ []) (replicate (count - (word + 1)) x) (replicate (count - word) x) is
+    rest_goes_on all old new (x ∷ []) (replicate (count - (word + 1)) x) (replicate (count - word) x) is
     (ap (λ (n : ℕ). replicate n x) left) before
 
 -- what a loop has not come to begins with the instruction that it reads
@@ -54,7 +54,7 @@ pub placed_next : (program : Program) (chosen : List ℕ) (in_line : Bool) (code
     → new ++ opened_places program chosen in_line (index + 1) (here + count) (drop (index + 1) code) ≡ all
 placed_next program chosen in_line code index here count i all old new at is many before =
     let next : suc index ≡ index + 1 = omega arith in
-    goes_on all old new (here ∷ []) (opened_places program chosen in_line (index + 1) (here + count) (drop (index + 1) code))
+    rest_goes_on all old new (here ∷ []) (opened_places program chosen in_line (index + 1) (here + count) (drop (index + 1) code))
     (opened_places program chosen in_line index here (drop index code)) is
     (ap (opened_places program chosen in_line index here) (drop_at code index i at)
     ∙ ap (λ (n : ℕ). here ∷ opened_places program chosen in_line n (here + part_count program in_line (chosen_call i (place_in chosen index))) (drop (index + 1) code)) next
@@ -80,7 +80,7 @@ pub opened_next : (program : Program) (number : ℕ) (chosen : List ℕ) (place 
 opened_next program number chosen place rest in_line code index i all old new at is before =
     let next : suc index ≡ index + 1 = omega arith in
     let here = part program number place rest in_line index i (chosen_call i (place_in chosen index)) in
-    goes_on all old new here (opened_code program number chosen place rest in_line (index + 1) (drop (index + 1) code))
+    rest_goes_on all old new here (opened_code program number chosen place rest in_line (index + 1) (drop (index + 1) code))
     (opened_code program number chosen place rest in_line index (drop index code)) is
     (ap (opened_code program number chosen place rest in_line index) (drop_at code index i at)
     ∙ ap (λ (n : ℕ). here ++ opened_code program number chosen place rest in_line n (drop (index + 1) code)) next)
@@ -94,7 +94,7 @@ pub opened_origins_next : (program : Program) (number : ℕ) (chosen : List ℕ)
 opened_origins_next program number chosen in_line code index i all old new at is before =
     let next : suc index ≡ index + 1 = omega arith in
     let here = part_origins program number in_line index (chosen_call i (place_in chosen index)) in
-    goes_on all old new here (opened_origins program number chosen in_line (index + 1) (drop (index + 1) code))
+    rest_goes_on all old new here (opened_origins program number chosen in_line (index + 1) (drop (index + 1) code))
     (opened_origins program number chosen in_line index (drop index code)) is
     (ap (opened_origins program number chosen in_line index) (drop_at code index i at)
     ∙ ap (λ (n : ℕ). here ++ opened_origins program number chosen in_line n (drop (index + 1) code)) next)

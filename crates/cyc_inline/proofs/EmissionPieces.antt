@@ -27,17 +27,17 @@ get_back (y ∷ front) back k =
 pub stands_whole : {A : Type 0} (all : List A) → StandsAt all all 0
 stands_whole all k x is = ap (slice_get all) (let e : 0 + k ≡ k = omega arith in e) ∙ is
 
-pub stands_front : {A : Type 0} (all front back : List A) (at : ℕ) → StandsAt all (front ++ back) at → StandsAt all front at
-stands_front all front back at stands k x is = stands k x (get_front front back k x is)
+pub stands_at_front : {A : Type 0} (all front back : List A) (at : ℕ) → StandsAt all (front ++ back) at → StandsAt all front at
+stands_at_front all front back at stands k x is = stands k x (get_front front back k x is)
 
-pub stands_back : {A : Type 0} (all front back : List A) (at : ℕ) → StandsAt all (front ++ back) at → StandsAt all back (at + length front)
-stands_back all front back at stands k x is =
+pub stands_at_back : {A : Type 0} (all front back : List A) (at : ℕ) → StandsAt all (front ++ back) at → StandsAt all back (at + length front)
+stands_at_back all front back at stands k x is =
     let same : at + length front + k ≡ at + (length front + k) = omega arith in
     ap (slice_get all) same ∙ stands (length front + k) x (get_back front back k ∙ is)
 
 -- what stands in a list stands in a longer one
-stands_behind : {A : Type 0} (front all part : List A) (at : ℕ) → StandsAt all part at → StandsAt (front ++ all) part (length front + at)
-stands_behind front all part at stands k x is =
+stands_at_behind : {A : Type 0} (front all part : List A) (at : ℕ) → StandsAt all part at → StandsAt (front ++ all) part (length front + at)
+stands_at_behind front all part at stands k x is =
     let same : length front + at + k ≡ length front + (at + k) = omega arith in
     ap (slice_get (front ++ all)) same ∙ get_back front all (at + k) ∙ stands k x is
 
@@ -109,7 +109,7 @@ module _ {A : Type 0} (piece : ℕ → Instruction → List A) (count : ℕ → 
       (stands_before (piece first j) (pieces piece (suc first) code) (piece first j) 0 (stands_whole (piece first j)))
   piece_stands first (j ∷ code) (suc k) i at =
       let same : suc first + k ≡ first + suc k = omega arith in
-      let there = stands_behind (piece first j) (pieces piece (suc first) code) (piece (suc first + k) i) (offset count (suc first) code k) (piece_stands (suc first) code k i at) in
+      let there = stands_at_behind (piece first j) (pieces piece (suc first) code) (piece (suc first + k) i) (offset count (suc first) code k) (piece_stands (suc first) code k i at) in
       subst (λ (n : ℕ). StandsAt (piece first j ++ pieces piece (suc first) code) (piece n i) (count first j + offset count (suc first) code k)) same
       (subst (λ (n : ℕ). StandsAt (piece first j ++ pieces piece (suc first) code) (piece (suc first + k) i) (n + offset count (suc first) code k)) (long first j) there)
 

@@ -14,7 +14,7 @@ use Rattle.cyc_inline.specs.inside.Opened.{moved, origin_at, AreMadeOf, IsSite, 
 use Rattle.cyc_inline.specs.inside.Sites.{chosen_call, place_in}
 use Rattle.cyc_inline.specs.inside.Emission.{part, part_origins, part_count, site_of, opened_code, opened_origins, opened_places, opened_end, AreChosen, AreParts}
 use Rattle.cyc_inline.proofs.ChoosingCalls.{in_code, call_is, call_in_range}
-use Rattle.cyc_inline.proofs.EmissionPieces.{StandsAt, stands_whole, stands_front, stands_back, stands_within, has_at, made_of, pieces, offset, offset_next, piece_stands, pieces_long}
+use Rattle.cyc_inline.proofs.EmissionPieces.{StandsAt, stands_whole, stands_at_front, stands_at_back, stands_within, has_at, made_of, pieces, offset, offset_next, piece_stands, pieces_long}
 use Rattle.cyc_inline.proofs.EmissionSites.{is_site, site_long, site_origins_long}
 
 -- ---- the table of places
@@ -180,24 +180,24 @@ module _ (program : Program) (number : ℕ) (chosen places rests : List ℕ) (s 
   code_stands : (in_line : Bool) → StandsAt s.code (code_in in_line) (begin in_line)
   code_stands true =
       subst (λ (code : List Instruction). StandsAt code (code_in true) 0) (sym is.code)
-      (stands_front (code_in true ++ code_in false) (code_in true) (code_in false) 0 (stands_whole (code_in true ++ code_in false)))
+      (stands_at_front (code_in true ++ code_in false) (code_in true) (code_in false) 0 (stands_whole (code_in true ++ code_in false)))
   code_stands false =
       let long = long_in true in
       let same : 0 + length (code_in true) ≡ opened_end program chosen true 0 0 r.code = omega (arith, long, end_at) in
       subst (λ (n : ℕ). StandsAt s.code (code_in false) n) same
       (subst (λ (code : List Instruction). StandsAt code (code_in false) (0 + length (code_in true))) (sym is.code)
-      (stands_back (code_in true ++ code_in false) (code_in true) (code_in false) 0 (stands_whole (code_in true ++ code_in false))))
+      (stands_at_back (code_in true ++ code_in false) (code_in true) (code_in false) 0 (stands_whole (code_in true ++ code_in false))))
 
   origins_stand : (in_line : Bool) → StandsAt origins (origins_in in_line) (begin in_line)
   origins_stand true =
       subst (λ (os : List Origin). StandsAt os (origins_in true) 0) (sym is.origins_are)
-      (stands_front (origins_in true ++ origins_in false) (origins_in true) (origins_in false) 0 (stands_whole (origins_in true ++ origins_in false)))
+      (stands_at_front (origins_in true ++ origins_in false) (origins_in true) (origins_in false) 0 (stands_whole (origins_in true ++ origins_in false)))
   origins_stand false =
       let long = origins_long_in true in
       let same : 0 + length (origins_in true) ≡ opened_end program chosen true 0 0 r.code = omega (arith, long, end_at) in
       subst (λ (n : ℕ). StandsAt origins (origins_in false) n) same
       (subst (λ (os : List Origin). StandsAt os (origins_in false) (0 + length (origins_in true))) (sym is.origins_are)
-      (stands_back (origins_in true ++ origins_in false) (origins_in true) (origins_in false) 0 (stands_whole (origins_in true ++ origins_in false))))
+      (stands_at_back (origins_in true ++ origins_in false) (origins_in true) (origins_in false) 0 (stands_whole (origins_in true ++ origins_in false))))
 
   piece_stands_at : (in_line : Bool) (k : ℕ) (i : Instruction) → At r.code k i → StandsAt s.code (piece_at program number chosen place rest in_line k i) (begins in_line k)
   piece_stands_at in_line k i at =

@@ -16,7 +16,7 @@ use Rattle.cyc_inline.specs.declared.site.Site.{Site}
 use Rattle.cyc_inline.specs.inside.Opened.{moved, passing, is_end, origin_at, AreMadeOf, GoesTo, StandsInside, IsSite}
 use Rattle.cyc_inline.specs.inside.Sites.{place_in, stands_in, way_behind, way_count, inside_part, inside_count, count_in, inside_code, inside_origins, inside_size, inside_places, places_inside, site_code, site_origins, site_size}
 use Rattle.cyc_inline.specs.inside.Emission.{IsLeaf, IsOpenable, call_size, site_of}
-use Rattle.cyc_inline.proofs.EmissionPieces.{StandsAt, stands_front, stands_back, stands_within, has_at, made_of, pieces, offset, offset_next, piece_stands, pieces_long}
+use Rattle.cyc_inline.proofs.EmissionPieces.{StandsAt, stands_at_front, stands_at_back, stands_within, has_at, made_of, pieces, offset, offset_next, piece_stands, pieces_long}
 use Rattle.cyc_inline.proofs.Passing.{passing_length}
 
 -- ---- an instruction of the callee
@@ -99,9 +99,9 @@ line_end results line first (i ∷ code) (suc k) past =
 
 -- ---- the code as pieces
 
-pub code_is : (site : Site) (place : ℕ → ℕ) (in_line : Bool) (first : ℕ) (code : List Instruction) → inside_code site place in_line first code ≡ pieces (piece_inside site place in_line) first code
-code_is site place in_line first [] = refl
-code_is site place in_line first (i ∷ code) = ap (λ (is : List Instruction). piece_inside site place in_line first i ++ is) (code_is site place in_line (suc first) code)
+pub inside_code_is : (site : Site) (place : ℕ → ℕ) (in_line : Bool) (first : ℕ) (code : List Instruction) → inside_code site place in_line first code ≡ pieces (piece_inside site place in_line) first code
+inside_code_is site place in_line first [] = refl
+inside_code_is site place in_line first (i ∷ code) = ap (λ (is : List Instruction). piece_inside site place in_line first i ++ is) (inside_code_is site place in_line (suc first) code)
 
 abbrev origins_inside : (callee results line : ℕ) → (in_line : Bool) → (index : ℕ) → Instruction → List Origin
 origins_inside callee results line in_line index i = replicate (count_in results line in_line index (is_end i)) (origin_at callee index)
@@ -117,7 +117,7 @@ origins_long callee results line in_line k i = length-replicate (count_in result
 
 inside_long : (site : Site) (place : ℕ → ℕ) (in_line : Bool) (code : List Instruction) → length (inside_code site place in_line 0 code) ≡ inside_size site.results site.call.line in_line 0 code
 inside_long site place in_line code =
-    ap (λ (is : List Instruction). length is) (code_is site place in_line 0 code)
+    ap (λ (is : List Instruction). length is) (inside_code_is site place in_line 0 code)
     ∙ pieces_long (piece_inside site place in_line) (count_inside site.results site.call.line in_line) (piece_long site place in_line) 0 code
     ∙ sym (size_is site.results site.call.line in_line 0 code)
 
@@ -170,7 +170,7 @@ module _ (program : Program) (code : List Instruction) (origins : List Origin) (
     piece_at k i at =
         let is = there k i at in
         let piece = piece_inside site place is.in_line in
-        let whole : StandsAt code (pieces piece 0 t.code) (begin is.in_line) = subst (λ (js : List Instruction). StandsAt code js (begin is.in_line)) (code_is site place is.in_line 0 t.code) (stands is.in_line) in
+        let whole : StandsAt code (pieces piece 0 t.code) (begin is.in_line) = subst (λ (js : List Instruction). StandsAt code js (begin is.in_line)) (inside_code_is site place is.in_line 0 t.code) (stands is.in_line) in
         let same : 0 + k ≡ k = omega arith in
         let inner = piece_stands piece (counts is.in_line) (piece_long site place is.in_line) 0 t.code k i at in
         subst (λ (b : Bool). StandsAt code (if b then inside_part site place k i (is_end i) else []) (place k)) is.stands
@@ -239,7 +239,7 @@ module _ (program : Program) (code : List Instruction) (origins : List Origin) (
     goes k value true end stand are = (let e = end refl in inl (omega (arith, e)))
     goes k value false end stand are =
         let moves = passing site.call.result (site.shift + value) site.results in
-        let jump = stands_back code moves (instructions.Jump site.behind ∷ []) (place k) stand in
+        let jump = stands_at_back code moves (instructions.Jump site.behind ∷ []) (place k) stand in
         let there : place k + length moves ≡ place k + site.results = ap (λ (n : ℕ). place k + n) (passing_length site.call.result (site.shift + value) site.results) in
         let (at, none) = has_at code (instructions.Jump site.behind ∷ []) (place k + length moves) jump in
         inr (subst (λ (n : ℕ). At code n (instructions.Jump site.behind)) there at, later (place k) site.results 1 (origin_at site.call.callee k) are)
@@ -251,7 +251,7 @@ module _ (program : Program) (code : List Instruction) (origins : List Origin) (
         → AreMadeOf origins (place k) (inside_count site.results site.call.line k end) (origin_at site.call.callee k) → Inside k i end
     inside k i (Some value) is at stand are =
         let moves = passing site.call.result (site.shift + value) site.results in (
-          has_at code moves (place k) (stands_front code moves (way_behind (k + 1 == site.call.line) site.behind) (place k) stand),
+          has_at code moves (place k) (stands_at_front code moves (way_behind (k + 1 == site.call.line) site.behind) (place k) stand),
           fewer (place k) site.results (way_count (k + 1 == site.call.line)) (origin_at site.call.callee k) are,
           goes k value (k + 1 == site.call.line) (λ last.
               last_place k i at (eqb-true (k + 1) site.call.line last) ∙ ap (λ (o : Option ℕ). place k + inside_count site.results site.call.line k o) is) stand are,
@@ -303,7 +303,7 @@ module _ (program : Program) (r s : Routine) (origins : List Origin) (number ind
   body_stands : (in_line : Bool) → StandsAt s.code (inside_code site (places_inside site here callee.code) in_line 0 callee.code) (if in_line then here + call.count + 1 else rest)
   body_stands true =
       let same : here + length moves ≡ here + call.count + 1 = omega (arith, moves_long) in
-      subst (λ (n : ℕ). StandsAt s.code in_place n) same (stands_back s.code moves in_place here in_parts)
+      subst (λ (n : ℕ). StandsAt s.code in_place n) same (stands_at_back s.code moves in_place here in_parts)
   body_stands false = stands false
 
   abbrev first_origins : List Origin
@@ -323,16 +323,16 @@ module _ (program : Program) (r s : Routine) (origins : List Origin) (number ind
   body_made true =
       let long : length first_origins ≡ call.count + 1 = ap (λ (os : List Origin). length os) first_same ∙ length-replicate (call.count + 1) (origin_at number index) in
       let same : here + length first_origins ≡ here + call.count + 1 = omega (arith, long) in
-      subst (λ (n : ℕ). StandsAt origins origins_in_place n) same (stands_back origins first_origins origins_in_place here origins_in_parts)
+      subst (λ (n : ℕ). StandsAt origins origins_in_place n) same (stands_at_back origins first_origins origins_in_place here origins_in_parts)
   body_made false = made false
 
   pub is_site : IsSite program s origins r.slots number index here behind call.callee call.arguments call.count call.result
   is_site = record {
     place = places_inside site here callee.code;
     room = openable.room;
-    entry = has_at s.code moves here (stands_front s.code moves in_place here in_parts);
+    entry = has_at s.code moves here (stands_at_front s.code moves in_place here in_parts);
     made = made_of origins here (call.count + 1) (origin_at number index)
-        (subst (λ (os : List Origin). StandsAt origins os here) first_same (stands_front origins first_origins origins_in_place here origins_in_parts));
+        (subst (λ (os : List Origin). StandsAt origins os here) first_same (stands_at_front origins first_origins origins_in_place here origins_in_parts));
     first =
         line_place callee.results call.line 0 (here + call.count + 1) rest callee.code 0 (has_code program callee routine) (let some = openable.some in omega (arith, some))
         ∙ none_before callee.code;

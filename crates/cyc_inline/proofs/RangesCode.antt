@@ -21,9 +21,9 @@ use Rattle.cyc_inline.specs.inside.Sites.{chosen_call, place_in, stands_in, way_
 use Rattle.cyc_inline.specs.inside.Emission.{IsOpenable, part, part_count, call_size, site_of, opened_code, opened_end}
 use Rattle.cyc_inline.proofs.ChoosingCalls.{in_code, call_is, call_in_range}
 use Rattle.cyc_inline.proofs.EmissionPieces.{offset, all_pieces, offset_most, offset_below}
-use Rattle.cyc_inline.proofs.EmissionSites.{count_inside, size_is, line_place, rest_place, piece_inside, code_is as inside_is}
+use Rattle.cyc_inline.proofs.EmissionSites.{count_inside, size_is, line_place, rest_place, piece_inside, inside_code_is as inside_is}
 use Rattle.cyc_inline.proofs.EmissionPlaces.{count_at, end_is, place_next, piece_at, code_is, IsOf, begins_at, long_in}
-use Rattle.cyc_inline.proofs.RangesMoved.{moved_in, has_word, same_return, same_pins, leaf_pins, no_try, no_return}
+use Rattle.cyc_inline.proofs.RangesMoved.{moved_in, has_word, same_return_moved, same_pins, leaf_pins_none, no_try, no_return}
 
 -- ---- what holds of each instruction of a part
 
@@ -233,11 +233,11 @@ module _ (program : Program) (number : ℕ) (chosen places rests : List ℕ) (s 
   returns_no_more : All (λ i. is_return i ≡ false) r.code → All (λ i. is_return i ≡ false) s.code
   returns_no_more none =
       All-from_recursion (λ (i : Instruction). is_return i ≡ false) s.code
-      (all_code (λ (i : Instruction). is_return i ≡ false) (λ k i at. same_return 0 place i ∙ holds_at (λ (j : Instruction). is_return j ≡ false) r.code k i none at)
+      (all_code (λ (i : Instruction). is_return i ≡ false) (λ k i at. same_return_moved 0 place i ∙ holds_at (λ (j : Instruction). is_return j ≡ false) r.code k i none at)
       (λ k call opened. record {
         passed = λ n below. refl;
         enters = refl;
-        inside = λ j i at no_end. same_return r.slots (inner k call) i ∙ no_return i no_end;
+        inside = λ j i at no_end. same_return_moved r.slots (inner k call) i ∙ no_return i no_end;
         given = λ j i value n at end below. refl;
         goes = refl;
       }))
@@ -258,7 +258,7 @@ module _ (program : Program) (number : ℕ) (chosen places rests : List ℕ) (s 
         passed = λ n below slot pinned. absurd (false≢true pinned);
         enters = λ slot pinned. absurd (false≢true pinned);
         inside = λ j x there no_end slot pinned.
-            absurd (false≢true (sym (leaf_pins x (leaf_at k j call x opened there) slot) ∙ sym (same_pins r.slots (inner k call) x slot) ∙ pinned));
+            absurd (false≢true (sym (leaf_pins_none x (leaf_at k j call x opened there) slot) ∙ sym (same_pins r.slots (inner k call) x slot) ∙ pinned));
         given = λ j x value n there end below slot pinned. absurd (false≢true pinned);
         goes = λ slot pinned. absurd (false≢true pinned);
       })))

@@ -51,9 +51,9 @@ made_of_own number origins count k are below zero one =
 made_of_own number origins count k are below (suc n) one = absurd (omega (arith, one))
 
 -- a function that is copied stands for itself
-pub copied : (program : Program) (number : ℕ) (origins : List Origin) → IsPlain program → number < length program.functions → AreOwn number (length (routine_at program number).code) origins
+pub copied_is_made : (program : Program) (number : ℕ) (origins : List Origin) → IsPlain program → number < length program.functions → AreOwn number (length (routine_at program number).code) origins
     → IsMade program number (routine_at program number) origins
-copied program number origins plain is_function are = record {
+copied_is_made program number origins plain is_function are = record {
   opened = record {
     like = record { name = refl; parameters = refl; results = refl; slots = omega arith; frame = inl refl };
     as_many = are.as_many;

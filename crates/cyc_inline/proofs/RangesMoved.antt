@@ -105,9 +105,9 @@ has_word shift place (instructions.StoreByte address offset source) (first, seco
 has_word shift place (instructions.Throw tag value) (first, second) = (word_moved shift tag first, word_moved shift value second)
 has_word shift place i has = has
 
-pub same_return : (shift : ℕ) (place : ℕ → ℕ) (i : Instruction) → is_return (moved shift place i) ≡ is_return i
-same_return shift place (instructions.Jump target) = refl
-same_return shift place i = refl
+pub same_return_moved : (shift : ℕ) (place : ℕ → ℕ) (i : Instruction) → is_return (moved shift place i) ≡ is_return i
+same_return_moved shift place (instructions.Jump target) = refl
+same_return_moved shift place i = refl
 
 pub same_leaving : (shift : ℕ) (place : ℕ → ℕ) (i : Instruction) → leaves (moved shift place i) ≡ leaves i
 same_leaving shift place (instructions.Jump target) = refl
@@ -120,9 +120,9 @@ same_pins shift place i slot = refl
 
 -- ---- a leaf's
 
-pub leaf_pins : (i : Instruction) → is_of_leaf i ≡ true → (slot : ℕ) → pins i slot ≡ false
-leaf_pins (instructions.AddressOf destination first count) leaf slot = absurd (false≢true leaf)
-leaf_pins i leaf slot = refl
+pub leaf_pins_none : (i : Instruction) → is_of_leaf i ≡ true → (slot : ℕ) → pins i slot ≡ false
+leaf_pins_none (instructions.AddressOf destination first count) leaf slot = absurd (false≢true leaf)
+leaf_pins_none i leaf slot = refl
 
 pub no_try : (first handler : ℕ) (i : Instruction) → is_of_leaf i ≡ true → i ≡ instructions.Try first handler → ⊥
 no_try first handler i leaf is = false≢true (sym (ap is_of_leaf is) ∙ leaf)

@@ -18,14 +18,14 @@ use Rattle.cyc_inline.proofs.Outside.{call_same, performs_outside}
 use Rattle.cyc_inline.proofs.Matched.{step_is, made_first, Alike, limited_outside, finds, owns, Matches, matching, kept, words_kept}
 
 -- what is called, and how many calls may be under way, does not change where an instruction is moved
-callee_same : (shift : ℕ) (place : ℕ → ℕ) (i : Instruction) → callee_of (Some (moved shift place i)) ≡ callee_of (Some i)
-callee_same shift place (instructions.Call function arguments count result) = refl
-callee_same shift place (instructions.Enter function) = refl
-callee_same shift place i = refl
+callee_same_moved : (shift : ℕ) (place : ℕ → ℕ) (i : Instruction) → callee_of (Some (moved shift place i)) ≡ callee_of (Some i)
+callee_same_moved shift place (instructions.Call function arguments count result) = refl
+callee_same_moved shift place (instructions.Enter function) = refl
+callee_same_moved shift place i = refl
 
-limit_same : (shift : ℕ) (place : ℕ → ℕ) (calls : ℕ) (i : Instruction) → limit_of (Some (moved shift place i)) calls ≡ limit_of (Some i) calls
-limit_same shift place calls (instructions.Enter function) = refl
-limit_same shift place calls i = refl
+limit_same_moved : (shift : ℕ) (place : ℕ → ℕ) (calls : ℕ) (i : Instruction) → limit_of (Some (moved shift place i)) calls ≡ limit_of (Some i) calls
+limit_same_moved shift place calls (instructions.Enter function) = refl
+limit_same_moved shift place calls i = refl
 
 module _ (program inlined : Program) (origins : List (List Origin)) (are : AreOpened program inlined origins) where
   -- an instruction that stands for itself, and a call that was opened
@@ -91,7 +91,7 @@ module _ (program inlined : Program) (origins : List (List Origin)) (are : AreOp
     allowed_same choice allowed = record {
       contents = allowed.contents;
       lies = lies choice.base (called program (Running c))
-          (subst (λ (o : Option ℕ). MayLie inlined choice.base o (Running d)) (ap callee_of below_at ∙ (callee_same 0 place i ∙ sym (ap callee_of at))) allowed.lies);
+          (subst (λ (o : Option ℕ). MayLie inlined choice.base o (Running d)) (ap callee_of below_at ∙ (callee_same_moved 0 place i ∙ sym (ap callee_of at))) allowed.lies);
       serves = serves choice (call_of c.active.slots (instruction_at program (place_of (Running c))))
           (subst (λ (o : Option Call). MayServe choice.serving o (Running d)) (ap (call_of b.slots) below_at ∙ (asked i range ∙ sym (ap (call_of c.active.slots) at))) allowed.serves);
     }
@@ -112,7 +112,7 @@ module _ (program inlined : Program) (origins : List (List Origin)) (are : AreOp
         below_is : u ≡ limited pages (limit_of (Some i) calls) (Running d) (performed inlined choice d (moved 0 place i))
         below_is =
             is ∙ (step_is inlined pages calls choice d (moved 0 place i) below_at
-            ∙ ap (λ (n : ℕ). limited pages n (Running d) (performed inlined choice d (moved 0 place i))) (limit_same 0 place calls i))
+            ∙ ap (λ (n : ℕ). limited pages n (Running d) (performed inlined choice d (moved 0 place i))) (limit_same_moved 0 place calls i))
 
         alike : Alike program inlined origins are (limited_step program pages calls choice (Running c)) u
         alike =

@@ -227,8 +227,8 @@ refused_once text f g refused also =
     (λ short. ⊎_elim (λ long. absurd (omega (arith, long.0, short.0))) (λ too. one_first_fault text f g short.1 too.1) also)
     refused
 
-pub not_both : (text : List ℕ) (tokens : List Token) (f : Fault) → IsAccepted text tokens → IsRefused text f → ⊥
-not_both text tokens f accepted refused =
+pub not_accepted_and_refused : (text : List ℕ) (tokens : List Token) (f : Fault) → IsAccepted text tokens → IsRefused text f → ⊥
+not_accepted_and_refused text tokens f accepted refused =
     ⊎_elim
     (λ long. let short = accepted.short in omega (arith, short, long.0))
     (λ first. no_fault text tokens f accepted first.1)

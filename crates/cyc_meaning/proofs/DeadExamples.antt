@@ -28,8 +28,8 @@ freed_and_read = refl
 freed_and_assigned : end (freed (execute (put (target own (peek 0 own)) (Number 3)) ∷ [])) ≡ IsDead
 freed_and_assigned = refl
 
-freed_twice : end (freed (execute (FreeUnique (move 0 own)) ∷ [])) ≡ IsDead
-freed_twice = refl
+freed_twice_is_dead : end (freed (execute (FreeUnique (move 0 own)) ∷ [])) ≡ IsDead
+freed_twice_is_dead = refl
 
 freed_and_swapped : end (freed (declare 1 (Number 1) ∷ Execute (Swap (side 1 Int) (CellSide (target own (peek 0 own)))) ∷ [])) ≡ IsDead
 freed_and_swapped = refl

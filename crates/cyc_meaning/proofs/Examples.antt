@@ -186,9 +186,9 @@ less_or_equal_equal = refl
 less_or_equal_not : value (two (Number 2147483647) operators.LessOrEqual (Number 0x80000000)) ≡ HasEnded (Returned (pos 0))
 less_or_equal_not = refl
 
-greater : value (two (Number 2147483647) operators.Greater (Number 0x80000000)) ≡ HasEnded (Returned (pos 1))
+greater_signed : value (two (Number 2147483647) operators.Greater (Number 0x80000000)) ≡ HasEnded (Returned (pos 1))
 unfolding slt_of
-greater = refl
+greater_signed = refl
 
 greater_not_equal : value (two (Number 5) operators.Greater (Number 5)) ≡ HasEnded (Returned (pos 0))
 unfolding slt_of

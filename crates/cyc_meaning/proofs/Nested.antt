@@ -72,25 +72,25 @@ left_lexical program tag value region stack e w h rest Closed found = absurd (su
 left_lexical program tag value region stack e w h rest Missing found = absurd (subst IsFound found h.0.0)
 
 -- an exception leaves all entries, one a step, and then the run has ended
-unwinds : (program : Program) (tag value : ℕ) (stack : List Entry) (e : Environment) (w : World) → IsNested stack e w → IsUntried stack → steps program (suc (length stack)) (Running (Throwing tag value) stack e w) ≡ Ended (Uncaught tag (signed value)) w.output w.input
-unwinds program tag value [] e w h free = refl
-unwinds program tag value (Needs a ∷ stack) e w h free = unwinds program tag value stack e w h free
-unwinds program tag value (NeedsPlace a ∷ stack) e w h free = unwinds program tag value stack e w h free
-unwinds program tag value (Discard ∷ stack) e w h free = unwinds program tag value stack e w h free
-unwinds program tag value (Rest items ∷ stack) e w h free = unwinds program tag value stack e w h free
-unwinds program tag value (Join ∷ stack) e w h free = unwinds program tag value stack e w h free
-unwinds program tag value (Loop condition body ∷ stack) e w h free = unwinds program tag value stack e w h free
-unwinds program tag value (CloseRegion region home ∷ stack) e w h free =
-    left program tag value region home stack e w h (λ r. unwinds program tag value stack (record e { home = home }) (closed w region r) (nested_closed region home r stack e w h) free) (region_at w region) refl
-unwinds program tag value (CloseLexical region ∷ stack) e w h free =
-    left_lexical program tag value region stack e w h (λ r. unwinds program tag value stack e (closed w region r) (nested_closed_lexical region r stack e w h) free) (region_at w region) refl
-unwinds program tag value (EndLoan lent ∷ stack) e w h free = unwinds program tag value stack e w h free
-unwinds program tag value (Handler handler ∷ stack) e w h free = absurd free
-unwinds program tag value (Caller outer ∷ stack) e w h free = unwinds program tag value stack outer w (nested_return stack e outer w h) free
-unwinds program tag value (Main ∷ stack) e w h free = unwinds program tag value stack e w h free
+unwinds_untried : (program : Program) (tag value : ℕ) (stack : List Entry) (e : Environment) (w : World) → IsNested stack e w → IsUntried stack → steps program (suc (length stack)) (Running (Throwing tag value) stack e w) ≡ Ended (Uncaught tag (signed value)) w.output w.input
+unwinds_untried program tag value [] e w h free = refl
+unwinds_untried program tag value (Needs a ∷ stack) e w h free = unwinds_untried program tag value stack e w h free
+unwinds_untried program tag value (NeedsPlace a ∷ stack) e w h free = unwinds_untried program tag value stack e w h free
+unwinds_untried program tag value (Discard ∷ stack) e w h free = unwinds_untried program tag value stack e w h free
+unwinds_untried program tag value (Rest items ∷ stack) e w h free = unwinds_untried program tag value stack e w h free
+unwinds_untried program tag value (Join ∷ stack) e w h free = unwinds_untried program tag value stack e w h free
+unwinds_untried program tag value (Loop condition body ∷ stack) e w h free = unwinds_untried program tag value stack e w h free
+unwinds_untried program tag value (CloseRegion region home ∷ stack) e w h free =
+    left program tag value region home stack e w h (λ r. unwinds_untried program tag value stack (record e { home = home }) (closed w region r) (nested_closed region home r stack e w h) free) (region_at w region) refl
+unwinds_untried program tag value (CloseLexical region ∷ stack) e w h free =
+    left_lexical program tag value region stack e w h (λ r. unwinds_untried program tag value stack e (closed w region r) (nested_closed_lexical region r stack e w h) free) (region_at w region) refl
+unwinds_untried program tag value (EndLoan lent ∷ stack) e w h free = unwinds_untried program tag value stack e w h free
+unwinds_untried program tag value (Handler handler ∷ stack) e w h free = absurd free
+unwinds_untried program tag value (Caller outer ∷ stack) e w h free = unwinds_untried program tag value stack outer w (nested_return stack e outer w h) free
+unwinds_untried program tag value (Main ∷ stack) e w h free = unwinds_untried program tag value stack e w h free
 
 pub uncaught_ends : (program : Program) (input : List ℕ) (n tag value : ℕ) (stack : List Entry) (e : Environment) (w : World) → run program input n ≡ Running (Throwing tag value) stack e w → IsUntried stack → run program input (n + suc (length stack)) ≡ Ended (Uncaught tag (signed value)) w.output w.input
 uncaught_ends program input n tag value stack e w is free =
     steps-add program n (suc (length stack)) (start program input)
     ∙ ap (steps program (suc (length stack))) is
-    ∙ unwinds program tag value stack e w (subst Nests is (nests_run program input n)) free
+    ∙ unwinds_untried program tag value stack e w (subst Nests is (nests_run program input n)) free

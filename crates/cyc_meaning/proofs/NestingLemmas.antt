@@ -41,9 +41,9 @@ pub still_open : (regions more : List Region) (ns : List ℕ) → AreOpen region
 still_open regions more [] h = tt
 still_open regions more (n ∷ ns) (found, h) = (still_there regions more n found, still_open regions more ns h)
 
-below_more : (ns : List ℕ) (bound more : ℕ) → bound ≤ more → AreBelow bound ns → AreBelow more ns
-below_more [] bound more less h = tt
-below_more (n ∷ ns) bound more less (first, h) = (omega (arith, first, less), h)
+all_below_more : (ns : List ℕ) (bound more : ℕ) → bound ≤ more → AreBelow bound ns → AreBelow more ns
+all_below_more [] bound more less h = tt
+all_below_more (n ∷ ns) bound more less (first, h) = (omega (arith, first, less), h)
 
 -- those below a region stay open where it is closed
 open_below : (regions : List Region) (number : ℕ) (r : Region) (ns : List ℕ) → AreBelow number ns → AreOpen regions ns → AreOpen (set regions number r) ns
@@ -51,7 +51,7 @@ open_below regions number r [] below h = tt
 open_below regions number r (n ∷ ns) (less, below) (found, h) =
     let other : n ≢ number = λ e. (let k : n ≡ number = e in absurd (omega (arith, less, k))) in (
       subst (λ (o : Option Region). IsFound (found_region o)) (sym (slice_get-set_other regions number n r other)) found,
-      open_below regions number r ns (below_more ns n number (omega (arith, less)) below) h,
+      open_below regions number r ns (all_below_more ns n number (omega (arith, less)) below) h,
     )
 
 -- where a region is replaced by one that is found as well
@@ -171,12 +171,12 @@ shut_none r = go r.sort
 opened_open : (sort : Sort) (stack : List Entry) (w : World) → AreOpen w.regions (ends_of stack) → AreOpen (opened_as sort w).regions (ends_of stack)
 opened_open sort stack w h = still_open w.regions (new_region sort ∷ []) (ends_of stack) h
 
-newest_found : (sort : Sort) (w : World) → IsScoped sort → IsFound (found_region (slice_get (opened_as sort w).regions (length w.regions)))
-newest_found sort w scoped = subst (λ (o : Option Region). IsFound (found_region o)) (sym (slice_get-end w.regions (new_region sort))) scoped
+opened_found : (sort : Sort) (w : World) → IsScoped sort → IsFound (found_region (slice_get (opened_as sort w).regions (length w.regions)))
+opened_found sort w scoped = subst (λ (o : Option Region). IsFound (found_region o)) (sym (slice_get-end w.regions (new_region sort))) scoped
 
 pub nested_opened : (stack : List Entry) (e : Environment) (w : World) → IsNested stack e w → IsNested (region_end e w ∷ stack) (inside e w) (opened w)
 nested_opened stack e w (open_all, below, is, are) = (
-  (newest_found Stack w tt, opened_open Stack stack w open_all),
+  (opened_found Stack w tt, opened_open Stack stack w open_all),
   (omega (arith, length-append w.regions (stack_region ∷ [])), below),
   (refl, is),
   scopes_more w.regions stack_region (lexicals_of stack) refl are,
@@ -184,7 +184,7 @@ nested_opened stack e w (open_all, below, is, are) = (
 
 pub nested_lexical : (stack : List Entry) (e : Environment) (w : World) → IsNested stack e w → IsNested (CloseLexical (length w.regions) ∷ stack) e (opened_as Lexical w)
 nested_lexical stack e w (open_all, below, is, are) = (
-  (newest_found Lexical w tt, opened_open Lexical stack w open_all),
+  (opened_found Lexical w tt, opened_open Lexical stack w open_all),
   (omega (arith, length-append w.regions (new_region Lexical ∷ [])), below),
   is,
   scopes_new w.regions (new_region Lexical) (lexicals_of stack) refl are,
@@ -193,14 +193,14 @@ nested_lexical stack e w (open_all, below, is, are) = (
 pub nested_dynamic : (stack : List Entry) (e : Environment) (w : World) → IsNested stack e w → IsNested stack e (opened_as Dynamic w)
 nested_dynamic stack e w (open_all, below, is, are) = (
   opened_open Dynamic stack w open_all,
-  below_more (ends_of stack) (length w.regions) (length (w.regions ++ new_region Dynamic ∷ [])) (omega (arith, length-append w.regions (new_region Dynamic ∷ []))) below,
+  all_below_more (ends_of stack) (length w.regions) (length (w.regions ++ new_region Dynamic ∷ [])) (omega (arith, length-append w.regions (new_region Dynamic ∷ []))) below,
   is,
   scopes_more w.regions (new_region Dynamic) (lexicals_of stack) refl are,
 )
 
 below_closed : (region number : ℕ) (r : Region) (ns : List ℕ) (w : World) → AreBelow region ns → AreBelow (length w.regions) (region ∷ ns) → AreBelow (length (closed w number r).regions) ns
 below_closed region number r ns w below (less, rest) =
-    below_more ns region (length (set w.regions number (record r { is_open = false }))) (omega (arith, less, length-set w.regions number (record r { is_open = false }))) below
+    all_below_more ns region (length (set w.regions number (record r { is_open = false }))) (omega (arith, less, length-set w.regions number (record r { is_open = false }))) below
 
 pub nested_closed : (region home : ℕ) (r : Region) (stack : List Entry) (e : Environment) (w : World) → IsNested (CloseRegion region home ∷ stack) e w → IsNested stack (record e { home = home }) (closed w region r)
 nested_closed region home r stack e w ((found, open_all), (less, below), (same, is), are) = (
@@ -231,7 +231,7 @@ nested_closed_dynamic number r stack e w found free (open_all, below, is, are) =
     let there : slice_get w.regions number ≡ Some r = region_found w number r found in
     let here : found_region (Some r) ≡ Found r = sym (ap found_region there) ∙ found in (
       set_open w.regions number r (record r { is_open = false }) (ends_of stack) there (λ scoped. absurd (free (subst IsFound here scoped))) open_all,
-      below_more (ends_of stack) (length w.regions) (length (set w.regions number (record r { is_open = false }))) (omega (arith, length-set w.regions number (record r { is_open = false }))) below,
+      all_below_more (ends_of stack) (length w.regions) (length (set w.regions number (record r { is_open = false }))) (omega (arith, length-set w.regions number (record r { is_open = false }))) below,
       is,
       scopes_set w.regions number r (record r { is_open = false }) (lexicals_of stack) there (shut_free r.sort r.is_open free) are,
     )
@@ -244,7 +244,7 @@ pub nested_made_in : (number : ℕ) (r : Region) (cells : List Cell) (stack : Li
 nested_made_in number r cells stack e w found (open_all, below, is, are) =
     let s : Region = record r { blocks = r.blocks ++ block_size cells ∷ [] } in (
       set_open w.regions number r s (ends_of stack) (region_found w number r found) (with_blocks r (r.blocks ++ block_size cells ∷ []) r.is_open) open_all,
-      below_more (ends_of stack) (length w.regions) (length (set w.regions number s)) (omega (arith, length-set w.regions number s)) below,
+      all_below_more (ends_of stack) (length w.regions) (length (set w.regions number s)) (omega (arith, length-set w.regions number s)) below,
       is,
       scopes_set w.regions number r s (lexicals_of stack) (region_found w number r found) refl are,
     )

@@ -60,13 +60,13 @@ reads_cell : {access : Bool} (kind : Kind) (o : Option Value) (stack : List Entr
 reads_cell kind (Some value) stack e w = Goes refl Keeps (λ h. h)
 reads_cell kind None stack e w = Fails
 
-loads : (kind : Kind) (a : Access Located) (stack : List Entry) (e : Environment) (w : World) → Silent true stack e w (loaded kind a stack e w)
-loads kind (Found at) stack e w = either (is_kind at.cell.kind kind) _ _ (reads_cell kind at.cell.content stack e w) Fails
-loads kind Closed stack e w = Dies (λ h. refl)
-loads kind Missing stack e w = Fails
+loads_located : (kind : Kind) (a : Access Located) (stack : List Entry) (e : Environment) (w : World) → Silent true stack e w (loaded kind a stack e w)
+loads_located kind (Found at) stack e w = either (is_kind at.cell.kind kind) _ _ (reads_cell kind at.cell.content stack e w) Fails
+loads_located kind Closed stack e w = Dies (λ h. refl)
+loads_located kind Missing stack e w = Fails
 
 loads_from : (kind : Kind) (o : Option ℕ) (stack : List Entry) (e : Environment) (w : World) → Silent true stack e w (loaded_from kind o stack e w)
-loads_from kind (Some object) stack e w = loads kind (cell_at w object 0) stack e w
+loads_from kind (Some object) stack e w = loads_located kind (cell_at w object 0) stack e w
 loads_from kind None stack e w = Fails
 
 stores : (a : Access Located) (object offset : ℕ) (v : Operand) (focus : Focus) (stack : List Entry) (e : Environment) (w : World) → cell_at w object offset ≡ a → Silent true stack e w (stored a object offset v focus stack e w)
@@ -154,7 +154,7 @@ locating program (Member pointer a s field t) stack e w = locating_member (slice
 locating program (Element a i t) stack e w = Goes refl Keeps (λ h. h)
 
 loading_at : (kind : Kind) (place : Value) (stack : List Entry) (e : Environment) (w : World) → Silent true stack e w (loaded_at kind place stack e w)
-loading_at kind (Thin object offset) stack e w = loads kind (cell_at w object offset) stack e w
+loading_at kind (Thin object offset) stack e w = loads_located kind (cell_at w object offset) stack e w
 loading_at kind place stack e w = Fails
 
 -- ---- swaps
@@ -319,15 +319,15 @@ addressing : {access : Bool} (o : Option ℕ) (stack : List Entry) (e : Environm
 addressing (Some object) stack e w = Goes refl Keeps (λ h. h)
 addressing None stack e w = Fails
 
-counting : {access : Bool} (o : Option ℕ) (stack : List Entry) (e : Environment) (w : World) → Silent access stack e w (counts o stack e w)
-counting (Some index) stack e w = Goes refl Keeps (λ h. h)
-counting None stack e w = Fails
+reading_counter : {access : Bool} (o : Option ℕ) (stack : List Entry) (e : Environment) (w : World) → Silent access stack e w (counts o stack e w)
+reading_counter (Some index) stack e w = Goes refl Keeps (λ h. h)
+reading_counter None stack e w = Fails
 
 evaluating : (a : Expression) (stack : List Entry) (e : Environment) (w : World) → Silent (is_access_in a) stack e w (step_evaluating a stack e w)
 evaluating (Number n) stack e w = Goes refl Keeps (λ h. h)
 evaluating NullPointer stack e w = Goes refl Keeps (λ h. h)
 evaluating HeapRegion stack e w = Goes refl Keeps (λ h. h)
-evaluating (Counter level) stack e w = counting (e.counters level) stack e w
+evaluating (Counter level) stack e w = reading_counter (e.counters level) stack e w
 evaluating (Copy place t) stack e w = loads_from (kind_of t) (object_of e place) stack e w
 evaluating (Move p number t) stack e w = loads_from (kind_of t) (e.locals number) stack e w
 evaluating (Peek p number t) stack e w = loads_from (kind_of t) (e.locals number) stack e w
@@ -387,10 +387,10 @@ choosing (Some true) first second stack e w = Goes refl Keeps (λ h. h)
 choosing (Some false) first second stack e w = Goes refl Keeps (λ h. h)
 choosing None first second stack e w = Fails
 
-looping : {access : Bool} (o : Option Bool) (condition : Expression) (body : Statement) (stack : List Entry) (e : Environment) (w : World) → Silent access stack e w (looped o condition body stack e w)
-looping (Some true) condition body stack e w = Goes refl Keeps (λ h. h)
-looping (Some false) condition body stack e w = Goes refl Keeps (λ h. h)
-looping None condition body stack e w = Fails
+looping_while : {access : Bool} (o : Option Bool) (condition : Expression) (body : Statement) (stack : List Entry) (e : Environment) (w : World) → Silent access stack e w (looped o condition body stack e w)
+looping_while (Some true) condition body stack e w = Goes refl Keeps (λ h. h)
+looping_while (Some false) condition body stack e w = Goes refl Keeps (λ h. h)
+looping_while None condition body stack e w = Fails
 
 placing_at : (initial : Initial) (region : ℕ) (stack : List Entry) (e : Environment) (w : World) → Silent (is_access_of (PlaceBy initial)) stack e w (makes (InRegion region) initial (Needs (BesideHandle region) ∷ stack) e w)
 placing_at (Plain kind a) region stack e w = Goes refl Keeps (λ h. h)
@@ -429,7 +429,7 @@ supplying (FillElement object count index level kind element) value stack e w = 
 supplying (Initialise number kind items) value stack e w =
     either (is_kind value.kind kind) _ _ (makes_local (region_at w e.home) Proceeding number kind (Some value.value) (Rest items ∷ stack) e w refl) Fails
 supplying (Choose first second) value stack e w = choosing (is_zero value.value) first second stack e w
-supplying (Test condition body) value stack e w = looping (is_zero value.value) condition body stack e w
+supplying (Test condition body) value stack e w = looping_while (is_zero value.value) condition body stack e w
 supplying Return value stack e w = Goes refl Keeps (λ h. h)
 supplying (ThrowWith tag) value stack e w = throwing_value tag value.value stack e w
 supplying (OpenBy number lent items) value stack e w = opening_with number lent items value.value stack e w
@@ -460,9 +460,9 @@ executing Continue stack e w = Goes refl Keeps (λ h. h)
 executing (Throw tag value) stack e w = throwing_new tag value stack e w
 executing (Try s handler) stack e w = Goes refl Keeps (λ h. h)
 
-declaring : {access : Bool} (number : ℕ) (t : Ty) (o : Option Converted) (items : Items) (stack : List Entry) (e : Environment) (w : World) → Silent access stack e w (declares number t o items stack e w)
-declaring number t None items stack e w = makes_local (region_at w e.home) Proceeding number (kind_of t) None (Rest items ∷ stack) e w refl
-declaring number t (Some (Convert from to a)) items stack e w = Goes refl Keeps (λ h. h)
+declaring_local : {access : Bool} (number : ℕ) (t : Ty) (o : Option Converted) (items : Items) (stack : List Entry) (e : Environment) (w : World) → Silent access stack e w (declares number t o items stack e w)
+declaring_local number t None items stack e w = makes_local (region_at w e.home) Proceeding number (kind_of t) None (Rest items ∷ stack) e w refl
+declaring_local number t (Some (Convert from to a)) items stack e w = Goes refl Keeps (λ h. h)
 
 proceeding : (stack : List Entry) (e : Environment) (w : World) → Seen Proceeding stack e w (step_proceeding stack e w)
 proceeding [] e w = Fails
@@ -471,7 +471,7 @@ proceeding (NeedsPlace a ∷ stack) e w = Fails
 proceeding (Discard ∷ stack) e w = Goes refl Keeps (λ h. h)
 proceeding (Rest NoItems ∷ stack) e w = Goes refl Keeps (λ h. h)
 proceeding (Rest (MoreItems (Execute s) items) ∷ stack) e w = Goes refl Keeps (λ h. h)
-proceeding (Rest (MoreItems (Declare number t value) items) ∷ stack) e w = declaring number t value items stack e w
+proceeding (Rest (MoreItems (Declare number t value) items) ∷ stack) e w = declaring_local number t value items stack e w
 proceeding (Rest (MoreItems (DeclareRegion region number) items) ∷ stack) e w = Goes refl (Opens Lexical) (nested_lexical stack e w)
 proceeding (Rest (MoreItems (OpenRegion region number p key) items) ∷ stack) e w = loads_from kinds.Key (e.locals key) (Needs (OpenBy number key items) ∷ stack) e w
 proceeding (Rest (MoreItems (DeclareAlias region number t p source) items) ∷ stack) e w = loads_from (kind_of t) (e.locals source) (Needs (AliasOf number source items) ∷ stack) e w

@@ -28,7 +28,7 @@ in_the_heap = refl
 -- ---- regions of blocks
 
 -- int *keep(int *p, int *q){ return p; } int x = 3; { int y = 4; int *p = keep(&x, &y); return *p; }
-kept : end (program_with (function (star ∷ star ∷ []) (Execute (typed.Return (Some (convert star star (variable 0 star)))) ∷ []) ∷ []) (
+kept_by_a_function : end (program_with (function (star ∷ star ∷ []) (Execute (typed.Return (Some (convert star star (variable 0 star)))) ∷ []) ∷ []) (
     declare 0 (Number 3)
     ∷ Execute (block (
     declare 1 (Number 4)
@@ -37,7 +37,7 @@ kept : end (program_with (function (star ∷ star ∷ []) (Execute (typed.Return
     ∷ return (Load (target star (variable 2 star)))
     ∷ []))
     ∷ [])) ≡ HasEnded (Returned (pos 3))
-kept = refl
+kept_by_a_function = refl
 
 -- ---- lexical regions
 
@@ -81,11 +81,11 @@ digs = try_to (Evaluate (assign 0 (two (local 0) operators.Add (call 1 (Number 0
 abbrev digs_twice : Program
 digs_twice = program_with (dig ∷ []) (declare 0 (Number 0) ∷ digs ∷ digs ∷ return (local 0) ∷ [])
 
-digs_end : end_within 4 2 digs_twice ≡ HasEnded (Returned (pos 12))
-digs_end = refl
+digs_with_regions_end : end_within 4 2 digs_twice ≡ HasEnded (Returned (pos 12))
+digs_with_regions_end = refl
 
-digs_full : end_within 3 2 digs_twice ≡ HasEnded Full
-digs_full = refl
+digs_with_regions_full : end_within 3 2 digs_twice ≡ HasEnded Full
+digs_with_regions_full = refl
 
 -- ---- dynamic regions
 

@@ -104,17 +104,17 @@ step_not_full program (Wrong output input) before = before
 
 -- ---- a run that is over
 
-pub over_steps : (program : Program) (s : State) → status_of s ≢ GoesOn → step program s ≡ s
-over_steps program (Running focus stack e w) over = absurd (over refl)
-over_steps program (Ended ending output input) over = refl
-over_steps program (Dead output input) over = refl
-over_steps program (Wrong output input) over = refl
+pub same_where_over : (program : Program) (s : State) → status_of s ≢ GoesOn → step program s ≡ s
+same_where_over program (Running focus stack e w) over = absurd (over refl)
+same_where_over program (Ended ending output input) over = refl
+same_where_over program (Dead output input) over = refl
+same_where_over program (Wrong output input) over = refl
 
-over_within : (pages calls : ℕ) (s : State) → status_of s ≢ GoesOn → is_within pages calls s ≡ true
-over_within pages calls (Running focus stack e w) over = absurd (over refl)
-over_within pages calls (Ended ending output input) over = and_from _ _ (le-leb 0 pages (omega arith)) (le-leb 0 calls (omega arith))
-over_within pages calls (Dead output input) over = and_from _ _ (le-leb 0 pages (omega arith)) (le-leb 0 calls (omega arith))
-over_within pages calls (Wrong output input) over = and_from _ _ (le-leb 0 pages (omega arith)) (le-leb 0 calls (omega arith))
+within_where_over : (pages calls : ℕ) (s : State) → status_of s ≢ GoesOn → is_within pages calls s ≡ true
+within_where_over pages calls (Running focus stack e w) over = absurd (over refl)
+within_where_over pages calls (Ended ending output input) over = and_from _ _ (le-leb 0 pages (omega arith)) (le-leb 0 calls (omega arith))
+within_where_over pages calls (Dead output input) over = and_from _ _ (le-leb 0 pages (omega arith)) (le-leb 0 calls (omega arith))
+within_where_over pages calls (Wrong output input) over = and_from _ _ (le-leb 0 pages (omega arith)) (le-leb 0 calls (omega arith))
 
 -- ---- limits
 
@@ -126,8 +126,8 @@ pub limited-full : (pages calls : ℕ) (old new : State) → is_within pages cal
 limited-full pages calls old new within = ap (λ (b : Bool). if b then new else Ended Full (output_of old) (input_of old)) within
 
 -- what holds of a step, and of the end in its place, holds of the limited step
-pub limited_either : (P : State → Type 0) (pages calls : ℕ) (old new : State) → (is_within pages calls new ≡ true → P new) → (is_within pages calls new ≡ false → P (Ended Full (output_of old) (input_of old))) → P (limited pages calls old new)
-limited_either P pages calls old new first second = go (is_within pages calls new) refl
+pub limited_cases : (P : State → Type 0) (pages calls : ℕ) (old new : State) → (is_within pages calls new ≡ true → P new) → (is_within pages calls new ≡ false → P (Ended Full (output_of old) (input_of old))) → P (limited pages calls old new)
+limited_cases P pages calls old new first second = go (is_within pages calls new) refl
   where
     go : (b : Bool) → is_within pages calls new ≡ b → P (if b then new else Ended Full (output_of old) (input_of old))
     go true e = first e
@@ -135,12 +135,12 @@ limited_either P pages calls old new first second = go (is_within pages calls ne
 
 pub over_limited : (program : Program) (pages calls : ℕ) (s : State) → status_of s ≢ GoesOn → limited_step program pages calls s ≡ s
 over_limited program pages calls s over =
-    let same : step program s ≡ s = over_steps program s over in
-    limited-within pages calls s (step program s) (ap (is_within pages calls) same ∙ over_within pages calls s over) ∙ same
+    let same : step program s ≡ s = same_where_over program s over in
+    limited-within pages calls s (step program s) (ap (is_within pages calls) same ∙ within_where_over pages calls s over) ∙ same
 
 pub over_stays : (program : Program) (n : ℕ) (s : State) → status_of s ≢ GoesOn → steps program n s ≡ s
 over_stays program zero s over = refl
-over_stays program (suc n) s over = ap (steps program n) (over_steps program s over) ∙ over_stays program n s over
+over_stays program (suc n) s over = ap (steps program n) (same_where_over program s over) ∙ over_stays program n s over
 
 pub limited_over_stays : (program : Program) (pages calls n : ℕ) (s : State) → status_of s ≢ GoesOn → limited_steps program pages calls n s ≡ s
 limited_over_stays program pages calls zero s over = refl
@@ -188,7 +188,7 @@ step_goes_on program (Wrong output input) = (IsPrefix-refl output, ([], refl))
 
 pub limited_step_goes_on : (program : Program) (pages calls : ℕ) (s : State) → GoesOnFrom s (limited_step program pages calls s)
 limited_step_goes_on program pages calls s =
-    limited_either (GoesOnFrom s) pages calls s (step program s) (λ within. step_goes_on program s) (λ full. (IsPrefix-refl (output_of s), ([], refl)))
+    limited_cases (GoesOnFrom s) pages calls s (step program s) (λ within. step_goes_on program s) (λ full. (IsPrefix-refl (output_of s), ([], refl)))
 
 pub both_go_on : (s t u : State) → GoesOnFrom s t → GoesOnFrom t u → GoesOnFrom s u
 both_go_on s t u (more, (read, is)) (most, (later, then')) =
@@ -306,8 +306,8 @@ run_bytes program input n = steps_bytes program n (start program input) (subst (
 
 -- ---- the start is within all limits
 
-pub starts_within : (program : Program) (pages calls : ℕ) (input : List ℕ) → 1 ≤ pages → 1 ≤ calls → is_within pages calls (start program input) ≡ true
-starts_within program pages calls input some_page some_call = go (slice_get program.functions program.main)
+pub within_at_start : (program : Program) (pages calls : ℕ) (input : List ℕ) → 1 ≤ pages → 1 ≤ calls → is_within pages calls (start program input) ≡ true
+within_at_start program pages calls input some_page some_call = go (slice_get program.functions program.main)
   where
     by_length : (h : Function) (b : Bool) → is_within pages calls (if b then Running (Entering h []) (Main ∷ []) no_locals (first_world program input) else wrong (first_world program input)) ≡ true
     by_length h true = and_from _ _ (le-leb 1 pages some_page) (le-leb 1 calls some_call)

@@ -155,8 +155,8 @@ abbrev none : World
 none = first_world (program []) []
 
 -- two such blocks fit a page, which stands beside the heap's
-one_block : pages (more none) ≡ 2
-one_block = refl
+one_block_takes_a_page : pages (more none) ≡ 2
+one_block_takes_a_page = refl
 
 three_blocks : pages (more (more (more none))) ≡ 3
 three_blocks = refl

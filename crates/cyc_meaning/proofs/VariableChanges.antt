@@ -10,7 +10,7 @@ use Rattle.cyc_meaning.specs.inside.Variables.{region_of, LivesIn, IsShut, HasVa
 use Rattle.cyc_meaning.proofs.ListLemmas.{slice_get-set_other}
 use Rattle.cyc_meaning.proofs.NestingLemmas.{region_found}
 use Rattle.cyc_meaning.proofs.WorldLaws.{cell_found}
-use Rattle.cyc_meaning.proofs.VariableLemmas.{lives_once, lives_more, lives_newest, lives_same, shut_open, shut_more, region_below, region_before, set_there, shut_set, Passes, passes}
+use Rattle.cyc_meaning.proofs.VariableLemmas.{lives_once, lives_more, lives_newest, lives_same, shut_open, shut_more, region_below, region_before, set_region_there, shut_set, Passes, passes}
 
 -- what is in a world
 abbrev AllNamed : (globals : ℕ) → List Entry → Locals → World → Type 0
@@ -51,14 +51,14 @@ set_back objects regions number s none object region r lives there has = elim (c
     go (q ∷ rs) (suc i) zero same at = absurd (omega (arith, same))
     go (q ∷ rs) (suc i) (suc j) same at = go rs i j (let e : suc j ≡ suc i = same in omega (arith, e)) at
 
-shut_none : (r : Region) → HasVariables (record r { is_open = false }) → ⊥
-shut_none r has = let e : false ≡ true = has.open_now in absurd (cc)
+shut_has_no_variables : (r : Region) → HasVariables (record r { is_open = false }) → ⊥
+shut_has_no_variables r has = let e : false ≡ true = has.open_now in absurd (cc)
 
 closed_passes : (number : ℕ) (r : Region) (w : World) → slice_get w.regions number ≡ Some r → LiveInRegions w.objects w.regions → Passing w (closed w number r)
 closed_passes number r w there inside = record {
   lives = λ object region lives. lives;
   shut = λ region. shut_set w.regions number region r (record r { is_open = false }) there (λ e. refl);
-  back = set_back w.objects w.regions number (record r { is_open = false }) (shut_none r);
+  back = set_back w.objects w.regions number (record r { is_open = false }) (shut_has_no_variables r);
   inside = λ object region lives. (let less : region < length w.regions = inside object region lives in omega (arith, less, length-set w.regions number (record r { is_open = false })));
 }
 
@@ -106,7 +106,7 @@ made_in_passes number r cells w there inside = record {
     newest : (region : ℕ) → Some number ≡ Some region → (q : Region) → slice_get (set w.regions number (with_block r cells)) region ≡ Some q → HasVariables q → ⊥
     newest region same q at has =
         let k : number ≡ region = cc in
-        let e : Some (with_block r cells) ≡ Some q = sym (set_there w.regions number r (with_block r cells) there) ∙ (ap (slice_get (set w.regions number (with_block r cells))) k ∙ at) in
+        let e : Some (with_block r cells) ≡ Some q = sym (set_region_there w.regions number r (with_block r cells) there) ∙ (ap (slice_get (set w.regions number (with_block r cells))) k ∙ at) in
         let j : with_block r cells ≡ q = cc in
         some_block r r.blocks (block_size cells) (subst HasVariables (sym j) has)
 
@@ -186,7 +186,7 @@ named_left ending home globals stack locals w ended h = (
 )
 
 pub is_shut : (w : World) (number : ℕ) (r : Region) → region_at w number ≡ Found r → IsShut (closed w number r).regions number
-is_shut w number r found = ap found_region (set_there w.regions number r (record r { is_open = false }) (region_found w number r found))
+is_shut w number r found = ap found_region (set_region_there w.regions number r (record r { is_open = false }) (region_found w number r found))
 
 -- ---- calls
 

@@ -61,10 +61,10 @@ region_before [] new r region less there = absurd (omega (arith, less))
 region_before (q ∷ regions) new r zero less there = there
 region_before (q ∷ regions) new r (suc region) less there = region_before regions new r region (omega (arith, less)) there
 
-pub set_there : (regions : List Region) (number : ℕ) (r s : Region) → slice_get regions number ≡ Some r → slice_get (set regions number s) number ≡ Some s
-set_there [] number r s there = absurd (let e : None ≡ Some r = there in cc)
-set_there (q ∷ regions) zero r s there = refl
-set_there (q ∷ regions) (suc number) r s there = set_there regions number r s there
+pub set_region_there : (regions : List Region) (number : ℕ) (r s : Region) → slice_get regions number ≡ Some r → slice_get (set regions number s) number ≡ Some s
+set_region_there [] number r s there = absurd (let e : None ≡ Some r = there in cc)
+set_region_there (q ∷ regions) zero r s there = refl
+set_region_there (q ∷ regions) (suc number) r s there = set_region_there regions number r s there
 
 -- a region that is replaced by one that is closed as well
 pub shut_set : (regions : List Region) (number region : ℕ) (r s : Region) → slice_get regions number ≡ Some r → (found_region (Some r) ≡ Closed → found_region (Some s) ≡ Closed) → IsShut regions region → IsShut (set regions number s) region

@@ -11,36 +11,36 @@ use Rattle.cyc_meaning.specs.Step.{wrong, called, step, stepped}
 use Rattle.cyc_meaning.specs.Run.{start, steps, run, limited_step}
 use Rattle.cyc_meaning.specs.inside.Variables.{FunctionsRise, LivesIn, IsShut, Locals, waiting, IsLocal, IsOfCall, AreLow, LiveInBlocks, WaitInBlocks, HaveNames, AreDistinct, AreNamed, HasNames, declared_by}
 use Rattle.cyc_meaning.proofs.NestingLemmas.{globals_found}
-use Rattle.cyc_meaning.proofs.RunLaws.{limited_either}
+use Rattle.cyc_meaning.proofs.RunLaws.{limited_cases}
 use Rattle.cyc_meaning.proofs.Nested.{nests_step, nests_start, nests_run}
 use Rattle.cyc_meaning.proofs.VariableLemmas.{lives_once, lives_below}
 use Rattle.cyc_meaning.proofs.VariableChanges.{local_here}
 use Rattle.cyc_meaning.proofs.VariableDeclared.{former_left}
-use Rattle.cyc_meaning.proofs.VariableSteps.{low_less, Stays, Goes, Ends, Dies, Fails, Begins, sooner, none_low, evaluating, locating, given, given_place, executing, proceeding, calling, entering, binding, naming, writing, beginning, repeating, swapping_values, breaking, continuing, returning, throwing, catching}
+use Rattle.cyc_meaning.proofs.VariableSteps.{low_less, Stays, Goes, Ends, Dies, Fails, Begins, sooner, none_low, named_evaluating, named_locating, named_given, named_given_place, named_executing, named_proceeding, named_calling, named_entering, named_binding, named_naming, named_writing, named_beginning, named_repeating, named_swapping_values, named_breaking, named_continuing, named_returning, named_throwing, named_catching}
 use Rattle.cyc_meaning.proofs.Rising.{functions_rise}
 
 -- ---- a step
 
-stays : {globals : ℕ} (program : Program) → FunctionsRise program → (focus : Focus) (stack : List Entry) (e : Environment) (w : World) → Begins globals focus stack e w (stepped program focus stack e w)
-stays program rise (Evaluating a) stack e w = sooner (evaluating a stack e w) (λ h. (h.0, h.1.1))
-stays program rise (Locating d) stack e w = sooner (locating program d stack e w) (λ h. (h.0, h.1.1))
-stays program rise (Given value) stack e w = sooner (given value stack e w) (λ h. (h.0, h.1.1))
-stays program rise (GivenPlace place) stack e w = sooner (given_place place stack e w) (λ h. (h.0, h.1.1))
-stays program rise (Executing s) stack e w = executing s stack e w
-stays program rise Proceeding stack e w = sooner (proceeding stack e w) (λ h. (h.0, h.1.1))
-stays program rise (Calling callee arguments) stack e w = sooner (calling program callee arguments stack e w rise) (λ h. (h.0, h.1.1))
-stays program rise (Entering h arguments) stack e w = entering h arguments stack e w
-stays program rise (Binding number types arguments body) stack e w = binding number types arguments body stack e w
-stays program rise (Naming number operand items) stack e w = naming number operand items stack e w
-stays program rise (Writing writes result) stack e w = sooner (writing writes result stack e w) (λ h. (h.0, h.1.1))
-stays program rise (Beginning owner count level kind element) stack e w = sooner (beginning owner count level kind element stack e w) (λ h. (h.0, h.1.1))
-stays program rise (Repeating object count index level kind element) stack e w = sooner (repeating object count index level kind element stack e w) (λ h. (h.0, h.1.1))
-stays program rise (Swapping kind left right before) stack e w = sooner (swapping_values kind left right before stack e w) (λ h. (h.0, h.1.1))
-stays program rise Breaking stack e w = sooner (breaking stack e w) (λ h. (h.0, h.1.1))
-stays program rise Continuing stack e w = sooner (continuing stack e w) (λ h. (h.0, h.1.1))
-stays program rise (Returning value) stack e w = sooner (returning value stack e w) (λ h. (h.0, h.1.1))
-stays program rise (Throwing tag value) stack e w = sooner (throwing tag value stack e w) (λ h. (h.0, h.1.1))
-stays program rise (Catching tag value handler) stack e w = catching tag value handler stack e w
+named_stepped : {globals : ℕ} (program : Program) → FunctionsRise program → (focus : Focus) (stack : List Entry) (e : Environment) (w : World) → Begins globals focus stack e w (stepped program focus stack e w)
+named_stepped program rise (Evaluating a) stack e w = sooner (named_evaluating a stack e w) (λ h. (h.0, h.1.1))
+named_stepped program rise (Locating d) stack e w = sooner (named_locating program d stack e w) (λ h. (h.0, h.1.1))
+named_stepped program rise (Given value) stack e w = sooner (named_given value stack e w) (λ h. (h.0, h.1.1))
+named_stepped program rise (GivenPlace place) stack e w = sooner (named_given_place place stack e w) (λ h. (h.0, h.1.1))
+named_stepped program rise (Executing s) stack e w = named_executing s stack e w
+named_stepped program rise Proceeding stack e w = sooner (named_proceeding stack e w) (λ h. (h.0, h.1.1))
+named_stepped program rise (Calling callee arguments) stack e w = sooner (named_calling program callee arguments stack e w rise) (λ h. (h.0, h.1.1))
+named_stepped program rise (Entering h arguments) stack e w = named_entering h arguments stack e w
+named_stepped program rise (Binding number types arguments body) stack e w = named_binding number types arguments body stack e w
+named_stepped program rise (Naming number operand items) stack e w = named_naming number operand items stack e w
+named_stepped program rise (Writing writes result) stack e w = sooner (named_writing writes result stack e w) (λ h. (h.0, h.1.1))
+named_stepped program rise (Beginning owner count level kind element) stack e w = sooner (named_beginning owner count level kind element stack e w) (λ h. (h.0, h.1.1))
+named_stepped program rise (Repeating object count index level kind element) stack e w = sooner (named_repeating object count index level kind element stack e w) (λ h. (h.0, h.1.1))
+named_stepped program rise (Swapping kind left right before) stack e w = sooner (named_swapping_values kind left right before stack e w) (λ h. (h.0, h.1.1))
+named_stepped program rise Breaking stack e w = sooner (named_breaking stack e w) (λ h. (h.0, h.1.1))
+named_stepped program rise Continuing stack e w = sooner (named_continuing stack e w) (λ h. (h.0, h.1.1))
+named_stepped program rise (Returning value) stack e w = sooner (named_returning value stack e w) (λ h. (h.0, h.1.1))
+named_stepped program rise (Throwing tag value) stack e w = sooner (named_throwing tag value stack e w) (λ h. (h.0, h.1.1))
+named_stepped program rise (Catching tag value handler) stack e w = named_catching tag value handler stack e w
 
 comes : {globals : ℕ} {known : Type 0} {s : State} → Stays globals known s → known → HasNames globals s
 comes (Goes names) h = names h
@@ -49,7 +49,7 @@ comes Dies h = tt
 comes Fails h = tt
 
 pub names_step : (globals : ℕ) (program : Program) → FunctionsRise program → (s : State) → Nests s → HasNames globals s → HasNames globals (step program s)
-names_step globals program rise (Running focus stack e w) nests h = comes (stays program rise focus stack e w) (nests, h)
+names_step globals program rise (Running focus stack e w) nests h = comes (named_stepped program rise focus stack e w) (nests, h)
 names_step globals program rise (Ended ending output input) nests h = tt
 names_step globals program rise (Dead output input) nests h = tt
 names_step globals program rise (Wrong output input) nests h = tt
@@ -57,7 +57,7 @@ names_step globals program rise (Wrong output input) nests h = tt
 -- at each step of a run with limits
 pub names_kept : (globals : ℕ) (program : Program) → FunctionsRise program → (pages calls : ℕ) (old new : State) → Nests old → HasNames globals old → new ≡ limited_step program pages calls old → HasNames globals new
 names_kept globals program rise pages calls old new nests h is =
-    subst (HasNames globals) (sym is) (limited_either (HasNames globals) pages calls old (step program old) (λ within. names_step globals program rise old nests h) (λ full. tt))
+    subst (HasNames globals) (sym is) (limited_cases (HasNames globals) pages calls old (step program old) (λ within. names_step globals program rise old nests h) (λ full. tt))
 
 -- both that and what nests, as a relation between states keeps it
 abbrev pub NestsAndNames : (globals : ℕ) → State → Type 0
@@ -65,7 +65,7 @@ NestsAndNames globals s = Nests s × HasNames globals s
 
 pub both_kept : (globals : ℕ) (program : Program) → FunctionsRise program → (pages calls : ℕ) (old new : State) → NestsAndNames globals old → new ≡ limited_step program pages calls old → NestsAndNames globals new
 both_kept globals program rise pages calls old new h is = (
-  subst Nests (sym is) (limited_either Nests pages calls old (step program old) (λ within. nests_step program old h.0) (λ full. tt)),
+  subst Nests (sym is) (limited_cases Nests pages calls old (step program old) (λ within. nests_step program old h.0) (λ full. tt)),
   names_kept globals program rise pages calls old new h.0 h.1 is,
 )
 

@@ -16,7 +16,7 @@ use Rattle.cyc_store.proofs.KeptUnwinding.{step-in, step-by, down_to-lower}
 use Rattle.cyc_objects.specs.inside.Tables.{Tables}
 use Rattle.cyc_objects.specs.inside.Related.{sort_of, has_home, Regions, no_regions, passed, taken, Related, scopes, IsNewest, closed_to}
 use Rattle.cyc_objects.proofs.Values.{Grows-same}
-use Rattle.cyc_objects.proofs.RegionLemmas.{not_true, HasHome, home-found, first-other, shut, without-none}
+use Rattle.cyc_objects.proofs.RegionLemmas.{not_true, HasHome, home-found, first-other, shut, without-absent}
 use Rattle.cyc_objects.proofs.Serving.{WordsStay, block-home, objects-inherited}
 use Rattle.cyc_objects.proofs.Services.{region-closed}
 
@@ -134,7 +134,7 @@ down-newest (taken {handle = h} {r = q} {home = o} {regions = rs} {open_homes = 
     let none : lexical_count os ≡ 0 = scopes-same rest ∙ scopes-none rs (newest-none q rs newest) in
     let last : m ≡ 0 = zero-left m (lexical_count os) (sym count ∙ count-lexical o os lexical) none in
     when_equal o.handle g (without handle_of os g) (o ∷ without handle_of os g) same
-    ∙ (without-none handle_of os g (subst (λ k. lookup handle_of os k ≡ None) same distinct.0)
+    ∙ (without-absent handle_of os g (subst (λ k. lookup handle_of os k ≡ None) same distinct.0)
     ∙ sym (ap (λ k. down_to k (o ∷ os)) last ∙ (down-lexical o os lexical ∙ (ap (λ k. down_to k os) (sym none) ∙ down-all os))))
   where
     zero-left : (m k : ℕ) → suc m ≡ suc k → k ≡ 0 → m ≡ 0

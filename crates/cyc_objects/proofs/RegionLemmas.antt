@@ -18,12 +18,12 @@ pub not_true : {b : Bool} → b ≡ false → b ≡ true → ⊥
 not_true {b} out holds = let e : false ≡ true = sym out ∙ holds in cc
 
 -- a region of variables is never one of the store's
-pub sort-none : (sort : Sort) (flag : Bool) → is_some (sort_of sort) ≡ false → has_pages sort flag ≡ false
-sort-none Heap flag none = absurd (let e : true ≡ false = none in cc)
-sort-none Globals flag none = refl
-sort-none Stack flag none = refl
-sort-none Lexical flag none = absurd (let e : true ≡ false = none in cc)
-sort-none Dynamic flag none = absurd (let e : true ≡ false = none in cc)
+pub no-sort-no-pages : (sort : Sort) (flag : Bool) → is_some (sort_of sort) ≡ false → has_pages sort flag ≡ false
+no-sort-no-pages Heap flag none = absurd (let e : true ≡ false = none in cc)
+no-sort-no-pages Globals flag none = refl
+no-sort-no-pages Stack flag none = refl
+no-sort-no-pages Lexical flag none = absurd (let e : true ≡ false = none in cc)
+no-sort-no-pages Dynamic flag none = absurd (let e : true ≡ false = none in cc)
 
 -- any other is one while it is open
 pub sort-some : (sort : Sort) → is_some (sort_of sort) ≡ true → has_pages sort true ≡ true
@@ -44,10 +44,10 @@ counted-same (taken {r} {home = o} {regions = rs} {open_homes = os} m rest) =
 
 -- ---- which is which
 
-pub regions-length : {hs : List (Option ℕ)} {rs : List Region} {os : List Home} → Regions hs rs os → length hs ≡ length rs
-regions-length no_regions = refl
-regions-length (passed out entry empty rest) = ap suc (regions-length rest)
-regions-length (taken m rest) = ap suc (regions-length rest)
+pub handles-length : {hs : List (Option ℕ)} {rs : List Region} {os : List Home} → Regions hs rs os → length hs ≡ length rs
+handles-length no_regions = refl
+handles-length (passed out entry empty rest) = ap suc (handles-length rest)
+handles-length (taken m rest) = ap suc (handles-length rest)
 
 -- a region of the store has or had a handle, and one of variables has none
 pub entry-found : {hs : List (Option ℕ)} {rs : List Region} {os : List Home} → Regions hs rs os → (n : ℕ) (r : Region) → slice_get rs n ≡ Some r
@@ -139,7 +139,7 @@ Regions-opened h sort is same (taken m rest) = taken m (Regions-opened h sort is
 pub Regions-variables : {hs : List (Option ℕ)} {rs : List Region} {os : List Home} (sort : Sort) → sort_of sort ≡ None → Regions hs rs os
     → Regions (hs ++ None ∷ []) (rs ++ new_region sort ∷ []) os
 Regions-variables sort none no_regions =
-    passed (sort-none sort true (ap (λ o. is_some o) none)) (sym (ap (λ o. is_some o) none)) (λ is. refl) no_regions
+    passed (no-sort-no-pages sort true (ap (λ o. is_some o) none)) (sym (ap (λ o. is_some o) none)) (λ is. refl) no_regions
 Regions-variables sort none (passed out entry empty rest) = passed out entry empty (Regions-variables sort none rest)
 Regions-variables sort none (taken m rest) = taken m (Regions-variables sort none rest)
 
@@ -148,11 +148,11 @@ Regions-variables sort none (taken m rest) = taken m (Regions-variables sort non
 abbrev pub shut : Region → Region
 shut r = record r { is_open = false }
 
-pub without-none : {A : Type 0} (key : A → ℕ) (xs : List A) (n : ℕ) → lookup key xs n ≡ None → without key xs n ≡ xs
-without-none key [] n none = refl
-without-none key (x ∷ xs) n none =
+pub without-absent : {A : Type 0} (key : A → ℕ) (xs : List A) (n : ℕ) → lookup key xs n ≡ None → without key xs n ≡ xs
+without-absent key [] n none = refl
+without-absent key (x ∷ xs) n none =
     let (other, rest) = lookup-none key x xs n none in
-    when_other (key x) n (without key xs n) (x ∷ without key xs n) other ∙ ap (λ l. x ∷ l) (without-none key xs n rest)
+    when_other (key x) n (without key xs n) (x ∷ without key xs n) other ∙ ap (λ l. x ∷ l) (without-absent key xs n rest)
 
 pub Regions-shut : {hs : List (Option ℕ)} {rs : List Region} {os : List Home} → Regions hs rs os → (n : ℕ) (r : Region)
     → slice_get rs n ≡ Some r → slice_get hs n ≡ Some None → Regions hs (set rs n (shut r)) os
@@ -160,7 +160,7 @@ Regions-shut no_regions n r found entry = absurd (let e : None ≡ Some r = foun
 Regions-shut (passed {handle = h} {r = q} out some empty rest) zero r found entry =
     let none : is_some (sort_of r.sort) ≡ false =
     sym (ap (λ (z : Region). is_some (sort_of z.sort)) (same_some found)) ∙ (sym some ∙ ap (λ o. is_some o) (same_some entry)) in
-    passed (sort-none r.sort false none) (some ∙ ap (λ (z : Region). is_some (sort_of z.sort)) (same_some found)) (λ is. sym (ap (λ (z : Region). z.blocks) (same_some found)) ∙ empty is) rest
+    passed (no-sort-no-pages r.sort false none) (some ∙ ap (λ (z : Region). is_some (sort_of z.sort)) (same_some found)) (λ is. sym (ap (λ (z : Region). z.blocks) (same_some found)) ∙ empty is) rest
 Regions-shut (passed out some empty rest) (suc n) r found entry = passed out some empty (Regions-shut rest n r found entry)
 Regions-shut (taken {handle = h} m rest) zero r found entry = absurd (let e : Some h ≡ None = same_some entry in cc)
 Regions-shut (taken m rest) (suc n) r found entry = taken m (Regions-shut rest n r found entry)
@@ -175,7 +175,7 @@ Regions-closed (taken {handle = h} {r = q} {home = o} {handles = hs} {regions = 
     let same : o.handle ≡ g = m.named ∙ same_some (same_some entry) in
     subst (Regions (Some h ∷ hs) (shut r ∷ rs))
     (sym (when_equal o.handle g (without handle_of os g) (o ∷ without handle_of os g) same
-    ∙ without-none handle_of os g (subst (λ n. lookup handle_of os n ≡ None) same distinct.0)))
+    ∙ without-absent handle_of os g (subst (λ n. lookup handle_of os n ≡ None) same distinct.0)))
     (passed ends (sym (ap (λ o. is_some o) m.sort) ∙ ap (λ (z : Region). is_some (sort_of z.sort)) (same_some found)) (λ is. absurd (let e : Some h ≡ None = is in cc)) rest)
 Regions-closed (taken {handle = h} {r = q} {home = o} {handles = hs} {regions = rs} {open_homes = os} m rest) distinct (suc n) g r found kept ends entry =
     subst (Regions (Some h ∷ hs) (q ∷ set rs n (shut r)))

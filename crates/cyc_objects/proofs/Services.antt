@@ -24,7 +24,7 @@ use Rattle.cyc_objects.specs.inside.Related.{sort_of, has_home, lies_in, Alive, 
 use Rattle.cyc_objects.proofs.NumberLemmas.{slice_get-set_cases}
 use Rattle.cyc_objects.proofs.Values.{Grows-same, Grows-handle}
 use Rattle.cyc_objects.proofs.Pointers.{same-row}
-use Rattle.cyc_objects.proofs.RegionLemmas.{not_true, regions-length, counted-same, HasHome, home-found, same_entry, handle-names, Regions-opened, shut, without-none, Regions-closed, lies-home, lies-set, lies-last}
+use Rattle.cyc_objects.proofs.RegionLemmas.{not_true, handles-length, counted-same, HasHome, home-found, same_entry, handle-names, Regions-opened, shut, without-absent, Regions-closed, lies-home, lies-set, lies-last}
 use Rattle.cyc_objects.proofs.Serving.{WordsStay, words-stay, block-opened, block-freed, block-closed, objects-inherited, alone-inherited}
 use Rattle.cyc_objects.proofs.Making.{either-order, class-room, handle-other}
 use Rattle.cyc_objects.proofs.Variables.{within-more, entry-older}
@@ -55,7 +55,7 @@ module _ {t : Tables} {w : World} {s : StoreState} (related : Related t w s) whe
       before : (o g : ℕ) (y : Object) → Alive (with_handle t (Some h)) (opened_as sort w) o g y → Alive t w o g y
       before o g y alive = record {
         at = alive.at;
-        lies = lies-last t.handles w.regions (Some h) (new_region sort) g y.owner (regions-length related.regions) (related.owned o y alive.at) alive.lies;
+        lies = lies-last t.handles w.regions (Some h) (new_region sort) g y.owner (handles-length related.regions) (related.owned o y alive.at) alive.lies;
       }
 
   pub opened-lexical : (c : Choice) → refusal s OpenLexical ≡ None → IsAllowed s OpenLexical c
@@ -151,7 +151,7 @@ live-without class (d ∷ bs) a b distinct found = elim (cases_eq d.address a) [
       let is : d ≡ b = same_some (sym (lookup-here address_of d bs a same) ∙ found) in
       let rest : without address_of (d ∷ bs) a ≡ bs =
       when_equal d.address a (without address_of bs a) (d ∷ without address_of bs a) same
-      ∙ without-none address_of bs a (subst (λ n. lookup address_of bs n ≡ None) same distinct.0) in
+      ∙ without-absent address_of bs a (subst (λ n. lookup address_of bs n ≡ None) same distinct.0) in
       ap (λ (z : Block). if class_of z.size == class then suc (stores.live_in class bs) else stores.live_in class bs) is
       ∙ ap (λ l. if class_of b.size == class then suc (stores.live_in class l) else stores.live_in class l) (sym rest)
   | inr other ↦

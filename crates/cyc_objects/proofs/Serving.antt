@@ -92,8 +92,8 @@ pub record WordsStay (s r : StoreState) : Type 0 where
   pub words : (h a : ℕ) (b : Block) → block_at (homes s) h a ≡ Some b → block_at (homes r) h a ≡ Some b → (j : ℕ) → j < b.size
       → r.memory (b.address + 4 * j) ≡ s.memory (b.address + 4 * j)
 
-pub words-same : {s : StoreState} → IsSound s → WordsStay s s
-words-same sound = record { sound = sound; after = sound.words; words = λ h a b here there j below. refl }
+pub words-unmoved : {s : StoreState} → IsSound s → WordsStay s s
+words-unmoved sound = record { sound = sound; after = sound.words; words = λ h a b here there j below. refl }
 
 pub words-stay : {s r : StoreState} → IsSound s → IsSound r → Keeps s r → WordsStay s r
 words-stay {s} {r} sound after keeps = record {

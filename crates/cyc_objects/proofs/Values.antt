@@ -115,9 +115,9 @@ module _ (t : Tables) where
 -- ---- bytes that are equal
 
 -- the words of a cell, where its bytes are equal
-words-same : (words : ℕ) (m n : Memory) (a : ℕ) → AreWords m → AreWords n → a % 4 ≡ 0
+words-at-same : (words : ℕ) (m n : Memory) (a : ℕ) → AreWords m → AreWords n → a % 4 ≡ 0
     → ((x : ℕ) → a ≤ x → x < a + 4 * words → byte_at n x ≡ byte_at m x) → (j : ℕ) → j < words → n (a + 4 * (0 + j)) ≡ m (a + 4 * (0 + j))
-words-same words m n a old new even same j below =
+words-at-same words m n a old new even same j below =
     word-of_bytes m n (a + 4 * (0 + j)) old new (omega (arith, even))
     (λ i short. same (a + 4 * (0 + j) + i) (omega arith) (omega (arith, below, short)))
 
@@ -144,19 +144,19 @@ module _ (t : Tables) where
   pub Holds-same : (kind : Kind) (v : Value) (m n : Memory) (a : ℕ) → AreWords m → AreWords n → IsAligned kind a
       → ((x : ℕ) → a ≤ x → x < a + bytes_of_kind kind → byte_at n x ≡ byte_at m x) → Holds t kind v m a → Holds t kind v n a
   Holds-same kinds.Int v m n a old new even same is =
-      Is-same t kinds.Int v (words_from m a) (words_from n a) 0 0 (words-same 1 m n a old new even same) is
+      Is-same t kinds.Int v (words_from m a) (words_from n a) 0 0 (words-at-same 1 m n a old new even same) is
   Holds-same kinds.Char (Int byte) m n a old new even same is = same a (omega arith) (omega arith) ∙ is
   Holds-same kinds.Char v m n a old new even same is = absurd is
   Holds-same kinds.Nullable v m n a old new even same is =
-      Is-same t kinds.Nullable v (words_from m a) (words_from n a) 0 0 (words-same 1 m n a old new even same) is
+      Is-same t kinds.Nullable v (words_from m a) (words_from n a) 0 0 (words-at-same 1 m n a old new even same) is
   Holds-same kinds.NonNull v m n a old new even same is =
-      Is-same t kinds.NonNull v (words_from m a) (words_from n a) 0 0 (words-same 1 m n a old new even same) is
+      Is-same t kinds.NonNull v (words_from m a) (words_from n a) 0 0 (words-at-same 1 m n a old new even same) is
   Holds-same kinds.Fat v m n a old new even same is =
-      Is-same t kinds.Fat v (words_from m a) (words_from n a) 0 0 (words-same 3 m n a old new even same) is
+      Is-same t kinds.Fat v (words_from m a) (words_from n a) 0 0 (words-at-same 3 m n a old new even same) is
   Holds-same kinds.Handle v m n a old new even same is =
-      Is-same t kinds.Handle v (words_from m a) (words_from n a) 0 0 (words-same 1 m n a old new even same) is
+      Is-same t kinds.Handle v (words_from m a) (words_from n a) 0 0 (words-at-same 1 m n a old new even same) is
   Holds-same kinds.Key v m n a old new even same is =
-      Is-same t kinds.Key v (words_from m a) (words_from n a) 0 0 (words-same 1 m n a old new even same) is
+      Is-same t kinds.Key v (words_from m a) (words_from n a) 0 0 (words-at-same 1 m n a old new even same) is
 
   pub IsContent-same : (kind : Kind) (content : Option Value) (m n : Memory) (a : ℕ) → AreWords m → AreWords n → IsAligned kind a
       → ((x : ℕ) → a ≤ x → x < a + bytes_of_kind kind → byte_at n x ≡ byte_at m x) → IsContent t kind content m a → IsContent t kind content n a

@@ -13,8 +13,8 @@ use Rattle.cyc_objects.specs.inside.Tables.{Row, Variable, Placed, Tables, with_
 use Rattle.cyc_objects.specs.inside.Related.{sort_of, lies_in, Alive, IsOfVariable, IsVariableAt, HasKinds, Within, Related}
 use Rattle.cyc_objects.proofs.NumberLemmas.{slice_get-below, slice_get-there, slice_get-last, slice_get-set_cases}
 use Rattle.cyc_objects.proofs.Values.{Grows-same, Grows-row, Grows-handle, variable-grows}
-use Rattle.cyc_objects.proofs.RegionLemmas.{regions-length, Regions-variables, shut, Regions-shut, lies-home, lies-set, lies-last}
-use Rattle.cyc_objects.proofs.Serving.{words-same, objects-inherited, alone-inherited}
+use Rattle.cyc_objects.proofs.RegionLemmas.{handles-length, Regions-variables, shut, Regions-shut, lies-home, lies-set, lies-last}
+use Rattle.cyc_objects.proofs.Serving.{words-unmoved, objects-inherited, alone-inherited}
 use Rattle.cyc_objects.proofs.Cells.{variable-alone, variable-elsewhere, size_of, live_in-set}
 use Rattle.cyc_objects.proofs.Making.{live-last}
 
@@ -33,14 +33,14 @@ within-more rs q (Unique live) within = tt
 
 -- the number of the region that opens next, and its entry
 pub handle-made : {t : Tables} {w : World} {s : StoreState} → Related t w s → (h : Option ℕ) → slice_get (with_handle t h).handles (length w.regions) ≡ Some h
-handle-made {t} related h = subst (λ n. slice_get (t.handles ++ h ∷ []) n ≡ Some h) (regions-length related.regions) (slice_get-end t.handles h)
+handle-made {t} related h = subst (λ n. slice_get (t.handles ++ h ∷ []) n ≡ Some h) (handles-length related.regions) (slice_get-end t.handles h)
 
 -- the region of an object is an old one
 pub entry-older : {t : Tables} {w : World} {s : StoreState} → Related t w s → (e : Option ℕ) (o n : ℕ) (y : Object) → slice_get w.objects o ≡ Some y
     → y.owner ≡ InRegion n → slice_get (t.handles ++ e ∷ []) n ≡ Some None → slice_get t.handles n ≡ Some None
 entry-older {t} {w} related e o n y at owner entry =
     let within : n < length w.regions = subst (Within (length w.regions)) owner (related.owned o y at) in
-    let (q, old) = slice_get-there t.handles n (subst (λ m. n < m) (sym (regions-length related.regions)) within) in
+    let (q, old) = slice_get-there t.handles n (subst (λ m. n < m) (sym (handles-length related.regions)) within) in
     old ∙ (sym (slice_get-append t.handles (e ∷ []) n q old) ∙ entry)
 
 module _ {t : Tables} {w : World} {s : StoreState} (related : Related t w s) where
@@ -72,8 +72,8 @@ module _ {t : Tables} {w : World} {s : StoreState} (related : Related t w s) whe
       | inl old ↦ variable-grows (Grows-row t row) o (related.variables o m y old owner is)
       | inr new ↦ (row, row-new o new.0, outside)
     ];
-    objects = objects-inherited related (Grows-row t row) (words-same related.sound) before (λ o h a ks y b alive placed at. at);
-    alone = alone-inherited related (Grows-row t row) (words-same related.sound) before (λ o h a ks y b alive placed at. at);
+    objects = objects-inherited related (Grows-row t row) (words-unmoved related.sound) before (λ o h a ks y b alive placed at. at);
+    alone = alone-inherited related (Grows-row t row) (words-unmoved related.sound) before (λ o h a ks y b alive placed at. at);
   }
     where
       row-new : (o : ℕ) → o ≡ length w.objects → slice_get (t.rows ++ row ∷ []) o ≡ Some row
@@ -114,8 +114,8 @@ module _ {t : Tables} {w : World} {s : StoreState} (related : Related t w s) whe
       | inl here ↦ subst (IsVariableAt t) (sym here.0) (related.variables o n x there (sym (ap (λ (z : Object). z.owner) here.1) ∙ owner) entry)
       | inr other ↦ related.variables i n y other.1 owner entry
     ];
-    objects = objects-inherited related (Grows-same t) (words-same related.sound) before (λ i h a ks y b alive placed found. found);
-    alone = alone-inherited related (Grows-same t) (words-same related.sound) before (λ i h a ks y b alive placed found. found);
+    objects = objects-inherited related (Grows-same t) (words-unmoved related.sound) before (λ i h a ks y b alive placed found. found);
+    alone = alone-inherited related (Grows-same t) (words-unmoved related.sound) before (λ i h a ks y b alive placed found. found);
   }
     where
       kinds : kinds_of (set x.cells k (record c { content = Some v })) ≡ kinds_of x.cells
@@ -153,14 +153,14 @@ module _ {t : Tables} {w : World} {s : StoreState} (related : Related t w s) whe
     owned = λ o y at. further y.owner (related.owned o y at);
     shapes = related.shapes;
     variables = λ o n y at owner entry. related.variables o n y at owner (older o n y at owner entry);
-    objects = objects-inherited related (Grows-handle t None) (words-same related.sound) before (λ o h a ks y b alive row found. found);
-    alone = alone-inherited related (Grows-handle t None) (words-same related.sound) before (λ o h a ks y b alive row found. found);
+    objects = objects-inherited related (Grows-handle t None) (words-unmoved related.sound) before (λ o h a ks y b alive row found. found);
+    alone = alone-inherited related (Grows-handle t None) (words-unmoved related.sound) before (λ o h a ks y b alive row found. found);
   }
     where
       before : (o h : ℕ) (y : Object) → Alive (with_handle t None) (opened_as sort w) o h y → Alive t w o h y
       before o h y alive = record {
         at = alive.at;
-        lies = lies-last t.handles w.regions None (new_region sort) h y.owner (regions-length related.regions) (related.owned o y alive.at) alive.lies;
+        lies = lies-last t.handles w.regions None (new_region sort) h y.owner (handles-length related.regions) (related.owned o y alive.at) alive.lies;
       }
 
       further : (owner : Owner) → Within (length w.regions) owner → Within (length (w.regions ++ new_region sort ∷ [])) owner
@@ -182,8 +182,8 @@ module _ {t : Tables} {w : World} {s : StoreState} (related : Related t w s) whe
     owned = λ o y at. subst (λ m. Within m y.owner) (sym (length-set w.regions n (shut r))) (related.owned o y at);
     shapes = related.shapes;
     variables = related.variables;
-    objects = objects-inherited related (Grows-same t) (words-same related.sound) before (λ o h a ks y b alive row found. found);
-    alone = alone-inherited related (Grows-same t) (words-same related.sound) before (λ o h a ks y b alive row found. found);
+    objects = objects-inherited related (Grows-same t) (words-unmoved related.sound) before (λ o h a ks y b alive row found. found);
+    alone = alone-inherited related (Grows-same t) (words-unmoved related.sound) before (λ o h a ks y b alive row found. found);
   }
     where
       before : (o h : ℕ) (y : Object) → Alive t (closed w n r) o h y → Alive t w o h y

@@ -11,7 +11,7 @@ use Rattle.cyc_store.specs.declared.row.Role.TheVariants.{Rest, Heap, Lexical, D
 use Rattle.cyc_store.specs.declared.row.Row.{Row}
 use Rattle.cyc_store.specs.declared.row.TheConstants.{NONE}
 use Rattle.cyc_store.proofs.LookupLemmas.{when_other}
-use Rattle.cyc_store.proofs.TieLemmas.{chain-same}
+use Rattle.cyc_store.proofs.TieLemmas.{chain-also}
 use Rattle.cyc_store.proofs.TieClosing.{one-all, all-from}
 use Rattle.cyc_pagestore.specs.inside.Links.{head_or_none, relinked, removed, next_of, longer_of}
 use Rattle.cyc_pagestore.specs.inside.Live.{reach_by}
@@ -72,7 +72,7 @@ region-stays b c row also root pages is agree =
     record {
       chain = is.chain;
       linked = subst (λ n. IsChain (λ p. (also p).next) n is.chain) (sym here.rows.newest)
-          (chain-same (λ p. (row p).next) (λ p. (also p).next) (row root).newest is.chain
+          (chain-also (λ p. (row p).next) (λ p. (also p).next) (row root).newest is.chain
           (all-from (λ p. (also p).next ≡ (row p).next) is.chain (λ p inside. (agree p inside).rows.next)) is.linked);
       count = here.rows.count ∙ is.count;
       apart = is.apart;
@@ -226,7 +226,7 @@ module _ (b : Backing) (next : ℕ) (row : ℕ → Row) (first : ℕ) (order : L
   root-away r root e = rest-no_root (b.role r) (ap b.role e ∙ rest) root
 
   linked-away : (new : Row) → IsChain (λ (p : ℕ). (with_at row page new p).next) first order
-  linked-away new = chain-same (λ p. (row p).next) (λ p. (with_at row page new p).next) first order
+  linked-away new = chain-also (λ p. (row p).next) (λ p. (with_at row page new p).next) first order
       (all-from (λ p. (with_at row page new p).next ≡ (row p).next) order
       (λ p which. ap (λ (r : Row). r.next) (at-other row page new p (λ e. away-order (subst (IsOneOf order) e which))))) is.linked
 
@@ -495,7 +495,7 @@ module _ (b : Backing) (next : ℕ) (row : ℕ → Row) (first : ℕ) (order : L
           | inr live ↦ inr live
         ]
       ];
-      linked = chain-same (λ p. (row p).next) (λ p. (with_at row newest new_row p).next) first order (all-from (λ p. (with_at row newest new_row p).next ≡ (row p).next) order (λ p which. part (λ (r : Row). r.next) refl p)) is.linked;
+      linked = chain-also (λ p. (row p).next) (λ p. (with_at row newest new_row p).next) first order (all-from (λ p. (with_at row newest new_row p).next ≡ (row p).next) order (λ p which. part (λ (r : Row). r.next) refl p)) is.linked;
       apart = is.apart;
       free = is.free;
       all = is.all;
@@ -583,7 +583,7 @@ module _ (b : Backing) (next : ℕ) (row : ℕ → Row) (first : ℕ) (order : L
       linked = (
         ap (λ (r : Row). r.newest) also-root,
         subst (λ n. IsChain (λ p. (also p).next) n region.chain) (sym (ap (λ (r : Row). r.next) also-page))
-            (chain-same (λ p. (row p).next) (λ p. (also p).next) (row root).newest region.chain (all-from (λ p. (also p).next ≡ (row p).next) region.chain (λ p which. next-kept p (away-member p which))) region.linked),
+            (chain-also (λ p. (row p).next) (λ p. (also p).next) (row root).newest region.chain (all-from (λ p. (also p).next ≡ (row p).next) region.chain (λ p which. next-kept p (away-member p which))) region.linked),
       );
       count = ap (λ (r : Row). r.count) also-root ∙ ap (λ n. n + 1) region.count ∙ more (length region.chain);
       apart = (all-from (λ p. page ≢ p) region.chain (λ p which e. away-member p which (sym e)), region.apart);
@@ -686,7 +686,7 @@ module _ (b : Backing) (next : ℕ) (row : ℕ → Row) (first : ℕ) (order : L
               )
         ]
       ];
-      linked = chain-same (λ p. (row p).next) (λ p. (also p).next) first order (all-from (λ p. (also p).next ≡ (row p).next) order (λ p which. ap (λ (r : Row). r.next) (order-other p which))) is.linked;
+      linked = chain-also (λ p. (row p).next) (λ p. (also p).next) first order (all-from (λ p. (also p).next ≡ (row p).next) order (λ p which. ap (λ (r : Row). r.next) (order-other p which))) is.linked;
       apart = is.apart;
       free = is.free;
       all = is.all;

@@ -11,9 +11,9 @@ use Rattle.cyc_store.specs.declared.row.Row.{Row}
 use Rattle.cyc_store.specs.declared.row.TheConstants.{NONE}
 use Rattle.cyc_pagestore.specs.inside.Links.{moved, chain_from}
 use Rattle.cyc_pagestore.specs.inside.Table.{IsRoot, Backing, reach_of, IsMember, IsRegion, Backs}
-use Rattle.cyc_store.proofs.TieLemmas.{chain-same}
+use Rattle.cyc_store.proofs.TieLemmas.{chain-also}
 use Rattle.cyc_store.proofs.TieClosing.{one-all, all-from}
-use Rattle.cyc_pagestore.proofs.Rows.{not-away, one-cases, moved-out, moved-in, moved-apart}
+use Rattle.cyc_pagestore.proofs.Rows.{not-away, one-or-not, moved-out, moved-in, moved-apart}
 use Rattle.cyc_pagestore.proofs.Reaching.{reach-stale, reach-empty, reach-same}
 use Rattle.cyc_pagestore.proofs.Backing.{with_at, at-same, at-other, rest-no_root, root-in, region-stays, as-row, root-member}
 
@@ -33,15 +33,15 @@ pub record Given (rows : List Row) (page count free : ℕ) (chain order : List �
   pub linked : IsChain (λ (p : ℕ). (row_at (given_rows rows page count free) p).next) (given_free rows page count free) (moved chain order)
   pub many : length (given_rows rows page count free) ≡ length rows
 
-pub given : (rows : List Row) (page count free : ℕ) (chain order : List ℕ) → count ≡ length chain → IsChain (λ (p : ℕ). (row_at rows p).next) page chain → IsDistinct chain
+pub links_given : (rows : List Row) (page count free : ℕ) (chain order : List ℕ) → count ≡ length chain → IsChain (λ (p : ℕ). (row_at rows p).next) page chain → IsDistinct chain
     → AllByRecursion (λ x. x < length rows) chain → ((p : ℕ) → IsOneOf chain p → IsOneOf order p → ⊥) → IsChain (λ (p : ℕ). (row_at rows p).next) free order → Given rows page count free chain order
-given rows page zero free [] order is linked apart below away free_linked = record { others = λ p never. refl; gone = λ p inside. absurd inside; linked = free_linked; many = refl }
-given rows page (suc count) free [] order is linked apart below away free_linked = absurd (let e : suc count ≡ 0 = is in cc)
-given rows page zero free (x ∷ chain) order is linked apart below away free_linked = absurd (let e : 0 ≡ suc (length chain) = is in cc)
-given rows page (suc count) free (x ∷ chain) order is linked apart below away free_linked =
+links_given rows page zero free [] order is linked apart below away free_linked = record { others = λ p never. refl; gone = λ p inside. absurd inside; linked = free_linked; many = refl }
+links_given rows page (suc count) free [] order is linked apart below away free_linked = absurd (let e : suc count ≡ 0 = is in cc)
+links_given rows page zero free (x ∷ chain) order is linked apart below away free_linked = absurd (let e : 0 ≡ suc (length chain) = is in cc)
+links_given rows page (suc count) free (x ∷ chain) order is linked apart below away free_linked =
     let rest : Given new (row_at rows page).next count page chain (page ∷ order) =
-    given new (row_at rows page).next count page chain (page ∷ order) (less count (length chain) is)
-    (chain-same (λ p. (row_at rows p).next) (λ p. (row_at new p).next) (row_at rows page).next chain (unchanged chain page-out)
+    links_given new (row_at rows page).next count page chain (page ∷ order) (less count (length chain) is)
+    (chain-also (λ p. (row_at rows p).next) (λ p. (row_at new p).next) (row_at rows page).next chain (unchanged chain page-out)
     (subst (λ n. IsChain (λ (p : ℕ). (row_at rows p).next) (row_at rows n).next chain) (sym linked.0) linked.1))
     apart.1
     (all-from (λ y. y < length new) chain (λ y inside. subst (λ n. y < n) (sym (length-set rows page (free_row free))) (one-all (λ z. z < length rows) chain y below.1 inside)))
@@ -51,7 +51,7 @@ given rows page (suc count) free (x ∷ chain) order is linked apart below away 
     ]) (
       refl,
       subst (λ n. IsChain (λ (p : ℕ). (row_at new p).next) n order) (sym (ap (λ (r : Row). r.next) here))
-          (chain-same (λ p. (row_at rows p).next) (λ p. (row_at new p).next) free order (unchanged order (λ inside. away x (inl refl) (subst (IsOneOf order) linked.0 inside))) free_linked),
+          (chain-also (λ p. (row_at rows p).next) (λ p. (row_at new p).next) free order (unchanged order (λ inside. away x (inl refl) (subst (IsOneOf order) linked.0 inside))) free_linked),
     ) in
     record {
       others = λ p never. rest.others p (λ inside. never (inr inside)) ∙ get_or-set_other rows page p (free_row free) (free_row NONE) (λ e. never (inl (e ∙ linked.0)));
@@ -123,7 +123,7 @@ module _ (b : Backing) (next : ℕ) (rows : List Row) (first : ℕ) (order : Lis
   chain-below = all-from (λ x. x < length rows) region.chain (λ p inside. subst (λ n. p < n) (sym whole) (region.members p inside).there)
 
   pub gives : Given rows start count first region.chain order
-  gives = given rows start count first region.chain order region.count region.linked region.apart chain-below not-free is.linked
+  gives = links_given rows start count first region.chain order region.count region.linked region.apart chain-below not-free is.linked
 
   pub chain-found : chain_from rows start count ≡ region.chain
   chain-found = chain-is rows start count region.chain region.linked region.count
@@ -177,15 +177,15 @@ module _ (b : Backing) (next : ℕ) (rows : List Row) (first : ℕ) (order : Lis
         | inr other ↦ is.one p q below more (sym (at-other b.serial root s p away) ∙ e ∙ at-other b.serial root s q other)
       ]
     ];
-    filled = λ p below. elim (one-cases region.chain p) [
+    filled = λ p below. elim (one-or-not region.chain p) [
       | inl inside ↦ ap (λ (r : Row). r.filled) (gives.gone p inside).1 ∙ sym (gone-none p below (region.members p inside).owner)
       | inr never ↦ ap (λ (r : Row). r.filled) (gives.others p never) ∙ is.filled p below ∙ sym (outside-reach p below never)
     ];
-    role = λ p below. elim (one-cases region.chain p) [
+    role = λ p below. elim (one-or-not region.chain p) [
       | inl inside ↦ ap (λ (r : Row). r.role) (gives.gone p inside).1 ∙ sym (inside-role p inside)
       | inr never ↦ ap (λ (r : Row). r.role) (gives.others p never) ∙ is.role p below ∙ sym (at-other b.role root Rest p (never-root p never))
     ];
-    newest = λ p below. elim (one-cases region.chain p) [
+    newest = λ p below. elim (one-or-not region.chain p) [
       | inl inside ↦ ap (λ (r : Row). r.newest) (gives.gone p inside).1 ∙ sym (elim (cases_eq p root) [
         | inl same ↦ at-same b.newest root NONE p same
         | inr other ↦ at-other b.newest root NONE p other ∙ is.idle p below ((region.members p inside).role other)

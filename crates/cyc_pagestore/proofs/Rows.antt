@@ -10,7 +10,7 @@ use Rattle.cyc_store.specs.inside.Kept.{IsChain, IsOneOf}
 use Rattle.cyc_store.specs.declared.row.Row.{Row}
 use Rattle.cyc_store.specs.declared.row.TheConstants.{NONE}
 use Rattle.cyc_store.proofs.LookupLemmas.{when_other}
-use Rattle.cyc_store.proofs.TieLemmas.{chain-same}
+use Rattle.cyc_store.proofs.TieLemmas.{chain-also}
 use Rattle.cyc_store.proofs.TieClosing.{one-all, all-from}
 use Rattle.cyc_pagestore.specs.inside.Links.{head_or_none, relinked, removed, moved}
 
@@ -22,11 +22,11 @@ away-from xs p never = all-from (λ x. p ≢ x) xs (λ x inside e. never (subst 
 pub not-away : (xs : List ℕ) (p : ℕ) → AllByRecursion (λ x. p ≢ x) xs → IsOneOf xs p → ⊥
 not-away xs p away inside = one-all (λ x. p ≡ x → ⊥) xs p away inside refl
 
-pub one-cases : (xs : List ℕ) (p : ℕ) → IsOneOf xs p ⊎ (IsOneOf xs p → ⊥)
-one-cases [] p = inr (λ inside. inside)
-one-cases (x ∷ xs) p = elim (cases_eq p x) [
+pub one-or-not : (xs : List ℕ) (p : ℕ) → IsOneOf xs p ⊎ (IsOneOf xs p → ⊥)
+one-or-not [] p = inr (λ inside. inside)
+one-or-not (x ∷ xs) p = elim (cases_eq p x) [
   | inl same ↦ inl (inl same)
-  | inr other ↦ elim (one-cases xs p) [
+  | inr other ↦ elim (one-or-not xs p) [
     | inl inside ↦ inl (inr inside)
     | inr never ↦ inr (λ which. elim which [ inl same ↦ other same | inr inside ↦ never inside ])
   ]
@@ -121,7 +121,7 @@ module _ (rows : List Row) where
   relinked-chain (x ∷ xs) within apart = (
     refl,
     subst (λ n. IsChain (λ (p : ℕ). (row_at (relinked rows (x ∷ xs)) p).next) n xs) (sym (ap (λ (r : Row). r.next) (first-is x xs within.0)))
-        (chain-same (λ p. (row_at (relinked rows xs) p).next) (λ p. (row_at (relinked rows (x ∷ xs)) p).next) (head_or_none xs) xs
+        (chain-also (λ p. (row_at (relinked rows xs) p).next) (λ p. (row_at (relinked rows (x ∷ xs)) p).next) (head_or_none xs) xs
         (all-from (λ p. (row_at (relinked rows (x ∷ xs)) p).next ≡ (row_at (relinked rows xs) p).next) xs
         (λ p inside. ap (λ (r : Row). r.next) (later-is x xs p (λ e. not-away xs x apart.0 (subst (IsOneOf xs) e inside)))))
         (relinked-chain xs within.1 apart.1)),

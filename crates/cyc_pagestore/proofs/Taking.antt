@@ -19,7 +19,7 @@ use Rattle.cyc_store.specs.declared.row.Row.{Row}
 use Rattle.cyc_store.specs.declared.row.TheConstants.{NONE}
 use Rattle.cyc_store.specs.declared.row.ClassSlots.{ClassSlots}
 use Rattle.cyc_store.specs.declared.range.TheConstants.{PAGE_WORDS}
-use Rattle.cyc_store.proofs.TieLemmas.{chain-same}
+use Rattle.cyc_store.proofs.TieLemmas.{chain-also}
 use Rattle.cyc_store.proofs.LookupLemmas.{when_other, not_both}
 use Rattle.cyc_store.proofs.TieClosing.{one-all, all-from}
 use Rattle.cyc_pagestore.specs.inside.Links.{head_or_none, relinked, removed}
@@ -191,7 +191,7 @@ module _ (x : TableState) (lexicals : List ℕ) (classes : List ClassSlots) (b :
     chain = old.chain;
     newest = ap (λ (q : Row). q.newest) (row-owned old.root r.handle old.owned) ∙ old.newest;
     count = ap (λ (q : Row). q.count) (row-owned old.root r.handle old.owned) ∙ old.count;
-    linked = chain-same (λ p. (row_at t.rows.items p).next) (λ p. (row_at (relinked x.rows front) p).next) old.chain.newest.page (old.chain.newest.page ∷ old.chain.older)
+    linked = chain-also (λ p. (row_at t.rows.items p).next) (λ p. (row_at (relinked x.rows front) p).next) old.chain.newest.page (old.chain.newest.page ∷ old.chain.older)
         (same-next (old.chain.newest.page ∷ old.chain.older) (old.chain.newest.owned, old.chain.owned)) old.linked;
     complete = old.complete;
   }

@@ -11,7 +11,7 @@ use Rattle.cyc_rawpages.specs.inside.Words.{Parts, headed}
 use Rattle.cyc_rawpages.specs.inside.Pool.{header_at, field_of, serial_of, bits_at, bit_of, state_of, put, IsLinked, IsDistinct, IsIn, IsChain, LinksAll, IsPool, new_pool}
 use Rattle.cyc_rawpages.specs.declared.header.TheConstants.{FILL, OWNER, LOW, HIGH, NEXT, TAIL, NONE}
 use Rattle.cyc_rawpages.proofs.Columns.{tab-all, linked}
-use Rattle.cyc_rawpages.proofs.Links.{put-same, put-other, all-map, linked-same}
+use Rattle.cyc_rawpages.proofs.Links.{put-there, put-elsewhere, all-map, linked-same}
 use Rattle.cyc_rawpages.proofs.PoolLemmas.{header-in, field-put}
 
 -- the pages from `left` on are linked
@@ -49,9 +49,9 @@ steps pages old new first (suc left) some is =
       linked = subst (λ n. IsLinked (field_of (headed new k first) NEXT) left (numbers_from left n) NONE) {x = suc (pages - suc left)} {y = pages - left} (omega (arith, there))
           (subst (λ f. IsLinked f left (left ∷ numbers_from (suc left) (pages - suc left)) NONE) (sym (field-put pages left NEXT first new (header-in pages left NEXT new is.whole there (omega arith)))) (
             refl,
-            subst (λ q. IsLinked next q (numbers_from (suc left) (pages - suc left)) NONE) (sym (put-same (field_of new NEXT) left first left refl))
+            subst (λ q. IsLinked next q (numbers_from (suc left) (pages - suc left)) NONE) (sym (put-there (field_of new NEXT) left first left refl))
                 (linked-same (field_of new NEXT) next first (numbers_from (suc left) (pages - suc left)) NONE
-                (all-map (numbers_from (suc left) (pages - suc left)) (λ q high. put-other (field_of new NEXT) left first q (λ e. omega (arith, e, high))) (above (suc left) (pages - suc left) left (omega arith)))
+                (all-map (numbers_from (suc left) (pages - suc left)) (λ q high. put-elsewhere (field_of new NEXT) left first q (λ e. omega (arith, e, high))) (above (suc left) (pages - suc left) left (omega arith)))
                 is.linked),
           ));
     })

@@ -8,11 +8,11 @@ use Rattle.cyc_rawpages.specs.declared.change.Change.TheVariants.{Taken, Pushed,
 use Rattle.cyc_rawpages.specs.inside.Pool.{put, IsLinked, Runs, IsDistinct, IsIn, IsChain, IsLinkedUp}
 use Rattle.cyc_rawpages.specs.declared.header.TheConstants.{NONE}
 
-pub put-same : (f : ℕ → ℕ) (at v i : ℕ) → i ≡ at → put f at v i ≡ v
-put-same f at v i same = cond-true (i == at) v (f i) (eq-eqb i at same)
+pub put-there : (f : ℕ → ℕ) (at v i : ℕ) → i ≡ at → put f at v i ≡ v
+put-there f at v i same = cond-true (i == at) v (f i) (eq-eqb i at same)
 
-pub put-other : (f : ℕ → ℕ) (at v i : ℕ) → (i ≡ at → ⊥) → put f at v i ≡ f i
-put-other f at v i other = cond-false (i == at) v (f i) (ne_eqb i at other)
+pub put-elsewhere : (f : ℕ → ℕ) (at v i : ℕ) → (i ≡ at → ⊥) → put f at v i ≡ f i
+put-elsewhere f at v i other = cond-false (i == at) v (f i) (ne_eqb i at other)
 
 -- ---- what is so of each element
 pub all-map : {P Q : ℕ → Type 0} (xs : List ℕ) → ((x : ℕ) → P x → Q x) → AllByRecursion P xs → AllByRecursion Q xs
@@ -47,14 +47,14 @@ last-in P next x [] last all r = subst P r all.0
 last-in P next x (y ∷ ys) last all r = last-in P next y ys last all.1 r.1
 
 runs-push : (next : ℕ → ℕ) (x : ℕ) (xs : List ℕ) (last y : ℕ) → IsDistinct (x ∷ xs) → Runs next x xs last → Runs (put next last y) x (xs ++ y ∷ []) y
-runs-push next x [] last y d r = (put-same next last y x r, refl)
-runs-push next x (z ∷ zs) last y d r = (put-other next last y x (last-in (λ q. x ≡ q → ⊥) next z zs last d.0 r.1) ∙ r.0, runs-push next z zs last y d.1 r.1)
+runs-push next x [] last y d r = (put-there next last y x r, refl)
+runs-push next x (z ∷ zs) last y d r = (put-elsewhere next last y x (last-in (λ q. x ≡ q → ⊥) next z zs last d.0 r.1) ∙ r.0, runs-push next z zs last y d.1 r.1)
 
 linked-splice : (next : ℕ → ℕ) (x : ℕ) (xs : List ℕ) (last first : ℕ) (free : List ℕ) (end : ℕ) → IsDistinct (x ∷ xs) → Runs next x xs last → IsLinked (put next last first) first free end
     → IsLinked (put next last first) x (x ∷ xs ++ free) end
-linked-splice next x [] last first free end d r l = (refl, subst (λ k. IsLinked (put next last first) k free end) (sym (put-same next last first x r)) l)
+linked-splice next x [] last first free end d r l = (refl, subst (λ k. IsLinked (put next last first) k free end) (sym (put-there next last first x r)) l)
 linked-splice next x (z ∷ zs) last first free end d r l =
-    (refl, subst (λ k. IsLinked (put next last first) k (z ∷ zs ++ free) end) (sym (put-other next last first x (last-in (λ q. x ≡ q → ⊥) next z zs last d.0 r.1) ∙ r.0)) (linked-splice next z zs last first free end d.1 r.1 l))
+    (refl, subst (λ k. IsLinked (put next last first) k (z ∷ zs ++ free) end) (sym (put-elsewhere next last first x (last-in (λ q. x ≡ q → ⊥) next z zs last d.0 r.1) ∙ r.0)) (linked-splice next z zs last first free end d.1 r.1 l))
 
 -- ---- a chain that nothing touches
 chain-same : (pages : ℕ) (next tail home next' tail' home' : ℕ → ℕ) (head : ℕ) (xs : List ℕ) → tail' head ≡ tail head
@@ -97,14 +97,14 @@ module _ (pages : ℕ) (next tail : ℕ → ℕ) (first : ℕ) (l : Lists) (up :
         many = length-set l.chains first (first ∷ []) ∙ up.many;
         home = home';
         linked = subst (λ f. IsLinked next (next first) (drop 1 f) NONE) (sym e) linked.1;
-        unused = subst (λ f. AllByRecursion (IsIn pages home' NONE) (drop 1 f)) (sym e) (all-two rest (λ q here ne. (here.0, put-other up.home first first q (λ same. ne (sym same)) ∙ here.1)) unused.1 apart.0);
+        unused = subst (λ f. AllByRecursion (IsIn pages home' NONE) (drop 1 f)) (sym e) (all-two rest (λ q here ne. (here.0, put-elsewhere up.home first first q (λ same. ne (sym same)) ∙ here.1)) unused.1 apart.0);
         apart = subst (λ f. IsDistinct (drop 1 f)) (sym e) apart.1;
         run = λ head below. elim (cases_eq head first) [
           | inl same ↦ subst (IsChain pages next (put tail first first) home' head) (sym (get_or-set_same l.chains first (first ∷ []) [] long) ∙ ap (chain_at (set l.chains first (first ∷ []))) (sym same))
-              (sym same, sym (put-same tail first first head same), (tt, tt), ((there, put-same up.home first first first refl ∙ sym same), tt))
+              (sym same, sym (put-there tail first first head same), (tt, tt), ((there, put-there up.home first first first refl ∙ sym same), tt))
           | inr other ↦ subst (IsChain pages next (put tail first first) home' head) (sym (get_or-set_other l.chains first head (first ∷ []) [] other))
-              (chain-same pages next tail up.home next (put tail first first) home' head (chain_at l.chains head) (put-other tail first first head other)
-              (λ q here. (refl, put-other up.home first first q (λ same. small head below (sym here.1 ∙ ap up.home same ∙ unused.0.1)))) (up.run head below))
+              (chain-same pages next tail up.home next (put tail first first) home' head (chain_at l.chains head) (put-elsewhere tail first first head other)
+              (λ q here. (refl, put-elsewhere up.home first first q (λ same. small head below (sym here.1 ∙ ap up.home same ∙ unused.0.1)))) (up.run head below))
         ];
       }
 
@@ -117,7 +117,7 @@ module _ (pages : ℕ) (next tail : ℕ → ℕ) (first : ℕ) (l : Lists) (up :
       let c = subst (IsChain pages next tail up.home head) e (up.run head below) in let last = tail-in head rest below e in let next' = put next (tail head) first in
       let home' : ℕ → ℕ = λ q. if up.home q == head then NONE else up.home q in
       let stays : (q h : ℕ) → up.home q ≡ h → (h ≡ head → ⊥) → (next' q ≡ next q) × (home' q ≡ up.home q) =
-      λ q h at ne. (put-other next (tail head) first q (λ same. ne (sym at ∙ ap up.home same ∙ last.1)), cond-false (up.home q == head) NONE (up.home q) (ne_eqb (up.home q) head (λ same. ne (sym at ∙ same)))) in
+      λ q h at ne. (put-elsewhere next (tail head) first q (λ same. ne (sym at ∙ ap up.home same ∙ last.1)), cond-false (up.home q == head) NONE (up.home q) (ne_eqb (up.home q) head (λ same. ne (sym at ∙ same)))) in
       let unfree : NONE ≡ head → ⊥ = λ same. small head below (sym same) in
       record {
         few = up.few;
@@ -145,8 +145,8 @@ module _ (pages : ℕ) (next tail : ℕ → ℕ) (first : ℕ) (l : Lists) (up :
       let next' = put next (tail head) page in let tail' = put tail head page in let home' = put up.home page head in
       let longer = chain_at l.chains head ++ page ∷ [] in let middle = set l.chains head longer in
       let long : head < length l.chains = omega (arith, below, up.many) in let wide : page < length middle = omega (arith, there, up.many, length-set l.chains head longer) in
-      let stays : (q h : ℕ) → up.home q ≡ h → (h ≡ head → ⊥) → next' q ≡ next q = λ q h at other. put-other next (tail head) page q (λ same. other (sym at ∙ ap up.home same ∙ last.1)) in
-      let rests : (q h : ℕ) → up.home q ≡ h → (h ≡ page → ⊥) → home' q ≡ up.home q = λ q h at other. put-other up.home page head q (λ same. other (sym at ∙ ap up.home same ∙ at_page)) in
+      let stays : (q h : ℕ) → up.home q ≡ h → (h ≡ head → ⊥) → next' q ≡ next q = λ q h at other. put-elsewhere next (tail head) page q (λ same. other (sym at ∙ ap up.home same ∙ last.1)) in
+      let rests : (q h : ℕ) → up.home q ≡ h → (h ≡ page → ⊥) → home' q ≡ up.home q = λ q h at other. put-elsewhere up.home page head q (λ same. other (sym at ∙ ap up.home same ∙ at_page)) in
       record {
         few = up.few;
         many = length-set middle page [] ∙ length-set l.chains head longer ∙ up.many;
@@ -159,12 +159,12 @@ module _ (pages : ℕ) (next tail : ℕ → ℕ) (first : ℕ) (l : Lists) (up :
           | inr other ↦ subst (IsChain pages next' tail' home' k) (sym (get_or-set_other middle page k [] [] other)) (elim (cases_eq k head) [
             | inl is_head ↦ subst (IsChain pages next' tail' home' k) (sym (get_or-set_same l.chains head longer [] long ∙ ap (λ xs. xs ++ page ∷ []) e) ∙ ap (chain_at middle) (sym is_head)) (
               sym is_head,
-              subst (Runs next' head (rest ++ page ∷ [])) (sym (put-same tail head page k is_head)) (runs-push next head rest (tail head) page c.2 c.1),
+              subst (Runs next' head (rest ++ page ∷ [])) (sym (put-there tail head page k is_head)) (runs-push next head rest (tail head) page c.2 c.1),
               distinct-append (IsIn pages up.home head) (IsIn pages up.home page) (head ∷ rest) (page ∷ []) (λ x y at_x at_y same. ne (sym at_x.1 ∙ ap up.home same ∙ at_y.1)) c.2 c.3 (tt, tt) one.3,
-              all-append (IsIn pages home' k) (head ∷ rest) (page ∷ []) (all-map (head ∷ rest) (λ q here. (here.0, rests q head here.1 ne ∙ here.1 ∙ sym is_head)) c.3) ((there, put-same up.home page head page refl ∙ sym is_head), tt),
+              all-append (IsIn pages home' k) (head ∷ rest) (page ∷ []) (all-map (head ∷ rest) (λ q here. (here.0, rests q head here.1 ne ∙ here.1 ∙ sym is_head)) c.3) ((there, put-there up.home page head page refl ∙ sym is_head), tt),
             )
             | inr not_head ↦ subst (IsChain pages next' tail' home' k) (sym (get_or-set_other l.chains head k longer [] not_head))
-                (chain-same pages next tail up.home next' tail' home' k (chain_at l.chains k) (put-other tail head page k not_head) (λ q here. (stays q k here.1 not_head, rests q k here.1 other)) (up.run k in_pool))
+                (chain-same pages next tail up.home next' tail' home' k (chain_at l.chains k) (put-elsewhere tail head page k not_head) (λ q here. (stays q k here.1 not_head, rests q k here.1 other)) (up.run k in_pool))
           ])
         ];
       }

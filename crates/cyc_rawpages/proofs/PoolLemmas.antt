@@ -11,7 +11,7 @@ use Rattle.cyc_rawpages.specs.inside.Pool.{PoolState, tabulate, header_at, field
 use Rattle.cyc_rawpages.specs.declared.header.TheConstants.{NEXT, TAIL, NONE}
 use Rattle.cyc_rawpages.proofs.Columns.{tab-read, field-kept}
 use Rattle.cyc_rawpages.proofs.FreePages.{other-among, among-behind, free-none as none-free, free-first, free-taken, free-given}
-use Rattle.cyc_rawpages.proofs.Links.{put-same, put-other, all-map, free-none, free-some, free-there, taken, tail-in, given, pushed}
+use Rattle.cyc_rawpages.proofs.Links.{put-there, put-elsewhere, all-map, free-none, free-some, free-there, taken, tail-in, given, pushed}
 
 -- where a header stands
 pub header-in : (pages page field : ℕ) (raw : Parts) → length raw.heads ≡ 40 * pages → page < pages → field < 8 → header_at page field < length raw.heads
@@ -25,8 +25,8 @@ pub field-put : (pages page field v : ℕ) (raw : Parts) → header_at page fiel
 field-put pages page field v raw inside = λ j p. at p j where
   at : (p : ℕ) → field_of (headed raw (header_at page field) v) field p ≡ put (field_of raw field) page v p
   at p = elim (cases_eq p page) [
-    | inl same ↦ ap (λ q. field_of (headed raw (header_at page field) v) field q) same ∙ get_or-set_same raw.heads (header_at page field) v 0 inside ∙ sym (put-same (field_of raw field) page v p same)
-    | inr other ↦ field-kept pages raw (header_at page field) v field p (λ e. other (omega (arith, e))) ∙ sym (put-other (field_of raw field) page v p other)
+    | inl same ↦ ap (λ q. field_of (headed raw (header_at page field) v) field q) same ∙ get_or-set_same raw.heads (header_at page field) v 0 inside ∙ sym (put-there (field_of raw field) page v p same)
+    | inr other ↦ field-kept pages raw (header_at page field) v field p (λ e. other (omega (arith, e))) ∙ sym (put-elsewhere (field_of raw field) page v p other)
   ]
 
 field-apart : (pages page written v field : ℕ) (raw : Parts) → written < 8 → field < 8 → (written ≡ field → ⊥) → field_of (headed raw (header_at page written) v) field ≡ field_of raw field
@@ -128,8 +128,8 @@ module _ (pages : ℕ) (raw : Parts) (first : ℕ) (l : Lists) (is : IsPool page
         }
 
 -- ---- a serial in two halves
-pub halves : (n : ℕ) → n % 2 ^ 32 + 2 ^ 32 * (n / 2 ^ 32) ≡ n
-halves n = omega arith
+pub words_of_long : (n : ℕ) → n % 2 ^ 32 + 2 ^ 32 * (n / 2 ^ 32) ≡ n
+words_of_long n = omega arith
 
 -- ---- what is read
 pub column-read : (pages page field : ℕ) (raw : Parts) → page < pages → slice_index (tabulate pages (field_of raw field)) page ≡ slice_index raw.heads (header_at page field)

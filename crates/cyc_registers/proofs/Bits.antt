@@ -33,8 +33,8 @@ bit_within part whole j same is = sym (ap (λ (n : ℕ). bit_at n j) same) ∙ b
 no_bit : (a b j : ℕ) → bit_at a j ≡ 0 → bit_at b j ≡ 0 → bit_at (bit_or a b) j ≡ 0
 no_bit a b j first second = bit_at_or a b j ∙ (ap (λ (n : ℕ). max n (bit_at b j)) first ∙ ap (max 0) second)
 
-pub unwritten : (w j : ℕ) → j < MOST_CHOSEN → bit_at w j ≡ 0 → bit_at (bit_xor ALL_NUMBERS w) j ≡ 1
-unwritten w j few is =
+pub bit_turned : (w j : ℕ) → j < MOST_CHOSEN → bit_at w j ≡ 0 → bit_at (bit_xor ALL_NUMBERS w) j ≡ 1
+bit_turned w j few is =
     bit_at_xor ALL_NUMBERS w j ∙ (ap (λ (x : ℕ). (x + bit_at w j) % 2) (bit_at_ones 32 j few) ∙ ap (λ (x : ℕ). (1 + x) % 2) is)
 
 -- nothing of the one is in the other
@@ -121,8 +121,8 @@ no_masks = record {
   some = λ slot above. absurd (let e : 0 < 0 = above in omega (arith, e));
 }
 
-pub fewer : (masks : List ℕ) (next most : ℕ) → AreMasks masks next → next ≤ most → AreMasks masks most
-fewer masks next most are few = record { below = λ slot j has. omega (arith, are.below slot j has, few); one = are.one; some = are.some }
+pub fewer_masks : (masks : List ℕ) (next most : ℕ) → AreMasks masks next → next ≤ most → AreMasks masks most
+fewer_masks masks next most are few = record { below = λ slot j has. omega (arith, are.below slot j has, few); one = are.one; some = are.some }
 
 module _ (masks : List ℕ) (m next after : ℕ) (are : AreMasks masks next) (up : next ≤ after) (new : (j : ℕ) → bit_at m j ≡ 1 → (j ≡ next) × (next < after))
     (any : 0 < m → (j : ℕ) × (bit_at m j ≡ 1)) where
@@ -163,13 +163,13 @@ module _ (masks : List ℕ) (m next after : ℕ) (are : AreMasks masks next) (up
     some = some_bit;
   }
 
-pub none_more : (masks : List ℕ) (next : ℕ) → AreMasks masks next → AreMasks (masks ++ 0 ∷ []) next
-none_more masks next are =
+pub no_mask_more : (masks : List ℕ) (next : ℕ) → AreMasks masks next → AreMasks (masks ++ 0 ∷ []) next
+no_mask_more masks next are =
     more masks 0 next next are (omega arith) (λ j is. absurd (let e : 0 ≡ 1 = sym (bit_at-zero j) ∙ is in omega (arith, e)))
     (λ above. absurd (omega (arith, above)))
 
-pub one_more : (masks : List ℕ) (next : ℕ) → AreMasks masks next → AreMasks (masks ++ 2 ^ next ∷ []) (next + 1)
-one_more masks next are = more masks (2 ^ next) next (next + 1) are (omega arith) new (λ above. (next, bit_at-pow_same next))
+pub one_mask_more : (masks : List ℕ) (next : ℕ) → AreMasks masks next → AreMasks (masks ++ 2 ^ next ∷ []) (next + 1)
+one_mask_more masks next are = more masks (2 ^ next) next (next + 1) are (omega arith) new (λ above. (next, bit_at-pow_same next))
   where
     new : (j : ℕ) → bit_at (2 ^ next) j ≡ 1 → (j ≡ next) × (next < next + 1)
     new j is = elim (cases_eq j next) [

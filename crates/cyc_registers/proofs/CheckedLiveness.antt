@@ -16,7 +16,7 @@ use Rattle.cyc_plain.specs.inside.Uses.{At, is_slot, is_among, request_reads, re
 use Rattle.cyc_registers.specs.declared.liveness.TheConstants.{MOST_CHOSEN}
 use Rattle.cyc_registers.specs.inside.Masks.{mask_at, HasBit, AreMasks, operand_mask, range_mask, request_read_mask, read_mask, request_write_mask, write_mask, bar_mask}
 use Rattle.cyc_registers.specs.inside.LivenessTable.{behind_mask, unwritten_mask, needed_mask, call_mask, clause_mask, is_within, is_sound_at, IsSound}
-use Rattle.cyc_registers.proofs.Bits.{bit_left, bit_right, bit_both, bit_within, unwritten, among_bit, other_bit, not_among_bit}
+use Rattle.cyc_registers.proofs.Bits.{bit_left, bit_right, bit_both, bit_within, bit_turned, among_bit, other_bit, not_among_bit}
 use Rattle.cyc_registers.specs.inside.Bars.{is_crossing, bars}
 use Rattle.cyc_registers.specs.inside.Liveness.{IsLiveWithin, IsLiveAt}
 
@@ -162,7 +162,7 @@ module _ (program : Program) (r : Routine) (masks live : List ℕ) (calls clause
 
   module _ (slot j : ℕ) (are : AreMasks masks MOST_CHOSEN) (has : HasBit masks slot j) where
     others_bit : (i : Instruction) → writes program i slot ≡ false → bit_at (unwritten_mask program masks i) j ≡ 1
-    others_bit i other = unwritten (write_mask masks program i) j (are.below slot j has) (unwritten_bit masks slot j has program MOST_CHOSEN are i other)
+    others_bit i other = bit_turned (write_mask masks program i) j (are.below slot j has) (unwritten_bit masks slot j has program MOST_CHOSEN are i other)
 
     live_within : (steps index : ℕ) → IsLiveWithin program r slot steps index → bit_at (mask_at live index) j ≡ 1
     live_within zero index (i, at, is) =

@@ -14,7 +14,7 @@ use cyc_plain::{Function, Plain};
 use std::alloc::{AllocError, Global};
 
 /// A mask for one slot more: where it is chosen the bit of the next number, while there is one. Answers the number after it.
-#[tactic(auto, using(crate::proofs::Bits::none_more, crate::proofs::Bits::one_more, crate::proofs::Bits::one_bit))]
+#[tactic(auto, using(crate::proofs::Bits::no_mask_more, crate::proofs::Bits::one_mask_more, crate::proofs::Bits::one_bit))]
 fn number(masks: &mut Vec<u32>, next: u32, is_chosen: bool) -> Result<u32, AllocError>
     requires numbered { AreMasks masks.old.items next }
     requires few { next ≤ MOST_CHOSEN }
@@ -30,7 +30,7 @@ fn number(masks: &mut Vec<u32>, next: u32, is_chosen: bool) -> Result<u32, Alloc
 }
 
 /// The masks of slots: those that are chosen get numbers in order, while there are some.
-#[tactic(auto, using(crate::proofs::Bits::no_masks, crate::proofs::Bits::fewer))]
+#[tactic(auto, using(crate::proofs::Bits::no_masks, crate::proofs::Bits::fewer_masks))]
 pub(crate) fn masks_of(alloc: Global, chosen: &[bool]) -> Result<Vec<u32>, AllocError>
     ensures { IfOk result (λ masks. AreMasks masks.items MOST_CHOSEN) }
 {

@@ -19,14 +19,14 @@ use Rattle.cyc_scope.proofs.TableLemmas.{lent, seen_through}
 
 -- ---- lists from their end
 
-pub as_many : (bs : List Binding) → length (locals_of bs) ≡ length bs
-as_many bs = length-map (reverse bs) view_binding ∙ length-reverse bs
+pub as_many_locals : (bs : List Binding) → length (locals_of bs) ≡ length bs
+as_many_locals bs = length-map (reverse bs) view_binding ∙ length-reverse bs
 
 -- ---- the newest local of a name
 
-within : (ys : List ℕ) (x i : ℕ) → newest_place ys x ≡ Some i → i < length ys
-within [] x i e = cc
-within (y ∷ ys) x i e = by_test (within ys x i) (nat_eq y x) e
+newest_within : (ys : List ℕ) (x i : ℕ) → newest_place ys x ≡ Some i → i < length ys
+newest_within [] x i e = cc
+newest_within (y ∷ ys) x i e = by_test (newest_within ys x i) (nat_eq y x) e
   where
     by_test : (newest_place ys x ≡ Some i → i < length ys) → (t : Bool) → cond t (Some (length ys)) (newest_place ys x) ≡ Some i → i < suc (length ys)
     by_test h true e = let here = same_Some (length ys) i e in omega (arith, here)
@@ -52,7 +52,7 @@ place_in (r ∷ rs) x i e = by_test (place_in rs x i) (nat_eq (view_binding r).n
         let at : i ≡ length (reverse rs) = sym (same_Some (length names) i e) ∙ many in
         ap (λ bs. option_map view_binding (slice_get bs i)) back ∙ ap (λ (k : ℕ). option_map view_binding (slice_get (reverse rs ++ r ∷ []) k)) at ∙ ap (option_map view_binding) (slice_get_last (reverse rs) r)
     by_test h false e =
-        let less = within names x i e in
+        let less = newest_within names x i e in
         ap (λ bs. option_map view_binding (slice_get bs i)) back ∙ ap (option_map view_binding) (slice_get_before (reverse rs) r i (omega (arith, less, many))) ∙ h e
 
 newest_found : (bs : List Binding) (x i : ℕ) → newest_place (local_names (locals_of bs)) x ≡ Some i → option_map view_binding (slice_get bs i) ≡ newest (locals_of bs) x
@@ -131,8 +131,8 @@ declared_lost r x (v ∷ vs) e = by_test (declared_lost r x vs) (nat_eq v.name x
 -- ---- one local less
 
 -- a name that a binding has, has a place in the table
-pub in_range : (table : List (Option ℕ)) (bs old : List Binding) (b : Binding) → Finds table old → old ≡ bs ++ b ∷ [] → b.local.name < length table
-in_range table bs old b f e =
+pub local_in_range : (table : List (Option ℕ)) (bs old : List Binding) (b : Binding) → Finds table old → old ≡ bs ++ b ∷ [] → b.local.name < length table
+local_in_range table bs old b f e =
     get_or_within table b.local.name (length (local_names (locals_of bs)))
     (f.0 b.local.name ∙ ap (λ vs. newest_place (local_names vs) b.local.name) front
     ∙ ap (λ t. cond t (Some (length (local_names (locals_of bs)))) (newest_place (local_names (locals_of bs)) b.local.name)) (eq-eqb b.local.name b.local.name refl))

@@ -74,8 +74,8 @@ ended_code_rests code addresses (Running c) ending ended = absurd (let e : simul
 ended_code_rests code addresses (labelled.Ended other output input) ending ended = refl
 ended_code_rests code addresses (Stopped output input) ending ended = absurd (let e : simulation.Failed ≡ simulation.Ended ending = ended in cc)
 
-pub lawful : (code : Labelled) (addresses : ℕ → ℕ) → IsLawful (machine code addresses)
-lawful code addresses = record {
+pub code_is_lawful : (code : Labelled) (addresses : ℕ → ℕ) → IsLawful (machine code addresses)
+code_is_lawful code addresses = record {
   grows = step_grows code addresses;
   stays = ended_code_stays code addresses;
   rests = ended_code_rests code addresses;

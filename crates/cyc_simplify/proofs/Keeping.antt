@@ -59,11 +59,11 @@ nothing_changed slots t facts none = absurd (false≢true none)
 
 -- ---- nothing forgotten
 
-pub all_kept : (slots : Written) (t : Touched) (facts : List Fact) → keeps_all slots t facts ≡ true → kept slots t facts ≡ facts
-all_kept slots t [] all = refl
-all_kept slots t (fact ∷ facts) all =
+pub all_facts_kept : (slots : Written) (t : Touched) (facts : List Fact) → keeps_all slots t facts ≡ true → kept slots t facts ≡ facts
+all_facts_kept slots t [] all = refl
+all_facts_kept slots t (fact ∷ facts) all =
     let (first, rest) = and_parts (keeps slots t fact) (keeps_all slots t facts) all in
-    cond-true (keeps slots t fact) (fact ∷ kept slots t facts) (kept slots t facts) first ∙ ap (λ (others : List Fact). fact ∷ others) (all_kept slots t facts rest)
+    cond-true (keeps slots t fact) (fact ∷ kept slots t facts) (kept slots t facts) first ∙ ap (λ (others : List Fact). fact ∷ others) (all_facts_kept slots t facts rest)
 
 -- ---- a word stands for itself
 

@@ -17,14 +17,14 @@ use Rattle.cyc_simplify.specs.inside.Table.{ArePins}
 abbrev pub AreRangesBut : (code left : List Instruction) → List Written → Type 0
 AreRangesBut code left ranges = (slot : ℕ) → is_pinned code slot ≡ true → (is_within ranges slot ≡ true) ⊎ (is_pinned left slot ≡ true)
 
-pub not_yet : (code : List Instruction) → AreRangesBut code code []
-not_yet code slot is = inr is
+pub no_range_yet : (code : List Instruction) → AreRangesBut code code []
+no_range_yet code slot is = inr is
 
-within_more : (ranges : List Written) (range : Written) (slot : ℕ) → is_within ranges slot ≡ true → is_within (ranges ++ range ∷ []) slot ≡ true
-within_more [] range slot is = absurd (false≢true is)
-within_more (other ∷ ranges) range slot is = elim (or_cases (not (leaves_slot other slot)) (is_within ranges slot) is) [
+within_more_ranges : (ranges : List Written) (range : Written) (slot : ℕ) → is_within ranges slot ≡ true → is_within (ranges ++ range ∷ []) slot ≡ true
+within_more_ranges [] range slot is = absurd (false≢true is)
+within_more_ranges (other ∷ ranges) range slot is = elim (or_cases (not (leaves_slot other slot)) (is_within ranges slot) is) [
   | inl here ↦ ap (λ (b : Bool). b || is_within (ranges ++ range ∷ []) slot) here
-  | inr behind ↦ or_right (not (leaves_slot other slot)) (within_more ranges range slot behind)
+  | inr behind ↦ or_right (not (leaves_slot other slot)) (within_more_ranges ranges range slot behind)
 ]
   where
     or_right : (b : Bool) {c : Bool} → c ≡ true → (b || c) ≡ true
@@ -44,13 +44,13 @@ pinned_in : (i : Instruction) (slot : ℕ) → pins i slot ≡ true → (range :
 pinned_in (instructions.AddressOf destination first count) slot is = (record { first = first; count = count }, refl, ap not is)
 pinned_in i slot is = absurd (false≢true is)
 
-drop_at : (code : List Instruction) (k : ℕ) (i : Instruction) → slice_get code k ≡ Some i → drop k code ≡ i ∷ drop (suc k) code
-drop_at [] k i at = absurd (none-some i at)
-drop_at (j ∷ code) zero i at = let same : j ≡ i = cc in ap (λ (x : Instruction). x ∷ code) same
-drop_at (j ∷ code) (suc k) i at = drop_at code k i at
+drop_code_at : (code : List Instruction) (k : ℕ) (i : Instruction) → slice_get code k ≡ Some i → drop k code ≡ i ∷ drop (suc k) code
+drop_code_at [] k i at = absurd (none-some i at)
+drop_code_at (j ∷ code) zero i at = let same : j ≡ i = cc in ap (λ (x : Instruction). x ∷ code) same
+drop_code_at (j ∷ code) (suc k) i at = drop_code_at code k i at
 
 drop_here : (code : List Instruction) (k : ℕ) (i : Instruction) → slice_get code k ≡ Some i → drop k code ≡ i ∷ drop (k + 1) code
-drop_here code k i at = let after : suc k ≡ k + 1 = omega arith in subst (λ (n : ℕ). drop k code ≡ i ∷ drop n code) after (drop_at code k i at)
+drop_here code k i at = let after : suc k ≡ k + 1 = omega arith in subst (λ (n : ℕ). drop k code ≡ i ∷ drop n code) after (drop_code_at code k i at)
 
 module _ (code : List Instruction) (k : ℕ) (i : Instruction) (ranges : List Written) (at : slice_get code k ≡ Some i) (are : AreRangesBut code (drop k code) ranges) where
   here_or_behind : (slot : ℕ) → is_pinned (drop k code) slot ≡ true → (pins i slot ≡ true) ⊎ (is_pinned (drop (k + 1) code) slot ≡ true)
@@ -67,7 +67,7 @@ module _ (code : List Instruction) (k : ℕ) (i : Instruction) (ranges : List Wr
 
   pub one_range : (range : Written) → range_of i ≡ Some range → AreRangesBut code (drop (k + 1) code) (ranges ++ range ∷ [])
   one_range range its slot is = elim (are slot is) [
-    | inl within ↦ inl (within_more ranges range slot within)
+    | inl within ↦ inl (within_more_ranges ranges range slot within)
     | inr pinned ↦ elim (here_or_behind slot pinned) [
       | inl here ↦
           let (other, some, leaves) = pinned_in i slot here in

@@ -152,9 +152,9 @@ routine_last : (routines : List Routine) (r : Routine) → slice_index_or (routi
 routine_last [] r = refl
 routine_last (s ∷ routines) r = routine_last routines r
 
-map_last : (functions : List Function) (f : Function) → map routine_of (functions ++ f ∷ []) ≡ map routine_of functions ++ routine_of f ∷ []
-map_last [] f = refl
-map_last (g ∷ functions) f = ap (λ (rs : List Routine). routine_of g ∷ rs) (map_last functions f)
+routines_last : (functions : List Function) (f : Function) → map routine_of (functions ++ f ∷ []) ≡ map routine_of functions ++ routine_of f ∷ []
+routines_last [] f = refl
+routines_last (g ∷ functions) f = ap (λ (rs : List Routine). routine_of g ∷ rs) (routines_last functions f)
 
 next_replaced : (program : Program) (count : ℕ) (routines : List Routine) (r : Routine) → AreFirstReplaced program count routines → IsReplaced program (routine_at program count) r
     → AreFirstReplaced program (count + 1) (routines ++ r ∷ [])
@@ -174,7 +174,7 @@ next_replaced program count routines r are is = record {
 pub more_replaced : (program : Program) (count : ℕ) (functions : List Function) (f : Function) (r : Routine) → AreFirstReplaced program count (map routine_of functions)
     → r ≡ routine_at program count → IsReplaced program r (routine_of f) → AreFirstReplaced program (count + 1) (map routine_of (functions ++ f ∷ []))
 more_replaced program count functions f r are same is =
-    subst (AreFirstReplaced program (count + 1)) (sym (map_last functions f))
+    subst (AreFirstReplaced program (count + 1)) (sym (routines_last functions f))
     (next_replaced program count (map routine_of functions) (routine_of f) are (subst (λ (s : Routine). IsReplaced program s (routine_of f)) same is))
 
 pub all_replaced : (program : Program) (functions : List Function) (globals : List ℕ) (main : ℕ) → AreFirstReplaced program (length program.functions) (map routine_of functions)
@@ -182,9 +182,9 @@ pub all_replaced : (program : Program) (functions : List Function) (globals : Li
 all_replaced program functions globals main are same_globals same_main =
     record { as_many = are.as_many; each = are.each; globals = same_globals; main = same_main }
 
-pub each_replaced : (program : Program) (given functions : List Function) (number : ℕ) (globals : List ℕ) (main : ℕ) → map routine_of given ≡ program.functions
+pub program_replaced : (program : Program) (given functions : List Function) (number : ℕ) (globals : List ℕ) (main : ℕ) → map routine_of given ≡ program.functions
     → number ≤ length given → length given ≤ number → AreFirstReplaced program number (map routine_of functions) → globals ≡ program.globals → main ≡ program.main
     → AreReplaced program (program_of functions globals main)
-each_replaced program given functions number globals main are_given most least are same_globals same_main =
+program_replaced program given functions number globals main are_given most least are same_globals same_main =
     let as_many : number ≡ length program.functions = omega (arith, most, least, length-map given routine_of, ap (λ (rs : List Routine). length rs) are_given) in
     all_replaced program functions globals main (subst (λ (n : ℕ). AreFirstReplaced program n (map routine_of functions)) as_many are) same_globals same_main

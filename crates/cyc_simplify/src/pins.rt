@@ -68,7 +68,7 @@ fn range_of(instruction: Instruction) -> Option<Written>
 }
 
 /// The slots whose address code takes.
-#[tactic(auto, using(crate::proofs::Ranges::not_yet, crate::proofs::Ranges::no_range, crate::proofs::Ranges::one_range, crate::proofs::Ranges::are_ranges))]
+#[tactic(auto, using(crate::proofs::Ranges::no_range_yet, crate::proofs::Ranges::no_range, crate::proofs::Ranges::one_range, crate::proofs::Ranges::are_ranges))]
 fn ranges_of(alloc: Global, code: &[Instruction]) -> Result<Vec<Written>, AllocError>
     ensures { IfOk result (λ ranges. AreRanges code.now ranges.items) }
 {

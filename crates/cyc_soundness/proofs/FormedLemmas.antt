@@ -9,7 +9,7 @@ use Rattle.cyc_types.specs.typing.Programs.{IsTypedProgram}
 use Rattle.cyc_types.specs.flow.Programs.{IsAllowedProgram}
 use Rattle.cyc_types.proofs.typing.ProgramLemmas.{program_well}
 use Rattle.cyc_types.proofs.typing.FormedPrograms.{program_formed}
-use Rattle.cyc_soundness.proofs.flow.Touched.{asked}
+use Rattle.cyc_soundness.proofs.flow.Touched.{holds_where_asked}
 use Rattle.cyc_soundness.specs.inside.Classes.{InExpression, InPlace, InPlacement, InInitial, InConverted, InArguments, InOperations, InValue, InThrown, InSide, InStatement, InItems, InClauses, InFunctions, InGlobals, InFields, InStructs, IsInClass, SparesAssigned, may_end}
 use Rattle.cyc_soundness.specs.Sound.{IsSound}
 use Rattle.cyc_soundness.proofs.Whole.{class_sound}
@@ -100,7 +100,7 @@ mutual
 
   items_kept : (n : ℕ) (js : Items) → AreFormedItems n js → InItems [] n js
   items_kept n NoItems formed = tt
-  items_kept n (MoreItems (Execute s) js) (f, g) = (statement_kept n s f, asked (may_end s) (items_kept (n + declared_regions s) js g))
+  items_kept n (MoreItems (Execute s) js) (f, g) = (statement_kept n s f, holds_where_asked (may_end s) (items_kept (n + declared_regions s) js g))
   items_kept n (MoreItems (Declare l t v) js) (f, g) = (f, value_kept v, items_kept n js g)
   items_kept n (MoreItems (DeclareRegion r l) js) formed = items_kept (suc n) js formed
   items_kept n (MoreItems (OpenRegion r l p k) js) formed = (tt, items_kept n js formed)
@@ -121,13 +121,13 @@ globals_kept : (vs : List GlobalVariable) → AreFormedGlobals vs → InGlobals 
 globals_kept [] formed = tt
 globals_kept (v ∷ vs) (f, g) = (f, globals_kept vs g)
 
-fields_kept : (n : ℕ) (ts : List Ty) → AreFormedFields n ts → InFields n ts
-fields_kept n [] formed = tt
-fields_kept n (t ∷ ts) (f, no_key, g) = (f, no_key, fields_kept n ts g)
+formed_in_fields : (n : ℕ) (ts : List Ty) → AreFormedFields n ts → InFields n ts
+formed_in_fields n [] formed = tt
+formed_in_fields n (t ∷ ts) (f, no_key, g) = (f, no_key, formed_in_fields n ts g)
 
 structs_kept : (ss : List StructType) → AreFormedStructs ss → InStructs ss
 structs_kept [] formed = tt
-structs_kept (s ∷ ss) (f, g) = (fields_kept s.parameters s.fields f, structs_kept ss g)
+structs_kept (s ∷ ss) (f, g) = (formed_in_fields s.parameters s.fields f, structs_kept ss g)
 
 formed_kept : (p : Program) → IsFormedProgram p → IsInClass p
 formed_kept p formed = (functions_kept p.functions formed.functions, globals_kept p.globals formed.globals, structs_kept p.structs formed.structs)

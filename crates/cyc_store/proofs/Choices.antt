@@ -24,7 +24,7 @@ use Rattle.cyc_store.proofs.ServiceLemmas.{made-in, made-unique, then-none, fits
 use Rattle.cyc_store.proofs.PageServices.{stays-placed, drawn-placed, full-without}
 use Rattle.cyc_store.proofs.PagedOpening.{full-opening}
 use Rattle.cyc_store.proofs.PagedRegions.{block_in_page}
-use Rattle.cyc_store.proofs.PagedUnwinding.{shorter, LeavesOut, part-step}
+use Rattle.cyc_store.proofs.PagedUnwinding.{shorter_without, LeavesOut, part-step}
 use Rattle.cyc_store.proofs.RegionServices.{paged-memory, opened-laid, stays-laid, draws-laid, closed-laid}
 use Rattle.cyc_store.proofs.SlotCounts.{class-power, raised-past}
 use Rattle.cyc_store.proofs.SlotServices.{dead-placed, dead-apart, dead-classes, dead-laid, freed-laid}
@@ -55,7 +55,7 @@ fresh-below (suc n) rs few = by (lookup handle_of rs n) refl (λ fewer. fresh-be
         → (length (without handle_of rs n) < n → (h : ℕ) × (h < n) × (lookup handle_of (without handle_of rs n) h ≡ None)) → (h : ℕ) × (h < suc n) × (lookup handle_of rs h ≡ None)
     by None none again = (n, omega arith, none)
     by (Some r) there again =
-        let (h, below, none) = again (omega (arith, few, shorter rs n r there)) in
+        let (h, below, none) = again (omega (arith, few, shorter_without rs n r there)) in
         (h, omega (arith, below), sym (lookup-without_other handle_of rs n h (λ e. absurd (omega (arith, e, below)))) ∙ none)
 
 module _ (s : StoreState) (o : IsOrdered s) where
@@ -342,12 +342,12 @@ module _ (s : StoreState) (o : IsOrdered s) (r : Home) (there : lookup handle_of
 ordered-part : (left : ℕ) (s : StoreState) (qs : List Home) → length s.regions ≤ left → IsOrdered s → IsPart qs s.regions → IsOrdered (record s { regions = qs })
 ordered-part zero s qs most o part = elim (part-step part o.laid.sound.regions.handles.1) [
   | inl same ↦ subst (λ rs. IsOrdered (record s { regions = rs })) (sym same) o
-  | inr out ↦ absurd (none_below (length (without handle_of s.regions out.region.handle)) (length s.regions) (shorter s.regions out.region.handle out.region out.there) most)
+  | inr out ↦ absurd (none_below (length (without handle_of s.regions out.region.handle)) (length s.regions) (shorter_without s.regions out.region.handle out.region out.there) most)
 ]
 ordered-part (suc left) s qs most o part = elim (part-step part o.laid.sound.regions.handles.1) [
   | inl same ↦ subst (λ rs. IsOrdered (record s { regions = rs })) (sym same) o
   | inr out ↦ ordered-part left (without_one s o out.region out.there) qs
-      (one_less (length (without handle_of s.regions out.region.handle)) (length s.regions) left (shorter s.regions out.region.handle out.region out.there) most)
+      (one_less (length (without handle_of s.regions out.region.handle)) (length s.regions) left (shorter_without s.regions out.region.handle out.region out.there) most)
       (ordered-without s o out.region out.there) out.part
 ]
 

@@ -27,8 +27,8 @@ filled =
     then_do (then_do (then_do (then_do open_one (Allocate 3 1000) 0 (at 1 0)) (Allocate 3 24) 0 (at 1 1000)) (Allocate 3 1) 0 (at 2 0)) (Allocate 3 1000) 0 (at 2 1)
 
 -- a page each for the heap and for the region, then two for the region, and no more
-new_demand : demand new ≡ 1
-new_demand = refl
+demand_of_new : demand new ≡ 1
+demand_of_new = refl
 
 open_demand : demand open_one ≡ 2
 open_demand = refl

@@ -23,7 +23,7 @@ use Rattle.cyc_store.proofs.PagedRegions.{block_in_page}
 use Rattle.cyc_store.proofs.RegionServices.{stays-laid, draws-laid}
 use Rattle.cyc_store.proofs.Responses.{named-home, region-none, region-full, serves-region, sound-region}
 use Rattle.cyc_store.proofs.TableLemmas.{row_at-read}
-use Rattle.cyc_store.proofs.TieLemmas.{chain-same, IsDrawn}
+use Rattle.cyc_store.proofs.TieLemmas.{chain-also, IsDrawn}
 use Rattle.cyc_store.proofs.TieOpening.{with_row}
 use Rattle.cyc_store.proofs.TieMaking.{filled_row, stays-tied, next_row, longer_row, draws-tied}
 use Rattle.cyc_store.proofs.KeptServices.{held-same, Rewrites, rewritten-row, rewritten-table, rewritten-whole, kept-drawn, drawn-none, drawn-away}
@@ -200,7 +200,7 @@ module _ (t : PageTable) (lexicals : List ℕ) (classes : List ClassSlots) (b : 
           chain = rooted.chain;
           newest = ap (λ (y : Row). y.newest) (draws.rows rooted.root) ∙ rooted.newest;
           count = ap (λ (y : Row). y.count) (draws.rows rooted.root) ∙ rooted.count;
-          linked = chain-same (λ p. (row_at t.rows.items p).next) (λ p. (row_at u.rows.items p).next) rooted.chain.newest.page (rooted.chain.newest.page ∷ rooted.chain.older)
+          linked = chain-also (λ p. (row_at t.rows.items p).next) (λ p. (row_at u.rows.items p).next) rooted.chain.newest.page (rooted.chain.newest.page ∷ rooted.chain.older)
               (same-next (rooted.chain.newest.page ∷ rooted.chain.older)) rooted.linked;
           complete = rooted.complete;
         }

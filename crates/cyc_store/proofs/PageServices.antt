@@ -18,11 +18,11 @@ use Rattle.cyc_store.proofs.PageLemmas.{laid-apart, lies-placed, laid-drawn, mar
 sizes-last : (bs : List Block) (b : Block) → sizes_of (bs ++ b ∷ []) ≡ sizes_of bs ++ b.size ∷ []
 sizes-last bs b = map-append (λ (c : Block). c.size) bs (b ∷ [])
 
-turned : (a b d x : ℕ) → x ≡ b → (x + d) + a ≡ (a + d) + b
-turned a b d x is = omega (arith, is)
+turned_between : (a b d x : ℕ) → x ≡ b → (x + d) + a ≡ (a + d) + b
+turned_between a b d x is = omega (arith, is)
 
-behind : (q x y a b : ℕ) → x + a ≡ y + b → (q + x) + a ≡ (q + y) + b
-behind q x y a b e = omega (arith, e)
+equal_behind : (q x y a b : ℕ) → x + a ≡ y + b → (q + x) + a ≡ (q + y) + b
+equal_behind q x y a b e = omega (arith, e)
 
 demand-changed : (rs : List Home) (h : ℕ) (r : Home) (b : Block) (classes : List ℕ) → lookup handle_of rs h ≡ Some r
     → demand_of (sizes_in (changed handle_of (with_block b) rs h)) classes + region_pages (sizes_of r.blocks)
@@ -37,12 +37,12 @@ demand-changed (q ∷ rs) h r b classes there = elim (cases_eq q.handle h) [
       (λ (p : Home). demand_of (sizes_in (with_block b q ∷ rs)) classes + region_pages (sizes_of p.blocks)
       ≡ demand_of (sizes_in (q ∷ rs)) classes + region_pages (sizes_of p.blocks ++ b.size ∷ []))
       is
-      (turned (region_pages (sizes_of q.blocks)) (region_pages (sizes_of q.blocks ++ b.size ∷ [])) (demand_of (sizes_in rs) classes)
+      (turned_between (region_pages (sizes_of q.blocks)) (region_pages (sizes_of q.blocks ++ b.size ∷ [])) (demand_of (sizes_in rs) classes)
       (region_pages (sizes_of (q.blocks ++ b ∷ []))) (ap region_pages (sizes-last q.blocks b)))
   | inr other ↦
       ap (λ l. demand_of (sizes_in l) classes + region_pages (sizes_of r.blocks))
       (when_other q.handle h (with_block b q ∷ rs) (q ∷ changed handle_of (with_block b) rs h) other)
-      ∙ behind (region_pages (sizes_of q.blocks)) (demand_of (sizes_in (changed handle_of (with_block b) rs h)) classes) (demand_of (sizes_in rs) classes)
+      ∙ equal_behind (region_pages (sizes_of q.blocks)) (demand_of (sizes_in (changed handle_of (with_block b) rs h)) classes) (demand_of (sizes_in rs) classes)
       (region_pages (sizes_of r.blocks)) (region_pages (sizes_of r.blocks ++ b.size ∷ []))
       (demand-changed rs h r b classes (sym (lookup-there handle_of q rs h other) ∙ there))
 ]

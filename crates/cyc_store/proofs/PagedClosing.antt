@@ -62,15 +62,15 @@ pub owned-apart : (count : ℕ) (pages : Pages) (p g : ℕ) → pages.owner p �
 owned-apart count pages p g owned [] all = tt
 owned-apart count pages p g owned (y ∷ free) all = (λ e. not_both all.0.owner (ap pages.owner (sym e) ∙ owned), owned-apart count pages p g owned free all.1)
 
-all-append : (x : ℕ) (xs ys : List ℕ) → AllByRecursion (λ (y : ℕ). x ≢ y) xs → AllByRecursion (λ (y : ℕ). x ≢ y) ys → AllByRecursion (λ (y : ℕ). x ≢ y) (xs ++ ys)
-all-append x [] ys first second = second
-all-append x (y ∷ xs) ys first second = (first.0, all-append x xs ys first.1 second)
+unlike-append : (x : ℕ) (xs ys : List ℕ) → AllByRecursion (λ (y : ℕ). x ≢ y) xs → AllByRecursion (λ (y : ℕ). x ≢ y) ys → AllByRecursion (λ (y : ℕ). x ≢ y) (xs ++ ys)
+unlike-append x [] ys first second = second
+unlike-append x (y ∷ xs) ys first second = (first.0, unlike-append x xs ys first.1 second)
 
 chain-apart : (count : ℕ) (pages : Pages) (g : ℕ) (chain free : List ℕ) → AllByRecursion (λ (p : ℕ). pages.owner p ≡ Some g) chain
     → AllByRecursion (IsFree count pages) free → IsDistinct chain → IsDistinct free → IsDistinct (chain ++ free)
 chain-apart count pages g [] free owned all first second = second
 chain-apart count pages g (p ∷ chain) free owned all first second =
-    (all-append p chain free first.0 (owned-apart count pages p g owned.0 free all), chain-apart count pages g chain free owned.1 all first.1 second)
+    (unlike-append p chain free first.0 (owned-apart count pages p g owned.0 free all), chain-apart count pages g chain free owned.1 all first.1 second)
 
 -- ---- demand without a region
 
@@ -83,8 +83,8 @@ without-none (r ∷ rs) h none =
 turned : (d r : ℕ) → d + r ≡ r + d
 turned d r = omega arith
 
-behind : (q x y r : ℕ) → x + r ≡ y → (q + x) + r ≡ q + y
-behind q x y r e = omega (arith, e)
+sum_behind : (q x y r : ℕ) → x + r ≡ y → (q + x) + r ≡ q + y
+sum_behind q x y r e = omega (arith, e)
 
 demand-without : (rs : List Home) (h : ℕ) (r : Home) (classes : List ℕ) → AreDistinct handle_of rs → lookup handle_of rs h ≡ Some r
     → demand_of (sizes_in (without handle_of rs h)) classes + region_pages (sizes_of r.blocks) ≡ demand_of (sizes_in rs) classes
@@ -100,7 +100,7 @@ demand-without (q ∷ rs) h r classes distinct there = elim (cases_eq q.handle h
   | inr other ↦
       ap (λ l. demand_of (sizes_in l) classes + region_pages (sizes_of r.blocks))
       (when_other q.handle h (without handle_of rs h) (q ∷ without handle_of rs h) other)
-      ∙ behind (region_pages (sizes_of q.blocks)) (demand_of (sizes_in (without handle_of rs h)) classes) (demand_of (sizes_in rs) classes) (region_pages (sizes_of r.blocks))
+      ∙ sum_behind (region_pages (sizes_of q.blocks)) (demand_of (sizes_in (without handle_of rs h)) classes) (demand_of (sizes_in rs) classes) (region_pages (sizes_of r.blocks))
       (demand-without rs h r classes distinct.1 (sym (lookup-there handle_of q rs h other) ∙ there))
 ]
 

@@ -20,13 +20,13 @@ bare count memory = record (start count memory) { regions = [] }
 more : (first count total : ℕ) → first + suc count ≤ total → suc first + count ≤ total
 more first count total e = omega (arith, e)
 
-within : (first count total : ℕ) → first + suc count ≤ total → first < total
-within first count total e = omega (arith, e)
+first_below_total : (first count total : ℕ) → first + suc count ≤ total → first < total
+first_below_total first count total e = omega (arith, e)
 
 are-free : (total first count : ℕ) → first + count ≤ total → AllByRecursion (IsFree total all_free) (numbers_from first count)
 are-free total first zero fits = tt
 are-free total first (suc count) fits =
-    (record { owner = refl; below = within first count total fits }, are-free total (suc first) count (more first count total fits))
+    (record { owner = refl; below = first_below_total first count total fits }, are-free total (suc first) count (more first count total fits))
 
 not_below : (x y : ℕ) → x < y → x ≡ y → ⊥
 not_below x y less same = omega (arith, less, same)
@@ -34,13 +34,13 @@ not_below x y less same = omega (arith, less, same)
 next : (x y : ℕ) → x < y → x < suc y
 next x y less = omega (arith, less)
 
-above : (x first count : ℕ) → x < first → AllByRecursion (λ (y : ℕ). x ≢ y) (numbers_from first count)
-above x first zero less = tt
-above x first (suc count) less = (not_below x first less, above x (suc first) count (next x first less))
+unlike_above : (x first count : ℕ) → x < first → AllByRecursion (λ (y : ℕ). x ≢ y) (numbers_from first count)
+unlike_above x first zero less = tt
+unlike_above x first (suc count) less = (not_below x first less, unlike_above x (suc first) count (next x first less))
 
 pub are-distinct : (first count : ℕ) → IsDistinct (numbers_from first count)
 are-distinct first zero = tt
-are-distinct first (suc count) = (above first (suc first) count (below_next first), are-distinct (suc first) count)
+are-distinct first (suc count) = (unlike_above first (suc first) count (below_next first), are-distinct (suc first) count)
 
 pub are-many : (first count : ℕ) → length (numbers_from first count) ≡ count
 are-many first zero = refl

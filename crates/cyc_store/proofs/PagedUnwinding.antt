@@ -18,14 +18,14 @@ part-length is_empty = omega arith
 part-length (is_left {x} {xs} {ys} part) = let rest : length xs ≤ length ys = part-length part in omega (arith, rest)
 part-length (is_kept {x} {xs} {ys} part) = let rest : length xs ≤ length ys = part-length part in omega (arith, rest)
 
-pub shorter : (rs : List Home) (h : ℕ) (r : Home) → lookup handle_of rs h ≡ Some r → length (without handle_of rs h) < length rs
-shorter [] h r there = absurd (let e : None ≡ Some r = there in cc)
-shorter (q ∷ rs) h r there = elim (cases_eq q.handle h) [
+pub shorter_without : (rs : List Home) (h : ℕ) (r : Home) → lookup handle_of rs h ≡ Some r → length (without handle_of rs h) < length rs
+shorter_without [] h r there = absurd (let e : None ≡ Some r = there in cc)
+shorter_without (q ∷ rs) h r there = elim (cases_eq q.handle h) [
   | inl same ↦
       let fewer : length (without handle_of rs h) ≤ length rs = part-length (IsPart-without handle_of rs h) in
       subst (λ l. length l < length (q ∷ rs)) (sym (when_equal q.handle h (without handle_of rs h) (q ∷ without handle_of rs h) same)) (omega (arith, fewer))
   | inr other ↦
-      let fewer : length (without handle_of rs h) < length rs = shorter rs h r (sym (lookup-there handle_of q rs h other) ∙ there) in
+      let fewer : length (without handle_of rs h) < length rs = shorter_without rs h r (sym (lookup-there handle_of q rs h other) ∙ there) in
       subst (λ l. length l < length (q ∷ rs)) (sym (when_other q.handle h (without handle_of rs h) (q ∷ without handle_of rs h) other)) (omega (arith, fewer))
 ]
 
@@ -60,14 +60,14 @@ pub pages-part : (left : ℕ) (s : StoreState) (qs : List Home) → length s.reg
     → ArePages (record s { regions = qs })
 pages-part zero s qs bound sound laid part = elim (part-step part sound.regions.handles.1) [
   | inl same ↦ subst (λ l. ArePages (record s { regions = l })) (sym same) laid
-  | inr out ↦ absurd (none_below (length (without handle_of s.regions out.region.handle)) (length s.regions) (shorter s.regions out.region.handle out.region out.there) bound)
+  | inr out ↦ absurd (none_below (length (without handle_of s.regions out.region.handle)) (length s.regions) (shorter_without s.regions out.region.handle out.region out.there) bound)
 ]
 pages-part (suc left) s qs bound sound laid part = elim (part-step part sound.regions.handles.1) [
   | inl same ↦ subst (λ l. ArePages (record s { regions = l })) (sym same) laid
   | inr out ↦
       let ordinary : (out.region.handle ≡ UNIQUE → ⊥) = λ e. not_both (subst (λ h. lookup handle_of s.regions h ≡ None) (sym e) sound.regions.handles.0) out.there in
       pages-part left (record s { regions = without handle_of s.regions out.region.handle }) qs
-      (one_less (length (without handle_of s.regions out.region.handle)) (length s.regions) left (shorter s.regions out.region.handle out.region out.there) bound)
+      (one_less (length (without handle_of s.regions out.region.handle)) (length s.regions) left (shorter_without s.regions out.region.handle out.region out.there) bound)
       (closed-sound s (without handle_of s.regions out.region.handle) s.memory sound (IsPart-without handle_of s.regions out.region.handle) sound.words)
       (record {
         pages = given_back laid.pages out.region.handle;

@@ -23,8 +23,8 @@ pub serves-some : (s : StoreState) (call : Call) (why : Refusal) → refusal s c
 serves-some s call why is = subst (λ o. ServesBy s call o (Refused why) s) (sym is) (refl, refl)
 
 -- whether the demand afterwards exceeds the pages decides
-pub full-none : (s : StoreState) (call : Call) → demand (served s call (any_choice s)) ≤ s.pages → full_at (is_full s call) ≡ None
-full-none s call few = elim (cases_Bool (is_full s call)) [
+pub full-none-within : (s : StoreState) (call : Call) → demand (served s call (any_choice s)) ≤ s.pages → full_at (is_full s call) ≡ None
+full-none-within s call few = elim (cases_Bool (is_full s call)) [
   | inl full ↦ absurd (clash s.pages (demand (served s call (any_choice s))) (ltb-true s.pages (demand (served s call (any_choice s))) full) few)
   | inr not ↦ ap full_at not
 ]
@@ -32,8 +32,8 @@ full-none s call few = elim (cases_Bool (is_full s call)) [
     clash : (p d : ℕ) → p < d → d ≤ p → ⊥
     clash p d less more = omega (arith, less, more)
 
-pub full-some : (s : StoreState) (call : Call) → s.pages < demand (served s call (any_choice s)) → full_at (is_full s call) ≡ Some Full
-full-some s call past = elim (cases_Bool (is_full s call)) [
+pub full-some-past : (s : StoreState) (call : Call) → s.pages < demand (served s call (any_choice s)) → full_at (is_full s call) ≡ Some Full
+full-some-past s call past = elim (cases_Bool (is_full s call)) [
   | inl full ↦ ap full_at full
   | inr not ↦ absurd (clash s.pages (demand (served s call (any_choice s))) past (ltb-false s.pages (demand (served s call (any_choice s))) not))
 ]
@@ -82,16 +82,16 @@ module _ (s : StoreState) (l : Layout) (laid : IsLaidOut s l) where
       few n d p f e first count grows = omega (arith, first, count, grows)
 
   pub lexical-none : (page : ℕ) (rest : List ℕ) → l.free ≡ page ∷ rest → refusal s OpenLexical ≡ None
-  lexical-none page rest next = full-none s OpenLexical (room-opens page rest next 0 Lexical)
+  lexical-none page rest next = full-none-within s OpenLexical (room-opens page rest next 0 Lexical)
 
   pub dynamic-none : (page : ℕ) (rest : List ℕ) → l.free ≡ page ∷ rest → refusal s OpenDynamic ≡ None
-  dynamic-none page rest next = full-none s OpenDynamic (room-opens page rest next 0 Dynamic)
+  dynamic-none page rest next = full-none-within s OpenDynamic (room-opens page rest next 0 Dynamic)
 
   pub lexical-full : l.free ≡ [] → Serves s OpenLexical (Refused Full) s
-  lexical-full none = serves-some s OpenLexical Full (full-some s OpenLexical (full-opening s l.pages 0 Lexical (subst (IsPaged s l.pages) none laid.paged)))
+  lexical-full none = serves-some s OpenLexical Full (full-some-past s OpenLexical (full-opening s l.pages 0 Lexical (subst (IsPaged s l.pages) none laid.paged)))
 
   pub dynamic-full : l.free ≡ [] → Serves s OpenDynamic (Refused Full) s
-  dynamic-full none = serves-some s OpenDynamic Full (full-some s OpenDynamic (full-opening s l.pages 0 Dynamic (subst (IsPaged s l.pages) none laid.paged)))
+  dynamic-full none = serves-some s OpenDynamic Full (full-some-past s OpenDynamic (full-opening s l.pages 0 Dynamic (subst (IsPaged s l.pages) none laid.paged)))
 
   -- nothing but the blocks changes
   abbrev chosen : (handle address : ℕ) → Choice
@@ -156,11 +156,11 @@ module _ (s : StoreState) (l : Layout) (laid : IsLaidOut s l) where
     demand-is = demand-served s (Allocate h n) (any_choice s) (chosen 0 b.address) ∙ ap demand made-is
 
     pub region-none : demand (made_in s h b) ≤ s.pages → refusal s (Allocate h n) ≡ None
-    region-none few = making h n r (named-home h r ordinary named) least most ∙ full-none s (Allocate h n) (subst (λ d. d ≤ s.pages) (sym demand-is) few)
+    region-none few = making h n r (named-home h r ordinary named) least most ∙ full-none-within s (Allocate h n) (subst (λ d. d ≤ s.pages) (sym demand-is) few)
 
     pub region-full : s.pages < demand (made_in s h b) → Serves s (Allocate h n) (Refused Full) s
     region-full past = serves-some s (Allocate h n) Full
-        (making h n r (named-home h r ordinary named) least most ∙ full-some s (Allocate h n) (subst (λ d. s.pages < d) (sym demand-is) past))
+        (making h n r (named-home h r ordinary named) least most ∙ full-some-past s (Allocate h n) (subst (λ d. s.pages < d) (sym demand-is) past))
 
     allowed-region : IsPlaced s.pages b × IsApart (homes s) b → IsAllowed s (Allocate h n) (chosen 0 b.address)
     allowed-region may = record {
@@ -192,11 +192,11 @@ module _ (s : StoreState) (l : Layout) (laid : IsLaidOut s l) where
     demand-is_unique = demand-served s (Allocate UNIQUE n) (any_choice s) (chosen 0 b.address) ∙ ap demand made-is_unique
 
     pub unique-none : demand (made_unique s b) ≤ s.pages → refusal s (Allocate UNIQUE n) ≡ None
-    unique-none few = making UNIQUE n _ (unique-home None) least most ∙ full-none s (Allocate UNIQUE n) (subst (λ d. d ≤ s.pages) (sym demand-is_unique) few)
+    unique-none few = making UNIQUE n _ (unique-home None) least most ∙ full-none-within s (Allocate UNIQUE n) (subst (λ d. d ≤ s.pages) (sym demand-is_unique) few)
 
     pub unique-full : s.pages < demand (made_unique s b) → Serves s (Allocate UNIQUE n) (Refused Full) s
     unique-full past = serves-some s (Allocate UNIQUE n) Full
-        (making UNIQUE n _ (unique-home None) least most ∙ full-some s (Allocate UNIQUE n) (subst (λ d. s.pages < d) (sym demand-is_unique) past))
+        (making UNIQUE n _ (unique-home None) least most ∙ full-some-past s (Allocate UNIQUE n) (subst (λ d. s.pages < d) (sym demand-is_unique) past))
 
     allowed-unique : IsPlaced s.pages b × IsApart (homes s) b → IsAllowed s (Allocate UNIQUE n) (chosen 0 b.address)
     allowed-unique may = record {

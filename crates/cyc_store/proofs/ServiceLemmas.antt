@@ -38,16 +38,16 @@ module _ (s : StoreState) (h : ℕ) (b : Block) where
   pub made-in : (h ≡ UNIQUE → ⊥) → made s h b ≡ made_in s h b
   made-in other = when_other h UNIQUE (made_unique s b) (made_in s h b) other
 
-sizes-last : (size a c : ℕ) (bs : List Block) → sizes_of (bs ++ record { address = a; size = size } ∷ []) ≡ sizes_of (bs ++ record { address = c; size = size } ∷ [])
-sizes-last size a c [] = refl
-sizes-last size a c (x ∷ bs) = ap (λ l. x.size ∷ l) (sizes-last size a c bs)
+sizes-alike : (size a c : ℕ) (bs : List Block) → sizes_of (bs ++ record { address = a; size = size } ∷ []) ≡ sizes_of (bs ++ record { address = c; size = size } ∷ [])
+sizes-alike size a c [] = refl
+sizes-alike size a c (x ∷ bs) = ap (λ l. x.size ∷ l) (sizes-alike size a c bs)
 
 sizes-made : (size a c : ℕ) (rs : List Home) (h : ℕ)
     → sizes_in (changed handle_of (with_block (record { address = a; size = size })) rs h)
     ≡ sizes_in (changed handle_of (with_block (record { address = c; size = size })) rs h)
 sizes-made size a c [] h = refl
 sizes-made size a c (r ∷ rs) h = elim (cases_eq r.handle h) [
-  | inl same ↦ ap sizes_in (here a same) ∙ (ap (λ l. l ∷ sizes_in rs) (sizes-last size a c r.blocks) ∙ sym (ap sizes_in (here c same)))
+  | inl same ↦ ap sizes_in (here a same) ∙ (ap (λ l. l ∷ sizes_in rs) (sizes-alike size a c r.blocks) ∙ sym (ap sizes_in (here c same)))
   | inr other ↦ ap sizes_in (there a other) ∙ (ap (λ l. sizes_of r.blocks ∷ l) (sizes-made size a c rs h) ∙ sym (ap sizes_in (there c other)))
 ]
   where

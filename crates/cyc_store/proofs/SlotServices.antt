@@ -26,13 +26,13 @@ with_dead l class words = record l { dead = λ (other : ℕ). if other == class 
 
 -- ---- where a slot lies
 
-regroup : (base p u w : ℕ) → w ≡ 1024 * p + u → base + 4 * w ≡ base + 4 * (1024 * p) + 4 * u
-regroup base p u w is = omega (arith, is)
+regroup_page : (base p u w : ℕ) → w ≡ 1024 * p + u → base + 4 * w ≡ base + 4 * (1024 * p) + 4 * u
+regroup_page base p u w is = omega (arith, is)
 
 slot-lies : (owner : ℕ → Option ℕ) (class_at : ℕ → ℕ) (c w : ℕ) (slot : IsSlot owner class_at c w) → LiesIn slot.page 0 PAGE_WORDS (slot_block c w)
 slot-lies owner class_at c w slot = record {
   word = slot.number * 2 ^ c;
-  at = regroup STORE_BASE slot.page (slot.number * 2 ^ c) w slot.at;
+  at = regroup_page STORE_BASE slot.page (slot.number * 2 ^ c) w slot.at;
   after = least (slot.number * 2 ^ c);
   before = slot.fits;
   some = pow_pos c;

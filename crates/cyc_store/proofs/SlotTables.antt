@@ -12,7 +12,7 @@ use Rattle.cyc_store.specs.inside.Kept.{IsStocked, table_of}
 use Rattle.cyc_store.specs.declared.row.PageTable.{PageTable}
 use Rattle.cyc_store.specs.declared.row.ClassSlots.{ClassSlots}
 use Rattle.cyc_store.proofs.LookupLemmas.{when_other}
-use Rattle.cyc_store.proofs.TieLemmas.{all-left, chain-same}
+use Rattle.cyc_store.proofs.TieLemmas.{all-left, chain-also}
 use Rattle.cyc_store.proofs.TieSlots.{with_marks}
 
 -- what is read of a list where one element is another
@@ -47,7 +47,7 @@ pub stock-words : (word also : ℕ → ℕ) (slots : ClassSlots) (class : ℕ) (
 stock-words word also slots class dead same old = record {
   chain = old.chain;
   all = old.all;
-  linked = chain-same word also slots.dead old.chain
+  linked = chain-also word also slots.dead old.chain
       (all-left (λ x. also x ≡ word x) old.chain (slots_from (2 ^ class) slots.fresh slots.left) (subst (AllByRecursion (λ x. also x ≡ word x)) old.all same)) old.linked;
 }
 

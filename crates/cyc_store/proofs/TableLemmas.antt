@@ -45,14 +45,14 @@ cases_between first count word = elim (cases_lt word first) [
   ]
 ]
 
-pub between-in : (old : ℕ → Bool) (first count : ℕ) (mark : Bool) (word : ℕ) → first ≤ word → word < first + count → marked_between old first count mark word ≡ mark
-between-in old first count mark word low high =
+pub marked-in : (old : ℕ → Bool) (first count : ℕ) (mark : Bool) (word : ℕ) → first ≤ word → word < first + count → marked_between old first count mark word ≡ mark
+marked-in old first count mark word low high =
     cond-true (nat_le first word && nat_lt word (first + count)) mark (old word) (ap (λ (a : Bool). a && nat_lt word (first + count)) (le-leb first word low) ∙ lt-ltb word (first + count) high)
 
-pub between-out : (old : ℕ → Bool) (first count : ℕ) (mark : Bool) (word : ℕ) → (word < first) ⊎ (first + count ≤ word) → marked_between old first count mark word ≡ old word
-between-out old first count mark word (inl below) =
+pub marked-out : (old : ℕ → Bool) (first count : ℕ) (mark : Bool) (word : ℕ) → (word < first) ⊎ (first + count ≤ word) → marked_between old first count mark word ≡ old word
+marked-out old first count mark word (inl below) =
     cond-false (nat_le first word && nat_lt word (first + count)) mark (old word) (ap (λ (a : Bool). a && nat_lt word (first + count)) (lt-leb first word below))
-between-out old first count mark word (inr past) =
+marked-out old first count mark word (inr past) =
     cond-false (nat_le first word && nat_lt word (first + count)) mark (old word) (and_right (nat_le first word) (nat_lt word (first + count)) (le-ltb word (first + count) past))
 
 -- one mark more
@@ -61,11 +61,11 @@ pub mark-more : (marks : List Bool) (old : ℕ → Bool) (first n : ℕ) (mark :
 mark-more marks old first n mark there so_far word = elim (cases_eq word (first + n)) [
   | inl here ↦
       ap (λ k. slice_index_or (set marks (first + n) mark) k false) here ∙ (get_or-set_same marks (first + n) mark false there
-      ∙ sym (between-in old first (n + 1) mark word (omega (arith, here)) (omega (arith, here))))
+      ∙ sym (marked-in old first (n + 1) mark word (omega (arith, here)) (omega (arith, here))))
   | inr other ↦
       get_or-set_other marks (first + n) word mark false other ∙ (so_far word ∙ elim (cases_between first n word) [
-        | inl (low, high) ↦ between-in old first n mark word low high ∙ sym (between-in old first (n + 1) mark word low (omega (arith, high)))
-        | inr out ↦ between-out old first n mark word out ∙ sym (between-out old first (n + 1) mark word (further other out))
+        | inl (low, high) ↦ marked-in old first n mark word low high ∙ sym (marked-in old first (n + 1) mark word low (omega (arith, high)))
+        | inr out ↦ marked-out old first n mark word out ∙ sym (marked-out old first (n + 1) mark word (further other out))
       ])
 ]
   where

@@ -20,7 +20,7 @@ use Rattle.cyc_store.specs.declared.range.TheConstants.{UNIQUE}
 use Rattle.cyc_store.proofs.LookupLemmas.{when_other, cases_option, not_both, same_some, lookup-key, lookup-without, lookup-without_other}
 use Rattle.cyc_store.proofs.PagedClosing.{owner-kept, owner-stays, chain-stays}
 use Rattle.cyc_store.proofs.RegionServices.{moved, all-moved}
-use Rattle.cyc_store.proofs.TieLemmas.{chain-same, all-left}
+use Rattle.cyc_store.proofs.TieLemmas.{chain-also, all-left}
 
 -- ---- lists
 
@@ -70,13 +70,13 @@ frees rows page zero free (x ∷ chain) given is linked distinct below away free
 frees rows page (suc count) free (x ∷ chain) given is linked distinct below away free_linked =
     let rest : Frees (set rows page (free_row free)) (row_at rows page).next count page chain (page ∷ given) =
     frees (set rows page (free_row free)) (row_at rows page).next count page chain (page ∷ given) (less count (length chain) is)
-    (chain-same (λ p. (row_at rows p).next) (λ p. (row_at (set rows page (free_row free)) p).next) (row_at rows page).next chain (unchanged chain far_chain)
+    (chain-also (λ p. (row_at rows p).next) (λ p. (row_at (set rows page (free_row free)) p).next) (row_at rows page).next chain (unchanged chain far_chain)
     (subst (λ n. IsChain (λ p. (row_at rows p).next) (row_at rows n).next chain) (sym linked.0) linked.1))
     distinct.1 (still chain below.1)
     (λ p inside. ((λ e. one-all (λ y. x ≢ y) chain p distinct.0 inside (sym linked.0 ∙ sym e)), away p (inr inside))) (
       refl,
       subst (λ n. IsChain (λ p. (row_at (set rows page (free_row free)) p).next) n given) (sym (ap (λ (r : Row). r.next) here))
-          (chain-same (λ p. (row_at rows p).next) (λ p. (row_at (set rows page (free_row free)) p).next) free given
+          (chain-also (λ p. (row_at rows p).next) (λ p. (row_at (set rows page (free_row free)) p).next) free given
           (unchanged given (subst (λ n. AllByRecursion (λ y. n ≢ y) given) (sym linked.0) (away x (inl refl)))) free_linked),
     ) in
     record {
@@ -185,7 +185,7 @@ module _ (t : Table) (lexicals : List ℕ) (classes : ℕ → ClassSlots) (b : B
       chain = chain-stays l.pages h q other old.chain;
       newest = ap (λ (x : Row). x.newest) (kept old.root (not-ours old.root old.owned)) ∙ old.newest;
       count = ap (λ (x : Row). x.count) (kept old.root (not-ours old.root old.owned)) ∙ old.count;
-      linked = chain-same (λ p. (t.row p).next) (λ p. (row p).next) old.chain.newest.page (old.chain.newest.page ∷ old.chain.older)
+      linked = chain-also (λ p. (t.row p).next) (λ p. (row p).next) old.chain.newest.page (old.chain.newest.page ∷ old.chain.older)
           (same-next (old.chain.newest.page ∷ old.chain.older) (old.chain.newest.owned, old.chain.owned)) old.linked;
       complete = λ p owned. old.complete p (owner-kept h q.handle (l.pages.owner p) owned);
     }

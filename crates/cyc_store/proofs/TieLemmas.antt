@@ -17,9 +17,9 @@ use Rattle.cyc_store.proofs.LookupLemmas.{when_other}
 -- ---- chains
 
 -- a chain stays where its elements name what they named
-pub chain-same : (next also : ℕ → ℕ) (first : ℕ) (xs : List ℕ) → AllByRecursion (λ x. also x ≡ next x) xs → IsChain next first xs → IsChain also first xs
-chain-same next also first [] all linked = linked
-chain-same next also first (x ∷ xs) all linked = (linked.0, chain-same next also (also x) xs all.1 (subst (λ n. IsChain next n xs) (sym all.0) linked.1))
+pub chain-also : (next also : ℕ → ℕ) (first : ℕ) (xs : List ℕ) → AllByRecursion (λ x. also x ≡ next x) xs → IsChain next first xs → IsChain also first xs
+chain-also next also first [] all linked = linked
+chain-also next also first (x ∷ xs) all linked = (linked.0, chain-also next also (also x) xs all.1 (subst (λ n. IsChain next n xs) (sym all.0) linked.1))
 
 -- what is kept away from a page does not see that its row changes
 pub all-away : (row : ℕ → Row) (page : ℕ) (r : Row) (xs : List ℕ) → AllByRecursion (λ x. page ≢ x) xs

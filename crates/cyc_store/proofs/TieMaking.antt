@@ -17,7 +17,7 @@ use Rattle.cyc_store.specs.declared.range.TheConstants.{PAGE_WORDS, UNIQUE}
 use Rattle.cyc_store.proofs.LookupLemmas.{when_other, same_some, lookup-key, lookup-changed_same, lookup-changed_other}
 use Rattle.cyc_store.proofs.PageServices.{mark-made, mark-stays, mark-goes}
 use Rattle.cyc_store.proofs.PagedRegions.{block_in_page, chain-filled, owned-drawn, free-apart}
-use Rattle.cyc_store.proofs.TieLemmas.{chain-same, all-away}
+use Rattle.cyc_store.proofs.TieLemmas.{chain-also, all-away}
 use Rattle.cyc_store.proofs.TieOpening.{with_row, owner-away, owned-away, fresh-handle, free-linked, rooted-drawn}
 
 -- ---- what a block in a region does not change
@@ -116,7 +116,7 @@ module _ (t : Table) (lexicals : List ℕ) (classes : ℕ → ClassSlots) (b : B
       };
       newest = same-newest rooted.root ∙ rooted.newest;
       count = same-count rooted.root ∙ rooted.count;
-      linked = chain-same (λ p. (t.row p).next) (λ p. (now.row p).next) page (page ∷ rooted.chain.older) (all-next (page ∷ rooted.chain.older)) rooted.linked;
+      linked = chain-also (λ p. (t.row p).next) (λ p. (now.row p).next) page (page ∷ rooted.chain.older) (all-next (page ∷ rooted.chain.older)) rooted.linked;
       complete = rooted.complete;
     }
 
@@ -129,7 +129,7 @@ module _ (t : Table) (lexicals : List ℕ) (classes : ℕ → ClassSlots) (b : B
       chain = chain-filled l.pages page mark h q owner other old.chain;
       newest = same-newest old.root ∙ old.newest;
       count = same-count old.root ∙ old.count;
-      linked = chain-same (λ p. (t.row p).next) (λ p. (now.row p).next) old.chain.newest.page (old.chain.newest.page ∷ old.chain.older) (all-next (old.chain.newest.page ∷ old.chain.older)) old.linked;
+      linked = chain-also (λ p. (t.row p).next) (λ p. (now.row p).next) old.chain.newest.page (old.chain.newest.page ∷ old.chain.older) (all-next (old.chain.newest.page ∷ old.chain.older)) old.linked;
       complete = old.complete;
     }
 
@@ -161,7 +161,7 @@ module _ (t : Table) (lexicals : List ℕ) (classes : ℕ → ClassSlots) (b : B
       ];
       given = tied.given;
       free = tied.free;
-      linked = chain-same (λ p. (t.row p).next) (λ p. (now.row p).next) t.free tied.given (all-next tied.given) tied.linked;
+      linked = chain-also (λ p. (t.row p).next) (λ p. (now.row p).next) t.free tied.given (all-next tied.given) tied.linked;
       within = tied.within;
       homes = λ p g owned other. let (q, found) = tied.homes p g owned other in home-changed b.regions h r named block g q found;
       roots = λ g q found. elim (cases_eq g h) [
@@ -268,10 +268,10 @@ module _ (t : Table) (lexicals : List ℕ) (classes : ℕ → ClassSlots) (b : B
         ∙ (ap (λ (x : Row). x.count + 1) (half-old rooted.root root-away) ∙ more (t.row rooted.root).count (length rooted.chain.older) rooted.count);
     linked = (
       refl,
-      chain-same (λ p. (half.row p).next) (λ p. (whole.row p).next) (whole.row page).next (rooted.chain.newest.page ∷ rooted.chain.older)
+      chain-also (λ p. (half.row p).next) (λ p. (whole.row p).next) (whole.row page).next (rooted.chain.newest.page ∷ rooted.chain.older)
           (all-whole (rooted.chain.newest.page ∷ rooted.chain.older))
           (subst (λ n. IsChain (λ p. (half.row p).next) n (rooted.chain.newest.page ∷ rooted.chain.older)) (sym (whole-next page ∙ ap (λ (x : Row). x.next) half-new))
-          (chain-same (λ p. (t.row p).next) (λ p. (half.row p).next) rooted.chain.newest.page (rooted.chain.newest.page ∷ rooted.chain.older)
+          (chain-also (λ p. (t.row p).next) (λ p. (half.row p).next) rooted.chain.newest.page (rooted.chain.newest.page ∷ rooted.chain.older)
           (all-away t.row page (next_row size rooted.chain.newest.page) (rooted.chain.newest.page ∷ rooted.chain.older)
           (owned-away l.pages page r.handle none (rooted.chain.newest.page ∷ rooted.chain.older) (rooted.chain.newest.owned, rooted.chain.owned)))
           rooted.linked)),
@@ -303,7 +303,7 @@ module _ (t : Table) (lexicals : List ℕ) (classes : ℕ → ClassSlots) (b : B
         chain = refilled q other first.chain;
         newest = ap (λ (x : Row). x.newest) same ∙ first.newest;
         count = ap (λ (x : Row). x.count) same ∙ first.count;
-        linked = chain-same (λ p. (half.row p).next) (λ p. (whole.row p).next) first.chain.newest.page (first.chain.newest.page ∷ first.chain.older)
+        linked = chain-also (λ p. (half.row p).next) (λ p. (whole.row p).next) first.chain.newest.page (first.chain.newest.page ∷ first.chain.older)
             (all-whole (first.chain.newest.page ∷ first.chain.older)) first.linked;
         complete = first.complete;
       }
@@ -333,7 +333,7 @@ module _ (t : Table) (lexicals : List ℕ) (classes : ℕ → ClassSlots) (b : B
     ];
     given = tied.given;
     free = tied.free;
-    linked = chain-same (λ p. (half.row p).next) (λ p. (whole.row p).next) t.free tied.given (all-whole tied.given)
+    linked = chain-also (λ p. (half.row p).next) (λ p. (whole.row p).next) t.free tied.given (all-whole tied.given)
         (free-linked t lexicals classes b l tied page none away there (next_row size rooted.chain.newest.page));
     within = tied.within;
     homes = λ p g owned other. elim (cases_eq p page) [

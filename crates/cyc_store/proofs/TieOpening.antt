@@ -16,7 +16,7 @@ use Rattle.cyc_store.specs.declared.range.TheConstants.{UNIQUE}
 use Rattle.cyc_store.proofs.LookupLemmas.{when_other, cases_option, not_both, same_some, lookup-key, lookup-append, lookup-append_cases, lookup-append_new, lookup-append_other}
 use Rattle.cyc_store.proofs.PagedRegions.{still-chained}
 use Rattle.cyc_store.proofs.LiveWords.{odd-apart}
-use Rattle.cyc_store.proofs.TieLemmas.{chain-same, all-away, all-left}
+use Rattle.cyc_store.proofs.TieLemmas.{chain-also, all-away, all-left}
 
 -- the first row of a region with one page, in which nothing is
 abbrev pub first_row : (sort : Sort) → (page : ℕ) → Row
@@ -46,8 +46,8 @@ lexical-append (r ∷ rs) qs = either (is_lexical r.sort) r.handle (lexical_hand
     either true h all xs ys e = ap (λ k. h ∷ k) e
     either false h all xs ys e = e
 
-halves : (m n : ℕ) → handle_of_page m ≡ handle_of_page n → m ≡ n
-halves m n e = omega (arith, e)
+handle_of_one_page : (m n : ℕ) → handle_of_page m ≡ handle_of_page n → m ≡ n
+handle_of_one_page m n e = omega (arith, e)
 
 -- a page whose owner is another keeps its row
 pub owner-away : (pages : Pages) (page p h : ℕ) → pages.owner page ≡ None → pages.owner p ≡ Some h → p ≡ page → ⊥
@@ -67,7 +67,7 @@ rooted-drawn row pages page h new r none other rooted = record {
   chain = still-chained pages page h none r rooted.chain;
   newest = ap (λ (x : Row). x.newest) (when_other rooted.root page new (row rooted.root) away) ∙ rooted.newest;
   count = ap (λ (x : Row). x.count) (when_other rooted.root page new (row rooted.root) away) ∙ rooted.count;
-  linked = chain-same (λ p. (row p).next) (λ p. (if p == page then new else row p).next) rooted.chain.newest.page (rooted.chain.newest.page ∷ rooted.chain.older)
+  linked = chain-also (λ p. (row p).next) (λ p. (if p == page then new else row p).next) rooted.chain.newest.page (rooted.chain.newest.page ∷ rooted.chain.older)
       (all-away row page new (rooted.chain.newest.page ∷ rooted.chain.older)
       (owned-away pages page r.handle none (rooted.chain.newest.page ∷ rooted.chain.older) (rooted.chain.newest.owned, rooted.chain.owned)))
       rooted.linked;
@@ -88,14 +88,14 @@ module _ (t : Table) (lexicals : List ℕ) (classes : ℕ → ClassSlots) (b : B
     | inl nothing ↦ nothing
     | inr (r, found) ↦
         let rooted : IsRooted t.row l.pages r = tied.roots (handle_of_page page) r found in
-        absurd (owner-away l.pages page rooted.root r.handle none rooted.owned (halves rooted.root page (sym rooted.handle ∙ lookup-key handle_of b.regions (handle_of_page page) r found)))
+        absurd (owner-away l.pages page rooted.root r.handle none rooted.owned (handle_of_one_page rooted.root page (sym rooted.handle ∙ lookup-key handle_of b.regions (handle_of_page page) r found)))
   ]
 
   given-away : AllByRecursion (λ x. page ≢ x) tied.given
   given-away = all-left (λ x. page ≢ x) tied.given (numbers_from t.count (t.most - t.count)) (subst (AllByRecursion (λ x. page ≢ x)) tied.free away)
 
   pub free-linked : (r : Row) → IsChain (λ p. ((with_row t page r).row p).next) t.free tied.given
-  free-linked r = chain-same (λ p. (t.row p).next) (λ p. ((with_row t page r).row p).next) t.free tied.given (all-away t.row page r tied.given given-away) tied.linked
+  free-linked r = chain-also (λ p. (t.row p).next) (λ p. ((with_row t page r).row p).next) t.free tied.given (all-away t.row page r tied.given given-away) tied.linked
 
   pub opened-tied : (sort : Sort) → IsTied (with_row t page (first_row sort page)) (lexicals ++ lexicals_with sort (handle_of_page page)) classes
       (blocks_of (opened (plain_store b) (handle_of_page page) sort)) (record l { pages = drawn l.pages page (handle_of_page page) })
@@ -167,7 +167,7 @@ module _ (t : Table) (lexicals : List ℕ) (classes : ℕ → ClassSlots) (b : B
           let row_is = when_other p page (first_row sort page) (t.row p) other in
           let owner_is = when_other p page (Some (handle_of_page page)) (l.pages.owner p) other in
           let filled_is = when_other p page 0 (l.pages.filled p) other in
-          let found_is = lookup-append_other handle_of b.regions (empty_home (handle_of_page page) sort) (handle_of_page p) (λ e. other (sym (halves page p e))) in
+          let found_is = lookup-append_other handle_of b.regions (empty_home (handle_of_page page) sort) (handle_of_page p) (λ e. other (sym (handle_of_one_page page p e))) in
           record {
             marks = ap (λ (x : Row). x.filled) row_is ∙ ((tied.rows p).marks ∙ (ap (limit (l.pages.owner p)) (sym filled_is)
                 ∙ ap (λ o. limit o ((drawn l.pages page (handle_of_page page)).filled p)) (sym owner_is)));

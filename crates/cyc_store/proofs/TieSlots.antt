@@ -24,7 +24,7 @@ use Rattle.cyc_store.proofs.PagedRegions.{chain-filled}
 use Rattle.cyc_store.proofs.SlotLemmas.{multiples-one}
 use Rattle.cyc_store.proofs.SlotServices.{with_dead, same-words}
 use Rattle.cyc_store.proofs.SlotStock.{stocked}
-use Rattle.cyc_store.proofs.TableLemmas.{cases_between, between-in, between-out}
+use Rattle.cyc_store.proofs.TableLemmas.{cases_between, marked-in, marked-out}
 use Rattle.cyc_store.proofs.TieOpening.{with_row, owner-away, fresh-handle, free-linked, rooted-drawn}
 
 -- ---- what changes in a table
@@ -121,16 +121,16 @@ module _ (t : Table) (lexicals : List ℕ) (classes : ℕ → ClassSlots) (b : B
     ];
     marked = λ p n owned few. elim (cases_between word (2 ^ class) (PAGE_WORDS * p + n)) [
       | inl (low, high) ↦
-          between-in t.live word (2 ^ class) mark (PAGE_WORDS * p + n) low high
+          marked-in t.live word (2 ^ class) mark (PAGE_WORDS * p + n) low high
           ∙ sym (ap (λ w. is_some (lookup address_of unique (place_of w))) (first-of p n few low high) ∙ here)
       | inr out ↦
-          between-out t.live word (2 ^ class) mark (PAGE_WORDS * p + n) out
+          marked-out t.live word (2 ^ class) mark (PAGE_WORDS * p + n) out
           ∙ (tied.marked p n owned few
           ∙ sym (ap is_some (elsewhere (place_of (PAGE_WORDS * p + n / 2 ^ l.class p * 2 ^ l.class p)) (λ e. not-out p n few (same-words (PAGE_WORDS * p + n / 2 ^ l.class p * 2 ^ l.class p) word e) out))))
     ];
     unmarked = λ p n other few. elim (cases_between word (2 ^ class) (PAGE_WORDS * p + n)) [
       | inl (low, high) ↦ absurd (other (ap l.pages.owner (slot-page p n few low high) ∙ slot.owned))
-      | inr out ↦ between-out t.live word (2 ^ class) mark (PAGE_WORDS * p + n) out ∙ tied.unmarked p n other few
+      | inr out ↦ marked-out t.live word (2 ^ class) mark (PAGE_WORDS * p + n) out ∙ tied.unmarked p n other few
     ];
   }
 

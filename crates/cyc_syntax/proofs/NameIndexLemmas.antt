@@ -222,10 +222,10 @@ pub firsts_after : (m n : BTreeMap ℕ ℕ) (key number : ℕ) → tree.Updates 
 firsts_after m n key number updates k = updates.0 k
 
 -- what a change at one key leaves
-kept : {X : Type 0} (eq : X → X → Bool) (test : X → Bool) (old new : List (X × ℕ)) → KeepsOthers eq test old new
+others_kept : {X : Type 0} (eq : X → X → Bool) (test : X → Bool) (old new : List (X × ℕ)) → KeepsOthers eq test old new
     → (query : X → Bool) → IsKeyTest eq query → AreApart test query → lookup query new ≡ lookup query old
 unfolding KeepsOthers
-kept eq test old new keeps = keeps
+others_kept eq test old new keeps = keeps
 
 -- the same of the others
 pub others_after : (m n : BTreeMap (Vec ℕ Global) ℕ) (v : Vec ℕ Global) (number : ℕ) → tree.Updates (λ x y. slice_cmp nat_cmp x.items y.items) m n v (Some number)
@@ -233,7 +233,7 @@ pub others_after : (m n : BTreeMap (Vec ℕ Global) ℕ) (v : Vec ℕ Global) (n
 others_after m n v number updates t =
     ⊎_elim
     (λ is. subst (λ x. other_in n x ≡ Some number) ((bytes_eq-Decides v.items t).0 is) updates.1 ∙ sym (cond-true _ _ _ is))
-    (λ is_not. kept _ _ _ _ updates.3 _ (λ x y. (eq_by_cmp_equiv nat_list_cmp_total).congr t x.items y.items) (λ k. off k is_not) ∙ sym (cond-false _ _ _ is_not))
+    (λ is_not. others_kept _ _ _ _ updates.3 _ (λ x y. (eq_by_cmp_equiv nat_list_cmp_total).congr t x.items y.items) (λ k. off k is_not) ∙ sym (cond-false _ _ _ is_not))
     (cases_Bool (bytes_eq v.items t))
   where
     off : (k : Vec ℕ Global) → bytes_eq v.items t ≡ false → is_eq (slice_cmp nat_cmp v.items k.items) ≡ true → is_eq (slice_cmp nat_cmp t k.items) ≡ false

@@ -11,7 +11,7 @@ use Rattle.cyc_machine.specs.Bounds.{Bounds, AreAllowed}
 use Rattle.cyc_machine.specs.State.{State}
 use Rattle.cyc_machine.specs.Run.{World, told, Run}
 use Rattle.cyc_machine.specs.Start.{start_world}
-use Rattle.cyc_machine.proofs.RunLaws.{Run-append}
+use Rattle.cyc_machine.proofs.RunLaws.{run_after_run}
 use Rattle.cyc_types.specs.TypedTrees.{Program}
 use Rattle.cyc_meaning.specs.SourceMachine.{seen_of}
 use Rattle.cyc_system.specs.FullPreservation.{limited, DoesTheSame}
@@ -55,5 +55,5 @@ asks_what_is_asked p image does limits store input b allowed new bytes byte coun
     let here = longer b w in
     let there = told here WantsByte s in
     let asked : Run 1 here there = (there, (WantsByte, s, step, refl), refl) in
-    let (k, (seen, ends)) = alike.behind (count + 1) there (Run-append count 1 started here there (run_longer b count (start_world image limits store input) w run) asked) in
+    let (k, (seen, ends)) = alike.behind (count + 1) there (run_after_run count 1 started here there (run_longer b count (start_world image limits store input) w run) asked) in
     (k, sym seen ∙ ap (λ (rest : List ℕ). showing w.output (drop 1 (rest ++ b ∷ []))) none)

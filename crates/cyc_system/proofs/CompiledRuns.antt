@@ -13,7 +13,7 @@ use Rattle.cyc_machine.specs.Bounds.{Bounds, AreAllowed}
 use Rattle.cyc_machine.specs.Run.{World, Run, end_of}
 use Rattle.cyc_machine.specs.Start.{has_outside, start_world}
 use Rattle.cyc_store.specs.State.{StoreState}
-use Rattle.cyc_machine.proofs.RunLaws.{Goes-rests, Run-append, over-end_of}
+use Rattle.cyc_machine.proofs.RunLaws.{Goes-rests, run_after_run, over-end_of}
 use Rattle.cyc_types.specs.TypedTrees.{Program}
 use Rattle.cyc_machine.specs.WorldMachine.{seen_of as seen_in}
 use Rattle.cyc_system.specs.declared.report.Report.{Report}
@@ -38,7 +38,7 @@ ended_rests (suc count) w end ended = (w, Goes-rests w end (over-end_of w end en
 whole_run : (stop : Stop) (budget count : ℕ) (u w : World) → Run count u w → count ≤ budget → Stops stop budget count w → Run budget u w
 whole_run (stops.End end) budget count u w run few ended =
     subst (λ (k : ℕ). Run k u w) (let all : count + (budget - count) ≡ budget = omega (arith, few) in all)
-    (Run-append count (budget - count) u w w run (ended_rests (budget - count) w end ended))
+    (run_after_run count (budget - count) u w w run (ended_rests (budget - count) w end ended))
 whole_run stops.Spent budget count u w run few (none, all) = subst (λ (k : ℕ). Run k u w) all run
 
 -- where the world has an end, that is how the run has stopped
@@ -51,10 +51,10 @@ input_told : (told : Option (List ℕ)) (input bytes : List ℕ) → told ≡ So
 input_told told input bytes is tells = sym (let same : input ≡ bytes = subst (λ (o : Option (List ℕ)). Tells o bytes) is tells in same)
 
 -- and has then just these left
-told_left : (told new : Option (List ℕ)) (input rest : List ℕ) → told ≡ Some input → Leaves told new rest → new ≡ Some rest
-told_left None new input rest is leaves = absurd (let e : None ≡ Some input = is in cc)
-told_left (Some told) None input rest is leaves = absurd leaves
-told_left (Some told) (Some left) input rest is leaves = ap (λ (l : List ℕ). Some l) leaves
+told_rest : (told new : Option (List ℕ)) (input rest : List ℕ) → told ≡ Some input → Leaves told new rest → new ≡ Some rest
+told_rest None new input rest is leaves = absurd (let e : None ≡ Some input = is in cc)
+told_rest (Some told) None input rest is leaves = absurd leaves
+told_rest (Some told) (Some left) input rest is leaves = ap (λ (l : List ℕ). Some l) leaves
 
 -- or all of them, where it was not used
 told_kept : (told new : Option (List ℕ)) (input : List ℕ) → told ≡ Some input → Keeps told new → new ≡ Some input
@@ -96,7 +96,7 @@ module _ (p : Program) (image : ImageContents) (limits : Bounds) (store : StoreS
           output = w.output;
           rest = w.input;
           written = x.written;
-          left = told_left old.remaining new.remaining input w.input tells x.unread;
+          left = told_rest old.remaining new.remaining input w.input tells x.unread;
           steps = steps;
           seen = seen;
           answers = answers;

@@ -150,8 +150,8 @@ wanting start old now new count x x' peaks machine machine' s byte read p step i
 }
 
 -- at the end of the input there is no byte, and nothing is left
-none_left : (start : List ℕ → World) (count : ℕ) (peaks : Option Peaks) (machine : State) (output read rest : List ℕ) → rest ≡ [] → Way peaks count (start (read ++ rest)) (record { machine = machine; output = output; input = rest }) → Took start count peaks machine output read None rest
-none_left start count peaks machine output read rest empty runs = record {
+none_left_to_read : (start : List ℕ → World) (count : ℕ) (peaks : Option Peaks) (machine : State) (output read rest : List ℕ) → rest ≡ [] → Way peaks count (start (read ++ rest)) (record { machine = machine; output = output; input = rest }) → Took start count peaks machine output read None rest
+none_left_to_read start count peaks machine output read rest empty runs = record {
   before = rest;
   runs = runs;
   first = ap (λ xs. slice_get xs 0) empty;
@@ -166,12 +166,12 @@ asked_turn start old now new count x true peaks machine machine' s byte was p st
     (wanting start old now new count x (after_byte x None) peaks machine machine' s None p.read p step (is ∙ ap (given s) none) silent
     (consumes_kept old.remaining now.remaining new.remaining p.read p.consumed kept)
     (λ end. leaves_kept old.remaining now.remaining new.remaining [] (p.at_end was) kept) p.reads refl
-    (λ rest ended. none_left start count peaks machine p.output p.read rest (ended refl) (p.runs rest (λ e. ended refl))))
+    (λ rest ended. none_left_to_read start count peaks machine p.output p.read rest (ended refl) (p.runs rest (λ e. ended refl))))
 asked_turn start old now new count x false peaks machine machine' s None was p step is (ends, kept) silent =
     wanting start old now new count x (after_byte x None) peaks machine machine' s None p.read p step is silent
     (consumes_kept old.remaining now.remaining new.remaining p.read p.consumed kept)
     (λ end. end_seen old.remaining now.remaining new.remaining p.read p.consumed ends kept) p.reads refl
-    (λ rest ended. none_left start count peaks machine p.output p.read rest (ended refl) (p.runs rest (λ e. ended refl)))
+    (λ rest ended. none_left_to_read start count peaks machine p.output p.read rest (ended refl) (p.runs rest (λ e. ended refl)))
 asked_turn start old now new count x false peaks machine machine' s (Some byte) was p step is consumes silent =
     wanting start old now new count x (after_byte x (Some byte)) peaks machine machine' s (Some byte) (p.read ++ byte ∷ []) p step is silent
     (Consumes-append old.remaining now.remaining new.remaining p.read (byte ∷ []) p.consumed consumes)

@@ -116,9 +116,9 @@ abbrev pub IsAnswered : List ℕ → Result Flowed Fault → Type 0
 IsAnswered = IsAnsweredBy HasProgram
 
 -- a refusal is the same whatever would be answered
-pub refused_alike : {X Y A : Type 0} {Accepted : A → Type 0} {Refused Faulty : Fault → Type 0} (Gives : A → X → Type 0) (Other : A → Y → Type 0) (f : Fault)
+pub refused_by_both : {X Y A : Type 0} {Accepted : A → Type 0} {Refused Faulty : Fault → Type 0} (Gives : A → X → Type 0) (Other : A → Y → Type 0) (f : Fault)
     → Decides Accepted Gives Refused Faulty (Err f) → Decides Accepted Other Refused Faulty (Err f)
-refused_alike Gives Other f d = record { accepted = tt; refused = d.refused; accepts = d.accepts; refuses = d.refuses }
+refused_by_both Gives Other f d = record { accepted = tt; refused = d.refused; accepts = d.accepts; refuses = d.refuses }
 
 -- and an answer is as good as another that gives the same
 pub accepted_alike : {X Y A : Type 0} {Accepted : A → Type 0} {Refused Faulty : Fault → Type 0} (Gives : A → X → Type 0) (Other : A → Y → Type 0) (x : X) (y : Y)
@@ -131,9 +131,9 @@ accepted_alike Gives Other x y alike d = record {
 }
 
 -- a phase decided to refuse
-pub stopped : {X A : Type 0} (Accepted : A → Type 0) (Gives : A → X → Type 0) (Refused Has : Fault → Type 0) (f : Fault)
+pub stopped_front : {X A : Type 0} (Accepted : A → Type 0) (Gives : A → X → Type 0) (Refused Has : Fault → Type 0) (f : Fault)
     → Decides Accepted Gives Refused Has (Err f) → Stops Accepted Has f
-stopped Accepted Gives Refused Has f d = record { none = d.accepts; no_other = d.refuses }
+stopped_front Accepted Gives Refused Has f d = record { none = d.accepts; no_other = d.refuses }
 
 lexer_refuses : (text : List ℕ) (f : Fault) → Stops (lexer.IsAccepted text) (lexer.IsRefused text) f
     → (g : Fault) → HasFault text g → (f ≡ memory_fault) ⊎ (f ≡ g)

@@ -39,6 +39,6 @@ it_is_written : file ≡ layout image
 unfolding layout file_header program_header
 it_is_written = refl
 
-it_is_read : reading file ≡ Ok image
+image_is_read : reading file ≡ Ok image
 unfolding reading file_rules own_rules entry_rules headers_from program_header_at field is_note is_named limits_at
-it_is_read = refl
+image_is_read = refl

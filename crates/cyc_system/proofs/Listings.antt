@@ -28,8 +28,8 @@ range_text f count n below =
     ∙ ap (flat_map f) (sym (range_split 0 n (suc (count - (n + 1)))))
     ∙ ap (λ k. flat_map f (range_with_len 0 k)) (sym split)
 
-pub range_more : (f : ℕ → List ℕ) (n : ℕ) → flat_map f (range_with_len 0 n) ++ f n ≡ flat_map f (range_with_len 0 (n + 1))
-range_more f n =
+pub listed_range_more : (f : ℕ → List ℕ) (n : ℕ) → flat_map f (range_with_len 0 n) ++ f n ≡ flat_map f (range_with_len 0 (n + 1))
+listed_range_more f n =
     ap (λ xs. flat_map f (range_with_len 0 n) ++ xs) (sym (append-nil (f n)))
     ∙ ap (λ k. flat_map f (range_with_len 0 n) ++ (f n ++ flat_map f (range_with_len (n + 1) k))) (let none : 0 ≡ n + 1 - (n + 1) = omega arith in none)
     ∙ range_text f (n + 1) n (omega arith)

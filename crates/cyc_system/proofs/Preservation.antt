@@ -8,7 +8,7 @@ use Rattle.cyc_words.proofs.SeenLemmas.{ComesTo-trans}
 use Rattle.cyc_elf.specs.Image.{ImageContents}
 use Rattle.cyc_machine.specs.Bounds.{Bounds, AreAllowed}
 use Rattle.cyc_machine.specs.Run.{World, Run, end_in, end_of, ending_of}
-use Rattle.cyc_machine.proofs.RunLaws.{Run-over, Run-output, Run-input, Run-split, over-end_of}
+use Rattle.cyc_machine.proofs.RunLaws.{Run-over, Run-output, Run-input, run_in_parts, over-end_of}
 use Rattle.cyc_store.specs.State.{IsNew, StoreState}
 use Rattle.cyc_machine.specs.Start.{start_world}
 use Rattle.cyc_machine.specs.declared.event.Cause.{Cause}
@@ -156,7 +156,7 @@ keeps_up p image limits store input alike n count w enough run =
     let here = (n + 1) * text_words image in
     let started = start_world image limits store input in
     let all : count ≡ here + (count - here) = omega (arith, enough) in
-    let (v, first, rest) = Run-split here (count - here) started w (subst (λ (k : ℕ). Run k started w) all run) in
+    let (v, first, rest) = run_in_parts here (count - here) started w (subst (λ (k : ℕ). Run k started w) all run) in
     stays_ahead (limited p limits input n) (count - here) v w rest (alike.ahead n v first)
 
 -- ---- two stores

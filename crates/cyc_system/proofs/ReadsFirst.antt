@@ -98,33 +98,33 @@ reads = (
 
 -- ---- where the program has printed nothing, it has not read
 
-unread : [] ≡ given → ⊥
-unread is = cc
+some_is_given : [] ≡ given → ⊥
+some_is_given is = cc
 
 unprinted : (more : List ℕ) → [] ≡ (65 ∷ []) ++ more → ⊥
 unprinted more is = let e : [] ≡ 65 ∷ more = is in cc
 
-never : (k : ℕ) → showing [] [] ≡ seen_of (limited prints_first limits given k) → ⊥
-never zero seen = unread (ap (λ (s : Seen). s.rest) seen)
-never (suc zero) seen = unread (ap (λ (s : Seen). s.rest) seen)
-never (suc (suc zero)) seen = unread (ap (λ (s : Seen). s.rest) seen)
-never (suc (suc (suc zero))) seen = unread (ap (λ (s : Seen). s.rest) seen)
-never (suc (suc (suc (suc zero)))) seen = unread (ap (λ (s : Seen). s.rest) seen)
-never (suc (suc (suc (suc (suc zero))))) seen = unread (ap (λ (s : Seen). s.rest) seen)
-never (suc (suc (suc (suc (suc (suc zero)))))) seen = unread (ap (λ (s : Seen). s.rest) seen)
-never (suc (suc (suc (suc (suc (suc (suc zero))))))) seen = unread (ap (λ (s : Seen). s.rest) seen)
-never (suc (suc (suc (suc (suc (suc (suc (suc zero)))))))) seen = unread (ap (λ (s : Seen). s.rest) seen)
-never (suc (suc (suc (suc (suc (suc (suc (suc (suc zero))))))))) seen = unread (ap (λ (s : Seen). s.rest) seen)
-never (suc (suc (suc (suc (suc (suc (suc (suc (suc (suc n)))))))))) seen =
+never_shown : (k : ℕ) → showing [] [] ≡ seen_of (limited prints_first limits given k) → ⊥
+never_shown zero seen = some_is_given (ap (λ (s : Seen). s.rest) seen)
+never_shown (suc zero) seen = some_is_given (ap (λ (s : Seen). s.rest) seen)
+never_shown (suc (suc zero)) seen = some_is_given (ap (λ (s : Seen). s.rest) seen)
+never_shown (suc (suc (suc zero))) seen = some_is_given (ap (λ (s : Seen). s.rest) seen)
+never_shown (suc (suc (suc (suc zero)))) seen = some_is_given (ap (λ (s : Seen). s.rest) seen)
+never_shown (suc (suc (suc (suc (suc zero))))) seen = some_is_given (ap (λ (s : Seen). s.rest) seen)
+never_shown (suc (suc (suc (suc (suc (suc zero)))))) seen = some_is_given (ap (λ (s : Seen). s.rest) seen)
+never_shown (suc (suc (suc (suc (suc (suc (suc zero))))))) seen = some_is_given (ap (λ (s : Seen). s.rest) seen)
+never_shown (suc (suc (suc (suc (suc (suc (suc (suc zero)))))))) seen = some_is_given (ap (λ (s : Seen). s.rest) seen)
+never_shown (suc (suc (suc (suc (suc (suc (suc (suc (suc zero))))))))) seen = some_is_given (ap (λ (s : Seen). s.rest) seen)
+never_shown (suc (suc (suc (suc (suc (suc (suc (suc (suc (suc n)))))))))) seen =
     let (more, printed) = (limited_steps_go_on prints_first 3 1 n (limited prints_first limits given 10)).0 in
     unprinted more (ap (λ (s : Seen). s.output) seen ∙ printed)
 
-pub refused : (file : List ℕ) → reading file ≡ Ok reads_first → IsImageOf prints_first file → ⊥
-refused file read is =
+pub is_no_image : (file : List ℕ) → reading file ≡ Ok reads_first → IsImageOf prints_first file → ⊥
+is_no_image file read is =
     let other : Ok reads_first ≡ Ok is.image = sym read ∙ is.read in
     let same : is.image ≡ reads_first = cc in
     let allowed : AreAllowed 3 1 = record { enough_pages = omega arith; few_pages = omega arith; enough_calls = omega arith; few_calls = omega arith } in
     let new : IsNew 3 store = ((λ (address : ℕ). 0), (λ address. omega arith), refl) in
     let alike = are_alike prints_first reads_first (subst (λ (image : ImageContents). DoesTheSame prints_first image) same is.does) limits store given allowed new (omega arith, tt) in
     let (k, (seen, ends)) = alike.behind 2 has_read reads in
-    never k seen
+    never_shown k seen

@@ -86,12 +86,12 @@ entered : {Z : Type 0} (o : Option (Box SubCommand Z)) (name : Text) (rows : Lis
 entered None name rows named has = cc
 entered (Some b) name rows named has = cc
 
-pub asked : {E : Type 0} (program : App) (words : List Text) (m : ArgMatches) (f : Found) (name : Text) (r : Result Request E) → HasMatchesOf program words m
+pub request_is_asked : {E : Type 0} (program : App) (words : List Text) (m : ArgMatches) (f : Found) (name : Text) (r : Result Request E) → HasMatchesOf program words m
     → subcommand_name_of m ≡ Some name → option_map (λ p. p.1) (subcommand_rows_of m) ≡ Some (rows_of f) → IfOk r (IsRequestOf name (first_value f))
     → IfOk r (IsAskedOf program words)
-asked program words m f name (Ok request) has named rows is = λ simple. (
+request_is_asked program words m f name (Ok request) has named rows is = λ simple. (
   (name, rows_of f),
   sym (has simple).1 ∙ entered (out-ArgMatches m).subcommand name (rows_of f) named rows,
   by_rows name f request is,
 )
-asked program words m f name (Err e) has named rows is = tt
+request_is_asked program words m f name (Err e) has named rows is = tt

@@ -26,13 +26,13 @@ name_more bs i d lt =
 
 -- ---- sets of names
 
-not_both : (b : Bool) → (not b && b) ≡ false
-not_both true = refl
-not_both false = refl
+not_and_itself : (b : Bool) → (not b && b) ≡ false
+not_and_itself true = refl
+not_and_itself false = refl
 
 -- a table without its names has none
 pub none_left : (table : List Bool) (names : List ℕ) (left : List Bool) (x : ℕ) → get_or table x false ≡ list_any (nat_eq x) (reverse names)
     → get_or left x false ≡ (not (list_any (nat_eq x) names) && get_or table x false) → get_or left x false ≡ false
 none_left table names left x known is =
     let same : get_or table x false ≡ list_any (nat_eq x) names = known ∙ sym (list_any-IsPermutation (nat_eq x) names (reverse names) (IsPermutation-reverse names)) in
-    is ∙ ap (λ b. not (list_any (nat_eq x) names) && b) same ∙ not_both (list_any (nat_eq x) names)
+    is ∙ ap (λ b. not (list_any (nat_eq x) names) && b) same ∙ not_and_itself (list_any (nat_eq x) names)

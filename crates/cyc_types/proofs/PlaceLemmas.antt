@@ -12,10 +12,10 @@ use Rattle.cyc_types.proofs.RegionLemmas.{region_eq-true}
 use Rattle.cyc_types.proofs.TableLemmas.{eq_true_at, table_leads-here, table_leads-there}
 
 -- constraints of other regions change nothing
-kept : (all last more : List Constraint) (a : Region) (place : Option ℕ) → ((b : Region) → table_leads more a b ≡ table_leads last a b)
+first_kept : (all last more : List Constraint) (a : Region) (place : Option ℕ) → ((b : Region) → table_leads more a b ≡ table_leads last a b)
     → IsFirst all last a place → IsFirst all more a place
-kept all last more a None same first = λ b. same b ∙ first b
-kept all last more a (Some k) same first = (first.0, λ d. ((first.1 d).0, λ b. same b ∙ (first.1 d).1 b))
+first_kept all last more a None same first = λ b. same b ∙ first b
+first_kept all last more a (Some k) same first = (first.0, λ d. ((first.1 d).0, λ b. same b ∙ (first.1 d).1 b))
 
 pub none_first : (all : List Constraint) (places : Places) → ((a : Region) → place_of places a ≡ None) → AreFirst all [] places
 none_first all places none a = subst (λ (p : Option ℕ). IsFirst all [] a p) (sym (none a)) (λ b. refl)
@@ -36,7 +36,7 @@ module _ (all : List Constraint) (i : ℕ) (d : Constraint) (within : i < length
 
   there : (place : Option ℕ) → ((get_or all i d).longer ≡ a → ⊥) → IsFirst all (drop (i + 1) all) a place → IsFirst all (drop i all) a place
   there place apart first =
-      kept all (drop (i + 1) all) (drop i all) a place (λ b. ap (λ cs. table_leads cs a b) from ∙ table_leads-there (get_or all i d) (drop (i + 1) all) a b apart) first
+      first_kept all (drop (i + 1) all) (drop i all) a place (λ b. ap (λ cs. table_leads cs a b) from ∙ table_leads-there (get_or all i d) (drop (i + 1) all) a b apart) first
 
 pub first_more : (all : List Constraint) (i : ℕ) (c : Constraint) (old new : Places) → i < length all → c ≡ get_or all i c → AreFirst all (drop (i + 1) all) old
     → ((a : Region) → place_of new a ≡ cond (region_eq c.longer a) (Some i) (place_of old a)) → AreFirst all (drop i all) new

@@ -132,8 +132,8 @@ no_place : verdict (main_of (MoreItems (Execute (Evaluate (Assign (Number (at 13
 no_place = refl
 
 -- int main(){ putchar = 2; return 0; }
-function_is_no_place : verdict (main_of (MoreItems (Execute (Evaluate (Assign (Variable (putchar 13)) (Number (at 23) 2)))) (only (return_0 26))) 36 ∷ []) ≡ Err (fault_at faults.NotAPlace (at 13))
-function_is_no_place = refl
+putchar_is_no_place : verdict (main_of (MoreItems (Execute (Evaluate (Assign (Variable (putchar 13)) (Number (at 23) 2)))) (only (return_0 26))) 36 ∷ []) ≡ Err (fault_at faults.NotAPlace (at 13))
+putchar_is_no_place = refl
 
 -- int main(){ break; }
 outside_loop : verdict (main_of (only (Execute (Break (at 13)))) 20 ∷ []) ≡ Err (fault_at faults.OutsideLoop (at 13))
@@ -164,7 +164,7 @@ null_is_no_int = refl
 -- ---- a typed tree
 
 -- int x = -1; int main(){ int a; { int v = putchar(x); a = v; } return a + 1; }
-typed_tree : check_of texts (Global (int 1) (x 5) (Some (Negative (at 9) 1))
+typed_tree_of_blocks : check_of texts (Global (int 1) (x 5) (Some (Negative (at 9) 1))
     ∷ Function (Some (int 13)) (main 17) (record { list = Void; effect = None; constraints = [] }) (Braces (at 23) (
     MoreItems (Local (int 25) (a 29) None)
     (MoreItems (Execute (Block (Braces (at 32) (
@@ -196,7 +196,7 @@ typed_tree : check_of texts (Global (int 1) (x 5) (Some (Negative (at 9) 1))
       } ∷ [];
       main = 0;
     })
-typed_tree = refl
+typed_tree_of_blocks = refl
 
 -- ---- flow
 

@@ -38,8 +38,8 @@ view_operations-items (more_of-Operation (operation.Test o e) row) = ap (ThenTes
 view_operations-items (more_of-Operation (operation.Pointer o e) row) = ap (ThenPointer o (view_expression e)) (view_operations-items row)
 view_operations-items (more_of-Operation (operation.PointerPeek n o e) row) = ap (ThenPointerPeek n o (view_expression e)) (view_operations-items row)
 
-pub operations_view : (v : Vec Operation Heap) → view_operations (hidden-the_row-Operation-1 v) ≡ operations_of v.items
-operations_view v = view_operations-items (hidden-the_row-Operation-1 v) ∙ ap operations_of (items_hidden-the_row-Operation-1 v)
+pub typed_operations_view : (v : Vec Operation Heap) → view_operations (hidden-the_row-Operation-1 v) ≡ operations_of v.items
+typed_operations_view v = view_operations-items (hidden-the_row-Operation-1 v) ∙ ap operations_of (items_hidden-the_row-Operation-1 v)
 
 view_items-items : {m : _} (row : Row_of-Item m) → view_items row ≡ items_of (items-the_row-Item m row)
 view_items-items end_of-Item = refl
@@ -60,23 +60,23 @@ view_clauses-items (more_of-Clause e n r shape is row) default =
 pub clauses_view : (v : Vec Clause Heap) (default : Clauses) → view_clauses (hidden-the_row-Clause-1 v) default ≡ clauses_of v.items default
 clauses_view v default = view_clauses-items (hidden-the_row-Clause-1 v) default ∙ ap (λ (cs : List Clause). clauses_of cs default) (items_hidden-the_row-Clause-1 v)
 
-default_view : (d : Option Body) → view_default (back-Stmt-Try-3 d) ≡ default_of d
-default_view None = refl
-default_view (Some b) = ap (Default b.region) (items_view b.items)
+typed_default_view : (d : Option Body) → view_default (back-Stmt-Try-3 d) ≡ default_of d
+typed_default_view None = refl
+typed_default_view (Some b) = ap (Default b.region) (items_view b.items)
 
 -- ---- of each node that has one
 
-pub view_call : (w : Span) (f : Callee) (v : Vec ConvertedCode Heap) (t : ValueTypeCode) → view_expression (expr.Call w f v t) ≡ Call f (arguments_of v.items) (view_value_type t)
-view_call w f v t = ap (λ cs. Call f cs (view_value_type t)) (arguments_view v)
+pub view_typed_call : (w : Span) (f : Callee) (v : Vec ConvertedCode Heap) (t : ValueTypeCode) → view_expression (expr.Call w f v t) ≡ Call f (arguments_of v.items) (view_value_type t)
+view_typed_call w f v t = ap (λ cs. Call f cs (view_value_type t)) (arguments_view v)
 
-pub view_binary : (b : Box Expr Heap) (v : Vec Operation Heap) (t : TyCode) → view_expression (expr.Binary b v t) ≡ Binary (view_expression b.value) (operations_of v.items) (view_ty t)
-view_binary b v t = ap (λ os. Binary (view_expression b.value) os (view_ty t)) (operations_view v)
+pub view_typed_binary : (b : Box Expr Heap) (v : Vec Operation Heap) (t : TyCode) → view_expression (expr.Binary b v t) ≡ Binary (view_expression b.value) (operations_of v.items) (view_ty t)
+view_typed_binary b v t = ap (λ os. Binary (view_expression b.value) os (view_ty t)) (typed_operations_view v)
 
 pub view_block : (r : ℕ) (v : Vec ItemCode Heap) → view_statement (stmt.Block r v) ≡ Block r (items_of v.items)
 view_block r v = ap (Block r) (items_view v)
 
-pub view_fields : (v : Vec ConvertedCode Heap) → view_initial (initial.Fields v) ≡ Fields (arguments_of v.items)
-view_fields v = ap Fields (arguments_view v)
+pub view_typed_fields : (v : Vec ConvertedCode Heap) → view_initial (initial.Fields v) ≡ Fields (arguments_of v.items)
+view_typed_fields v = ap Fields (arguments_view v)
 
-pub view_try : (w : Span) (b : Box Stmt Heap) (v : Vec Clause Heap) (d : Option Body) → view_statement (stmt.Try w b v d) ≡ Try (view_statement b.value) (clauses_of v.items (default_of d))
-view_try w b v d = ap (Try (view_statement b.value)) (clauses_view v (view_default (back-Stmt-Try-3 d)) ∙ ap (clauses_of v.items) (default_view d))
+pub view_typed_try : (w : Span) (b : Box Stmt Heap) (v : Vec Clause Heap) (d : Option Body) → view_statement (stmt.Try w b v d) ≡ Try (view_statement b.value) (clauses_of v.items (default_of d))
+view_typed_try w b v d = ap (Try (view_statement b.value)) (clauses_view v (view_default (back-Stmt-Try-3 d)) ∙ ap (clauses_of v.items) (typed_default_view d))

@@ -25,7 +25,7 @@ use Rattle.cyc_types.specs.TypedTrees.{Arguments, NoArguments, MoreArguments, Cl
 use Rattle.cyc_types.specs.TypeView.{view_ty}
 use Rattle.cyc_types.specs.TypedTreeView.{view_expression, view_initial, view_statement, view_global, view_function, arguments_of, operations_of, items_of, clauses_of, default_of}
 use Rattle.cyc_types.specs.Weight.{expression_weight, initial_weight, arguments_weight, more_arguments_weight, operations_weight, statement_weight, items_weight, clauses_weight, global_weight, function_weight}
-use Rattle.cyc_types.proofs.TypedTreeViewLemmas.{view_call, view_binary, view_fields, view_block, view_try}
+use Rattle.cyc_types.proofs.TypedTreeViewLemmas.{view_typed_call, view_typed_binary, view_typed_fields, view_block, view_typed_try}
 
 -- ---- what is counted so far, with what is still to come
 
@@ -82,19 +82,19 @@ default_weighs (c ∷ cs) default = omega (arith, default_weighs cs default)
 pub call_weighs : (value : Expr) {w : _} (f : Callee) (v : Vec ConvertedCode Heap) (t : ValueTypeCode) → value ≡ expr.Call w f v t → (items : List ConvertedCode) → items ≡ v.items
     → expression_weight (view_expression value) ≡ 3 + arguments_weight (arguments_of items)
 call_weighs value {w} f v t is items same =
-    ap (λ (x : Expr). expression_weight (view_expression x)) is ∙ ap expression_weight (view_call w f v t)
+    ap (λ (x : Expr). expression_weight (view_expression x)) is ∙ ap expression_weight (view_typed_call w f v t)
     ∙ ap (λ (cs : List ConvertedCode). 3 + arguments_weight (arguments_of cs)) (sym same)
 
 pub fields_weigh : (value : Initial) (v : Vec ConvertedCode Heap) → value ≡ initial.Fields v → (items : List ConvertedCode) → items ≡ v.items
     → initial_weight (view_initial value) ≡ 3 + arguments_weight (arguments_of items)
 fields_weigh value v is items same =
-    ap (λ (x : Initial). initial_weight (view_initial x)) is ∙ ap initial_weight (view_fields v)
+    ap (λ (x : Initial). initial_weight (view_initial x)) is ∙ ap initial_weight (view_typed_fields v)
     ∙ ap (λ (cs : List ConvertedCode). 3 + arguments_weight (arguments_of cs)) (sym same)
 
 pub binary_weighs : (value : Expr) (b : Box Expr Heap) (v : Vec Operation Heap) (t : TyCode) → value ≡ expr.Binary b v t → (first : Expr) → first ≡ b.value → (items : List Operation) → items ≡ v.items
     → expression_weight (view_expression value) ≡ expression_weight (view_expression first) + operations_weight (operations_of items)
 binary_weighs value b v t is first at items same =
-    ap (λ (x : Expr). expression_weight (view_expression x)) is ∙ ap expression_weight (view_binary b v t)
+    ap (λ (x : Expr). expression_weight (view_expression x)) is ∙ ap expression_weight (view_typed_binary b v t)
     ∙ ap (λ (x : Expr). expression_weight (view_expression x) + operations_weight (operations_of v.items)) (sym at)
     ∙ ap (λ (os : List Operation). expression_weight (view_expression first) + operations_weight (operations_of os)) (sym same)
 
@@ -107,7 +107,7 @@ block_weighs value r v is items same =
 module _ (value : Stmt) {w : _} (b : Box Stmt Heap) (v : Vec Clause Heap) (d : Option Body) (is : value ≡ stmt.Try w b v d) (body : Stmt) (at : body ≡ b.value) (clauses : List Clause) (same : clauses ≡ v.items) where
   pub try_weighs : statement_weight (view_statement value) ≡ 4 + statement_weight (view_statement body) + (clauses_weight (clauses_of clauses NoClauses) + clauses_weight (default_of d))
   try_weighs =
-      ap (λ (x : Stmt). statement_weight (view_statement x)) is ∙ ap statement_weight (view_try w b v d)
+      ap (λ (x : Stmt). statement_weight (view_statement x)) is ∙ ap statement_weight (view_typed_try w b v d)
       ∙ ap (λ (n : ℕ). 4 + statement_weight (view_statement b.value) + n) (default_weighs v.items (default_of d))
       ∙ ap (λ (x : Stmt). 4 + statement_weight (view_statement x) + (clauses_weight (clauses_of v.items NoClauses) + clauses_weight (default_of d))) (sym at)
       ∙ ap (λ (cs : List Clause). 4 + statement_weight (view_statement body) + (clauses_weight (clauses_of cs NoClauses) + clauses_weight (default_of d))) (sym same)

@@ -56,15 +56,15 @@ part_told read file o text old new is stored said written =
     subst (λ r. Describes r old new WriteFault) (sym is) (inr (subst (AppendsPrefix old new) (said ∙ outline_told file o stored) written))
 
 -- a fault of the bytes
-faulty : (read : Result ImageContents ElfFault) (fault : ElfFault) (old new : Option (List ℕ)) → read ≡ Err fault → Keeps old new → Describes read old new (answer_of_run_fault (faults.Elf fault))
-faulty read fault old new is kept = subst (λ r. Describes r old new (answer_of_run_fault (faults.Elf fault))) (sym is) (inr refl, kept)
+describes_fault : (read : Result ImageContents ElfFault) (fault : ElfFault) (old new : Option (List ℕ)) → read ≡ Err fault → Keeps old new → Describes read old new (answer_of_run_fault (faults.Elf fault))
+describes_fault read fault old new is kept = subst (λ r. Describes r old new (answer_of_run_fault (faults.Elf fault))) (sym is) (inr refl, kept)
 
-pub refused : (read : Result ImageContents ElfFault) (file : List ℕ) (fault : ElfFault) (old new : Option (List ℕ))
+pub describes_refusal : (read : Result ImageContents ElfFault) (file : List ℕ) (fault : ElfFault) (old new : Option (List ℕ))
     → Outlines file (Err fault) read → Keeps old new → Describes read old new (answer_of_run_fault (of_elf fault))
-refused read file Elf.Memory old new told kept = no_memory read old new kept
-refused read file Elf.Truncated old new told kept = faulty read Elf.Truncated old new told kept
-refused read file Elf.NotElf32Big old new told kept = faulty read Elf.NotElf32Big old new told kept
-refused read file Elf.NotMipsExec old new told kept = faulty read Elf.NotMipsExec old new told kept
-refused read file Elf.BadSegment old new told kept = faulty read Elf.BadSegment old new told kept
-refused read file Elf.Interp old new told kept = faulty read Elf.Interp old new told kept
-refused read file Elf.BadEntry old new told kept = faulty read Elf.BadEntry old new told kept
+describes_refusal read file Elf.Memory old new told kept = no_memory read old new kept
+describes_refusal read file Elf.Truncated old new told kept = describes_fault read Elf.Truncated old new told kept
+describes_refusal read file Elf.NotElf32Big old new told kept = describes_fault read Elf.NotElf32Big old new told kept
+describes_refusal read file Elf.NotMipsExec old new told kept = describes_fault read Elf.NotMipsExec old new told kept
+describes_refusal read file Elf.BadSegment old new told kept = describes_fault read Elf.BadSegment old new told kept
+describes_refusal read file Elf.Interp old new told kept = describes_fault read Elf.Interp old new told kept
+describes_refusal read file Elf.BadEntry old new told kept = describes_fault read Elf.BadEntry old new told kept

@@ -189,7 +189,7 @@ pub fn list_image<W: Write + Drop>(alloc: Global, image: &[u8], screen: &mut Scr
 }
 
 /// Says what an image is to a device. That needs no more than its headers.
-#[tactic(auto, using(crate::proofs::Describing::no_memory, crate::proofs::Describing::all_told, crate::proofs::Describing::refused))]
+#[tactic(auto, using(crate::proofs::Describing::no_memory, crate::proofs::Describing::all_told, crate::proofs::Describing::describes_refusal))]
 fn describe_to<W: ByteOut>(alloc: Global, image: &[u8], writer: &mut W) -> Answer
     ensures { AnswersInfo image.now (W.written writer.old) (W.written writer.new) result }
 {

@@ -23,7 +23,7 @@ use Rattle.cyc_types.specs.TypedTrees.{Load, Expression, Call, Binary, Move}
 use Rattle.cyc_types.specs.TypedTreeView.{view_expression, arguments_of, operations_of}
 use Rattle.cyc_types.specs.declared.typed.Kind.{Kind}
 use Rattle.cyc_meaning.specs.Values.{words_of_kind}
-use Rattle.cyc_types.proofs.TypedTreeViewLemmas.{view_call, view_binary}
+use Rattle.cyc_types.proofs.TypedTreeViewLemmas.{view_typed_call, view_typed_binary}
 use Rattle.cyc_plain.specs.declared.instruction.BinaryOperator.TheVariants as plain_binary
 use Rattle.cyc_plain.specs.declared.instruction.Comparison.TheVariants as comparisons
 use Rattle.cyc_plain.specs.declared.instruction.Operand.{Operand}
@@ -128,12 +128,12 @@ passed_done cs i slot first done left =
 pub call_viewed : (value : Expr) {w : Span} (f : Callee) (v : Vec ConvertedCode Heap) (t : ValueTypeCode) → value ≡ expr.Call w f v t → (items : List ConvertedCode) → items ≡ v.items
     → view_expression value ≡ Call f (arguments_of items) (view_value_type t)
 call_viewed value {w} f v t is items same =
-    ap view_expression is ∙ view_call w f v t ∙ ap (λ (cs : List ConvertedCode). Call f (arguments_of cs) (view_value_type t)) (sym same)
+    ap view_expression is ∙ view_typed_call w f v t ∙ ap (λ (cs : List ConvertedCode). Call f (arguments_of cs) (view_value_type t)) (sym same)
 
 pub binary_viewed : (value : Expr) (b : Box Expr Heap) (v : Vec Operation Heap) (t : TyCode) → value ≡ expr.Binary b v t → (first : Expr) → first ≡ b.value → (items : List Operation) → items ≡ v.items
     → view_expression value ≡ Binary (view_expression first) (operations_of items) (view_ty t)
 binary_viewed value b v t is first at items same =
-    ap view_expression is ∙ view_binary b v t ∙ ap (λ (a : Expr). Binary (view_expression a) (operations_of v.items) (view_ty t)) (sym at)
+    ap view_expression is ∙ view_typed_binary b v t ∙ ap (λ (a : Expr). Binary (view_expression a) (operations_of v.items) (view_ty t)) (sym at)
     ∙ ap (λ (os : List Operation). Binary (view_expression first) (operations_of os) (view_ty t)) (sym same)
 
 -- ---- targets that are written back

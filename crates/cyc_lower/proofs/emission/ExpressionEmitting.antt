@@ -30,7 +30,7 @@ use Rattle.cyc_types.specs.TypedTrees.{Load, New, OnHeap, AsUnique, ByHandle, Fr
 use Rattle.cyc_types.specs.TypedTreeView.{view_lvalue, view_initial, view_expression, view_converted, arguments_of, operations_of, view_dereference}
 use Rattle.cyc_types.specs.declared.typed.Kind.{Kind}
 use Rattle.cyc_meaning.specs.Values.{words_of_kind, kind_of, is_thin}
-use Rattle.cyc_types.proofs.TypedTreeViewLemmas.{view_fields}
+use Rattle.cyc_types.proofs.TypedTreeViewLemmas.{view_typed_fields}
 use Rattle.cyc_plain.specs.declared.instruction.BinaryOperator.TheVariants as plain_binary
 use Rattle.cyc_plain.specs.declared.instruction.Comparison.TheVariants as comparisons
 use Rattle.cyc_meaning.specs.Operators.{null_exception, array_bounds}
@@ -252,7 +252,7 @@ module _ (starts : Starts) where
       ∙ ap (λ (l : List Kind). m1 ++ object_code handle l d t) (ks_are ∙ ap (λ (l : List ConvertedCode). kinds_passed (arguments_of l)) same)
       ∙ ap (λ (l : List Instruction). l ++ object_code handle (kinds_passed cs) d t) (first ∙ ap (λ (l : List ConvertedCode). old ++ arguments_code starts (arguments_of l) (length old) t) same)
       ∙ append_assoc old (arguments_code starts cs (length old) t) (object_code handle (kinds_passed cs) d t)
-      ∙ ap (λ (i : Initial). old ++ made_code starts i handle (length old) d t) (sym (ap view_initial is ∙ view_fields v))
+      ∙ ap (λ (i : Initial). old ++ made_code starts i handle (length old) d t) (sym (ap view_initial is ∙ view_typed_fields v))
 
   -- ---- chains
 

@@ -11,7 +11,7 @@ use Rattle.cyc_types.specs.declared.typed.Clause.{Clause}
 use Rattle.cyc_types.specs.declared.typed.Body.{Body}
 use Rattle.cyc_types.specs.TypedTrees.{Statement, Try, Items, NoItems, Clauses, NoClauses, Default}
 use Rattle.cyc_types.specs.TypedTreeView.{view_statement, items_of, clauses_of, default_of}
-use Rattle.cyc_types.proofs.TypedTreeViewLemmas.{view_try}
+use Rattle.cyc_types.proofs.TypedTreeViewLemmas.{view_typed_try}
 use Rattle.cyc_plain.specs.declared.instruction.Instruction.{Instruction}
 use Rattle.cyc_plain.specs.declared.instruction.Instruction.TheVariants as instructions
 use Rattle.cyc_meaning.specs.FrameCount.{kept_by_items, kept_by_clauses}
@@ -115,7 +115,7 @@ module _ (starts : Starts) (value : Stmt) {w : Span} (b : Box Stmt Heap) (v : Ve
       let all : length m2 + 2 ≡ length jumped = omega (arith, long, longer) in
       let cs = clauses_of clauses (default_of d) in
       let e : view_statement value ≡ Try (view_statement body) cs
-      = ap view_statement is ∙ view_try w b v d ∙ ap (λ (x : Stmt). Try (view_statement x) (clauses_of v.items (default_of d))) (sym at)
+      = ap view_statement is ∙ view_typed_try w b v d ∙ ap (λ (x : Stmt). Try (view_statement x) (clauses_of v.items (default_of d))) (sym at)
       ∙ ap (λ (cs : List Clause). Try (view_statement body) (clauses_of cs (default_of d))) (sym same) in
       made_try starts (view_statement body) cs exits t old x (instructions.Jump 0) m0 m1 m2 left jumped m3 m4 m6 m7 opening out
       e0 h1 e1 e2 refl (h2 ∙ sym long) refl

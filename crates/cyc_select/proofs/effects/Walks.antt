@@ -58,13 +58,13 @@ rising_below : (lo hi : ℕ) (places : List ℕ) → Rises lo hi places → lo �
 rising_below lo hi [] rises = rises
 rising_below lo hi (p ∷ places) (first, rest) = omega (arith, first, rising_below (suc p) hi places rest)
 
-in_range : (a n q : ℕ) → a ≤ q → q < a + n → Contains (range_with_len a n) q
-in_range a n q from below = (q - a, omega (arith, length-range_with_len a n), get_or-range_with_len a n (q - a) q (omega arith) ∙ (let e : a + (q - a) ≡ q = omega arith in e))
+in_range_with_len : (a n q : ℕ) → a ≤ q → q < a + n → Contains (range_with_len a n) q
+in_range_with_len a n q from below = (q - a, omega (arith, length-range_with_len a n), get_or-range_with_len a n (q - a) q (omega arith) ∙ (let e : a + (q - a) ≡ q = omega arith in e))
 
 pub rising_inside : (a n lo : ℕ) (places : List ℕ) → a ≤ lo → Rises lo (a + n) places → AllByRecursion (Contains (range_with_len a n)) places
 rising_inside a n lo [] from rises = tt
 rising_inside a n lo (p ∷ places) from (first, rest) =
-    (in_range a n p (omega arith) (omega (arith, rising_below (suc p) (a + n) places rest)), rising_inside a n (suc p) places (omega arith) rest)
+    (in_range_with_len a n p (omega arith) (omega (arith, rising_below (suc p) (a + n) places rest)), rising_inside a n (suc p) places (omega arith) rest)
 
 -- a stretch seen otherwise
 pub comes_map : (m : Machine) (Way Goal Way' Goal' : m.State → Type 0) (places : List m.Place) (s : m.State)

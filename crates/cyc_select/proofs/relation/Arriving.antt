@@ -132,15 +132,15 @@ counted_home homes.Memory = refl
 counted_home (homes.Both register) = counted_by register (is_preserved register)
 counted_home (homes.Register register) = counted_by register (is_preserved register)
 
-counted : (hs : List Home) → sum_by both_count (map arriving_home hs) ≡ sum_by saved_count hs
-counted [] = refl
-counted (h ∷ hs) =
+saved_counted : (hs : List Home) → sum_by both_count (map arriving_home hs) ≡ sum_by saved_count hs
+saved_counted [] = refl
+saved_counted (h ∷ hs) =
     sum_by-cons both_count (arriving_home h) (map arriving_home hs)
     ∙ (ap (λ (n : ℕ). n + sum_by both_count (map arriving_home hs)) (counted_home h)
-    ∙ (ap (λ (n : ℕ). saved_count h + n) (counted hs) ∙ sym (sum_by-cons saved_count h hs)))
+    ∙ (ap (λ (n : ℕ). saved_count h + n) (saved_counted hs) ∙ sym (sum_by-cons saved_count h hs)))
 
 pub length_arrivals : (frame : Frame) → length (arrivals frame) ≡ arrival_count frame
-length_arrivals frame = length_reload frame 0 (arriving frame) ∙ counted (take frame.parameters frame.homes)
+length_arrivals frame = length_reload frame 0 (arriving frame) ∙ saved_counted (take frame.parameters frame.homes)
 
 -- ---- one more of them
 

@@ -38,8 +38,8 @@ home_kept (homes.Register k) none = absurd (let e : Some k ≡ None = none in cc
 pub memory_kept : (frame : Frame) (slot : ℕ) → value_register frame slot ≡ None → is_kept frame slot ≡ true
 memory_kept frame slot none = home_kept (homing.home_of frame.homes slot) none
 
-pub made_is : (frame : Frame) (slot k : ℕ) → value_register frame slot ≡ Some k → made_in frame slot ≡ k
-made_is frame slot k has = ap (λ (o : Option ℕ). or_else o FIRST) has
+pub made_in_is : (frame : Frame) (slot k : ℕ) → value_register frame slot ≡ Some k → made_in frame slot ≡ k
+made_in_is frame slot k has = ap (λ (o : Option ℕ). or_else o FIRST) has
 
 both_of : (h : Home) (k : ℕ) → homing.register_of h ≡ Some k → homing.is_kept h ≡ true → h ≡ homes.Both k
 both_of homes.Memory k is kept = absurd (let e : None ≡ Some k = is in cc)

@@ -37,7 +37,7 @@ use Rattle.cyc_select.specs.inside.Machine.{State, Running, machine, memory_of, 
 use Rattle.cyc_select.specs.inside.Selection.{slot_offset, body, behind, place_lines, body_count, arithmetic_of, shift_by_of, push_frame, ordinary, start_lines, function_line, instruction_line, load_upper, or_lower, saving_code}
 use Rattle.cyc_select.proofs.relation.Arriving.{came_in}
 use Rattle.cyc_select.proofs.relation.Cells.{cell, place_of-data, place_of-stack}
-use Rattle.cyc_select.proofs.Laws.{lawful}
+use Rattle.cyc_select.proofs.Laws.{code_is_lawful}
 use Rattle.cyc_select.proofs.values.Operations.{take_small}
 use Rattle.cyc_select.proofs.effects.Views.{Contents, View}
 use Rattle.cyc_select.proofs.effects.Walks.{Stands, stands_front, stands_back, Rises, comes_map, Quiet, Walk, Now, walk_end, walk_few, walk_block, walk_jump, after_r}
@@ -320,7 +320,7 @@ module _ (program : Program) (well : IsWellFormed program) (words : HasWords pro
       let comes = comes_map below_machine (Quiet code formed addresses globals_length (words_per_call * calls) [] input (λ (t : State). ⊥)) (Matches program well frames fit code formed addresses pages calls few (steps.start program (main_place program frames) store input))
       (IsOnTheWay above below_machine (steps.start program (main_place program frames) store input)) (Matches program well frames fit code formed addresses pages calls few (steps.start program (main_place program frames) store input)) first_walk.places (Running run)
       on_the_way (λ u matches. matches) first_walk.comes in
-      simulates above below_machine m (all_steps program well words frames fit code formed addresses lie pages calls few stand stand_saving long) (lawful code addresses) (range_with_len 0 START_LINES) (steps.start program (main_place program frames) store input) never (Running run) refl
+      simulates above below_machine m (all_steps program well words frames fit code formed addresses lie pages calls few stand stand_saving long) (code_is_lawful code addresses) (range_with_len 0 START_LINES) (steps.start program (main_place program frames) store input) never (Running run) refl
       (subst (λ (ps : List ℕ). Comes below_machine (IsOnTheWay above below_machine (steps.start program (main_place program frames) store input)) (Matches program well frames fit code formed addresses pages calls few (steps.start program (main_place program frames) store input)) ps (Running run)) places_are comes)
     where
       on_the_way : (u : State) → Quiet code formed addresses globals_length (words_per_call * calls) [] input (λ (t : State). ⊥) u

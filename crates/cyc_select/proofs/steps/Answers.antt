@@ -19,7 +19,7 @@ use Rattle.cyc_select.proofs.values.Blocks.{lasting_same, safe_append}
 use Rattle.cyc_select.proofs.effects.Views.{Contents, written}
 use Rattle.cyc_select.proofs.effects.Walks.{after_r, after_w, after_r-append, after_w-append, AreSafe}
 use Rattle.cyc_select.proofs.relation.Standing.{under_way, Standing, slot_address, slot_cell, standing_registers, standing_slot, standing_unkept}
-use Rattle.cyc_select.proofs.relation.Values.{made_is}
+use Rattle.cyc_select.proofs.relation.Values.{made_in_is}
 use Rattle.cyc_machine.specs.declared.constants.TheConstants.{RETURN_ADDRESS}
 use Rattle.cyc_registers.specs.inside.Liveness.{IsLiveAt}
 
@@ -143,7 +143,7 @@ module _ (program : Program) (well : IsWellFormed program) (frames : List Frame)
           (λ j past j_high. apart_is (17 + j) (λ there. absurd (let saved = (right q m slots s).saved_registers slot (17 + j) there (omega arith) in omega (arith, saved, past))))
 
       made_there : after_r (copy k source ∷ []) q m (made_in (frame_at frames c.active.function) slot % 32) ≡ p (source % 32)
-      made_there = ap (λ (n : ℕ). after_r (copy k source ∷ []) q m (n % 32)) (made_is (frame_at frames c.active.function) slot k has) ∙ result_is
+      made_there = ap (λ (n : ℕ). after_r (copy k source ∷ []) q m (n % 32)) (made_in_is (frame_at frames c.active.function) slot k has) ∙ result_is
 
       go : (b : Bool) → is_kept (frame_at frames c.active.function) slot ≡ b
           → IsBrought (copy k source ∷ (if b then store_slot (frame_at frames c.active.function) (made_in (frame_at frames c.active.function) slot) slot ∷ [] else [])) q m slot slots (p (source % 32))

@@ -17,7 +17,7 @@ use Rattle.cyc_select.proofs.relation.Cells.{IsCell}
 use Rattle.cyc_select.proofs.values.Operations.{address_at}
 use Rattle.cyc_select.proofs.effects.Views.{Contents}
 use Rattle.cyc_select.proofs.relation.Standing.{frame_size}
-use Rattle.cyc_select.proofs.relation.Values.{made_is}
+use Rattle.cyc_select.proofs.relation.Values.{made_in_is}
 use Rattle.cyc_select.proofs.effects.Walks.{after_r, after_w, after_r-append, after_w-append, AreSafe}
 
 -- an earlier parameter does not come by the register that an argument is passed from
@@ -76,7 +76,7 @@ module _ (globals stack : ℕ) (caller callee : Frame) (caller_slots callee_slot
   not_made slot n (inr above) same = omega (arith, above, same, (made_range slot).1)
 
   made_there : (slot k : ℕ) → value_register callee slot ≡ Some k → k ≡ made_in callee slot % 32
-  made_there slot k has = omega (arith, made_is callee slot k has, below_high slot k has)
+  made_there slot k has = omega (arith, made_in_is callee slot k has, below_high slot k has)
 
   made_otherwise : (slot k : ℕ) → k < 24 → (value_register callee slot ≡ Some k → ⊥) → k ≢ made_in callee slot % 32
   made_otherwise slot k high other = go (value_register callee slot) refl
@@ -178,7 +178,7 @@ module _ (globals stack : ℕ) (caller callee : Frame) (caller_slots callee_slot
           }
       given (Some own) k has (high, is, fits) =
           let whole : k % 32 ≡ k = omega (arith, high) in
-          let made : made_in callee slot ≡ own = made_is callee slot own has in
+          let made : made_in callee slot ≡ own = made_in_is callee slot own has in
           through (copy own k) slot q m value (add_of (q (k % 32)) (q 0)) is_low slot_below
           (ne_eqb (own % 32) 0 (λ e. absurd (omega (arith, e, from_low slot own has, below_high slot own has))), tt)
           (ap (λ (n : ℕ). put q (n % 32) (add_of (q (k % 32)) (q 0))) (sym made)) refl
@@ -278,7 +278,7 @@ module _ (globals stack : ℕ) (caller callee : Frame) (caller_slots callee_slot
           let next : source + suc j ≡ suc source + j = omega arith in
           let (k_low, high, is, fits) = held (suc j) k (omega (arith, below)) (from_at source slot (suc j) (suc source + j) (suc slot + j) (omega arith) (omega arith) ∙ some) in
           let free = (is_free (value_register caller (suc source + j)) callee (suc slot + j) k some).1 in
-          (k_low, high, others k high (λ has. not_taken callee (suc slot + j) slot k (omega arith) free (made_is callee slot k has)) ∙ (is ∙ ap v next), subst (λ (n : ℕ). IsWord (v n)) next fits)
+          (k_low, high, others k high (λ has. not_taken callee (suc slot + j) slot k (omega arith) free (made_in_is callee slot k has)) ∙ (is ∙ ap v next), subst (λ (n : ℕ). IsWord (v n)) next fits)
 
       inside_at : (v : ℕ → ℕ) (source slot count : ℕ) (q1 : Words) (m1 : Contents) → Copied globals stack caller callee low base v (suc source) (suc slot) count q1 m1
           → (all : Contents) → ((a : ℕ) → all.words a ≡ (after_w (copies caller callee (suc source) (suc slot) count) q1 m1).words a)

@@ -44,27 +44,27 @@ use Rattle.cyc_select.proofs.relation.Matches.{is_straight}
 
 -- ---- a line that makes a word of what is in registers
 
-same_some : {X : Type 0} (a b : X) → Some a ≡ Some b → a ≡ b
-same_some a b same = let e : Some a ≡ Some b = same in cc
+equal_in_some : {X : Type 0} (a b : X) → Some a ≡ Some b → a ≡ b
+equal_in_some a b same = let e : Some a ≡ Some b = same in cc
 
 no_target : (k : ℕ) → None ≡ Some k → ⊥
 no_target k is = let e : None ≡ Some k = is in cc
 
 module _ (globals stack : ℕ) where
   pub pure_safe : (x : Instr) (k : ℕ) (r : Words) → target_of x ≡ Some k → (k == 0) ≡ false → IsSafe globals stack x r
-  pure_safe (Immediate op target source half) k r is writable = subst IsWritable (sym (same_some target.number k is)) writable
-  pure_safe (LoadUpper target half) k r is writable = subst IsWritable (sym (same_some target.number k is)) writable
-  pure_safe (Shift op destination source amount) k r is writable = subst IsWritable (sym (same_some destination.number k is)) writable
-  pure_safe (ShiftVariable op destination source by) k r is writable = subst IsWritable (sym (same_some destination.number k is)) writable
-  pure_safe (Arithmetic op destination left right) k r is writable = subst IsWritable (sym (same_some destination.number k is)) writable
+  pure_safe (Immediate op target source half) k r is writable = subst IsWritable (sym (equal_in_some target.number k is)) writable
+  pure_safe (LoadUpper target half) k r is writable = subst IsWritable (sym (equal_in_some target.number k is)) writable
+  pure_safe (Shift op destination source amount) k r is writable = subst IsWritable (sym (equal_in_some destination.number k is)) writable
+  pure_safe (ShiftVariable op destination source by) k r is writable = subst IsWritable (sym (equal_in_some destination.number k is)) writable
+  pure_safe (Arithmetic op destination left right) k r is writable = subst IsWritable (sym (equal_in_some destination.number k is)) writable
   pure_safe x k r is writable = absurd (no_target k is)
 
 pub pure_others : (x : Instr) (k : ℕ) (r : Words) (w : Contents) → target_of x ≡ Some k → (n : ℕ) → n ≢ k → does_r x r w n ≡ r n
-pure_others (Immediate op target source half) k r w is n other = put-other r target.number n _ (λ e. other (e ∙ same_some target.number k is))
-pure_others (LoadUpper target half) k r w is n other = put-other r target.number n _ (λ e. other (e ∙ same_some target.number k is))
-pure_others (Shift op destination source amount) k r w is n other = put-other r destination.number n _ (λ e. other (e ∙ same_some destination.number k is))
-pure_others (ShiftVariable op destination source by) k r w is n other = put-other r destination.number n _ (λ e. other (e ∙ same_some destination.number k is))
-pure_others (Arithmetic op destination left right) k r w is n other = put-other r destination.number n _ (λ e. other (e ∙ same_some destination.number k is))
+pure_others (Immediate op target source half) k r w is n other = put-other r target.number n _ (λ e. other (e ∙ equal_in_some target.number k is))
+pure_others (LoadUpper target half) k r w is n other = put-other r target.number n _ (λ e. other (e ∙ equal_in_some target.number k is))
+pure_others (Shift op destination source amount) k r w is n other = put-other r destination.number n _ (λ e. other (e ∙ equal_in_some destination.number k is))
+pure_others (ShiftVariable op destination source by) k r w is n other = put-other r destination.number n _ (λ e. other (e ∙ equal_in_some destination.number k is))
+pure_others (Arithmetic op destination left right) k r w is n other = put-other r destination.number n _ (λ e. other (e ∙ equal_in_some destination.number k is))
 pure_others x k r w is n other = absurd (no_target k is)
 
 pub pure_memory : (x : Instr) (k : ℕ) (r : Words) (w : Contents) → target_of x ≡ Some k → does_w x r w ≡ w
@@ -136,7 +136,7 @@ starts_append : (is js : List Instr) (x : Instr) → Starts is x → Starts (is 
 starts_append is js x (rest, same) = (rest ++ js, ap (λ (l : List Instr). l ++ js) same)
 
 starts_one : (y x : Instr) (js : List Instr) → Some y ≡ Some x → Starts (y ∷ js) x
-starts_one y x js same = (js, ap (λ (z : Instr). z ∷ js) (same_some y x same))
+starts_one y x js same = (js, ap (λ (z : Instr). z ∷ js) (equal_in_some y x same))
 
 no_line : (x : Instr) → None ≡ Some x → ⊥
 no_line x is = let e : None ≡ Some x = is in cc
@@ -152,9 +152,9 @@ word_starts target word = go (fits_signed word) (nat_lt word (2 ^ 16)) (word % 2
     go false false true = ([], refl)
     go false false false = (_, refl)
 
-first_word : (target word : ℕ) (x : Instr) (js : List Instr) → Some (word_first target word) ≡ Some x → Starts (word_code target word ++ js) x
-first_word target word x js same =
-    starts_append (word_code target word) js x (subst (Starts (word_code target word)) (same_some (word_first target word) x same) (word_starts target word))
+word_code_starts : (target word : ℕ) (x : Instr) (js : List Instr) → Some (word_first target word) ≡ Some x → Starts (word_code target word ++ js) x
+word_code_starts target word x js same =
+    starts_append (word_code target word) js x (subst (Starts (word_code target word)) (equal_in_some (word_first target word) x same) (word_starts target word))
 
 module _ (frame : Frame) where
   operand_starts : (register : ℕ) (o : Operand) (behind : Option Instr) (js : List Instr) (x : Instr) → operand_first frame register o behind ≡ Some x → (behind ≡ Some x → Starts js x)
@@ -168,7 +168,7 @@ module _ (frame : Frame) where
     where
       go : (b : Bool) → (if b then behind else Some (word_first register word)) ≡ Some x → Starts ((if b then [] else word_code register word) ++ js) x
       go true rest = behind_is rest
-      go false same = first_word register word x js same
+      go false same = word_code_starts register word x js same
 
   operation_starts : (operation : Operation) (target left right : ℕ) (x : Instr) → operation_first operation target left right ≡ Some x → Starts (operation_code operation target left right) x
   operation_starts (operations.Arithmetic op) target left right x is = starts_one _ x [] is
@@ -196,7 +196,7 @@ module _ (frame : Frame) where
       go : (v : Option ℕ) → copy_first v register ≡ Some x → Starts (load_from v frame register number ∷ js) x
       go None none = absurd (no_line x none)
       go (Some own) same = starts_one (copy register own) x js same
-  load_starts register (operands.Word word) js x is = first_word register word x js is
+  load_starts register (operands.Word word) js x is = word_code_starts register word x js is
 
   move_starts : (v : Option ℕ) (destination : ℕ) (o : Operand) (x : Instr) → move_first v frame o ≡ Some x → Starts (move_to v frame destination o) x
   move_starts None destination o x is = operand_starts FIRST o None _ x is (λ none. absurd (no_line x none))
@@ -229,7 +229,7 @@ passes_if frame condition destination (Some y) x is = go (may_write frame condit
     register_of z (Some register) computes may = (register, computes, may)
 
     go : (b : Bool) → may_write frame condition destination (target_of y) ≡ b → (if b then Some y else None) ≡ Some x → (Some y ≡ Some x) × Passes frame condition destination x
-    go true may same = (same, subst (Passes frame condition destination) (same_some y x same) (register_of y (target_of y) refl may))
+    go true may same = (same, subst (Passes frame condition destination) (equal_in_some y x same) (register_of y (target_of y) refl may))
     go false may none = absurd (no_line x none)
 
 is_not : (b : Bool) → not b ≡ true → b ≡ false

@@ -21,7 +21,7 @@ use Rattle.cyc_select.specs.inside.Selection.{value_register, is_kept, made_in, 
 use Rattle.cyc_select.proofs.values.Blocks.{lasting, Puts, Keeps, puts_keeps, safe_append}
 use Rattle.cyc_select.proofs.values.Computing.{HeldIn, load_puts, operand_puts, first_scratch, first_aside, made_scratch}
 use Rattle.cyc_select.proofs.relation.Standing.{under_way, Standing, slot_address, slot_cell, slot_word_is, standing_registers, standing_slot, standing_unkept}
-use Rattle.cyc_select.proofs.relation.Values.{memory_kept, made_is}
+use Rattle.cyc_select.proofs.relation.Values.{memory_kept, made_in_is}
 use Rattle.cyc_select.proofs.effects.Views.{Contents, written}
 use Rattle.cyc_select.proofs.effects.Walks.{after_r, after_w, after_r-append, after_w-append, AreSafe}
 
@@ -176,7 +176,7 @@ module _ (program : Program) (well : IsWellFormed program) (frames : List Frame)
       }
 
   made_here : (destination k : ℕ) → value_register (frame_at frames c.active.function) destination ≡ Some k → k ≡ made_in (frame_at frames c.active.function) destination % 32
-  made_here destination k has = omega (arith, made_is (frame_at frames c.active.function) destination k has, right.high destination k has)
+  made_here destination k has = omega (arith, made_in_is (frame_at frames c.active.function) destination k has, right.high destination k has)
 
   made_aside : (destination k n : ℕ) → value_register (frame_at frames c.active.function) destination ≡ Some k
       → (value_register (frame_at frames c.active.function) destination ≡ Some n → ⊥) → n ≢ made_in (frame_at frames c.active.function) destination % 32

@@ -28,7 +28,7 @@ use Rattle.cyc_select.proofs.emission.Counts.{length_spills}
 use Rattle.cyc_select.proofs.steps.Returns.{same_slots}
 use Rattle.cyc_select.proofs.relation.Standing.{preserved_of, Finds, Stage, Standing, behind_line, slot_address, slot_cell, standing_slot, stage_of}
 use Rattle.cyc_select.proofs.relation.Matches.{After, At, Reached}
-use Rattle.cyc_select.proofs.relation.Values.{Caches, memory_kept, made_is, among}
+use Rattle.cyc_select.proofs.relation.Values.{Caches, memory_kept, made_in_is, among}
 use Rattle.cyc_select.proofs.effects.Views.{Contents, written}
 use Rattle.cyc_select.proofs.effects.Walks.{Stands, stands_front, stands_back, after_r, after_w, after_r-append, after_w-append, AreSafe, Walk, now_at, now_is, walk_few, walk_from, walk_block}
 
@@ -71,7 +71,7 @@ module _ (program : Program) (well : IsWellFormed program) (frames : List Frame)
       go : (o : Option ℕ) → value_register (frame_at frames c.active.function) slot ≡ o → r (made_in (frame_at frames c.active.function) slot % 32) ≡ c.active.slots slot
       go None none = absurd (let e : false ≡ true = sym unkept ∙ memory_kept (frame_at frames c.active.function) slot none in cc)
       go (Some k) has =
-          ap r (let e : made_in (frame_at frames c.active.function) slot % 32 ≡ k = omega (arith, made_is (frame_at frames c.active.function) slot k has, right.high slot k has) in e)
+          ap r (let e : made_in (frame_at frames c.active.function) slot % 32 ≡ k = omega (arith, made_in_is (frame_at frames c.active.function) slot k has, right.high slot k has) in e)
           ∙ cached k has
 
   -- a slot's word comes into memory, where it is not there

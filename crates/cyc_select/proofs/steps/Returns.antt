@@ -56,12 +56,12 @@ use Rattle.cyc_registers.specs.inside.Liveness.{IsLiveAt}
 abbrev pub loaded : Frame → (value count : ℕ) → List Instr
 loaded frame value count = load_all frame value (result_registers count) ++ (restores frame ++ pop_frame ∷ [])
 
-pub length_loads : (frame : Frame) (value count : ℕ) → count ≤ 3 → length (load_all frame value (result_registers count)) ≡ count
-length_loads frame value zero few = refl
-length_loads frame value (suc zero) few = refl
-length_loads frame value (suc (suc zero)) few = refl
-length_loads frame value (suc (suc (suc zero))) few = refl
-length_loads frame value (suc (suc (suc (suc count)))) few = absurd (omega (arith, few))
+pub length_result_loads : (frame : Frame) (value count : ℕ) → count ≤ 3 → length (load_all frame value (result_registers count)) ≡ count
+length_result_loads frame value zero few = refl
+length_result_loads frame value (suc zero) few = refl
+length_result_loads frame value (suc (suc zero)) few = refl
+length_result_loads frame value (suc (suc (suc zero))) few = refl
+length_result_loads frame value (suc (suc (suc (suc count)))) few = absurd (omega (arith, few))
 
 pub length_loaded : (frame : Frame) (value count : ℕ) → count ≤ 3 → length (loaded frame value count) ≡ count + frame.saved + 1
 length_loaded frame value count few =
@@ -69,7 +69,7 @@ length_loaded frame value count few =
       arith,
       length-append (load_all frame value (result_registers count)) (restores frame ++ pop_frame ∷ []),
       length-append (restores frame) (pop_frame ∷ []),
-      length_loads frame value count few,
+      length_result_loads frame value count few,
       length_restores frame.first_saved 0 frame.saved,
     )
 

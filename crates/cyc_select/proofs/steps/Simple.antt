@@ -63,7 +63,7 @@ use Rattle.cyc_select.proofs.values.Halves.{divisor_is}
 use Rattle.cyc_select.proofs.layout.Lines.{line_next}
 use Rattle.cyc_select.proofs.values.Operations.{add_small}
 use Rattle.cyc_select.proofs.values.Plans.{multiply_divide_result, if_low, AllOfTest, operation_word, plan_word, unary_word, binary_word, test_taken, test_goes, all_unary, all_binary, all_test}
-use Rattle.cyc_select.proofs.relation.Values.{Caches, memory_kept, made_is, apart_from, itself, next_led, caches_past}
+use Rattle.cyc_select.proofs.relation.Values.{Caches, memory_kept, made_in_is, apart_from, itself, next_led, caches_past}
 use Rattle.cyc_select.proofs.effects.Views.{Contents, written, does_r, does_w, IsSafe, moved}
 use Rattle.cyc_select.proofs.effects.Walks.{Stands, stands_front, stands_back, stands_first, stands_behind, after_r, after_w, after_r-append, after_w-append, AreSafe, Walk, now_at, now_is, walk_end, walk_few, walk_from, walk_one, walk_block, walk_branch, walk_branch_to, at_now, walk_jump, walk_get, walk_put, walk_uncaught}
 use Rattle.cyc_select.proofs.relation.Standing.{Standing, based_here, lies, slot_inside, slot_cell, global_cell, standing_global, standing_registers, standing_at, stage_of}
@@ -240,7 +240,7 @@ module _ (program : Program) (well : IsWellFormed program) (frames : List Frame)
   made_here : (destination k : ℕ) → value_register frame destination ≡ Some k → k ≡ made_in frame destination % 32
   made_here destination k has =
       let high = homes_right.high destination k has in
-      omega (arith, made_is frame destination k has, high)
+      omega (arith, made_in_is frame destination k has, high)
 
   made_aside : (destination n : ℕ) → 6 ≤ n → n < 24 → (value_register frame destination ≡ Some n → ⊥) → n ≢ made_in frame destination % 32
   made_aside destination n low high other = go (value_register frame destination) refl
@@ -293,7 +293,7 @@ module _ (program : Program) (well : IsWellFormed program) (frames : List Frame)
       go (Some k) has far stands_here =
           let low = homes_right.low destination k has in
           let high = homes_right.high destination k has in
-          let here_is : k % 32 ≡ made_in frame destination % 32 = ap (λ (n : ℕ). n % 32) (sym (made_is frame destination k has)) in
+          let here_is : k % 32 ≡ made_in frame destination % 32 = ap (λ (n : ℕ). n % 32) (sym (made_in_is frame destination k has)) in
           let puts : Puts globals_length (words_per_call * calls) (copy k source ∷ []) q w (made_in frame destination % 32) (made_in frame destination % 32) word =
           subst (λ (n : ℕ). Puts globals_length (words_per_call * calls) (copy k source ∷ []) q w n n word) here_is (record {
             safe = (ne_eqb (k % 32) 0 (λ e. absurd (omega (arith, e, low, high))), tt);
@@ -340,7 +340,7 @@ module _ (program : Program) (well : IsWellFormed program) (frames : List Frame)
           let is : List Instr = load_code frame k source in
           let low = homes_right.low destination k has in
           let high = homes_right.high destination k has in
-          let here_is : k % 32 ≡ made_in frame destination % 32 = ap (λ (n : ℕ). n % 32) (sym (made_is frame destination k has)) in
+          let here_is : k % 32 ≡ made_in frame destination % 32 = ap (λ (n : ℕ). n % 32) (sym (made_in_is frame destination k has)) in
           let puts = subst (λ (n : ℕ). Puts globals_length (words_per_call * calls) (load_code frame k source) r w n n (word_of source)) here_is
           (load_puts globals_length (words_per_call * calls) frame (r FRAME) w r c.active.slots r w s.zero_is refl refl (λ n low high. refl) k (ne_eqb (k % 32) 0 (λ e. absurd (omega (arith, e, low, high)))) source source_held) in
           let counted : move_count frame destination source ≡ load_count source + keep_count frame destination = ap (λ (o : Option ℕ). move_count_to o frame destination source) has in

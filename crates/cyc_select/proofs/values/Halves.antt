@@ -113,9 +113,9 @@ pub signed_fits : (o : Operand) (h : ℕ) → signed_half o ≡ Some h → h < 2
 signed_fits (operands.Slot number) h is = absurd (let e : None ≡ Some h = is in cc)
 signed_fits (operands.Word word) h is = half_below word h is
 
-pub negated_fits : (o : Operand) (h : ℕ) → negated_half o ≡ Some h → h < 2 ^ 16
-negated_fits (operands.Slot number) h is = absurd (let e : None ≡ Some h = is in cc)
-negated_fits (operands.Word word) h is = half_below (sub_of 0 word) h is
+pub negated_half_fits : (o : Operand) (h : ℕ) → negated_half o ≡ Some h → h < 2 ^ 16
+negated_half_fits (operands.Slot number) h is = absurd (let e : None ≡ Some h = is in cc)
+negated_half_fits (operands.Word word) h is = half_below (sub_of 0 word) h is
 
 pub next_fits : (o : Operand) (h : ℕ) → next_half o ≡ Some h → h < 2 ^ 16
 next_fits (operands.Slot number) h is = absurd (let e : None ≡ Some h = is in cc)

@@ -42,7 +42,7 @@ use Rattle.cyc_select.specs.declared.plan.Test.TheVariants as tests
 use Rattle.cyc_select.specs.inside.Numbers.{signed_half, negated_half, next_half, low_half, is_zero_word, is_plain_divisor, shift_amount, power_of}
 use Rattle.cyc_select.specs.inside.Plans.{arithmetic_plan, immediate_plan, immediate_or, shift_by, multiply_divide_plan, product_or, mirrored, zero_plan, differs_plan, equal_plan, less_plan, less_unsigned_plan, at_most_plan, compared_plan, is_mirrored, comparison_plan, unary_plan, sum_plan, difference_plan, bits_plan, operator_plan, is_swapped, binary_plan, sign_of, sign_or, order_test, test_of}
 use Rattle.cyc_select.specs.inside.Selection.{branch_on, is_tested}
-use Rattle.cyc_select.proofs.values.Halves.{signed_is, negated_is, next_is, next_not_greatest, low_is, zero_is, amount_is, power_is, signed_fits, negated_fits, next_fits, low_fits, next_signed}
+use Rattle.cyc_select.proofs.values.Halves.{signed_is, negated_is, next_is, next_not_greatest, low_is, zero_is, amount_is, power_is, signed_fits, negated_half_fits, next_fits, low_fits, next_signed}
 use Rattle.cyc_select.proofs.values.Operations.{zero_test, not_zero_test, difference_zero, low_product}
 
 -- of two words, the one for a quotient, and that for a remainder
@@ -392,7 +392,7 @@ module _ (P : Operand → Type 0) (zero : P (operands.Word 0)) (Q : Plan → Typ
   all_equal left right holds l r =
       let outcome : Outcome = if holds then outcomes.WhetherZero else outcomes.WhetherNotZero in
       all_if (is_zero_word right) (zero_plan left holds) (differs_plan left right (if holds then outcomes.WhetherZero else outcomes.WhetherNotZero)) (all_zero left holds l)
-      (all_number (negated_half right) immediate.AddUnsigned left outcome (arithmetic_plan arithmetic.SubtractUnsigned left right (if holds then outcomes.WhetherZero else outcomes.WhetherNotZero)) (negated_fits right) l
+      (all_number (negated_half right) immediate.AddUnsigned left outcome (arithmetic_plan arithmetic.SubtractUnsigned left right (if holds then outcomes.WhetherZero else outcomes.WhetherNotZero)) (negated_half_fits right) l
       (of_arithmetic arithmetic.SubtractUnsigned left right outcome l r))
 
   all_less : (left right : Operand) (outcome : Outcome) → P left → P right → Q (less_plan left right outcome)
@@ -478,7 +478,7 @@ module _ (P : Operand → Type 0) (zero : P (operands.Word 0)) (Q : Plan → Typ
     all_operator binary.Add left right fine l r =
         all_number (signed_half right) immediate.AddUnsigned left outcomes.AsItIs (arithmetic_plan arithmetic.AddUnsigned left right outcomes.AsItIs) (signed_fits right) l (of_arithmetic arithmetic.AddUnsigned left right outcomes.AsItIs l r)
     all_operator binary.Subtract left right fine l r =
-        all_number (negated_half right) immediate.AddUnsigned left outcomes.AsItIs (arithmetic_plan arithmetic.SubtractUnsigned left right outcomes.AsItIs) (negated_fits right) l (of_arithmetic arithmetic.SubtractUnsigned left right outcomes.AsItIs l r)
+        all_number (negated_half right) immediate.AddUnsigned left outcomes.AsItIs (arithmetic_plan arithmetic.SubtractUnsigned left right outcomes.AsItIs) (negated_half_fits right) l (of_arithmetic arithmetic.SubtractUnsigned left right outcomes.AsItIs l r)
     all_operator binary.Multiply left right fine l r = all_product left right (power_of right) l r
     all_operator binary.Divide left right fine l r = of_quotient Low left right (not_false (is_plain_divisor right) fine) l r
     all_operator binary.Remainder left right fine l r = of_quotient High left right (not_false (is_plain_divisor right) fine) l r

@@ -123,9 +123,9 @@ thrown_out_of_calls_ends = refl
 abbrev uncaught : t.Program
 uncaught = record { structs = []; exceptions = []; globals = []; functions = (record (function [] []) { locals = (at ∷ []); body = (t.MoreItems (t.Declare 0 at (Some (t.Convert kinds.NonNull kinds.NonNull (t.New t.AsUnique (t.Plain kinds.Int (t.Number 1)) at)))) (t.MoreItems (t.Execute (t.Evaluate (t.Store (t.Target kinds.NonNull (t.Peek here 0 at) types.Int) (t.Convert kinds.Int kinds.Int (t.Binary (t.Number 1) (t.ThenCompute operators.Divide (t.Binary (t.Load (t.Target kinds.NonNull (t.Peek here 0 at) types.Int)) (t.ThenCompute operators.Subtract (t.Number 1) t.NoOperations) types.Int) t.NoOperations) types.Int)) (types.Value types.Int)))) (t.MoreItems (t.Execute (t.Evaluate (t.FreeUnique (t.Move here 0 at)))) (t.MoreItems (t.Execute (t.Return (Some (t.Convert kinds.Int kinds.Int (t.Number 0))))) t.NoItems)))) } ∷ []); main = 0 }
 
-uncaught_ends : status_of (run uncaught [] 500) ≡ HasEnded (Uncaught 4 (pos 0))
+uncaught_run_ends : status_of (run uncaught [] 500) ≡ HasEnded (Uncaught 4 (pos 0))
 unfolding slt_of sar_of div_of rem_of
-uncaught_ends = refl
+uncaught_run_ends = refl
 
 -- int main(){ int i = 0; while (i < 2) { i = i + 1; try continue; catch { default: ; } } return i; }
 abbrev continue_out_of_a_try : t.Program

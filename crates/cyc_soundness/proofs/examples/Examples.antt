@@ -88,14 +88,14 @@ elements : Ends (check_of texts (
 elements = (refl, refl)
 
 -- struct S { int x; int n; }; int main(){ struct S @p = new S{1, 5}; p->x :=: p->n; return p->x; }
-swapped : Ends (check_of texts (
+fields_swapped : Ends (check_of texts (
     StructType (named 1 1) [] (record { of_type = written Int []; name = named 3 2 } ∷ record { of_type = written Int []; name = named 4 3 } ∷ [])
     ∷ main (
     MoreItems (Local (written (Struct (named 1 4) []) (marks.NonNull ∷ [])) (named 2 5) (Some (New (at 6) (Fields (named 1 7) [] (MoreExpressions (Number (at 8) 1) (MoreExpressions (Number (at 9) 5) NoExpressions))))))
     (MoreItems (Execute (Swap (field 3) (field 4)))
     (MoreItems (Execute (Return (at 12) (Some (field 3)))) NoItems)))
     ∷ [])) (HasEnded (Returned (pos 5)))
-swapped = (refl, refl)
+fields_swapped = (refl, refl)
 
 -- int main(){ int @`U p = rnew(unique_region) 5; return *p; }
 unique : Ends (check_of texts (
@@ -214,7 +214,7 @@ stored_and_freed : Ends (check_of texts (
 stored_and_freed = (refl, refl)
 
 -- int main(){ int n = 0; while (n < 6) { int @`U p = rnew(unique_region) 3; n = n + *p; ufree(p); } return n; }
-freed_in_a_loop : Ends (check_of texts (
+freed_in_each_round : Ends (check_of texts (
     main (
     MoreItems (Local (written Int []) (named 4 5) (Some (Number (at 6) 0)))
     (MoreItems (Execute (While (at 7) (Binary (Variable (named 4 8)) (ThenOperation operators.Less (at 9) (Number (at 10) 6) NoOperations)) (Block (Braces (at 11) (
@@ -224,7 +224,7 @@ freed_in_a_loop : Ends (check_of texts (
     (MoreItems (Execute (Return (at 23) (Some (Variable (named 4 24))))) NoItems)))
     ∷ [])) (HasEnded (Returned (pos 6)))
 unfolding slt_of
-freed_in_a_loop = (refl, refl)
+freed_in_each_round = (refl, refl)
 
 -- ---- texts of the class by scope
 
@@ -263,26 +263,26 @@ outer_from_inside : Ends (check_of texts (
 outer_from_inside = (refl, refl)
 
 -- int main(){ r:{ int x = 4; int @`r p = &x; return *p; } }
-labelled : Ends (check_of texts (
+labelled_block : Ends (check_of texts (
     main (
     MoreItems (Execute (Labelled (named 8 5) (Braces (at 6) (
     MoreItems (Local (written Int []) (named 3 7) (Some (Number (at 8) 4)))
     (MoreItems (Local (into 8) (named 2 9) (Some (address 3)))
     (returned (behind 2)))) (at 10)))) NoItems)
     ∷ [])) (HasEnded (Returned (pos 4)))
-labelled = (refl, refl)
+labelled_block = (refl, refl)
 
 -- int f(region_t<`r> h){ int @`r p = rnew(h) 6; return *p; } int main(){ region<`r> h; return f(h); }
-lexical : Ends (check_of texts (
+lexical_of_a_caller : Ends (check_of texts (
     Function (Some (written Int [])) (named 7 1) (record { list = Listed (record { of_type = written (Handle (named 8 2)) []; name = named 9 3 } ∷ []); effect = None; constraints = [] }) (Braces (at 4) (
     MoreItems (Local (into 8) (named 2 5) (Some (RegionNew (at 6) (Variable (named 9 7)) (Plain (Number (at 8) 6)))))
     (returned (behind 2))) (at 12))
     ∷ main (MoreItems (Region (named 8 13) (named 9 14) None) (returned (Call (named 7 15) (MoreExpressions (Variable (named 9 16)) NoExpressions))))
     ∷ [])) (HasEnded (Returned (pos 6)))
-lexical = (refl, refl)
+lexical_of_a_caller = (refl, refl)
 
 -- int main(){ int n = 0; while (n < 6) { region<`r> h; int @p = rnew(h) 3; n = n + *p; } return n; }
-opened_again : Ends (check_of texts (
+opened_in_each_round : Ends (check_of texts (
     main (
     MoreItems (Local (written Int []) (named 4 5) (Some (Number (at 6) 0)))
     (MoreItems (Execute (While (at 7) (Binary (Variable (named 4 8)) (ThenOperation operators.Less (at 9) (Number (at 10) 6) NoOperations)) (Block (Braces (at 11) (
@@ -292,7 +292,7 @@ opened_again : Ends (check_of texts (
     (returned (Variable (named 4 21)))))
     ∷ [])) (HasEnded (Returned (pos 6)))
 unfolding slt_of
-opened_again = (refl, refl)
+opened_in_each_round = (refl, refl)
 
 -- int main(){ try { region<`r> h; int *p = NULL; return *p; } catch { default: return 9; } }
 left_by_exception : Ends (check_of texts (
@@ -320,23 +320,23 @@ abbrev may_be_into : ℕ → WrittenType
 may_be_into n = record { place = at 1; base = Int; marks = record { kind = marks.Nullable; region = Some (named n 3) } ∷ [] }
 
 -- int main(){ let NewDynamicRegion{<`r> i} = new_ukey(); int *`r p = NULL; { region<`r> h = open(i); p = rnew(h) 4; } { region<`r> h = open(i); return *p; } }
-opened_twice : Ends (check_of texts (
+key_opened_twice : Ends (check_of texts (
     main (
     with_key (
     MoreItems (Local (may_be_into 8) (named 2 7) (Some (Null (at 8))))
     (block (opened (assigned (Variable (named 2 9)) (RegionNew (at 10) (Variable (named 9 11)) (Plain (Number (at 12) 4))) NoItems))
     (block (opened (returned (behind 2))) NoItems))))
     ∷ [])) (HasEnded (Returned (pos 4)))
-opened_twice = (refl, refl)
+key_opened_twice = (refl, refl)
 
 -- int main(){ int @`U p = rnew(unique_region) 5; { let alias <`r> int @`r x = p; *x = *x + 1; } return *p; }
-shared : Ends (check_of texts (
+shared_by_alias : Ends (check_of texts (
     main (
     MoreItems (Local (into 6) (named 2 5) (Some (RegionNew (at 6) (UniqueRegion (at 7)) (Plain (Number (at 8) 5)))))
     (block (MoreItems (Alias (named 8 9) (into 8) (named 3 10) (named 2 11)) (assigned (behind 3) (plus (behind 3) (Number (at 12) 1)) NoItems))
     (returned (behind 2))))
     ∷ [])) (HasEnded (Returned (pos 6)))
-shared = (refl, refl)
+shared_by_alias = (refl, refl)
 
 -- int main(){ let NewDynamicRegion{<`r> i} = new_ukey(); while (1) { region<`r> h = open(i); break; } { region<`r> h = open(i); int @`r p = rnew(h) 3; return *p; } }
 left_by_break : Ends (check_of texts (

@@ -40,8 +40,8 @@ program = record { structs = []; exceptions = []; globals = []; functions = main
 abbrev context : Context
 context = body_context program main
 
-second : 1 < 2
-second = omega arith
+second_of_two : 1 < 2
+second_of_two = omega arith
 
 well : IsWellTypedProgram program
 well = record {
@@ -54,7 +54,7 @@ well = record {
           (
             (types.Value types.Int, inl refl, refl),
             (
-              (refl, second),
+              (refl, second_of_two),
               (
                 (
                   (types.Value inner, inl (((0, inl (refl, refl, refl)), refl), refl, refl), refl),

@@ -19,17 +19,17 @@ unreached_implies f = record { reached = λ e. (let k : false ≡ true = e in ab
 
 -- ---- meets
 
-lower_set : (a b : Fullness) → is_vacant (lower a b) ≡ false → (is_vacant a ≡ false) × (is_vacant b ≡ false)
-lower_set Vacant b e = absurd (let k : true ≡ false = e in cc)
-lower_set Locked Vacant e = absurd (let k : true ≡ false = e in cc)
-lower_set Locked Locked e = (refl, refl)
-lower_set Locked Full e = (refl, refl)
-lower_set Full b e = (refl, e)
+neither_vacant : (a b : Fullness) → is_vacant (lower a b) ≡ false → (is_vacant a ≡ false) × (is_vacant b ≡ false)
+neither_vacant Vacant b e = absurd (let k : true ≡ false = e in cc)
+neither_vacant Locked Vacant e = absurd (let k : true ≡ false = e in cc)
+neither_vacant Locked Locked e = (refl, refl)
+neither_vacant Locked Full e = (refl, refl)
+neither_vacant Full b e = (refl, e)
 
 each_set : (as' bs : List Fullness) (n : ℕ) → is_vacant (get_or (lower_each as' bs) n Vacant) ≡ false → (is_vacant (get_or as' n Vacant) ≡ false) × (is_vacant (get_or bs n Vacant) ≡ false)
 each_set [] bs n e = absurd (let k : true ≡ false = e in cc)
 each_set (a ∷ as') [] n e = absurd (let k : true ≡ false = e in cc)
-each_set (a ∷ as') (b ∷ bs) zero e = lower_set a b e
+each_set (a ∷ as') (b ∷ bs) zero e = neither_vacant a b e
 each_set (a ∷ as') (b ∷ bs) (suc n) e = each_set as' bs n e
 
 lower_full : (a b : Fullness) → is_full (lower a b) ≡ true → (is_full a ≡ true) × (is_full b ≡ true)

@@ -25,7 +25,7 @@ use Rattle.cyc_soundness.specs.inside.Lives.{Lives}
 use Rattle.cyc_soundness.specs.inside.Frames.{InScope, Variable, Level, Names, Instance, Home, lives_in, IsScope, AreBelow, Exits, IsContext}
 use Rattle.cyc_soundness.specs.inside.Worlds.{IsAmong, first, later}
 use Rattle.cyc_soundness.specs.inside.Classes.{Relied, only, may_end, items_may_end, clauses_may_end, SparesAssigned, InExpression, InPlace, InPlacement, InInitial, InConverted, InArguments, InOperations, InValue, InThrown, InSide, InStatement, InItems, InClauses}
-use Rattle.cyc_soundness.proofs.flow.Touched.{asked, asked_of, asked_nothing}
+use Rattle.cyc_soundness.proofs.flow.Touched.{holds_where_asked, asked_of, asked_nothing}
 use Rattle.cyc_soundness.proofs.flow.Looking.{only_other}
 
 -- ---- what is never run
@@ -80,23 +80,23 @@ meet_none : (f g : flow.State) → is_reached f ≡ false → is_reached g ≡ f
 meet_none Unreached g none both = both
 meet_none (Reached as') g none both = let k : true ≡ false = none in absurd (cc)
 
-meet_left : (f g : flow.State) → is_reached f ≡ true → is_reached (meet f g) ≡ true
-meet_left Unreached g reached = let k : false ≡ true = reached in absurd (cc)
-meet_left (Reached as') Unreached reached = refl
-meet_left (Reached as') (Reached bs) reached = refl
+reached_meet_left : (f g : flow.State) → is_reached f ≡ true → is_reached (meet f g) ≡ true
+reached_meet_left Unreached g reached = let k : false ≡ true = reached in absurd (cc)
+reached_meet_left (Reached as') Unreached reached = refl
+reached_meet_left (Reached as') (Reached bs) reached = refl
 
-meet_right : (f g : flow.State) → is_reached g ≡ true → is_reached (meet f g) ≡ true
-meet_right Unreached g reached = reached
-meet_right (Reached as') Unreached reached = refl
-meet_right (Reached as') (Reached bs) reached = refl
+reached_meet_right : (f g : flow.State) → is_reached g ≡ true → is_reached (meet f g) ≡ true
+reached_meet_right Unreached g reached = reached
+reached_meet_right (Reached as') Unreached reached = refl
+reached_meet_right (Reached as') (Reached bs) reached = refl
 
 neither : (a b : Bool) → (a || b) ≡ false → (a ≡ false) × (b ≡ false)
 neither true b e = let k : true ≡ false = e in absurd (cc)
 neither false b e = (refl, e)
 
-either : {A : Type 0} (x y : Bool) → (x && y) ≡ false → (x ≡ false → A) → (y ≡ false → A) → A
-either true y e one two = two e
-either false y e one two = one refl
+either_false : {A : Type 0} (x y : Bool) → (x && y) ≡ false → (x ≡ false → A) → (y ≡ false → A) → A
+either_false true y e one two = two e
+either_false false y e one two = one refl
 
 -- where a statement never ends, nothing behind it is run
 mutual
@@ -120,7 +120,7 @@ mutual
   never_items : (w : ℕ → Bool) (c : Around) (js : Items) (a b : Known) → AreFresh w js → Derives (rule_items c js a) b → items_may_end js ≡ false → is_reached b.now ≡ false
   never_items w c NoItems a b fresh flows e = let k : true ≡ false = e in absurd (cc)
   never_items w c (MoreItems (Execute s) js) a b (one, fresh) (l, d, ds) e =
-      either (may_end s) (items_may_end js) e (λ same. items_unreached w (statements.behind_item (Execute s) c) js l b fresh ds (never_statement w c s a l one d same))
+      either_false (may_end s) (items_may_end js) e (λ same. items_unreached w (statements.behind_item (Execute s) c) js l b fresh ds (never_statement w c s a l one d same))
       (λ rest. never_items w (statements.behind_item (Execute s) c) js l b fresh ds rest)
   never_items w c (MoreItems (Declare n t v) js) a b (one, fresh) (l, d, ds) e = never_items w (statements.behind_item (Declare n t v) c) js l b fresh ds e
   never_items w c (MoreItems (DeclareRegion r n) js) a b (one, fresh) (l, d, ds) e = never_items w (statements.behind_item (DeclareRegion r n) c) js l b fresh ds e
@@ -187,7 +187,7 @@ module _ (n : ℕ) where
   meet_if (Reached as') (Reached bs) one two = λ reached. each_locked as' bs n (one refl) (two refl)
 
   meet_locked : (f g : flow.State) → IsLockedIn f → IsLockedIf g → IsLockedIn (meet f g)
-  meet_locked f g one two = (meet_left f g one.0, meet_if f g (locked_if f one) two (meet_left f g one.0))
+  meet_locked f g one two = (reached_meet_left f g one.0, meet_if f g (locked_if f one) two (reached_meet_left f g one.0))
 
   each_still : (ks : List ℕ) (f : flow.State) → IsOut ks → IsLockedIn f → IsLockedIn (with_each Full ks f)
   each_still [] f out locked = locked
@@ -362,8 +362,8 @@ module _ (n : ℕ) where
       breaks : IsOut c.locks → IsLockedIf a.breaks → IsLockedIf b.breaks
 
     either_end : (x y : Bool) (f g : flow.State) → (x ≡ true → is_reached f ≡ true) → (y ≡ true → is_reached g ≡ true) → (x || y) ≡ true → is_reached (meet f g) ≡ true
-    either_end true y f g one two e = meet_left f g (one refl)
-    either_end false y f g one two e = meet_right f g (two e)
+    either_end true y f g one two e = reached_meet_left f g (one refl)
+    either_end false y f g one two e = reached_meet_right f g (two e)
 
     tried : (x y : Bool) (f g : flow.State) → (x ≡ true → is_reached f ≡ true) → (is_reached f ≡ true → is_reached g ≡ true) → (y ≡ true → is_reached g ≡ true) → (x || y) ≡ true → is_reached g ≡ true
     tried true y f g one on two e = on (one refl)
@@ -394,7 +394,7 @@ module _ (n : ℕ) where
         go true same =
             let (z, out) = on same in (
               record {
-                kept = (y.kept, asked (may_end s) z.kept);
+                kept = (y.kept, holds_where_asked (may_end s) z.kept);
                 now = z.now;
                 reached = λ e. z.reached (and_parts (may_end s) (items_may_end js) e).1;
                 breaks = λ around before. z.breaks (out_none c.locks around) (y.breaks around before);
@@ -503,8 +503,8 @@ module _ (n : ℕ) where
           subst (λ y. LocksClauses k c (Default r js) a y) (sym same) (record {
             kept = z.kept;
             now = meet_if a.now end now (end_if w c js (at start a) l fresh d out z.now);
-            before = λ e. meet_left a.now end e;
-            reached = λ e. meet_right a.now end (each_reached Full (locks_of js) l.now ∙ z.reached e);
+            before = λ e. reached_meet_left a.now end e;
+            reached = λ e. reached_meet_right a.now end (each_reached Full (locks_of js) l.now ∙ z.reached e);
             breaks = z.breaks;
           })
       locks_clauses w k c start (Case t i r js cs) a b mine (one, fresh, more) locked now (l, d, ds) (kjs, kcs) =
@@ -515,8 +515,8 @@ module _ (n : ℕ) where
           record {
             kept = (z.kept, y.kept);
             now = y.now;
-            before = λ e. y.before (meet_left a.now end e);
-            reached = λ e. case_end (items_may_end js) (clauses_may_end cs) b.now (λ e. y.before (meet_right a.now end (each_reached Full (locks_of js) l.now ∙ z.reached e))) y.reached e;
+            before = λ e. y.before (reached_meet_left a.now end e);
+            reached = λ e. case_end (items_may_end js) (clauses_may_end cs) b.now (λ e. y.before (reached_meet_right a.now end (each_reached Full (locks_of js) l.now ∙ z.reached e))) y.reached e;
             breaks = λ out before. y.breaks out (z.breaks out before);
           }
 

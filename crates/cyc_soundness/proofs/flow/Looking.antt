@@ -16,14 +16,14 @@ use Rattle.cyc_soundness.proofs.flow.FlowLemmas.{before_last, at_last, meet_firs
 
 -- ---- a local that is free is another one
 
-or_false : (a b : Bool) → not (a || b) ≡ true → (not a ≡ true) × (not b ≡ true)
-or_false true b e = absurd (let k : false ≡ true = e in cc)
-or_false false b e = (refl, e)
+neither_true : (a b : Bool) → not (a || b) ≡ true → (not a ≡ true) × (not b ≡ true)
+neither_true true b e = absurd (let k : false ≡ true = e in cc)
+neither_true false b e = (refl, e)
 
 free_other : (n m : ℕ) (w : List ℕ) → IsAmong n w → not (list_any (λ k. nat_eq k m) w) ≡ true → n ≢ m
-free_other n m w (first as') e = λ same. (let k : not (eqb n m) ≡ true = (or_false (nat_eq n m) (list_any (λ k. nat_eq k m) as') e).0 in
+free_other n m w (first as') e = λ same. (let k : not (eqb n m) ≡ true = (neither_true (nat_eq n m) (list_any (λ k. nat_eq k m) as') e).0 in
     let z : eqb n m ≡ true = eq-eqb n m same in let y : false ≡ true = sym (ap (λ b. not b) z) ∙ k in absurd (cc))
-free_other n m w (later b as' is) e = free_other n m as' is (or_false (nat_eq b m) (list_any (λ k. nat_eq k m) as') e).1
+free_other n m w (later b as' is) e = free_other n m as' is (neither_true (nat_eq b m) (list_any (λ k. nat_eq k m) as') e).1
 
 pub only_other : (n m : ℕ) → n ≢ m → is_full (get_or (only n) m Vacant) ≡ false
 only_other zero zero apart = absurd (apart refl)

@@ -128,9 +128,9 @@ module _ (n : ℕ) where
 
 -- ---- what is asked where code may be run
 
-pub asked : {A : Type 0} (run : Bool) → A → Asked run A
-asked false is = tt
-asked true is = is
+pub holds_where_asked : {A : Type 0} (run : Bool) → A → Asked run A
+holds_where_asked false is = tt
+holds_where_asked true is = is
 
 pub asked_of : {A : Type 0} (run : Bool) → run ≡ true → Asked run A → A
 asked_of false e is = absurd (let k : false ≡ true = e in cc)

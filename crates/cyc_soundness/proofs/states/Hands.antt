@@ -21,9 +21,9 @@ use Rattle.cyc_soundness.proofs.states.WorldLemmas.{life_grown, object_grown, gl
 other_number : {A : Type 0} (n r : ℕ) (a b : A) → n ≢ r → (if n == r then a else b) ≡ b
 other_number n r a b apart = ap (λ (z : Bool). if z then a else b) (false_from_ne_true (eqb n r) (λ h. apart (eqb-true n r h)))
 
-itself : (a : Thing) → same_thing a a ≡ true
-itself (KeyOf n) = eq-eqb n n refl
-itself (PointerTo n) = eq-eqb n n refl
+thing_is_itself : (a : Thing) → same_thing a a ≡ true
+thing_is_itself (KeyOf n) = eq-eqb n n refl
+thing_is_itself (PointerTo n) = eq-eqb n n refl
 
 the_same : (a b : Thing) → same_thing a b ≡ true → a ≡ b
 the_same (KeyOf m) (KeyOf n) e = ap (λ i. KeyOf i) (eqb-true m n e)
@@ -34,7 +34,7 @@ the_same (PointerTo m) (KeyOf n) e = absurd (let k : false ≡ true = e in cc)
 -- who has been given a thing has it
 pub given_now : (own : Thing → Holder) (o : Option Thing) (h : Holder) → Owns (given o h own) h o
 given_now own None h = tt
-given_now own (Some a) h = ap (λ (z : Bool). if z then h else own a) (itself a)
+given_now own (Some a) h = ap (λ (z : Bool). if z then h else own a) (thing_is_itself a)
 
 by_test : {A : Type 0} (b : Bool) (x y z : A) → (b ≡ true → y ≡ z) → (b ≡ false → x ≡ z) → (if b then y else x) ≡ z
 by_test true x y z one two = one refl
@@ -67,9 +67,9 @@ given_apart own now (Some a) None h k new has its apart is = is
 given_apart own now (Some a) (Some b) h k new has its apart is = by_test (same_thing a b) (now a) new k (λ e. absurd (apart (sym has ∙ ap own (the_same a b e) ∙ its))) (λ e. is)
 
 -- what nobody has nobody had
-pub none_before : (own : Thing → Holder) (o : Option Thing) (old new : Holder) (a : Thing) → Owns own old o → IsHeld old → own a ≡ Nobody → given o new own a ≡ Nobody
-none_before own None old new a has held none = none
-none_before own (Some b) old new a has held none = by_test (same_thing a b) (own a) new Nobody (λ e. absurd (subst (λ h. IsHeld h) (sym has ∙ ap own (sym (the_same a b e)) ∙ none) held)) (λ e. none)
+pub nobody_before : (own : Thing → Holder) (o : Option Thing) (old new : Holder) (a : Thing) → Owns own old o → IsHeld old → own a ≡ Nobody → given o new own a ≡ Nobody
+nobody_before own None old new a has held none = none
+nobody_before own (Some b) old new a has held none = by_test (same_thing a b) (own a) new Nobody (λ e. absurd (subst (λ h. IsHeld h) (sym has ∙ ap own (sym (the_same a b e)) ∙ none) held)) (λ e. none)
 
 pub marked_now : (object : ℕ) (b : Standing) (here : ℕ → Standing) → marked object b here object ≡ b
 marked_now object b here = when_equal object object b (here object) refl
@@ -355,7 +355,7 @@ hands_typed g o old new here regions objects has held before away typed = record
   each = λ n u there. (let (x, m, at, flag, is) = typed.each n u there in (x, m, at, flag, object_grown g _ (same_grows g (given o new g.own) here) m u x is));
   heap = typed.heap;
   kept = λ n among. ((typed.kept n among).0, λ now. (typed.kept n among).1 (held_before g.own o old new (KeyOf n) has held now));
-  fresh = λ n less. none_before g.own o old new (KeyOf n) has held (typed.fresh n less);
+  fresh = λ n less. nobody_before g.own o old new (KeyOf n) has held (typed.fresh n less);
   unique = λ object now. typed.unique object (held_before g.own o old new (PointerTo object) has held now);
   owned = λ object t x there stands i u c v kept cell at content. elim (before object i t x there stands kept) [
     | inl was ↦ claims_kept old g (giving g o new) (giving_changed g o old new has) (At object i) u v was.1 (typed.owned object t x there stands i u c v was.0 cell at content)

@@ -39,7 +39,7 @@ module _ {A : Type 0} where
   pub some_same : (x y : A) → Some x ≡ Some y → x ≡ y
   some_same x y e = let k : Some x ≡ Some y = e in cc
 
-pub mapped : {A B : Type 0} (f : A → B) (xs : List A) (i : ℕ) (x : A) → slice_get xs i ≡ Some x → slice_get (map f xs) i ≡ Some (f x)
-mapped f [] i x found = absurd (let e : None ≡ Some x = found in cc)
-mapped f (a ∷ xs) zero x found = ap (λ y. Some (f y)) (some_same a x found)
-mapped f (a ∷ xs) (suc i) x found = mapped f xs i x found
+pub mapped_at : {A B : Type 0} (f : A → B) (xs : List A) (i : ℕ) (x : A) → slice_get xs i ≡ Some x → slice_get (map f xs) i ≡ Some (f x)
+mapped_at f [] i x found = absurd (let e : None ≡ Some x = found in cc)
+mapped_at f (a ∷ xs) zero x found = ap (λ y. Some (f y)) (some_same a x found)
+mapped_at f (a ∷ xs) (suc i) x found = mapped_at f xs i x found

@@ -217,8 +217,8 @@ ends_relied : (p : Program) (g : Typing) (x : Exits) (bs : List InScope) (k : Li
 ends_relied p g x bs [] q n is spared = spared
 ends_relied p g x bs (b ∷ k) q n is spared = absurd is
 
-fewer : (k : List Entry) → operands_in k ≤ operands_in k
-fewer k = omega arith
+no_fewer : (k : List Entry) → operands_in k ≤ operands_in k
+no_fewer k = omega arith
 
 looked_less : (peek : Option ℕ) (q : Relied) (n : ℕ) → IsSpared (and_looked peek q) n → IsSpared q n
 looked_less None q n spared = spared
@@ -364,9 +364,9 @@ unspared_place : (a : AwaitingPlace) (q r : Relied) (n : ℕ) → place_peek a �
 unspared_place (SwapRight kind peek is_cell left) q r n e spared = looked_unspared peek q n e spared
 unspared_place a q r n e spared = let k : None ≡ Some n = e in absurd (cc)
 
-counted : (a : Awaiting) → length (held a) ≤ count_held a
-counted (FillElement object count index level kind element) = omega arith
-counted a = let few : length (held a) ≤ length (held a) = omega arith in few
+held_counted : (a : Awaiting) → length (held a) ≤ count_held a
+held_counted (FillElement object count index level kind element) = omega arith
+held_counted a = let few : length (held a) ≤ length (held a) = omega arith in few
 
 module _ (p : Program) (old : Holder) (g h : Typing) (changed : Changed old g h) where
   claimed_kept : (i : ℕ) (ts : List RunTy) (vs : List Operand) → ((j : ℕ) → j < i + length ts → Hand j ≢ old) → AreClaimed g.own i ts vs → AreClaimed h.own i ts vs
@@ -404,7 +404,7 @@ module _ (p : Program) (old : Holder) (g h : Typing) (changed : Changed old g h)
   keeps_kept i a [] hands other are = operands_grown g h changed.grows [] (held a) are
   keeps_kept i a (t ∷ ts) hands other (are, claims) = (
     operands_grown g h changed.grows (t ∷ ts) (held a) are,
-    claimed_kept i (t ∷ ts) (held a) (λ j less. hands j (let long : suc (length ts) ≡ length (held a) = operands_long g (t ∷ ts) (held a) are in let most = counted a in let few : j < count_held a + i = omega (arith, less, long, most) in few)) claims,
+    claimed_kept i (t ∷ ts) (held a) (λ j less. hands j (let long : suc (length ts) ≡ length (held a) = operands_long g (t ∷ ts) (held a) are in let most = held_counted a in let few : j < count_held a + i = omega (arith, less, long, most) in few)) claims,
   )
 
 changed_behind : (old : Holder) (g h : Typing) (j : ℕ) → Changed old g h → Changed old (record g { loans = j }) (record h { loans = j })
@@ -475,20 +475,20 @@ stack_by empties p old g h x bs (PlaceOf peek u l f) (NeedsPlace a ∷ k) still 
   stack_by empties p old g h x bs next k still changed
       (above_to empties x x g (NeedsPlace a) k old (let fewer : operands_in k ≤ count_place a + operands_in k = omega arith in fewer) (λ n spared. part_spared (part_of_place a) (relied_if empties x.relied) (relied_at (relied_if empties x.relied) k) n (λ o same. goes_relied p g x bs next k (relied_if empties x.relied) (place_whole waits o same) rest) spared) above) rest,
 )
-stack_by empties p old g h x bs (Val r f) (Discard ∷ k) still changed above is = stack_by empties p old g h x bs (Go f) k still changed (above_to empties x x g Discard k old (fewer k) (λ n spared. statement_spared p g x bs f k (relied_if empties x.relied) n is spared) above) is
-stack_by empties p old g h x bs (Go f) (Discard ∷ k) still changed above is = stack_by empties p old g h x bs (Go f) k still changed (above_to empties x x g Discard k old (fewer k) (λ n spared. statement_spared p g x bs f k (relied_if empties x.relied) n is spared) above) is
+stack_by empties p old g h x bs (Val r f) (Discard ∷ k) still changed above is = stack_by empties p old g h x bs (Go f) k still changed (above_to empties x x g Discard k old (no_fewer k) (λ n spared. statement_spared p g x bs f k (relied_if empties x.relied) n is spared) above) is
+stack_by empties p old g h x bs (Go f) (Discard ∷ k) still changed above is = stack_by empties p old g h x bs (Go f) k still changed (above_to empties x x g Discard k old (no_fewer k) (λ n spared. statement_spared p g x bs f k (relied_if empties x.relied) n is spared) above) is
 stack_by empties p old g h x bs (Go f) (Rest js ∷ k) still changed above (cs, c, end, within, stands, continues, rest) =
-    (cs, c, end, within, stands, continues, stack_by empties p old g h x cs (Go end) k still changed (above_to empties x x g (Rest js) k old (fewer k) (λ n spared. statement_spared p g x cs end k (relied_if empties x.relied) n rest spared) above) rest)
-stack_by empties p old g h x bs (Go f) (Join ∷ k) still changed above (end, i, rest) = (end, i, stack_by empties p old g h x bs (Go end) k still changed (above_to empties x x g Join k old (fewer k) (λ n spared. statement_spared p g x bs end k (relied_if empties x.relied) n rest spared) above) rest)
+    (cs, c, end, within, stands, continues, stack_by empties p old g h x cs (Go end) k still changed (above_to empties x x g (Rest js) k old (no_fewer k) (λ n spared. statement_spared p g x cs end k (relied_if empties x.relied) n rest spared) above) rest)
+stack_by empties p old g h x bs (Go f) (Join ∷ k) still changed above (end, i, rest) = (end, i, stack_by empties p old g h x bs (Go end) k still changed (above_to empties x x g Join k old (no_fewer k) (λ n spared. statement_spared p g x bs end k (relied_if empties x.relied) n rest spared) above) rest)
 stack_by empties p old g h x bs (Go f) (Loop condition body ∷ k) still changed above (y, l, v, u, end, same, loop, i, rest) =
-    let inner = above_to empties x y g (Loop condition body) k old (fewer k) (λ n spared. statement_spared p g y bs end k (relied_if empties y.relied) n rest (subst (λ (z : Exits). IsSpared (relied_if empties z.relied) n) same spared)) above in
+    let inner = above_to empties x y g (Loop condition body) k old (no_fewer k) (λ n spared. statement_spared p g y bs end k (relied_if empties y.relied) n rest (subst (λ (z : Exits). IsSpared (relied_if empties z.relied) n) same spared)) above in
     (y, l, v, u, end, same, loop, i, stack_by empties p old g h y bs (Go end) k still changed inner rest)
 stack_by empties p old g h x bs (Go f) (CloseRegion region home ∷ k) still changed above (cs, number, l, alive, end, same, i, live, rest) =
-    (cs, number, l, alive, end, same, i, live, stack_by empties p old g h x cs (Go end) k still changed (above_to empties x x g (CloseRegion region home) k old (fewer k) (λ n spared. statement_spared p g x cs end k (relied_if empties x.relied) n rest spared) above) rest)
+    (cs, number, l, alive, end, same, i, live, stack_by empties p old g h x cs (Go end) k still changed (above_to empties x x g (CloseRegion region home) k old (no_fewer k) (λ n spared. statement_spared p g x cs end k (relied_if empties x.relied) n rest spared) above) rest)
 stack_by empties p old g h x bs (Go f) (CloseLexical region ∷ k) still changed above (end, i, live, rest) =
-    (end, i, live, stack_by empties p old g h x bs (Go end) k still changed (above_to empties x x g (CloseLexical region) k old (fewer k) (λ n spared. statement_spared p g x bs end k (relied_if empties x.relied) n rest spared) above) rest)
+    (end, i, live, stack_by empties p old g h x bs (Go end) k still changed (above_to empties x x g (CloseLexical region) k old (no_fewer k) (λ n spared. statement_spared p g x bs end k (relied_if empties x.relied) n rest spared) above) rest)
 stack_by empties p old g h x bs (Go f) (EndLoan lent ∷ k) still changed above (y, end, j, t, object, same, loans, lent_out, i, full, variables, rest) =
-    let inner = above_to empties x y g (EndLoan lent) k old (fewer k) (λ n spared. statement_spared p (record g { loans = j }) y bs end k (relied_if empties y.relied) n rest (clauses_spared empties (Reached (only lent)) y.relied n (subst (λ (z : Exits). IsSpared (relied_if empties z.relied) n) same spared))) above in
+    let inner = above_to empties x y g (EndLoan lent) k old (no_fewer k) (λ n spared. statement_spared p (record g { loans = j }) y bs end k (relied_if empties y.relied) n rest (clauses_spared empties (Reached (only lent)) y.relied n (subst (λ (z : Exits). IsSpared (relied_if empties z.relied) n) same spared))) above in
     let behind' = above_behind empties y g k j old loans inner in
     let less : j < g.loans = omega (arith, loans) in
     let changed' = changed_behind old g h j changed in (
@@ -506,7 +506,7 @@ stack_by empties p old g h x bs (Go f) (EndLoan lent ∷ k) still changed above 
       stack_by empties p old (record g { loans = j }) (record h { loans = j }) y bs (Go end) k still changed' behind' rest,
     )
 stack_by empties p old g h x bs (Go f) (Handler cs ∷ k) still changed above (y, c, start, end, same, stands, holds, catches, i, rest) =
-    let inner = above_to empties x y g (Handler cs) k old (fewer k) (λ n spared. statement_spared p g y bs end k (relied_if empties y.relied) n rest (clauses_spared empties start y.relied n (subst (λ (z : Exits). IsSpared (relied_if empties z.relied) n) same spared))) above in (
+    let inner = above_to empties x y g (Handler cs) k old (no_fewer k) (λ n spared. statement_spared p g y bs end k (relied_if empties y.relied) n rest (clauses_spared empties start y.relied n (subst (λ (z : Exits). IsSpared (relied_if empties z.relied) n) same spared))) above in (
       y,
       c,
       start,
@@ -536,7 +536,7 @@ stack_by empties p old g h x bs (Go f) (Caller e ∷ k) still changed above (y, 
       stack_by empties p old (record g { depth = d }) (record h { depth = d }) y cs (Val x.gives end) k still changed' outer rest,
     )
 stack_by empties p old g h x bs (Go f) (Main ∷ k) still changed above (loop, int, gives, blocked, rest) =
-    (loop, int, gives, blocked, stack_by empties p old g h x bs Nothing k still changed (above_to empties x x g Main k old (fewer k) (λ n spared. ends_relied p g x bs k (relied_if empties x.relied) n rest spared) above) rest)
+    (loop, int, gives, blocked, stack_by empties p old g h x bs Nothing k still changed (above_to empties x x g Main k old (no_fewer k) (λ n spared. ends_relied p g x bs k (relied_if empties x.relied) n rest spared) above) rest)
 stack_by empties p old g h x bs w k still changed above is = absurd is
 
 pub stack_changed : (p : Program) (old : Holder) (g h : Typing) (x : Exits) (bs : List InScope) (w : Want) (k : List Entry) → Changed old g h → IsAbove x g k old → IsStack p g x bs w k → IsStack p h x bs w k
@@ -775,10 +775,10 @@ within_set g f cs bs (older b _ ds inner within) (is, are) = within_set g f cs d
 pub within_holds : (g : Typing) (f : flow.State) (cs bs : List InScope) → Within cs bs → Holds g f bs → Holds g f cs
 within_holds g f cs bs within (reached, are) = (reached, within_set g f cs bs within are)
 
-pub below_more : (n m : ℕ) (bs : List InScope) → n ≤ m → AreBelow n bs → AreBelow m bs
-below_more n m [] less are = tt
-below_more n m (Variable b ∷ bs) less (is, are) = (omega (arith, less, is), below_more n m bs less are)
-below_more n m (b ∷ bs) less (is, are) = (tt, below_more n m bs less are)
+pub scopes_below_more : (n m : ℕ) (bs : List InScope) → n ≤ m → AreBelow n bs → AreBelow m bs
+scopes_below_more n m [] less are = tt
+scopes_below_more n m (Variable b ∷ bs) less (is, are) = (omega (arith, less, is), scopes_below_more n m bs less are)
+scopes_below_more n m (b ∷ bs) less (is, are) = (tt, scopes_below_more n m bs less are)
 
 -- ---- a local more, and one that is stored
 
@@ -795,12 +795,12 @@ bound_more e number object (Variable b ∷ bs) (less, below) (is, are) =
     (local_other e number b.number object (λ e. (let k : b.number ≡ number = e in absurd (omega (arith, less, k)))) ∙ is, bound_more e number object bs below are)
 bound_more e number object (b ∷ bs) (less, below) (is, are) = (is, bound_more e number object bs below are)
 
-pub set_more : (g : Typing) (a : flow.Fullness) (f : flow.State) (number : ℕ) (bs : List InScope) → AreBelow number bs → AreSet g f bs → AreSet g (with_fullness a f number) bs
-set_more g a f number [] below are = tt
-set_more g a f number (Variable b ∷ bs) (less, below) ((set, full), are) =
+pub set_with_fullness : (g : Typing) (a : flow.Fullness) (f : flow.State) (number : ℕ) (bs : List InScope) → AreBelow number bs → AreSet g f bs → AreSet g (with_fullness a f number) bs
+set_with_fullness g a f number [] below are = tt
+set_with_fullness g a f number (Variable b ∷ bs) (less, below) ((set, full), are) =
     let apart : b.number ≢ number = (λ e. (let k : b.number ≡ number = e in absurd (omega (arith, less, k)))) in
-    ((λ s. set (other_set a f number b.number apart s), λ s. full (other_full a f number b.number apart s)), set_more g a f number bs below are)
-set_more g a f number (b ∷ bs) (less, below) (is, are) = (tt, set_more g a f number bs below are)
+    ((λ s. set (other_set a f number b.number apart s), λ s. full (other_full a f number b.number apart s)), set_with_fullness g a f number bs below are)
+set_with_fullness g a f number (b ∷ bs) (less, below) (is, are) = (tt, set_with_fullness g a f number bs below are)
 
 -- the locals of one number have one object
 one_object : (e : Environment) (number object : ℕ) (b : Bound) → e.locals number ≡ Some object → e.locals b.number ≡ Some b.object → b.number ≡ number → b.object ≡ object

@@ -114,8 +114,8 @@ variable_grows g t n here = record {
   kept = λ number is. is;
 }
 
-longer : {A B : Type 0} (xs : List A) (ys : List B) (x : A) (y : B) → length xs ≡ length ys → length (xs ++ x ∷ []) ≡ length (ys ++ y ∷ [])
-longer xs ys x y same =
+both_longer : {A B : Type 0} (xs : List A) (ys : List B) (x : A) (y : B) → length xs ≡ length ys → length (xs ++ x ∷ []) ≡ length (ys ++ y ∷ [])
+both_longer xs ys x y same =
     let a : length (xs ++ x ∷ []) ≡ length xs + length (x ∷ []) = length-append xs (x ∷ []) in
     let b : length (ys ++ y ∷ []) ≡ length ys + length (y ∷ []) = length-append ys (y ∷ []) in
     a ∙ ap (λ n. n + 1) same ∙ sym b
@@ -133,8 +133,8 @@ pub object_typed : (g : Typing) (regions : List Region) (objects : List Object) 
     → ((object : ℕ) (s : Standing) → object ≢ length objects → here object ≡ s → g.here object ≡ s) → AreOwned (with_variable g t n here) (length objects) t x.cells
     → ((j : ℕ) → here (length objects) ≡ Away j → t.is_hidden ≡ true → ⊥) → IsTyped (with_variable g t n here) regions (objects ++ x ∷ [])
 object_typed g regions objects t n x here typed is before own none = record {
-  count = longer objects g.objects x t typed.count;
-  counts = longer objects g.filled x n typed.counts;
+  count = both_longer objects g.objects x t typed.count;
+  counts = both_longer objects g.filled x n typed.counts;
   each = each;
   heap = typed.heap;
   kept = typed.kept;

@@ -37,8 +37,8 @@ use Rattle.cyc_soundness.proofs.flow.FlowLemmas.{implies_self, implies_after, me
 use Rattle.cyc_soundness.proofs.flow.RuleLemmas.{breaks_clauses, clauses_implied}
 use Rattle.cyc_soundness.proofs.states.WorldLemmas.{type_grown, operands_grown, opened_typed}
 use Rattle.cyc_soundness.proofs.states.Hands.{Changed, hand_same, at_no_hand, claims_kept, here_kept, variables_grown, holds_grown, moment_grows, moment_typed, moment_globals}
-use Rattle.cyc_soundness.proofs.states.StackLemmas.{AreAccepted, stack_changed, stack_grown, below_more}
-use Rattle.cyc_soundness.proofs.types.RegionLemmas.{region_known, there_open, opened_known, live_more, there_lasting, opened_lasting, stand_opened, new_home, context_inside, other_life, named_function, known_body}
+use Rattle.cyc_soundness.proofs.states.StackLemmas.{AreAccepted, stack_changed, stack_grown, scopes_below_more}
+use Rattle.cyc_soundness.proofs.types.RegionLemmas.{life_known, there_open, opened_known, live_more, there_lasting, opened_lasting, stand_opened, new_home, context_inside, other_life, named_function, known_body}
 use Rattle.cyc_soundness.proofs.states.Cells.{running}
 use Rattle.cyc_soundness.proofs.steps.Objects.{operands_reversed, given_turned}
 use Rattle.cyc_soundness.proofs.steps.Supply.{new_life, made_typing, declares}
@@ -101,10 +101,10 @@ pub blocked_of : (o : Option Ty) (f : flow.State) → ((t : Ty) → o ≡ Some t
 blocked_of None f ends = tt
 blocked_of (Some t) f ends = ends t refl
 
-all_set : (g : Typing) (f : flow.State) (bs : List InScope) → AreFull g bs → AreOwn g bs → AreSet g f bs
-all_set g f [] are have = tt
-all_set g f (Variable b ∷ bs) (is, are) (has, have) = ((λ s. is, λ s. has), all_set g f bs are have)
-all_set g f (b ∷ bs) (is, are) (has, have) = (tt, all_set g f bs are have)
+full_are_set : (g : Typing) (f : flow.State) (bs : List InScope) → AreFull g bs → AreOwn g bs → AreSet g f bs
+full_are_set g f [] are have = tt
+full_are_set g f (Variable b ∷ bs) (is, are) (has, have) = ((λ s. is, λ s. has), full_are_set g f bs are have)
+full_are_set g f (b ∷ bs) (is, are) (has, have) = (tt, full_are_set g f bs are have)
 
 full_grown : (g h : Typing) → Grows g h → (bs : List InScope) → AreFull g bs → AreFull h bs
 full_grown g h grows [] are = tt
@@ -155,7 +155,7 @@ module _ (p : Program) (accepted : AreAccepted p) where
         subst (λ l. IsLasting (ends_of k) l) same (there_lasting (ends_of k) bs r live.0 plain there)
 
     instance_known : (h : Function) (these : ℕ → Life) (alive : ℕ → Bool) → IsInstance bs h these alive → (n : ℕ) → IsKnownLife g (these n)
-    instance_known h these alive instance n = let (r, plain, same) = instance.named n in subst (λ l. IsKnownLife g l) same (region_known g bs r plain variables)
+    instance_known h these alive instance n = let (r, plain, same) = instance.named n in subst (λ l. IsKnownLife g l) same (life_known g bs r plain variables)
 
     instance_open : (h : Function) (these : ℕ → Life) (alive : ℕ → Bool) → IsInstance bs h these alive → (n : ℕ) → alive n ≡ true → IsOpenIn g (these n)
     instance_open h these alive instance n is = let (r, plain, there, same) = instance.lasting n is in subst (λ l. IsOpenIn g l) same (there_open g bs r variables there)
@@ -268,7 +268,7 @@ module _ (p : Program) (accepted : AreAccepted p) where
           gives = gives;
           loop = λ no. (let z : false ≡ true = no in absurd (cc));
           scope = subst (λ z. IsScope (lives_in bs) z bs) scope_is scope;
-          below = below_more number (length h.parameters) bs last below;
+          below = scopes_below_more number (length h.parameters) bs last below;
           counters = λ l less. absurd (omega (arith, less));
           known = known_body p h ok.typed;
           regions = stand;
@@ -276,7 +276,7 @@ module _ (p : Program) (accepted : AreAccepted p) where
         } in
         subst (λ z. IsWell p (Running Proceeding (Rest z ∷ k) e w)) (sym body)
         (running p g x bs e w typed globals bound variables Proceeding (Rest h.body ∷ k) live
-        (start_of h, (refl, all_set g (start_of h) bs full own), (cs, body_context p h, end, within, stands, rest, stack)))
+        (start_of h, (refl, full_are_set g (start_of h) bs full own), (cs, body_context p h, end, within, stands, rest, stack)))
 
     pub bind : (number : ℕ) (ts : List Ty) (arguments : List Operand) (js : Items) (k : List Entry) (h : Function) (end : flow.State) (vs : List LocalInScope) (cs : List InScope) → IsNested k e w → LiveIn k bs
         → Within cs bs → IsAccepted p h end → IsBody x bs h → js ≡ h.body → parameters_in_scope ts number vs ≡ parameters_in_scope h.parameters 0 [] → number + length ts ≡ length h.parameters
@@ -309,7 +309,7 @@ module _ (p : Program) (accepted : AreAccepted p) where
           more,
           operands_grown g h' changed.grows (map (read bs) ts) arguments are,
           (vs, (_, refl, refl, refl, refl, l.homed), scope),
-          ((let less : number < suc number = omega arith in less), below_more number (suc number) bs (let le : number ≤ suc number = omega arith in le) below),
+          ((let less : number < suc number = omega arith in less), scopes_below_more number (suc number) bs (let le : number ≤ suc number = omega arith in le) below),
           (filled, full_grown g h' changed.grows bs full),
           stand,
           at_home,

@@ -53,7 +53,7 @@ use Rattle.cyc_soundness.proofs.types.RegionLemmas.{agrees_of, there_of, cell_li
 use Rattle.cyc_soundness.proofs.states.Cells.{lasting_common, open_object, plain_claims, pointer_plain, running, part_at, Content, content_of, reads, stored_typing, stores_marking, stores_on}
 use Rattle.cyc_soundness.proofs.flow.Looking.{looked_expression, looked_converted, peeked_so}
 use Rattle.cyc_soundness.proofs.steps.Objects.{makes_on}
-use Rattle.cyc_soundness.proofs.steps.Places.{gives_same, looked_result, looked_part, takes, gives, gives_by, converted_leads, moved_comes}
+use Rattle.cyc_soundness.proofs.steps.Places.{gives_same, looked_result, looked_part, takes_left, gives, gives_by, converted_leads, moved_comes}
 
 pub of_map : {A B : Type 0} (f : A → B) (xs : List A) (i : ℕ) (y : B) → slice_get (map f xs) i ≡ Some y → (x : A) × (slice_get xs i ≡ Some x) × (f x ≡ y)
 of_map f [] i y found = absurd (let e : None ≡ Some y = found in cc)
@@ -701,7 +701,7 @@ module _ (p : Program) where
         → IsResult g (read_value bs s) left → ((t : Ty) → s ≡ types.Value t → ClaimsPart g (0 + stacks.operands_in k) peek (thing_of (read bs t) left.value)) → PointerOperation c o s v w' → Evaluates (and_looked peek (relied_at x.relied k)) c b f v f1
         → IsStack p g x bs (Val (read_value bs w') f1) (Needs (Chain os) ∷ k) → IsWell p (awaits_right (takes_kind o left.kind) (ApplyPointer peek o left) b os k e w)
     pointed o peek left b os k c s v w' f f1 live stands holds is part op evaluates stack =
-        subst (λ z. IsWell p (awaits_right z (ApplyPointer peek o left) b os k e w)) (sym (takes (lives_in bs) g left op is)) (go s is part op)
+        subst (λ z. IsWell p (awaits_right z (ApplyPointer peek o left) b os k e w)) (sym (takes_left (lives_in bs) g left op is)) (go s is part op)
       where
         go : (s : ValueType) → IsResult g (read_value bs s) left → ((t : Ty) → s ≡ types.Value t → ClaimsPart g (0 + stacks.operands_in k) peek (thing_of (read bs t) left.value)) → PointerOperation c o s v w'
             → IsWell p (Running (Evaluating b) (Needs (ApplyPointer peek o left) ∷ Needs (Chain os) ∷ k) e w)

@@ -37,13 +37,13 @@ use Rattle.cyc_soundness.specs.inside.Stacks as stacks
 use Rattle.cyc_soundness.proofs.types.TypeLemmas.{target_typed, kind_read, kind_meant}
 use Rattle.cyc_soundness.proofs.flow.FlowLemmas.{used_full, implies_self, implies_after, meet_first, meet_second, at_least_implies, emptied_implied, holds_implied, full_last}
 use Rattle.cyc_soundness.proofs.flow.RuleLemmas.{breaks_statement, breaks_items, breaks_clauses, clauses_implied, nothing_locked}
-use Rattle.cyc_soundness.proofs.states.StackLemmas.{within_bound, within_variables, within_live, within_holds, below_more, bound_to}
+use Rattle.cyc_soundness.proofs.states.StackLemmas.{within_bound, within_variables, within_live, within_holds, scopes_below_more, bound_to}
 use Rattle.cyc_soundness.proofs.types.RegionLemmas.{opened_known, contains_more, live_more, same_name, known_behind, opened_lasting, agrees_of, context_inside, context_lexical}
 use Rattle.cyc_soundness.proofs.states.WorldLemmas.{opened_typed}
 use Rattle.cyc_soundness.proofs.types.Sharing.{keeps_by}
 use Rattle.cyc_soundness.proofs.states.Cells.{running}
 use Rattle.cyc_soundness.proofs.steps.Evaluation.{looks_bound, unique_moved}
-use Rattle.cyc_soundness.proofs.steps.Loans.{type_known, keys_on}
+use Rattle.cyc_soundness.proofs.steps.Loans.{local_type_known, keys_on}
 use Rattle.cyc_guard.specs.inside.Held.{nowhere, updated}
 use Rattle.cyc_guard.proofs.Bools.{updated_same}
 use Rattle.cyc_guard.proofs.WellNumbered.{InScope as AreScoped, found_below, lent_below, next_in_scope, statement_fresh, items_fresh}
@@ -65,7 +65,7 @@ context_behind p x bs c locals regions stands = record {
   gives = stands.gives;
   loop = stands.loop;
   scope = stands.scope;
-  below = below_more c.next_local (c.next_local + locals) bs (let le : c.next_local ≤ c.next_local + locals = omega arith in le) stands.below;
+  below = scopes_below_more c.next_local (c.next_local + locals) bs (let le : c.next_local ≤ c.next_local + locals = omega arith in le) stands.below;
   counters = stands.counters;
   known = known_behind c.next_region (c.next_region + regions) c.regions c.locals c.result (let le : c.next_region ≤ c.next_region + regions = omega arith in le) stands.known;
   regions = stands.regions;
@@ -414,7 +414,7 @@ module _ (p : Program) (g : Typing) (x : Exits) (bs : List InScope) (e : Environ
         [],
         cs,
         Go h,
-        stacks.opens_by cs c b r f (with_each Full (locks_of js) ending) h within stands bound_among number_of of_type hides set spared (used_full f key demands.0 demands.1.0) (type_known c key t home stands.known has) alive number rest (again key js ending h ends),
+        stacks.opens_by cs c b r f (with_each Full (locks_of js) ending) h within stands bound_among number_of of_type hides set spared (used_full f key demands.0 demands.1.0) (local_type_known c key t home stands.known has) alive number rest (again key js ending h ends),
         tt,
         stack,
       )
@@ -438,7 +438,7 @@ module _ (p : Program) (g : Typing) (x : Exits) (bs : List InScope) (e : Environ
         [],
         cs,
         Go h,
-        stacks.aliases cs c b v t f (with_each Full (locks_of js) ending) h within stands bound_among number_of of_bound hides set spared full unique (type_known c source v home stands.known has)
+        stacks.aliases cs c b v t f (with_each Full (locks_of js) ending) h within stands bound_among number_of of_bound hides set spared full unique (local_type_known c source v home stands.known has)
             (of_type ∙ ap (λ i. with_region_of (regions.Variable i) v) region) alive number rest (again source js ending h ends),
         tt,
         stack,

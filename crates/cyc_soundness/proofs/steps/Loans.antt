@@ -33,7 +33,7 @@ use Rattle.cyc_soundness.specs.inside.Classes.{IsSpared, IsDeclarable}
 use Rattle.cyc_soundness.specs.inside.Frames.{IsAmong, first, later, Bound, InScope, Variable, Names, life_named, lives_in, read, IsBound, AreVariables, IsLasting, LiveIn, Within, older, IsFullIn, Holds, Implies, Exits, lending, AreKnownLocals, AreKnown, IsContext, KnowsProgram, local_type}
 use Rattle.cyc_soundness.specs.inside.Stacks.{operands_in, Continues, Go, IsStack, IsWell, IsCommonLife}
 use Rattle.cyc_soundness.proofs.states.Numbers.{some_same}
-use Rattle.cyc_soundness.proofs.types.TypeLemmas.{all_in, read_alike}
+use Rattle.cyc_soundness.proofs.types.TypeLemmas.{all_in_weaker, read_alike}
 use Rattle.cyc_soundness.proofs.flow.FlowLemmas.{full_set, reached_with}
 use Rattle.cyc_soundness.proofs.types.RegionLemmas.{contains_more, name_known, same_name, known_other, other_life, context_key, context_alias, context_again, region_owner}
 use Rattle.cyc_soundness.proofs.states.WorldLemmas.{globals_grown, result_grown, typed_cell}
@@ -46,8 +46,8 @@ use Rattle.cyc_soundness.proofs.states.Cells.{pointer_plain, plain_claims, runni
 -- ---- types
 
 -- the type of a local names regions that were declared before
-pub type_known : (c : Context) (n : ℕ) (t : Ty) (r : ℕ) → AreKnown c.next_region c.regions c.locals c.result → HasLocal c.locals n t r → AllIn (IsKnown c.next_region) t
-type_known c n t r known has = go c.locals known.locals has
+pub local_type_known : (c : Context) (n : ℕ) (t : Ty) (r : ℕ) → AreKnown c.next_region c.regions c.locals c.result → HasLocal c.locals n t r → AllIn (IsKnown c.next_region) t
+local_type_known c n t r known has = go c.locals known.locals has
   where
     go : (vs : List LocalInScope) → AreKnownLocals c.next_region vs → HasLocal vs n t r → AllIn (IsKnown c.next_region) t
     go [] known has = absurd has
@@ -56,7 +56,7 @@ type_known c n t r known has = go c.locals known.locals has
 
 alias_known : (n : ℕ) (u : Ty) → is_unique u ≡ true → AllIn (IsKnown n) u → IsDeclarable (suc n) (with_region_of (regions.Variable n) u)
 alias_known n (types.Pointer k t s) unique (known, one) =
-    (all_in (IsKnown n) (IsKnown (suc n)) (λ r is. known_more n (suc n) r (let most : n ≤ suc n = omega arith in most) is) t known, (let less : n < suc n = omega arith in less))
+    (all_in_weaker (IsKnown n) (IsKnown (suc n)) (λ r is. known_more n (suc n) r (let most : n ≤ suc n = omega arith in most) is) t known, (let less : n < suc n = omega arith in less))
 alias_known n types.Int unique known = absurd (let z : false ≡ true = unique in cc)
 alias_known n types.Char unique known = absurd (let z : false ≡ true = unique in cc)
 alias_known n (types.Handle r) unique known = absurd (let z : false ≡ true = unique in cc)
@@ -85,7 +85,7 @@ alias_read : (bs : List InScope) (n : ℕ) (l : Life) (k : PointerKind) (t : Ty)
 alias_read bs n l k t known =
     let inner : List InScope = Names n l true ∷ bs in
     let same : read inner t ≡ read bs t = sym (read_alike (lives_in bs) (lives_in inner) t
-    (all_in (IsKnown n) (λ r. lives_in bs r ≡ lives_in inner r) (λ r is. other_life n l true bs r (known_other n r is)) t known)) in
+    (all_in_weaker (IsKnown n) (λ r. lives_in bs r ≡ lives_in inner r) (λ r is. other_life n l true bs r (known_other n r is)) t known)) in
     ap (λ z. lives.Pointer k z (life_named inner n)) same ∙ ap (λ m. lives.Pointer k (read bs t) m) (same_name n l (life_named bs n))
 
 -- it is lent now, if it is anything

@@ -141,17 +141,17 @@ whole_of g l (Struct n ls) v has = absurd has
 filled_up : (g : Typing) (object count most : ℕ) → count ≤ most → IsFilled g object most → IsFilled g object count
 filled_up g object count most few (m, flag, enough) = (m, flag, (let e : count ≤ m = omega (arith, few, enough) in e))
 
-one_part : (g : Typing) (object : ℕ) (y : ObjectType) (t : RunTy) → y.cells ≡ t ∷ [] → IsFilled g object (length y.cells) → (slice_get y.cells 0 ≡ Some t) × IsFilled g object 1
-one_part g object y t cells full =
+one_cell_filled : (g : Typing) (object : ℕ) (y : ObjectType) (t : RunTy) → y.cells ≡ t ∷ [] → IsFilled g object (length y.cells) → (slice_get y.cells 0 ≡ Some t) × IsFilled g object 1
+one_cell_filled g object y t cells full =
     let count : length y.cells ≡ 1 = ap length cells in
     (ap (λ ts. slice_get ts 0) cells, filled_up g object 1 (length y.cells) (let e : 1 ≤ length y.cells = omega (arith, count) in e) full)
 
 whole_part : (g : Typing) (object : ℕ) (y : ObjectType) (t : RunTy) → IsWhole g y t → IsFilled g object (length y.cells) → IsPart g object y t 0
-whole_part g object y Int is full = one_part g object y Int is full
-whole_part g object y Char is full = one_part g object y Char is full
-whole_part g object y (Pointer k t l) is full = one_part g object y (Pointer k t l) is full
-whole_part g object y (Handle l) is full = one_part g object y (Handle l) is full
-whole_part g object y (Key l) is full = one_part g object y (Key l) is full
+whole_part g object y Int is full = one_cell_filled g object y Int is full
+whole_part g object y Char is full = one_cell_filled g object y Char is full
+whole_part g object y (Pointer k t l) is full = one_cell_filled g object y (Pointer k t l) is full
+whole_part g object y (Handle l) is full = one_cell_filled g object y (Handle l) is full
+whole_part g object y (Key l) is full = one_cell_filled g object y (Key l) is full
 whole_part g object y (Struct n ls) is full = (refl, is, full)
 
 -- ---- what only one may have

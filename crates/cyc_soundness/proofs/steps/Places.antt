@@ -39,7 +39,7 @@ use Rattle.cyc_soundness.specs.inside.Frames.{InScope, IsBound, AreVariables, Li
 use Rattle.cyc_soundness.specs.inside.Classes.{and_looked, InExpression, InPlace}
 use Rattle.cyc_soundness.specs.inside.Stacks.{IsThrough, seen_by, EvaluatesWhole, relied_at, Val, PlaceOf, null, WaitsPlace, of_cell, left_cell, IsByType, KeepsPlace, IsStack, IsFocus, IsWell}
 use Rattle.cyc_soundness.specs.inside.Stacks as stacks
-use Rattle.cyc_soundness.proofs.states.Numbers.{some_same, inside, mapped}
+use Rattle.cyc_soundness.proofs.states.Numbers.{some_same, inside, mapped_at}
 use Rattle.cyc_soundness.proofs.types.TypeLemmas.{target_typed, is_kind_same, mark_kinds, kind_meant}
 use Rattle.cyc_soundness.proofs.states.WorldLemmas.{result_grown, typed_cell}
 use Rattle.cyc_soundness.proofs.states.Hands.{at_no_hand, holds_kept, variables_kept}
@@ -81,10 +81,10 @@ subtracted : (g : Typing) (t : RunTy) (l : Life) (left right : values.Value) →
 subtracted g t l left (values.Int n) has int = moved_fat g t l (λ index. sub_of index n) left has
 subtracted g t l left v has int = absurd int
 
-counted : (g : Typing) (t : RunTy) (l : Life) (v : values.Value) → HasType g (lives.Pointer marks.Fat t l) v → Fits g lives.Int (element_count v)
-counted g t l values.Null has = tt
-counted g t l (values.Fat object start count index) has = tt
-counted g t l v has = absurd has
+element_count_fits : (g : Typing) (t : RunTy) (l : Life) (v : values.Value) → HasType g (lives.Pointer marks.Fat t l) v → Fits g lives.Int (element_count v)
+element_count_fits g t l values.Null has = tt
+element_count_fits g t l (values.Fat object start count index) has = tt
+element_count_fits g t l v has = absurd has
 
 null_tested : (g : Typing) (negated : Bool) (m : PointerKind) (t : RunTy) (l : Life) (v : values.Value) → HasType g (lives.Pointer m t l) v → Fits g lives.Int (null_test negated v)
 null_tested g negated m t l values.Null has = tt
@@ -105,17 +105,17 @@ fat_kind marks.NonNull fat = absurd (let e : true ≡ false = fat in cc)
 fat_kind marks.Fat fat = refl
 
 -- an operator takes its left operand
-pub takes : (n : Lives) (g : Typing) {c : Context} {o : PointerOperator} {u v w : ValueType} (left : Operand) → PointerOperation c o u v w → IsResult g (value_at n u) left → takes_kind o left.kind ≡ true
-takes n g left (adds t r other) is = is_kind_same left.kind kinds.Fat is.0
-takes n g left (subtracts t r other) is = is_kind_same left.kind kinds.Fat is.0
-takes n g left (equals k l t r s one two here there) is = ap is_thin is.0 ∙ thin_kind k one
-takes n g left (differs k l t r s one two here there) is = ap is_thin is.0 ∙ thin_kind k one
-takes n g left (thin_null k t r thin) is = ap is_thin is.0 ∙ thin_kind k thin
-takes n g left (thin_there k t r thin) is = ap is_thin is.0 ∙ thin_kind k thin
-takes n g left (fat_null k t r fat) is = is_kind_same left.kind kinds.Fat (is.0 ∙ fat_kind k fat)
-takes n g left (fat_there k t r fat) is = is_kind_same left.kind kinds.Fat (is.0 ∙ fat_kind k fat)
-takes n g left (null_is k t r) is = ap is_thin is.0
-takes n g left (null_is_not k t r) is = ap is_thin is.0
+pub takes_left : (n : Lives) (g : Typing) {c : Context} {o : PointerOperator} {u v w : ValueType} (left : Operand) → PointerOperation c o u v w → IsResult g (value_at n u) left → takes_kind o left.kind ≡ true
+takes_left n g left (adds t r other) is = is_kind_same left.kind kinds.Fat is.0
+takes_left n g left (subtracts t r other) is = is_kind_same left.kind kinds.Fat is.0
+takes_left n g left (equals k l t r s one two here there) is = ap is_thin is.0 ∙ thin_kind k one
+takes_left n g left (differs k l t r s one two here there) is = ap is_thin is.0 ∙ thin_kind k one
+takes_left n g left (thin_null k t r thin) is = ap is_thin is.0 ∙ thin_kind k thin
+takes_left n g left (thin_there k t r thin) is = ap is_thin is.0 ∙ thin_kind k thin
+takes_left n g left (fat_null k t r fat) is = is_kind_same left.kind kinds.Fat (is.0 ∙ fat_kind k fat)
+takes_left n g left (fat_there k t r fat) is = is_kind_same left.kind kinds.Fat (is.0 ∙ fat_kind k fat)
+takes_left n g left (null_is k t r) is = ap is_thin is.0
+takes_left n g left (null_is_not k t r) is = ap is_thin is.0
 
 -- ---- peeks
 
@@ -380,7 +380,7 @@ module _ (p : Program) (g : Typing) (x : Exits) (bs : List InScope) (e : Environ
       let ts : List RunTy = map (at (lives_among ls)) s.fields in
       let cells : y.cells ≡ ts = some_same y.cells ts (sym fields ∙ globals.structs n s ls struct enough) in
       let alike : are_kinds (kinds_of z.cells) (map values.kind_of s.fields) ≡ true = kinds_typed (lives_among ls) g s.fields z.cells count (subst (λ ts. AreCells g ts z.cells count) cells is.cells) in
-      let found : slice_get y.cells field ≡ Some u = ap (λ us. slice_get us field) cells ∙ mapped (at (lives_among ls)) s.fields field t there ∙ ap (λ z. Some z) (means enough) in
+      let found : slice_get y.cells field ≡ Some u = ap (λ us. slice_get us field) cells ∙ mapped_at (at (lives_among ls)) s.fields field t there ∙ ap (λ z. Some z) (means enough) in
       let within : field < length y.cells = inside y.cells field u found in
       let some : IsFilled g object (suc field) = (m, flag, (let le : suc field ≤ m = omega (arith, within, full) in le)) in
       let test : ((offset == 0) && are_kinds (kinds_of z.cells) (map values.kind_of s.fields)) ≡ true = and_from (offset == 0) (are_kinds (kinds_of z.cells) (map values.kind_of s.fields)) (eq-eqb offset 0 first) alike in
@@ -447,7 +447,7 @@ module _ (p : Program) (g : Typing) (x : Exits) (bs : List InScope) (e : Environ
 
   pub count_on : (peek : Option ℕ) (t : RunTy) (l : Life) (v : Operand) (k : List Entry) (f : flow.State) → LiveIn k bs → Holds g f bs → IsResult g (looked peek (Value (lives.Pointer marks.Fat t l))) v → IsStack p g x bs (Val (Value lives.Int) f) k
       → IsWell p (computed kinds.Int (element_count v.value) k e w)
-  count_on peek t l v k f live holds is stack = gives k kinds.Int lives.Int f (element_count v.value) live holds tt refl (counted g t l v.value (looked_result g peek (Value (lives.Pointer marks.Fat t l)) v is).1) stack
+  count_on peek t l v k f live holds is stack = gives k kinds.Int lives.Int f (element_count v.value) live holds tt refl (element_count_fits g t l v.value (looked_result g peek (Value (lives.Pointer marks.Fat t l)) v is).1) stack
 
   -- ---- what waits for a place
 

@@ -42,8 +42,8 @@ use Rattle.cyc_soundness.proofs.flow.FlowLemmas.{holds_implied, reached_with, fu
 use Rattle.cyc_soundness.proofs.states.WorldLemmas.{type_grown, with_variable, variable_grows, object_typed, globals_grown, owner_grown, beyond}
 use Rattle.cyc_soundness.proofs.states.Hands.{Changed, Raises, at_no_hand, given_now, marked_now, marked_before, marked_keeps, giving_changed, changed_raised, open_kept, variables_kept, holds_kept, given_typed, lent_no_hand, away_not_here, marked_other}
 use Rattle.cyc_soundness.proofs.types.Sharing.{plain_read}
-use Rattle.cyc_soundness.proofs.states.StackLemmas.{stack_changed, there_present, fields_kept, passed_kept, comes_alone, claimed_next, below_more, local_new, bound_more, set_more, home_is, found_is, within_bound, within_variables, within_live, within_holds}
-use Rattle.cyc_soundness.proofs.types.RegionLemmas.{region_known, there_open, there_lasting, known_local, owner_known}
+use Rattle.cyc_soundness.proofs.states.StackLemmas.{stack_changed, there_present, fields_kept, passed_kept, comes_alone, claimed_next, scopes_below_more, local_new, bound_more, set_with_fullness, home_is, found_is, within_bound, within_variables, within_live, within_holds}
+use Rattle.cyc_soundness.proofs.types.RegionLemmas.{life_known, there_open, there_lasting, known_local, owner_known}
 use Rattle.cyc_soundness.proofs.types.ValueLemmas.{negated, complemented, widened, narrowed, combined, zero_is}
 use Rattle.cyc_soundness.specs.inside.Classes.{InInitial}
 use Rattle.cyc_soundness.proofs.states.Cells.{part_had, running, plain_unkept}
@@ -63,7 +63,7 @@ context_more p x bs c is_place t b stands new number of_type hidden life = recor
   gives = stands.gives;
   loop = stands.loop;
   scope = (c.locals, (_, refl, sym number, sym of_type, sym hidden, life), stands.scope);
-  below = ((let less : b.number < suc c.next_local = omega (arith, number) in less), below_more c.next_local (suc c.next_local) bs (let le : c.next_local ≤ suc c.next_local = omega arith in le) stands.below);
+  below = ((let less : b.number < suc c.next_local = omega (arith, number) in less), scopes_below_more c.next_local (suc c.next_local) bs (let le : c.next_local ≤ suc c.next_local = omega arith in le) stands.below);
   counters = λ l less. later (Variable b) bs (stands.counters l less);
   known = known_local c is_place t stands.known new;
   regions = stands.regions;
@@ -84,7 +84,7 @@ new_life bs region home k live (number, there) at_home = record {
   number = subst (λ n. IsNumber (life_named bs region) n) (live.1 ∙ sym (home_is home k at_home)) number;
   lasting = there_lasting (ends_of k) bs (regions.Variable region) live.0 (λ e. let z : regions.Variable region ≡ regions.Unique = e in absurd (cc)) there;
   homed = refl;
-  known = λ g are. (region_known g bs (regions.Variable region) (λ e. let z : regions.Variable region ≡ regions.Unique = e in absurd (cc)) are, there_open g bs (regions.Variable region) are there);
+  known = λ g are. (life_known g bs (regions.Variable region) (λ e. let z : regions.Variable region ≡ regions.Unique = e in absurd (cc)) are, there_open g bs (regions.Variable region) are there);
 }
 
 pub owner_is : (l : Life) (region : ℕ) → IsNumber l region → IsOwner l (InRegion region)
@@ -179,7 +179,7 @@ module _ (p : Program) (g : Typing) (x : Exits) (bs : List InScope) (e : Environ
       (λ grows. ((kind_is, type_grown g h1 grows (read bs t) v has), tt))
       (λ changed full here. (let (reached, are) = holds_kept hand g h1 changed f bs (λ n object s its. at_no_hand object 0 (operands_in k)) holds in (
         with_fullness Full f number,
-        (reached_with Full f number reached, ((λ s. full, λ s. here), set_more h1 Full f number bs below are)),
+        (reached_with Full f number reached, ((λ s. full, λ s. here), set_with_fullness h1 Full f number bs below are)),
         (
           cs,
           with_local is_place t c,
@@ -207,7 +207,7 @@ module _ (p : Program) (g : Typing) (x : Exits) (bs : List InScope) (e : Environ
           reached_with Vacant f number reached,
           (
             (λ s. absurd (vacant_now f number reached s), λ s. let z : false ≡ true = full_put Vacant f number reached s in absurd (cc)),
-            set_more h0 Vacant f number bs below are,
+            set_with_fullness h0 Vacant f number bs below are,
           ),
         ),
         (

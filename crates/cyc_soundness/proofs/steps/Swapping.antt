@@ -30,7 +30,7 @@ use Rattle.cyc_soundness.proofs.states.Numbers.{some_same}
 use Rattle.cyc_soundness.proofs.types.TypeLemmas.{is_kind_same, kind_meant, place_type}
 use Rattle.cyc_soundness.proofs.flow.FlowLemmas.{full_set, used_full}
 use Rattle.cyc_soundness.proofs.states.WorldLemmas.{cell_there, type_grown, result_grown, risen, with_filled, written_grows, cell_written, globals_grown}
-use Rattle.cyc_soundness.proofs.states.Hands.{Changed, given_now, given_too, given_apart, given_other, held_before, none_before, giving_changed, at_no_hand, at_same, not_awaited, kept_now, holds_here, variables_kept, variables_pending, variables_grown, pending_grows, awaits_same, away_not_here, lent_no_hand, lent_not_at}
+use Rattle.cyc_soundness.proofs.states.Hands.{Changed, given_now, given_too, given_apart, given_other, held_before, nobody_before, giving_changed, at_no_hand, at_same, not_awaited, kept_now, holds_here, variables_kept, variables_pending, variables_grown, pending_grows, awaits_same, away_not_here, lent_no_hand, lent_not_at}
 use Rattle.cyc_soundness.proofs.states.StackLemmas.{stack_grown, bound_of, place_local, among_bound, among_variable, among_live, among_set, open_of, globals_among, lasting_open, kept_open, object_known, among_open, IsPresent, there_present, stack_by, IsAboveBy, statement_relied, settled, among_own}
 use Rattle.cyc_soundness.proofs.types.RegionLemmas.{there_of, cell_live, global_means}
 use Rattle.cyc_soundness.proofs.states.Cells.{part_had, running, life_of, lasting_common, open_object, value_part, held_still}
@@ -287,7 +287,7 @@ module _ (p : Program) (g : Typing) (x : Exits) (bs : List InScope) (e : Environ
       let still : Typing = record g { pending = Settled } in
       let changed : Changed hand still (giving still o right) = giving_changed still o hand right claims.0 in
       writes_next two.operand (Writing [] None) k (read bs t) two.place s (given o right g.own) Settled live is
-      (λ a now. held_before g.own o hand right a claims.0 tt now) (λ a none. none_before g.own o hand right a claims.0 tt none)
+      (λ a now. held_before g.own o hand right a claims.0 tt now) (λ a none. nobody_before g.own o hand right a claims.0 tt none)
       (λ object i apart kept a has. given_other g.own o hand right a claims.0 (λ e. at_no_hand object i (operands_in k) (sym has ∙ e)) ∙ has)
       (λ object i apart e. (let same = awaits_same s.number s.offset object i (sym old ∙ e) in apart (sym same.0) (sym same.1)))
       (λ kept. (given_now g.own o right, claims.1)) (λ object j a has. given_other g.own o hand right a claims.0 (λ e. lent_no_hand j object (operands_in k) (sym has ∙ e)) ∙ has) (variables_kept hand still (giving still o right) changed bs refl (variables_pending g Settled bs variables))
@@ -323,7 +323,7 @@ module _ (p : Program) (g : Typing) (x : Exits) (bs : List InScope) (e : Environ
       let all : (a : Thing) → IsHeld (g.own a) → IsHeld (own a) = (λ a had. held_still both q hand a tt (held_still g.own o left a tt had)) in
       writes_next one.operand (Writing (two ∷ []) None) k (read bs t) one.place l own await live is
       (λ a now. held_before g.own o right left a rights.0 tt (held_before both q left hand a both_left tt now))
-      (λ a nobody. none_before both q left hand a both_left tt (none_before g.own o right left a rights.0 tt nobody))
+      (λ a nobody. nobody_before both q left hand a both_left tt (nobody_before g.own o right left a rights.0 tt nobody))
       (λ object i apart kept a has.
       (let other : g.own a ≢ right = (λ e. (let same = at_same object i r.number r.offset (sym has ∙ e) in kept (ap (λ n. Awaits n r.offset) (sym same.0) ∙ ap (λ n. Awaits object n) (sym same.1)))) in
       let first : both a ≡ At object i = given_other g.own o right left a rights.0 other ∙ has in

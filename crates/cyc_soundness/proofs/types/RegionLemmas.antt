@@ -19,7 +19,7 @@ use Rattle.cyc_soundness.specs.inside.Worlds.{Thing, KeyOf, PointerTo, Typing, I
 use Rattle.cyc_soundness.specs.inside.Classes.{IsDeclarable}
 use Rattle.cyc_soundness.specs.inside.Frames.{later, InScope, Variable, Level, Names, Instance, Home, life_named, is_live_named, lives_in, read, read_value, home_of, AreVariables, lives_among, IsThereBy, IsThere, IsScope, IsLasting, IsLiveIn, AreLiveIn, Exits, AreNamed, Stand, IsHome, AreKnownLocals, AreKnown, IsContext}
 use Rattle.cyc_soundness.specs.inside.Stacks.{IsNew, regions_at_call, IsInstance}
-use Rattle.cyc_soundness.proofs.types.TypeLemmas.{all_in, every_in, read_alike, value_alike, lives_by, instance_by, result_by}
+use Rattle.cyc_soundness.proofs.types.TypeLemmas.{all_in_weaker, every_in, read_alike, value_alike, lives_by, instance_by, result_by}
 use Rattle.cyc_soundness.proofs.types.ValueLemmas.{given_agree}
 
 -- ---- lists
@@ -42,15 +42,15 @@ lasting_more n ns (OfRegion m ms us) (inr end) = inr (behind n ns end)
 lasting_more n ns Owned is = absurd is
 lasting_more n ns (Kept a) is = is
 
-one_more : (n : ℕ) (ns : List ℕ) (b : InScope) → IsLiveIn ns b → IsLiveIn (n ∷ ns) b
-one_more n ns (Variable b) is = lasting_more n ns b.life is
-one_more n ns (Names number l live) is = λ e. lasting_more n ns l (is e)
-one_more n ns (Instance these live) is = λ k e. lasting_more n ns (these k) (is k e)
-one_more n ns b is = tt
+live_in_more : (n : ℕ) (ns : List ℕ) (b : InScope) → IsLiveIn ns b → IsLiveIn (n ∷ ns) b
+live_in_more n ns (Variable b) is = lasting_more n ns b.life is
+live_in_more n ns (Names number l live) is = λ e. lasting_more n ns l (is e)
+live_in_more n ns (Instance these live) is = λ k e. lasting_more n ns (these k) (is k e)
+live_in_more n ns b is = tt
 
 pub live_more : (n : ℕ) (ns : List ℕ) (bs : List InScope) → AreLiveIn ns bs → AreLiveIn (n ∷ ns) bs
 live_more n ns [] are = tt
-live_more n ns (b ∷ bs) (is, are) = (one_more n ns b is, live_more n ns bs are)
+live_more n ns (b ∷ bs) (is, are) = (live_in_more n ns b is, live_more n ns bs are)
 
 named_either : (b : Bool) (ns : List ℕ) (l m : Life) (first second : Bool) → (first ≡ true → IsLasting ns l) → (second ≡ true → IsLasting ns m) → (if b then first else second) ≡ true
     → IsLasting ns (if b then l else m)
@@ -96,10 +96,10 @@ there_open g bs regions.Unique are there = tt
 there_open g bs (regions.Variable n) are there = name_open g bs n are there
 
 -- what a region stands for is known
-pub region_known : (g : Typing) (bs : List InScope) (r : Region) → r ≢ regions.Unique → AreVariables g bs → IsKnownLife g (lives_in bs r)
-region_known g bs regions.Heap plain are = tt
-region_known g bs regions.Unique plain are = absurd (plain refl)
-region_known g bs (regions.Variable n) plain are = name_known g bs n are
+pub life_known : (g : Typing) (bs : List InScope) (r : Region) → r ≢ regions.Unique → AreVariables g bs → IsKnownLife g (lives_in bs r)
+life_known g bs regions.Heap plain are = tt
+life_known g bs regions.Unique plain are = absurd (plain refl)
+life_known g bs (regions.Variable n) plain are = name_known g bs n are
 
 pub owner_known : (g : Typing) (l : Life) → IsKnownLife g l → IsKnownOwner g l
 owner_known g (OfRegion number ns us) is = tt
@@ -259,7 +259,7 @@ again_there number l bs (regions.Variable n) there = go (n == number)
 in_value : (P Q : Region → Type 0) → ((r : Region) → P r → Q r) → (v : ValueType) → AllInValue P v → AllInValue Q v
 in_value P Q so types.Void all = tt
 in_value P Q so types.Null all = tt
-in_value P Q so (types.Value t) all = all_in P Q so t all
+in_value P Q so (types.Value t) all = all_in_weaker P Q so t all
 
 every_value : (P : Region → Type 0) → ((r : Region) → P r) → (v : ValueType) → AllInValue P v
 every_value P so types.Void = tt
@@ -275,29 +275,29 @@ AreOthers n (v ∷ vs) = (AllIn (IsOther n) v.of_type × IsOther n (regions.Vari
 
 known_others : (n : ℕ) (vs : List LocalInScope) → AreKnownLocals n vs → AreOthers n vs
 known_others n [] known = tt
-known_others n (v ∷ vs) ((of_type, region), known) = ((all_in (IsKnown n) (IsOther n) (known_other n) v.of_type of_type, known_other n (regions.Variable v.region) region), known_others n vs known)
+known_others n (v ∷ vs) ((of_type, region), known) = ((all_in_weaker (IsKnown n) (IsOther n) (known_other n) v.of_type of_type, known_other n (regions.Variable v.region) region), known_others n vs known)
 
 -- a scope stays where all that it names stands for the same
 pub scope_kept : (n : ℕ) (j k : Lives) (vs : List LocalInScope) (bs : List InScope) → ((r : Region) → IsOther n r → j r ≡ k r) → AreOthers n vs → IsScope j vs bs → IsScope k vs bs
 scope_kept n j k vs [] same others is = is
 scope_kept n j k vs (Variable b ∷ bs) same others (rest, (v, vs_are, number, of_type, hidden, homed), is) =
     let ((in_type, home), more) = subst (λ us. AreOthers n us) vs_are others in
-    let kept : at k v.of_type ≡ b.of_type = sym (read_alike j k v.of_type (all_in (IsOther n) (λ r. j r ≡ k r) same v.of_type in_type)) ∙ of_type in
+    let kept : at k v.of_type ≡ b.of_type = sym (read_alike j k v.of_type (all_in_weaker (IsOther n) (λ r. j r ≡ k r) same v.of_type in_type)) ∙ of_type in
     (rest, (v, vs_are, number, kept, hidden, homed ∙ same (regions.Variable v.region) home), scope_kept n j k rest bs same more is)
 scope_kept n j k vs (b ∷ bs) same others (rest, vs_are, is) = (rest, vs_are, scope_kept n j k rest bs same (subst (λ us. AreOthers n us) vs_are others) is)
 
 -- ---- more is known
 
-locals_more : (n m : ℕ) (vs : List LocalInScope) → n ≤ m → AreKnownLocals n vs → AreKnownLocals m vs
-locals_more n m [] most known = tt
-locals_more n m (v ∷ vs) most ((of_type, region), known) =
-    ((all_in (IsKnown n) (IsKnown m) (λ r k. known_more n m r most k) v.of_type of_type, (let e : v.region < m = omega (arith, region, most) in e)), locals_more n m vs most known)
+known_locals_more : (n m : ℕ) (vs : List LocalInScope) → n ≤ m → AreKnownLocals n vs → AreKnownLocals m vs
+known_locals_more n m [] most known = tt
+known_locals_more n m (v ∷ vs) most ((of_type, region), known) =
+    ((all_in_weaker (IsKnown n) (IsKnown m) (λ r k. known_more n m r most k) v.of_type of_type, (let e : v.region < m = omega (arith, region, most) in e)), known_locals_more n m vs most known)
 
 pub known_behind : (n k : ℕ) (c : RegionContext) (vs : List LocalInScope) (result : Option Ty) → n ≤ k → AreKnown n c vs result → AreKnown k c vs result
 known_behind n k c vs result most known = record {
   live = λ r has. known_more n k r most (known.live r has);
   pairs = λ a b has. (known_more n k a most (known.pairs a b has).0, known_more n k b most (known.pairs a b has).1);
-  locals = locals_more n k vs most known.locals;
+  locals = known_locals_more n k vs most known.locals;
   gives = in_value (IsKnown n) (IsKnown k) (λ r is. known_more n k r most is) (result_type result) known.gives;
 }
 
@@ -306,7 +306,7 @@ known_opened : (n : ℕ) (kind : Kind) (c : RegionContext) (vs : List LocalInSco
 known_opened n kind c vs result known = record {
   live = live;
   pairs = λ a b has. (known_more n (suc n) a most (known.pairs a b has).0, known_more n (suc n) b most (known.pairs a b has).1);
-  locals = locals_more n (suc n) vs most known.locals;
+  locals = known_locals_more n (suc n) vs most known.locals;
   gives = in_value (IsKnown n) (IsKnown (suc n)) (λ r is. known_more n (suc n) r most is) (result_type result) known.gives;
 }
   where
@@ -437,8 +437,8 @@ home_named : (region number : ℕ) (l : Life) (alive : Bool) (bs : List InScope)
     → (is_live_named bs region ≡ true → is_live_named (Names number l alive ∷ bs) region ≡ true) → IsHome region bs → IsHome region (Names number l alive ∷ bs)
 home_named region number l alive bs same still (at_home, there) = (subst (λ k. IsNumber k (home_of bs)) same at_home, still there)
 
-known_again : (n r : ℕ) (c : RegionContext) (vs : List LocalInScope) (result : Option Ty) → r < n → AreKnown n c vs result → AreKnown n (with_scope scopes.Dynamic (regions.Variable r) c) vs result
-known_again n r c vs result less known = record { live = live; pairs = known.pairs; locals = known.locals; gives = known.gives }
+known_in_dynamic : (n r : ℕ) (c : RegionContext) (vs : List LocalInScope) (result : Option Ty) → r < n → AreKnown n c vs result → AreKnown n (with_scope scopes.Dynamic (regions.Variable r) c) vs result
+known_in_dynamic n r c vs result less known = record { live = live; pairs = known.pairs; locals = known.locals; gives = known.gives }
   where
     live : (s : Region) → Contains (regions.Variable r ∷ live_regions c.live c.opened) s → IsKnown n s
     live s has = elim (contains_later (regions.Variable r) s (live_regions c.live c.opened) has) [
@@ -496,7 +496,7 @@ module _ (p : Program) (x : Exits) (bs : List InScope) (c : Context) (stands : I
   -- where the region of a key is open
   pub context_again : (r : ℕ) → r < c.next_region → IsContext p x (Names r (life_named bs r) true ∷ bs) (with_key_opened r c)
   context_again r less = context_named r (life_named bs r) true (λ s other. again_life r bs s) c.next_region (with_scope scopes.Dynamic (regions.Variable r) c.regions)
-      (known_again c.next_region r c.regions c.locals c.result less stands.known)
+      (known_in_dynamic c.next_region r c.regions c.locals c.result less stands.known)
       (stand_also scopes.Dynamic r (life_named bs r) c.regions bs refl (stand_again r c.regions bs stands.regions))
       (home_named c.region r (life_named bs r) true bs (again_life r bs (regions.Variable c.region)) (λ there. again_there r (life_named bs r) bs (regions.Variable c.region) there) stands.home)
 
@@ -512,9 +512,9 @@ named_known k regions.Heap named = tt
 named_known k regions.Unique named = tt
 named_known k (regions.Variable n) (some, most) = omega (arith, most)
 
-named_of : (k : ℕ) (rs : List Region) → AreNamedRegions k rs → AllOf (IsNamed k) rs
-named_of k [] named = tt
-named_of k (r ∷ rs) (one, named) = (one, named_of k rs named)
+all_named : (k : ℕ) (rs : List Region) → AreNamedRegions k rs → AllOf (IsNamed k) rs
+all_named k [] named = tt
+all_named k (r ∷ rs) (one, named) = (one, all_named k rs named)
 
 named_in : (k : ℕ) (t : Ty) → IsNamedIn k t → AllIn (IsNamed k) t
 named_in k types.Int named = tt
@@ -522,7 +522,7 @@ named_in k types.Char named = tt
 named_in k (types.Pointer m t r) (named, one) = (named_in k t named, one)
 named_in k (types.Handle r) named = named
 named_in k (types.Key r) named = named
-named_in k (types.Struct n rs) named = named_of k rs named
+named_in k (types.Struct n rs) named = all_named k rs named
 
 named_result : (k : ℕ) (o : Option Ty) → IsNamedResult k o → AllInValue (IsNamed k) (result_type o)
 named_result k None named = tt
@@ -548,7 +548,7 @@ named_live k effect r named has = elim (contains_later regions.Heap r (regions.U
 alike_parameters : (k : ℕ) (i j : Lives) (ts : List Ty) → AreNamedIn k ts → ((r : Region) → IsOther 0 r → i r ≡ j r) → map (at i) ts ≡ map (at j) ts
 alike_parameters k i j [] named same = refl
 alike_parameters k i j (t ∷ ts) (one, named) same =
-    let here : at i t ≡ at j t = read_alike i j t (all_in (IsNamed k) (λ r. i r ≡ j r) (λ r is. same r (named_other k r is)) t (named_in k t one)) in
+    let here : at i t ≡ at j t = read_alike i j t (all_in_weaker (IsNamed k) (λ r. i r ≡ j r) (λ r is. same r (named_other k r is)) t (named_in k t one)) in
     ap (λ u. u ∷ map (at i) ts) here ∙ ap (λ us. at j t ∷ us) (alike_parameters k i j ts named same)
 
 -- a function's types, effect and constraints name other regions than its own
@@ -571,7 +571,7 @@ known_parameters : (k number : ℕ) (ts : List Ty) (vs : List LocalInScope) → 
 known_parameters k number [] vs named known = known
 known_parameters k number (t ∷ ts) vs (one, named) known =
     known_parameters k (suc number) ts (record { number = number; of_type = t; region = 0; is_place = true } ∷ vs) named
-    ((all_in (IsNamed k) (IsKnown (suc k)) (λ r is. named_known k r is) t (named_in k t one), (let e : 0 < suc k = omega arith in e)), known)
+    ((all_in_weaker (IsNamed k) (IsKnown (suc k)) (λ r is. named_known k r is) t (named_in k t one), (let e : 0 < suc k = omega arith in e)), known)
 
 -- and what its body knows was declared
 pub known_body : (p : Program) (h : Function) → IsWellTypedFunction p h → AreKnown (suc h.variables) (body_context p h).regions (parameters_in_scope h.parameters 0 []) h.result
@@ -604,7 +604,7 @@ field_lives bs rs (regions.Variable n) known = life_among (lives_in bs) rs n (re
 pub field_means : (bs : List InScope) (rs : List Region) (s : StructType) (t : Ty) → length rs ≡ s.parameters → IsDeclarable s.parameters t
     → at (lives_among (map (lives_in bs) rs)) t ≡ read bs (substituted_ty rs t)
 field_means bs rs s t count known = read_alike (lives_among (map (lives_in bs) rs)) (lives_by (lives_in bs) rs) t
-    (all_in (IsKnown s.parameters) (λ r. lives_among (map (lives_in bs) rs) r ≡ lives_by (lives_in bs) rs r)
+    (all_in_weaker (IsKnown s.parameters) (λ r. lives_among (map (lives_in bs) rs) r ≡ lives_by (lives_in bs) rs r)
     (λ r is. field_lives bs rs r (subst (λ n. IsKnown n r) (sym count) is)) t known) ∙ sym (instance_by (lives_in bs) rs t)
 
 all_mean : (bs : List InScope) (rs : List Region) (s : StructType) (ts : List Ty) → length rs ≡ s.parameters
@@ -622,7 +622,7 @@ fields_mean bs rs s count known = all_mean bs rs s s.fields count known
 
 -- the type of a global names no region variable, and so is read alike everywhere
 pub global_means : (bs : List InScope) (t : Ty) → IsDeclarable 0 t → read bs t ≡ at as_heap t
-global_means bs t known = read_alike (lives_in bs) as_heap t (all_in (IsKnown 0) (λ r. lives_in bs r ≡ as_heap r) none t known)
+global_means bs t known = read_alike (lives_in bs) as_heap t (all_in_weaker (IsKnown 0) (λ r. lives_in bs r ≡ as_heap r) none t known)
   where
     none : (r : Region) → IsKnown 0 r → lives_in bs r ≡ as_heap r
     none regions.Heap is = refl
@@ -679,11 +679,11 @@ contained (regions.Variable k ∷ rs) n has = elim (contains_later (regions.Vari
     either true c e = refl
     either false c e = e
 
-among_live : (c : Context) (m rs : List Region) (n : ℕ) → AreLive c (map (substituted_region m) rs) → is_among n rs ≡ true → IsLive c (substituted_region m (regions.Variable n))
-among_live c m [] n are e = absurd (let k : false ≡ true = e in cc)
-among_live c m (regions.Heap ∷ rs) n (is, are) e = among_live c m rs n are e
-among_live c m (regions.Unique ∷ rs) n (is, are) e = among_live c m rs n are e
-among_live c m (regions.Variable k ∷ rs) n (is, are) e = among_either (n == k) refl e (among_live c m rs n are)
+substituted_among_live : (c : Context) (m rs : List Region) (n : ℕ) → AreLive c (map (substituted_region m) rs) → is_among n rs ≡ true → IsLive c (substituted_region m (regions.Variable n))
+substituted_among_live c m [] n are e = absurd (let k : false ≡ true = e in cc)
+substituted_among_live c m (regions.Heap ∷ rs) n (is, are) e = substituted_among_live c m rs n are e
+substituted_among_live c m (regions.Unique ∷ rs) n (is, are) e = substituted_among_live c m rs n are e
+substituted_among_live c m (regions.Variable k ∷ rs) n (is, are) e = among_either (n == k) refl e (substituted_among_live c m rs n are)
   where
     among_either : (b : Bool) → (n == k) ≡ b → (if b then true else is_among n rs) ≡ true → (is_among n rs ≡ true → IsLive c (substituted_region m (regions.Variable n)))
         → IsLive c (substituted_region m (regions.Variable n))
@@ -744,6 +744,6 @@ module _ (p : Program) (x : Exits) (bs : List InScope) (c : Context) (stands : I
   pub instance_is : IsInstance bs h (these_by (lives_in bs) m) (λ k. is_among k h.effect)
   instance_is = record {
     stand = instance_by_scope;
-    lasting = λ n live. (substituted_region m (regions.Variable n), never_unique m n apart, there_of p x bs c stands (substituted_region m (regions.Variable n)) (among_live c m h.effect n alive live), refl);
+    lasting = λ n live. (substituted_region m (regions.Variable n), never_unique m n apart, there_of p x bs c stands (substituted_region m (regions.Variable n)) (substituted_among_live c m h.effect n alive live), refl);
     named = λ n. (substituted_region m (regions.Variable n), never_unique m n apart, refl);
   }

@@ -59,13 +59,13 @@ all_of : (P Q : Region → Type 0) → ((r : Region) → P r → Q r) → (rs : 
 all_of P Q so [] all = tt
 all_of P Q so (r ∷ rs) (one, all) = (so r one, all_of P Q so rs all)
 
-pub all_in : (P Q : Region → Type 0) → ((r : Region) → P r → Q r) → (t : Ty) → AllIn P t → AllIn Q t
-all_in P Q so types.Int all = tt
-all_in P Q so types.Char all = tt
-all_in P Q so (types.Pointer k t r) (all, one) = (all_in P Q so t all, so r one)
-all_in P Q so (types.Handle r) one = so r one
-all_in P Q so (types.Key r) one = so r one
-all_in P Q so (types.Struct n rs) all = all_of P Q so rs all
+pub all_in_weaker : (P Q : Region → Type 0) → ((r : Region) → P r → Q r) → (t : Ty) → AllIn P t → AllIn Q t
+all_in_weaker P Q so types.Int all = tt
+all_in_weaker P Q so types.Char all = tt
+all_in_weaker P Q so (types.Pointer k t r) (all, one) = (all_in_weaker P Q so t all, so r one)
+all_in_weaker P Q so (types.Handle r) one = so r one
+all_in_weaker P Q so (types.Key r) one = so r one
+all_in_weaker P Q so (types.Struct n rs) all = all_of P Q so rs all
 
 every_of : (P : Region → Type 0) → ((r : Region) → P r) → (rs : List Region) → AllOf P rs
 every_of P so [] = tt

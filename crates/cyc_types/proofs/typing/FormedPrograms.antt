@@ -223,10 +223,10 @@ base_known names base x r e = elim (base x) [ inl none ↦ absurd (none_is_not_s
     from_some a b f = ap (λ (o : Option RegionCode). unwrap_or o a) f
 
 -- the parameters of a struct, from this number on
-pub parameters_known : (rs : List Named) (n : ℕ) (names : List RegionName) → ((x : ℕ) (r : RegionCode) → region_among names x ≡ Some r → IsKnown 0 r)
+pub parameter_regions_known : (rs : List Named) (n : ℕ) (names : List RegionName) → ((x : ℕ) (r : RegionCode) → region_among names x ≡ Some r → IsKnown 0 r)
     → (x : ℕ) (r : RegionCode) → region_among (parameter_names rs n names) x ≡ Some r → IsKnown (n + length rs) r
-parameters_known [] n names known x r e = known_more 0 (n + 0) r (omega arith) (known x r e)
-parameters_known (q ∷ rs) n names known x r e = go (nat_eq q.name x) e (λ f. known_more (suc n + length rs) (n + suc (length rs)) r (omega arith) (parameters_known rs (suc n) names known x r f))
+parameter_regions_known [] n names known x r e = known_more 0 (n + 0) r (omega arith) (known x r e)
+parameter_regions_known (q ∷ rs) n names known x r e = go (nat_eq q.name x) e (λ f. known_more (suc n + length rs) (n + suc (length rs)) r (omega arith) (parameter_regions_known rs (suc n) names known x r f))
   where
     go : (b : Bool) → cond b (Some (regions.Variable n)) (region_among (parameter_names rs (suc n) names) x) ≡ Some r
         → (region_among (parameter_names rs (suc n) names) x ≡ Some r → IsKnown (n + suc (length rs)) r) → IsKnown (n + suc (length rs)) r
@@ -248,9 +248,9 @@ no_key_written structs names d b (m ∷ ms) k = no_key_behind names d (base_writ
 
 -- ---- parameters
 
-regions-length : (n : Naming) (rs : List Named) → length (regions_for n rs) ≡ length rs
-regions-length n [] = refl
-regions-length n (r ∷ rs) = ap suc (regions-length (after_region n r) rs)
+named-regions-length : (n : Naming) (rs : List Named) → length (regions_for n rs) ≡ length rs
+named-regions-length n [] = refl
+named-regions-length n (r ∷ rs) = ap suc (named-regions-length (after_region n r) rs)
 
 parameter_counted : (structs : List StructName) (names : List RegionName) (own : Option ℕ) (n : Naming) (w : WrittenType) → AllKept (type_demanded structs names own w) → IsCounted structs (type_for structs n w)
 parameter_counted structs names own n w kept = marked (after_base n w.base) (base_for structs n w.base) w.marks (base w.base (kept_append (base_demanded structs names own w.place w.base) _ kept).0)
@@ -263,7 +263,7 @@ parameter_counted structs names own n w kept = marked (after_base n w.base) (bas
     base written.Int k = tt
     base written.Char k = tt
     base (written.Struct s []) (there, (count, more)) = arguments_counted structs names s.name [] count
-    base (written.Struct s (r ∷ rs)) (there, (count, more)) = λ s' at. regions-length n (r ∷ rs) ∙ (sym (length-map (r ∷ rs) (formation.region_of names)) ∙ arguments_counted structs names s.name (r ∷ rs) count s' at)
+    base (written.Struct s (r ∷ rs)) (there, (count, more)) = λ s' at. named-regions-length n (r ∷ rs) ∙ (sym (length-map (r ∷ rs) (formation.region_of names)) ∙ arguments_counted structs names s.name (r ∷ rs) count s' at)
     base (written.Handle r) k = tt
     base (written.Key r) k = tt
 
@@ -334,7 +334,7 @@ module _ (k : Known) (base : IsBase k.regions) where
   heads_formed b [] d = ((λ n fs e. absurd (cc)), tt, tt, (λ n m x. tt))
   heads_formed b (StructType s rs ms ∷ ds) (u, (v, new, (w, distinct, fields)), d) =
       let (types, structs, globals, meanings) = heads_formed (after_head b (StructType s rs ms)) ds d in
-      let (one, two) = fields_formed (parameter_names rs 0 k.regions) (length rs) [] ms u (λ x r e. known_more (0 + length rs) (length rs) r (omega arith) (parameters_known rs 0 k.regions (base_known k.regions base) x r e)) fields in
+      let (one, two) = fields_formed (parameter_names rs 0 k.regions) (length rs) [] ms u (λ x r e. known_more (0 + length rs) (length rs) r (omega arith) (parameter_regions_known rs 0 k.regions (base_known k.regions base) x r e)) fields in
       ((λ n fs e. there n fs one types e), (two, structs), globals, meanings)
     where
       there : (n : ℕ) (fs : List Field) → AreFormedFieldTypes k.structs (length rs) (fields_written k (parameter_names rs 0 k.regions) ms)

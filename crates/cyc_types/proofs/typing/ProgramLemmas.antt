@@ -309,9 +309,9 @@ nothing_in : {A : Type 0} (xs : List A) → is_empty xs ≡ true → xs ≡ []
 nothing_in [] e = refl
 nothing_in (x ∷ xs) e = absurd (cc)
 
-left_out : {A : Type 0} (o : Option A) → is_left_out o ≡ true → o ≡ None
-left_out None e = refl
-left_out (Some x) e = absurd (cc)
+left_out_is_none : {A : Type 0} (o : Option A) → is_left_out o ≡ true → o ≡ None
+left_out_is_none None e = refl
+left_out_is_none (Some x) e = absurd (cc)
 
 main_type : (k : Known) (r : Option WrittenType) (ps : Parameters) → is_main_head r ps ≡ true → signature_of k r ps ≡ signature_of_ints []
 main_type k r ps e =
@@ -319,7 +319,7 @@ main_type k r ps e =
     let (none, others) = and_parts (is_empty (members_of ps.list)) (is_left_out ps.effect && is_empty ps.constraints) more in
     let (effect, constraints) = and_parts (is_left_out ps.effect) (is_empty ps.constraints) others in
     ap (λ ms. of_parts k r ms ps.effect ps.constraints) (nothing_in (members_of ps.list) none)
-    ∙ (ap (λ o. of_parts k r [] o ps.constraints) (left_out ps.effect effect) ∙ (ap (λ cs. of_parts k r [] None cs) (nothing_in ps.constraints constraints) ∙ int_written k r result))
+    ∙ (ap (λ o. of_parts k r [] o ps.constraints) (left_out_is_none ps.effect effect) ∙ (ap (λ cs. of_parts k r [] None cs) (nothing_in ps.constraints constraints) ∙ int_written k r result))
 
 not_main : (c d : Bool) → not c ≡ true → c || d ≡ true → d ≡ true
 not_main true d e h = absurd (cc)

@@ -382,12 +382,12 @@ mutual
 
 -- ---- declarations
 
-either_word : (b : Bool) → constant_weight (cond b typed.Null (typed.Word 0)) ≤ 0
-either_word true = omega arith
-either_word false = omega arith
+either_weightless : (b : Bool) → constant_weight (cond b typed.Null (typed.Word 0)) ≤ 0
+either_weightless true = omega arith
+either_weightless false = omega arith
 
 constant_lighter : (t : Ty) (v : Option GlobalValue) → constant_weight (constant_of t v) ≤ optional_weight value_weight v
-constant_lighter t None = either_word _
+constant_lighter t None = either_weightless _
 constant_lighter t (Some (Positive p n)) = word_lighter _
 constant_lighter t (Some (Negative p n)) = let two : constant_weight (constant_of t (Some (Negative p n))) ≤ 2 = word_lighter _ in omega arith
 constant_lighter t (Some (Byte p c)) = word_lighter _

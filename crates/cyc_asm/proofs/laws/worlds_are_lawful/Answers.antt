@@ -1,6 +1,6 @@
 -- The law is a lemma.
-use Rattle.cyc_asm.proofs.Running.{lawful}
+use Rattle.cyc_asm.proofs.Running.{world_is_lawful}
 use Rattle.cyc_asm.proofs.laws.worlds_are_lawful.Goals as goal
 
 pub returns : goal.returns
-returns c = lawful
+returns c = world_is_lawful

@@ -4,7 +4,7 @@ use Rattle.cyc_types.specs.TypedTreeView.{view_program}
 use Rattle.cyc_bound.specs.declared.bound.CallBound.{CallBound}
 use Rattle.cyc_bound.specs.Bound.{LeadTo, IsHeight, IsCircle, IsAnswer}
 use Rattle.cyc_bound.specs.inside.Walk.{AreHeights, GoesOn}
-use Rattle.cyc_bound.proofs.WalkLemmas.{IsSoFar, lead_more, circle_from, row_counts, row_behind, so_far_none, so_far_more, so_far_all, heights_more, deep_through, calls_at, popped, longer, greater, rest_whole}
+use Rattle.cyc_bound.proofs.WalkLemmas.{IsSoFar, lead_more, circle_from, row_counts, row_behind, so_far_none, so_far_more, so_far_all, heights_more, deep_through, calls_at, popped, longer, greater_is_max, rest_whole}
 use Rattle.cyc_bound.proofs.bound.+bound_from.Goals as goal
 
 pub returns-in-Some-clause-answer : goal.returns-in-Some-clause-answer
@@ -58,7 +58,7 @@ loop-callee-preserved t c =
     let count = c.in-Calls.count in
     let is = subst (λ (b : CallBound). IsAnswer p callee b) c.in-Calls.is c.in_ok-other.ensures.answer in
     let on = subst (λ (b : CallBound). GoesOn p c.loop-callee.path.items c.bound_from.new.path.items c.bound_from.new.heights.items b) c.in-Calls.is c.in_ok-other.ensures.goes_on in
-    let high : max c.loop-callee.height (count + 1) ≡ c.max-height.result = sym (c.max-height.ensures ∙ greater c.loop-callee.height (count + 1)) in
+    let high : max c.loop-callee.height (count + 1) ≡ c.max-height.result = sym (c.max-height.ensures ∙ greater_is_max c.loop-callee.height (count + 1)) in
     record {
       path = on.0 ∙ c.loop-callee.invariant.path;
       heights = on.1;

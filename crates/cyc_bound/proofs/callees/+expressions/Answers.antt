@@ -1,7 +1,7 @@
 use Rattle.std.proofs.lemmas.Result.{on_ok_weaker}
 use Rattle.cyc_types.specs.TypedTreeView.{view_expression, arguments_of, operations_of}
 use Rattle.cyc_bound.specs.Callees.{callee_of, expression_callees, arguments_callees, operations_callees}
-use Rattle.cyc_bound.proofs.CalleesFound.{one_part, two_parts, call_calls, binary_calls, fields_call}
+use Rattle.cyc_bound.proofs.CalleesFound.{one_part_found, two_parts, call_calls, binary_calls, fields_call}
 use Rattle.cyc_bound.proofs.callees.+expressions.Goals as goal
 
 pub add_expression-returns-in_ok-add_arguments-in-Call : goal.add_expression-returns-in_ok-add_arguments-in-Call
@@ -25,4 +25,4 @@ pub add_initial-returns-in-Fields : goal.add_initial-returns-in-Fields
 add_initial-returns-in-Fields t c =
     let items = c.deref.result.now in
     let e = fields_call c.args.initial.now c.in-Fields.values c.in-Fields.is items c.deref.ensures.value in
-    on_ok_weaker c.add_arguments.result (one_part c.add_arguments.new.found.items c.args.found.now.items (arguments_callees (arguments_of items)) _ e) c.add_arguments.ensures
+    on_ok_weaker c.add_arguments.result (one_part_found c.add_arguments.new.found.items c.args.found.now.items (arguments_callees (arguments_of items)) _ e) c.add_arguments.ensures

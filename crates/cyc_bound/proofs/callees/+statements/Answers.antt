@@ -3,14 +3,14 @@ use Rattle.std.proofs.lemmas.Result.{on_ok_weaker}
 use Rattle.cyc_types.specs.TypedTrees.{NoClauses}
 use Rattle.cyc_types.specs.TypedTreeView.{view_statement, items_of, clauses_of, default_of}
 use Rattle.cyc_bound.specs.Callees.{statement_callees, items_callees, clauses_callees}
-use Rattle.cyc_bound.proofs.CalleesFound.{one_part, two_parts, block_calls, try_calls}
+use Rattle.cyc_bound.proofs.CalleesFound.{one_part_found, two_parts, block_calls, try_calls}
 use Rattle.cyc_bound.proofs.callees.+statements.Goals as goal
 
 pub add_statement-returns-in-Block : goal.add_statement-returns-in-Block
 add_statement-returns-in-Block t c =
     let items = c.deref.result.now in
     let e = block_calls c.args.statement.now c.in-Block.region c.in-Block.items c.in-Block.is items c.deref.ensures.value in
-    on_ok_weaker c.add_items.result (one_part c.add_items.new.found.items c.args.found.now.items (items_callees (items_of items)) _ e) c.add_items.ensures
+    on_ok_weaker c.add_items.result (one_part_found c.add_items.new.found.items c.args.found.now.items (items_callees (items_of items)) _ e) c.add_items.ensures
 
 pub add_statement-returns-in_ok-add_clauses-in-Try : goal.add_statement-returns-in_ok-add_clauses-in-Try
 add_statement-returns-in_ok-add_clauses-in-Try t c =

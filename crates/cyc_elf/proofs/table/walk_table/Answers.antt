@@ -4,7 +4,7 @@ use Rattle.cyc_elf.specs.Reading.{first_fault, own_rules, is_load}
 use Rattle.cyc_elf.specs.Outline.{fields_of}
 use Rattle.cyc_elf.proofs.Rules.{described}
 use Rattle.cyc_elf.proofs.Sound.{kept_note}
-use Rattle.cyc_elf.proofs.Walks.{goes_on, ends, is_done}
+use Rattle.cyc_elf.proofs.Walks.{headers_go_on, fault_ends, is_done}
 use Rattle.cyc_elf.proofs.table.walk_table.Goals as goal
 use Rattle.cyc_elf.proofs.table.walk_table.Goals.{then-is_load+in_ok-push, else-is_load}
 
@@ -13,7 +13,7 @@ returns-in-Some c =
     let file = c.args.file.now in
     let h = fields_of c.at-header.result in
     let breaks = c.in-Some.ensures ∙ ap (λ b. first_fault (own_rules file b h)) c.is_some.ensures in
-    ends (map fields_of c.loop.loads.items) file c.loop.note c.args.count c.loop.counter c.loop.place h c.in-Some.fault _ c.loop-test.true c.at-header.ensures breaks c.loop.invariant.1
+    fault_ends (map fields_of c.loop.loads.items) file c.loop.note c.args.count c.loop.counter c.loop.place h c.in-Some.fault _ c.loop-test.true c.at-header.ensures breaks c.loop.invariant.1
 
 pub noted-note-requires : goal.noted-note-requires
 noted-note-requires c =
@@ -40,7 +40,7 @@ loop-preserved c =
     ] in
     let keeps : None ≡ first_fault (own_rules file (is_some c.loop.note) h)
     = sym c.in_default.is ∙ c.own_fault.ensures ∙ ap (λ b. first_fault (own_rules file b h)) c.is_some.ensures in
-    let so_far = goes_on front file c.loop.note c.args.count c.loop.counter c.loop.place h _ c.loop-test.true c.at-header.ensures keeps c.loop.invariant.1 in
+    let so_far = headers_go_on front file c.loop.note c.args.count c.loop.counter c.loop.place h _ c.loop-test.true c.at-header.ensures keeps c.loop.invariant.1 in
     (omega arith, rw (found, c.noted-note.ensures) so_far)
 
 pub returns : goal.returns

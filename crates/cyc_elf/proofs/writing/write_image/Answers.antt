@@ -6,7 +6,7 @@ use Rattle.cyc_elf.specs.Layout.{file_header, program_header, headers_of, stored
 use Rattle.cyc_elf.specs.Reading.{reading}
 use Rattle.cyc_elf.specs.inside.Parts.{IsInWords}
 use Rattle.cyc_elf.proofs.Writes.{All-left, All-right}
-use Rattle.cyc_elf.proofs.Again.{each_stored, counted, written, reading-layout}
+use Rattle.cyc_elf.proofs.Again.{each_stored, headers_counted, written, reading-layout}
 use Rattle.cyc_elf.proofs.writing.write_image.Goals as goal
 
 pub put_headers-requires-clause-each : goal.put_headers-requires-clause-each
@@ -15,7 +15,7 @@ put_headers-requires-clause-each c = each_stored c.args.image.now c.deref.result
 pub put_headers-requires-clause-offsets : goal.put_headers-requires-clause-offsets
 put_headers-requires-clause-offsets c =
     let i = contents_of c.args.image.now in
-    let many = counted c.args.image.now c.len.result c.note_count.result c.deref.result.now (c.len.ensures ∙ sym c.deref.ensures.len) c.note_count.ensures c.deref.ensures.value in
+    let many = headers_counted c.args.image.now c.len.result c.note_count.result c.deref.result.now (c.len.ensures ∙ sym c.deref.ensures.len) c.note_count.ensures c.deref.ensures.value in
     let fit = All-left (λ h. h.offset < 2 ^ 32) (headers_of (bytes_start i) i.segments) (note_headers (note_start i) i.note) c.requires.fits.offsets in
     subst (λ ss. All (λ h. h.offset < 2 ^ 32) (headers_of (52 + 32 * (c.len.result + c.note_count.result)) (map segment_contents ss))) (sym c.deref.ensures.value)
     (subst (λ (n : ℕ). All (λ h. h.offset < 2 ^ 32) (headers_of (52 + 32 * n) i.segments)) (sym many) fit)
@@ -23,7 +23,7 @@ put_headers-requires-clause-offsets c =
 pub put_note_header-requires : goal.put_note_header-requires
 put_note_header-requires c =
     let i = contents_of c.args.image.now in
-    let many = counted c.args.image.now c.len.result c.note_count.result c.deref.result.now (c.len.ensures ∙ sym c.deref.ensures.len) c.note_count.ensures c.deref.ensures.value in
+    let many = headers_counted c.args.image.now c.len.result c.note_count.result c.deref.result.now (c.len.ensures ∙ sym c.deref.ensures.len) c.note_count.ensures c.deref.ensures.value in
     let fit = All-right (λ h. h.offset < 2 ^ 32) (headers_of (bytes_start i) i.segments) (note_headers (note_start i) i.note) c.requires.fits.offsets in
     let end : c.in_ok-end.end ≡ note_start i
     = c.in_ok-end.ensures.end
@@ -34,7 +34,7 @@ put_note_header-requires c =
 pub returns-clause-exact : goal.returns-clause-exact
 returns-clause-exact c =
     let i = contents_of c.args.image.now in
-    let many = counted c.args.image.now c.len.result c.note_count.result c.deref.result.now (c.len.ensures ∙ sym c.deref.ensures.len) c.note_count.ensures c.deref.ensures.value in
+    let many = headers_counted c.args.image.now c.len.result c.note_count.result c.deref.result.now (c.len.ensures ∙ sym c.deref.ensures.len) c.note_count.ensures c.deref.ensures.value in
     let end : c.in_ok-end.end ≡ note_start i
     = c.in_ok-end.ensures.end
     ∙ ap (λ ss. bytes_end (52 + 32 * (c.len.result + c.note_count.result)) (map segment_contents ss)) c.deref.ensures.value
@@ -50,7 +50,7 @@ returns-clause-exact c =
 pub returns-clause-read_again : goal.returns-clause-read_again
 returns-clause-read_again c =
     let i = contents_of c.args.image.now in
-    let many = counted c.args.image.now c.len.result c.note_count.result c.deref.result.now (c.len.ensures ∙ sym c.deref.ensures.len) c.note_count.ensures c.deref.ensures.value in
+    let many = headers_counted c.args.image.now c.len.result c.note_count.result c.deref.result.now (c.len.ensures ∙ sym c.deref.ensures.len) c.note_count.ensures c.deref.ensures.value in
     let end : c.in_ok-end.end ≡ note_start i
     = c.in_ok-end.ensures.end
     ∙ ap (λ ss. bytes_end (52 + 32 * (c.len.result + c.note_count.result)) (map segment_contents ss)) c.deref.ensures.value

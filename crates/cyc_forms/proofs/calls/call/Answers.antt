@@ -1,7 +1,7 @@
 use Rattle.std.proofs.Common.{Ok, ap, subst, ◌∙◌}
 use Rattle.cyc_types.specs.TypedTrees.{Call}
 use Rattle.cyc_types.specs.TypedTreeView.{arguments_of}
-use Rattle.cyc_types.proofs.TypedTreeViewLemmas.{view_call}
+use Rattle.cyc_types.proofs.TypedTreeViewLemmas.{view_typed_call}
 use Rattle.cyc_scope.specs.inside.Code.{Gives}
 use Rattle.cyc_forms.specs.inside.Forms.{view_boxed}
 use Rattle.cyc_forms.proofs.calls.call.Goals as goal
@@ -9,5 +9,5 @@ use Rattle.cyc_forms.proofs.calls.call.Goals as goal
 pub returns : goal.returns
 returns c =
     subst (λ o. Gives view_boxed c.boxed.result o)
-    (ap Ok (view_call c.args.span c.args.callee c.args.arguments c.result_type-given.result ∙ ap (Call c.args.callee (arguments_of c.args.arguments.items)) c.result_type-given.ensures))
+    (ap Ok (view_typed_call c.args.span c.args.callee c.args.arguments c.result_type-given.result ∙ ap (Call c.args.callee (arguments_of c.args.arguments.items)) c.result_type-given.ensures))
     c.boxed.ensures

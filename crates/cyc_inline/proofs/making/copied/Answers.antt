@@ -1,7 +1,7 @@
 use Rattle.std.proofs.Common.{◌≡◌, ◌∙◌, length, ap, sym, subst, arith}
 use Rattle.cyc_plain.specs.inside.Program.{Routine, routine_of, routine_at}
 use Rattle.cyc_inline.specs.inside.Emission.{AreOwn, IsMade}
-use Rattle.cyc_inline.proofs.RangesCopied.{copied}
+use Rattle.cyc_inline.proofs.RangesCopied.{copied_is_made}
 use Rattle.cyc_inline.proofs.making.copied.Goals as goal
 
 pub returns-clause-made : goal.returns-clause-made
@@ -20,4 +20,4 @@ returns-clause-made c =
     let all : c.loop-index.index ≡ length f.code.items = omega (arith, items, vector, least, most) in
     let count : c.loop-index.index ≡ length r.code = all ∙ ap (λ (x : Routine). length x.code) c.function-function.ensures in
     subst (λ (s : Routine). IsMade program number s c.loop-index.origins.items) (sym (same ∙ c.function-function.ensures))
-    (copied program number c.loop-index.origins.items c.requires.plain c.requires.number (subst (λ n. AreOwn number n c.loop-index.origins.items) count c.loop-index.invariant))
+    (copied_is_made program number c.loop-index.origins.items c.requires.plain c.requires.number (subst (λ n. AreOwn number n c.loop-index.origins.items) count c.loop-index.invariant))

@@ -1,4 +1,4 @@
-use Rattle.cyc_lex.proofs.FaultLemmas.{accepted_once, refused_once, not_both}
+use Rattle.cyc_lex.proofs.FaultLemmas.{accepted_once, refused_once, not_accepted_and_refused}
 use Rattle.cyc_lex.proofs.laws.one_answer.Goals as goal
 
 pub returns-clause-tokens : goal.returns-clause-tokens
@@ -8,4 +8,4 @@ pub returns-clause-fault : goal.returns-clause-fault
 returns-clause-fault c = refused_once
 
 pub returns-clause-not_both : goal.returns-clause-not_both
-returns-clause-not_both c = not_both
+returns-clause-not_both c = not_accepted_and_refused

@@ -1,6 +1,6 @@
 -- Limits.
 use Rattle.cyc_meaning.specs.Run.{start}
-use Rattle.cyc_meaning.proofs.RunLaws.{limited_agrees, limited_until_full, limited_comes_to, limited_is_full, starts_within, start_not_full, run_not_full}
+use Rattle.cyc_meaning.proofs.RunLaws.{limited_agrees, limited_until_full, limited_comes_to, limited_is_full, within_at_start, start_not_full, run_not_full}
 use Rattle.cyc_meaning.proofs.laws.limited_run_agrees.Goals as goal
 
 pub returns-clause-within : goal.returns-clause-within
@@ -13,7 +13,7 @@ pub returns-clause-full : goal.returns-clause-full
 returns-clause-full c = λ program pages calls last count input within past less. limited_is_full program pages calls last count (start program input) within past less
 
 pub returns-clause-starts : goal.returns-clause-starts
-returns-clause-starts c = starts_within
+returns-clause-starts c = within_at_start
 
 pub returns-clause-unlimited : goal.returns-clause-unlimited
 returns-clause-unlimited c = λ program input count. run_not_full program count (start program input) (start_not_full program input)

@@ -4,7 +4,7 @@ use Rattle.std.proofs.lemmas.Fn.{filter_same}
 use Rattle.std.specs.Prelude.{List}
 use Rattle.cyc_simplify.specs.declared.fact.Fact.{Fact}
 use Rattle.cyc_simplify.specs.inside.Entries.{keeps_all}
-use Rattle.cyc_simplify.proofs.Keeping.{nothing_changed, all_kept}
+use Rattle.cyc_simplify.proofs.Keeping.{nothing_changed, all_facts_kept}
 use Rattle.cyc_simplify.proofs.effects.keep.Goals as goal
 
 pub returns-then-changes_nothing : goal.returns-then-changes_nothing
@@ -15,5 +15,5 @@ returns-then-not-keeps_all c = filter_same _ _ _ (λ x b f' k. search rules) _ _
 
 pub returns-else-not-keeps_all : goal.returns-else-not-keeps_all
 returns-else-not-keeps_all c =
-    sym (all_kept c.args.slots c.args.touched c.args.facts.now.items
+    sym (all_facts_kept c.args.slots c.args.touched c.args.facts.now.items
     (subst (λ (facts : List Fact). keeps_all c.args.slots c.args.touched facts ≡ true) c.deref.ensures.value (sym c.keeps_all.ensures ∙ c.if-not-keeps_all.false)))

@@ -6,7 +6,7 @@ use Rattle.cyc_plain.specs.inside.Program.{routine_of, program_of}
 use Rattle.cyc_simplify.specs.inside.Entries.{AreFirstReplaced}
 use Rattle.cyc_simplify.specs.inside.Simplified.{IsSimplified}
 use Rattle.cyc_simplify.proofs.Sizes.{is_plain, is_simplified}
-use Rattle.cyc_simplify.proofs.Walks.{each_replaced, more_replaced}
+use Rattle.cyc_simplify.proofs.Walks.{program_replaced, more_replaced}
 use Rattle.cyc_simplify.proofs.simplification.simplify.Goals as goal
 
 pub loop-number-preserved : goal.loop-number-preserved
@@ -19,7 +19,7 @@ pub new-requires : goal.new-requires
 new-requires c =
     let globals = rw c.in_ok-globals.ensures.items at c.in_ok-extend_from_slice.ensures.items in
     let made = program_of c.loop-number.functions.items c.extend_from_slice.new.self.items c.main.result in
-    let replaced = each_replaced c.args.plain.now c.functions-given.result.now c.loop-number.functions.items c.loop-number.number c.extend_from_slice.new.self.items c.main.result
+    let replaced = program_replaced c.args.plain.now c.functions-given.result.now c.loop-number.functions.items c.loop-number.number c.extend_from_slice.new.self.items c.main.result
     c.functions-given.ensures.value c.loop-number.auto.number-end c.loop-number-test.false c.loop-number.invariant (globals ∙ c.globals-2.ensures) c.main.ensures.value in
     is_plain c.args.plain.now made replaced c.functions-given.ensures.plain
 
@@ -27,6 +27,6 @@ pub returns : goal.returns
 returns c =
     let globals = rw c.in_ok-globals.ensures.items at c.in_ok-extend_from_slice.ensures.items in
     let made = program_of c.loop-number.functions.items c.extend_from_slice.new.self.items c.main.result in
-    let replaced = each_replaced c.args.plain.now c.functions-given.result.now c.loop-number.functions.items c.loop-number.number c.extend_from_slice.new.self.items c.main.result
+    let replaced = program_replaced c.args.plain.now c.functions-given.result.now c.loop-number.functions.items c.loop-number.number c.extend_from_slice.new.self.items c.main.result
     c.functions-given.ensures.value c.loop-number.auto.number-end c.loop-number-test.false c.loop-number.invariant (globals ∙ c.globals-2.ensures) c.main.ensures.value in
     subst (IsSimplified c.args.plain.now) (sym c.new.ensures) (is_simplified c.args.plain.now made replaced c.functions-given.ensures.plain)

@@ -5,7 +5,7 @@ use Rattle.cyc_types.proofs.typing.ProgramLemmas.{program_well}
 use Rattle.cyc_lower.proofs.acceptance.Accepted.{accepted_can_be_lowered}
 use Rattle.cyc_system.specs.Front.{names_in, IsAcceptedText}
 use Rattle.cyc_system.proofs.Amounts.{accepted_light, accepted_sound}
-use Rattle.cyc_system.proofs.Fronts.{HasPhases, refused_alike, accepted_alike}
+use Rattle.cyc_system.proofs.Fronts.{HasPhases, refused_by_both, accepted_alike}
 use Rattle.cyc_system.proofs.Refusals.{HasImage, HasImageBeside, behind_answers, front_answers}
 use Rattle.cyc_system.proofs.compiler.compile_with_tokens.Goals as goal
 
@@ -44,7 +44,7 @@ returns-in_err-image c =
     let f = c.in_err-image.field-0.0 in
     let e = err_from_is_err_and c.from_residual-in_err-image.result c.from_residual-in_err-image.ensures.1 in
     record {
-      decides = rw (e.1, e.2) (refused_alike HasImage HasImageBeside f
+      decides = rw (e.1, e.2) (refused_by_both HasImage HasImageBeside f
           (behind_answers HasImage text (view_program c.in_ok-phases.phases.program.tree) (subst (IsAcceptedText text) (sym same) is) d.accepts d.refuses (Err f) c.in_err-image.ensures.decides));
       tokens = rw e.1 tt;
       program = rw e.1 tt;

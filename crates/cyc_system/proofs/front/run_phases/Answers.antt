@@ -9,7 +9,7 @@ use Rattle.cyc_types.specs.TypedTreeView.{view_program}
 use Rattle.cyc_types.specs.typing.Programs.{IsTypedProgram, IsRefusedProgram}
 use Rattle.cyc_soundness.specs.Sound.{IsSound}
 use Rattle.cyc_system.specs.Front.{names_in}
-use Rattle.cyc_system.proofs.Fronts.{passed, stopped, lexed, of_tokens, checked, lexer_answers, parser_answers, checker_answers, flow_answers, HasProgram, HasPhases, refused_alike, accepted_alike}
+use Rattle.cyc_system.proofs.Fronts.{passed, stopped_front, lexed, of_tokens, checked, lexer_answers, parser_answers, checker_answers, flow_answers, HasProgram, HasPhases, refused_by_both, accepted_alike}
 use Rattle.cyc_system.proofs.front.run_phases.Goals as goal
 
 pub returns-in_err-tokens : goal.returns-in_err-tokens
@@ -18,7 +18,7 @@ returns-in_err-tokens c =
     let f = c.in_err-tokens.field-0.0 in
     let d = c.in_err-tokens.ensures.decides in
     let p = err_from_is_err_and c.from_residual.result c.from_residual.ensures.1 in
-    record { decides = rw (p.1, p.2) (refused_alike HasProgram HasPhases f (lexer_answers text f d.refused (stopped _ _ _ _ f d))); tokens = rw p.1 tt; tree = rw p.1 tt; sound = rw p.1 tt }
+    record { decides = rw (p.1, p.2) (refused_by_both HasProgram HasPhases f (lexer_answers text f d.refused (stopped_front _ _ _ _ f d))); tokens = rw p.1 tt; tree = rw p.1 tt; sound = rw p.1 tt }
 
 pub returns-in_err-tree : goal.returns-in_err-tree
 returns-in_err-tree c =
@@ -29,7 +29,7 @@ returns-in_err-tree c =
     let f = c.in_err-tree.field-0.0 in
     let d = c.in_err-tree.ensures.decides in
     let p = err_from_is_err_and c.from_residual-in_err-tree.result c.from_residual-in_err-tree.ensures.1 in
-    record { decides = rw (p.1, p.2) (refused_alike HasProgram HasPhases f (parser_answers text tokens f l d.refused (stopped _ _ _ _ f d))); tokens = rw p.1 tt; tree = rw p.1 tt; sound = rw p.1 tt }
+    record { decides = rw (p.1, p.2) (refused_by_both HasProgram HasPhases f (parser_answers text tokens f l d.refused (stopped_front _ _ _ _ f d))); tokens = rw p.1 tt; tree = rw p.1 tt; sound = rw p.1 tt }
 
 pub returns-in_err-typed : goal.returns-in_err-typed
 returns-in_err-typed c =
@@ -41,7 +41,7 @@ returns-in_err-typed c =
     let f = c.in_err-typed.field-0.0 in
     let d = c.in_err-typed.ensures.decides in
     let p = err_from_is_err_and c.from_residual-in_err-typed.result c.from_residual-in_err-typed.ensures.1 in
-    record { decides = rw (p.1, p.2) (refused_alike HasProgram HasPhases f (checker_answers text tokens (declarations_of c.in_ok-tree.tree) c.in_ok-tree.tree.names f l r c.in_ok-tree.ensures.names d.refused (stopped _ _ _ _ f d))); tokens = rw p.1 tt; tree = rw p.1 tt; sound = rw p.1 tt }
+    record { decides = rw (p.1, p.2) (refused_by_both HasProgram HasPhases f (checker_answers text tokens (declarations_of c.in_ok-tree.tree) c.in_ok-tree.tree.names f l r c.in_ok-tree.ensures.names d.refused (stopped_front _ _ _ _ f d))); tokens = rw p.1 tt; tree = rw p.1 tt; sound = rw p.1 tt }
 
 pub returns-in_err-program : goal.returns-in_err-program
 returns-in_err-program c =
@@ -56,7 +56,7 @@ returns-in_err-program c =
     (passed view_program (IsTypedProgram texts tree) (IsRefusedProgram texts tree) (IsRefusedProgram texts tree) c.in_ok-typed.typed c.in_ok-typed.ensures.decides) in
     let f = c.in_err-program.field-0.0 in
     let p = err_from_is_err_and c.from_residual-in_err-program.result c.from_residual-in_err-program.ensures.1 in
-    record { decides = rw (p.1, p.2) (refused_alike HasProgram HasPhases f (flow_answers text tokens tree c.in_ok-typed.typed (Err f) l r k c.in_err-program.ensures.decides)); tokens = rw p.1 tt; tree = rw p.1 tt; sound = rw p.1 tt }
+    record { decides = rw (p.1, p.2) (refused_by_both HasProgram HasPhases f (flow_answers text tokens tree c.in_ok-typed.typed (Err f) l r k c.in_err-program.ensures.decides)); tokens = rw p.1 tt; tree = rw p.1 tt; sound = rw p.1 tt }
 
 pub returns : goal.returns
 returns c =

@@ -3,13 +3,13 @@ use Rattle.std.proofs.lemmas.Result.{err_from_is_err_and}
 use Rattle.cyc_types.specs.TypedTrees.{Program}
 use Rattle.cyc_system.specs.declared.bounded.Bounds.{Bounds}
 use Rattle.cyc_system.specs.Needs.{AreBounds}
-use Rattle.cyc_system.proofs.Fronts.{HasPhases, HasBoundsBeside, refused_alike, accepted_alike}
+use Rattle.cyc_system.proofs.Fronts.{HasPhases, HasBoundsBeside, refused_by_both, accepted_alike}
 use Rattle.cyc_system.proofs.needs.bounds_with_tokens.Goals as goal
 
 pub returns-in_err-phases-clause-decides : goal.returns-in_err-phases-clause-decides
 returns-in_err-phases-clause-decides c =
     let e = err_from_is_err_and c.from_residual.result c.from_residual.ensures.1 in
-    rw (e.1, e.2) (refused_alike HasPhases HasBoundsBeside c.in_err-phases.field-0.0 c.in_err-phases.ensures.decides)
+    rw (e.1, e.2) (refused_by_both HasPhases HasBoundsBeside c.in_err-phases.field-0.0 c.in_err-phases.ensures.decides)
 
 pub returns-clause-decides : goal.returns-clause-decides
 returns-clause-decides c =
