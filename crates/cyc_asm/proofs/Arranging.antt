@@ -4,7 +4,7 @@ use Rattle.std.specs.Prelude.{◌&&◌, All, slice_get, flat_map}
 use Rattle.std.specs.List.{swap, range_with_len}
 use Rattle.std.specs.List.Sorted.{IsPermutation}
 use Rattle.std.specs.Option.{is_some}
-use Rattle.std.proofs.lemmas.Bool.{cases_lt}
+use Rattle.std.proofs.lemmas.Bool.{cases_lt, not-true}
 use Rattle.std.proofs.lemmas.List.Edits.{length-swap, swapped_from_swap}
 use Rattle.std.proofs.lemmas.List.Sorted.{IsPermutation-refl, IsPermutation-trans, IsPermutation-swap, length_permutation, All-permutation, sum_by-IsPermutation, list_any-IsPermutation}
 use Rattle.std.proofs.lemmas.Option.{slice_get_within, slice_get_past, slice_get-get_or, get_or_from_slice_get}
@@ -20,7 +20,6 @@ use Rattle.cyc_machine.specs.State.{text_base}
 use Rattle.cyc_asm.specs.inside.Text.{stretch, own, IsTextInOrder, IsTextOf}
 use Rattle.cyc_asm.specs.inside.Words.{assembled}
 use Rattle.cyc_asm.specs.inside.Machine.{Runs}
-use Rattle.cyc_asm.proofs.Moving.{false_from_not}
 use Rattle.cyc_asm.proofs.Fillings.{filled_moves}
 use Rattle.cyc_asm.proofs.Lengths.{length-arranged}
 use Rattle.cyc_asm.proofs.Exchanging.{IsExchange, exchange_runs}
@@ -149,7 +148,7 @@ module _ (globals : List ℕ) (code : List Line) (from : ℕ) (i : Instr) (found
       let last = passes_at code from (from + suc count) in
       let both = and_right (passes_all code from count) last may in
       one_more count (sinks count (and_left (passes_all code from count) last may))
-      (false_from_not (is_named code (from + suc count)) (and_left (not (is_named code (from + suc count))) (passes_line (slice_get code from) (slice_get code (from + suc count))) both))
+      (not-true (is_named code (from + suc count)) (and_left (not (is_named code (from + suc count))) (passes_line (slice_get code from) (slice_get code (from + suc count))) both))
       (and_right (not (is_named code (from + suc count))) (passes_line (slice_get code from) (slice_get code (from + suc count))) both)
 
 -- ---- the order of all

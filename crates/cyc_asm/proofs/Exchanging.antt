@@ -9,6 +9,7 @@ use Rattle.cyc_words.specs.Simulation.{Machine, Running, Ended, Failed, NeverFai
 use Rattle.cyc_words.specs.inside.Following.{Matching, IsStepped, IsUnderWay, IsOver, Steps, Follows}
 use Rattle.cyc_words.proofs.Simulation.{running_ended, simulates, in_a_row, follows-never_fails}
 use Rattle.cyc_words.proofs.Matching.{by_one}
+use Rattle.cyc_words.proofs.Booleans.{true_is_not_false}
 use Rattle.cyc_isa.specs.declared.instr.Instr.{Instr}
 use Rattle.cyc_machine.specs.declared.event.Cause.{Cause}
 use Rattle.cyc_machine.specs.declared.phase.Phase.{Phase}
@@ -47,9 +48,6 @@ pub record IsExchange (code exchanged : List Line) (number : ℕ) (first second 
 
 ordinary_no_call : (i : Instr) (label : ℕ) → Some (lines.Ordinary i) ≡ Some (lines.Call label) → ⊥
 ordinary_no_call i label is = cc
-
-true_false : true ≡ false → ⊥
-true_false is = cc
 
 failed_running : Failed ≡ Running → ⊥
 failed_running is = cc
@@ -142,7 +140,7 @@ module _ (code : Labelled) (exchanged : List Line) (number : ℕ) (first second 
   -- nothing goes to the second line
   label_outside : (at label : ℕ) (line : Line) → slice_get code.lines at ≡ Some line → label_of line ≡ Some label → label ≢ suc number
   label_outside at label line found goes same =
-      true_false (sym (label_named code.lines at label line found goes) ∙ ap (is_named code.lines) same ∙ x.unnamed)
+      true_is_not_false (sym (label_named code.lines at label line found goes) ∙ ap (is_named code.lines) same ∙ x.unnamed)
 
   module _ (c : Configuration) (not_first : c.line ≢ number) (outside : c.line ≢ suc number) where
     next_outside : c.line + 1 ≢ suc number

@@ -9,6 +9,7 @@ use Rattle.std.proofs.lemmas.List.{take_all}
 use Rattle.std.proofs.lemmas.List.Sums.{sum_by-append}
 use Rattle.std.proofs.lemmas.Option.{slice_get_within, get_or_from_slice_get, slice_get-get_or}
 use Rattle.cyc_words.proofs.Booleans.{and_right, and_left}
+use Rattle.cyc_words.proofs.Ranges.{range_push}
 use Rattle.cyc_machine.specs.State.{text_base}
 use Rattle.cyc_isa.specs.declared.instr.Instr.{Instr}
 use Rattle.cyc_select.specs.declared.code.Condition.{Condition}
@@ -140,19 +141,13 @@ near_above code from to near in_from in_to up =
     let second : most_before code from ≤ most_before code to + MAX_REACH = leb-true (most_before code from) (most_before code to + MAX_REACH) (and_right (nat_le (most_before code to) (most_before code from + MAX_REACH)) (nat_le (most_before code from) (most_before code to + MAX_REACH)) near) in
     omega (arith, most, second)
 
-range_with_more : (from count : ℕ) → range_with_len from (suc count) ≡ range_with_len from count ++ (from + count) ∷ []
-range_with_more from zero = ap (λ (n : ℕ). n ∷ []) (let e : from ≡ from + zero = omega arith in e)
-range_with_more from (suc count) =
-    ap (λ (rest : List ℕ). from ∷ rest) (range_with_more (from + 1) count)
-    ∙ ap (λ (n : ℕ). from ∷ (range_with_len (from + 1) count ++ n ∷ [])) (let e : from + 1 + count ≡ from + suc count = omega arith in e)
-
 -- the lines' own words are all words, in order
 pub own_words : (code : Labelled) (count : ℕ) → flat_map (own (addresses_in code.lines)) (range_with_len 0 count) ≡ stretch text_base (position code.lines count)
 own_words code zero = refl
 own_words code (suc count) =
     let p : ℕ = position code.lines count in
     let w : ℕ = width_at code.lines count in
-    ap (flat_map (own (addresses_in code.lines))) (range_with_more 0 count)
+    ap (flat_map (own (addresses_in code.lines))) (range_push 0 count)
     ∙ flat_map-append (own (addresses_in code.lines)) (range_with_len 0 count) (_ ∷ [])
     ∙ ap (λ (front : List ℕ). front ++ (own (addresses_in code.lines) (0 + count) ++ [])) (own_words code count)
     ∙ ap (λ (n : ℕ). stretch text_base p ++ (own (addresses_in code.lines) n ++ [])) (let e : 0 + count ≡ count = omega arith in e)

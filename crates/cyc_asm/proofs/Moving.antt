@@ -2,10 +2,11 @@
 -- does: it leaves the registers that it does not set, and does not see those that it does not read.
 use Rattle.std.proofs.Common.{◌≡◌, ◌≢◌, ℕ, ◌+◌, ◌-◌, ◌%◌, ◌^◌, Bool, true, false, not, ◌==◌, ◌||◌, ◌&&◌, List, [], ◌∷◌, length, Option, None, Some, refl, sym, ap, subst, ◌∙◌}
 use Rattle.std.specs.Prelude.{if◌then◌else◌, slice_index, slice_set}
-use Rattle.std.proofs.lemmas.Bool.{eq-eqb}
+use Rattle.std.proofs.lemmas.Bool.{not-true}
 use Rattle.std.proofs.lemmas.List.{get_or-set_other, set_comm}
 use Rattle.cyc_words.specs.Bytes.{byte_in, with_byte, word_of}
-use Rattle.cyc_words.proofs.Booleans.{and_right, and_left}
+use Rattle.cyc_words.proofs.Booleans.{and_right, and_left, or_left_false, or_right_false}
+use Rattle.cyc_words.proofs.Numbers.{other_from_eqb}
 use Rattle.cyc_isa.specs.Effect.{immediate_result, load_upper_result, arithmetic_result, shift_result, high_result, low_result, memory_address, branch_taken, branch_zero_taken}
 use Rattle.cyc_isa.specs.Uses.{reads, names_result, writes}
 use Rattle.cyc_isa.specs.declared.operand.Register.{Register}
@@ -31,21 +32,6 @@ use Rattle.cyc_select.specs.declared.code.Condition.TheVariants as conditions
 use Rattle.cyc_select.specs.inside.Labelled.{is_ordinary}
 use Rattle.cyc_select.specs.inside.Machine.{Configuration, State, Running, Stopped, Performs, settled, core_of, memory_of, machine_of, world_of, from_world, word_in, holds_of}
 use Rattle.cyc_asm.specs.inside.Slots.{is_movable, leaves}
-
-or_left : (a b : Bool) → (a || b) ≡ false → a ≡ false
-or_left true b none = none
-or_left false b none = refl
-
-or_right : (a b : Bool) → (a || b) ≡ false → b ≡ false
-or_right true b none = absurd (let e : true ≡ false = none in cc)
-or_right false b none = none
-
-pub false_from_not : (b : Bool) → not b ≡ true → b ≡ false
-false_from_not true is = absurd (let e : false ≡ true = is in cc)
-false_from_not false is = refl
-
-numbers_apart : (a b : ℕ) → (a == b) ≡ false → a ≢ b
-numbers_apart a b none same = let e : true ≡ false = sym (eq-eqb a b same) ∙ none in cc
 
 -- ---- what it does
 
@@ -191,24 +177,24 @@ both_set core target number word value value' same differ =
 -- ---- it leaves what it does not set
 
 sets-stays : (c : Configuration) (i : Instr) (n : ℕ) → is_movable i ≡ true → names_result i n ≡ false → word_in (did c i) n ≡ word_in c n
-sets-stays c (Immediate op t b h) n movable none = register-other (core_of c) t.number _ n (numbers_apart t.number n none)
-sets-stays c (LoadUpper t h) n movable none = register-other (core_of c) t.number _ n (numbers_apart t.number n none)
-sets-stays c (Memory LoadWord t b h) n movable none = register-other (core_of c) t.number _ n (numbers_apart t.number n none)
+sets-stays c (Immediate op t b h) n movable none = register-other (core_of c) t.number _ n (other_from_eqb t.number n none)
+sets-stays c (LoadUpper t h) n movable none = register-other (core_of c) t.number _ n (other_from_eqb t.number n none)
+sets-stays c (Memory LoadWord t b h) n movable none = register-other (core_of c) t.number _ n (other_from_eqb t.number n none)
 sets-stays c (Memory StoreWord t b h) n movable none = refl
-sets-stays c (Memory LoadByte t b h) n movable none = register-other (core_of c) t.number _ n (numbers_apart t.number n none)
+sets-stays c (Memory LoadByte t b h) n movable none = register-other (core_of c) t.number _ n (other_from_eqb t.number n none)
 sets-stays c (Memory StoreByte t b h) n movable none = refl
 sets-stays c (Branch op l r h) n movable none = cc
 sets-stays c (BranchZero op b h) n movable none = cc
 sets-stays c (Jump op x) n movable none = cc
-sets-stays c (Shift op d b a) n movable none = register-other (core_of c) d.number _ n (numbers_apart d.number n none)
-sets-stays c (ShiftVariable op d b k) n movable none = register-other (core_of c) d.number _ n (numbers_apart d.number n none)
+sets-stays c (Shift op d b a) n movable none = register-other (core_of c) d.number _ n (other_from_eqb d.number n none)
+sets-stays c (ShiftVariable op d b k) n movable none = register-other (core_of c) d.number _ n (other_from_eqb d.number n none)
 sets-stays c (JumpRegister b) n movable none = cc
 sets-stays c (JumpRegisterLink d b) n movable none = cc
 sets-stays c (Exception op x) n movable none = cc
-sets-stays c (MoveFrom High d) n movable none = register-other (core_of c) d.number _ n (numbers_apart d.number n none)
-sets-stays c (MoveFrom Low d) n movable none = register-other (core_of c) d.number _ n (numbers_apart d.number n none)
+sets-stays c (MoveFrom High d) n movable none = register-other (core_of c) d.number _ n (other_from_eqb d.number n none)
+sets-stays c (MoveFrom Low d) n movable none = register-other (core_of c) d.number _ n (other_from_eqb d.number n none)
 sets-stays c (MultiplyDivide op l r) n movable none = refl
-sets-stays c (Arithmetic op d l r) n movable none = register-other (core_of c) d.number _ n (numbers_apart d.number n none)
+sets-stays c (Arithmetic op d l r) n movable none = register-other (core_of c) d.number _ n (other_from_eqb d.number n none)
 
 pub unwritten_stays : (c : Configuration) (i : Instr) (n : ℕ) → is_movable i ≡ true → writes i n ≡ false → word_in (did c i) n ≡ word_in c n
 unwritten_stays c i n movable none = go (n == 0) refl
@@ -222,15 +208,15 @@ unwritten_stays c i n movable none = go (n == 0) refl
 -- so a branch is taken behind it where it is taken before it
 pub holds_stays : (c : Configuration) (i : Instr) (condition : Condition) → is_movable i ≡ true → leaves i condition ≡ true → holds_of (word_in (did c i)) condition ≡ holds_of (word_in c) condition
 holds_stays c i (conditions.Registers op left right) movable free =
-    ap (λ (x : ℕ). branch_taken op x (word_in (did c i) right.number)) (unwritten_stays c i left.number movable (false_from_not (writes i left.number) (and_left _ _ free)))
-    ∙ ap (branch_taken op (word_in c left.number)) (unwritten_stays c i right.number movable (false_from_not (writes i right.number) (and_right (not (writes i left.number)) _ free)))
+    ap (λ (x : ℕ). branch_taken op x (word_in (did c i) right.number)) (unwritten_stays c i left.number movable (not-true (writes i left.number) (and_left _ _ free)))
+    ∙ ap (branch_taken op (word_in c left.number)) (unwritten_stays c i right.number movable (not-true (writes i right.number) (and_right (not (writes i left.number)) _ free)))
 holds_stays c i (conditions.Sign op source) movable free =
-    ap (branch_zero_taken op) (unwritten_stays c i source.number movable (false_from_not (writes i source.number) free))
+    ap (branch_zero_taken op) (unwritten_stays c i source.number movable (not-true (writes i source.number) free))
 
 -- ---- it does not see what it does not read
 
 unread_register : (c : Configuration) (number word other : ℕ) → (other == number) ≡ false → word_in (with_word c number word) other ≡ word_in c other
-unread_register c number word other none = register-other (core_of c) number word other (λ same. numbers_apart other number none (sym same))
+unread_register c number word other none = register-other (core_of c) number word other (λ same. other_from_eqb other number none (sym same))
 
 -- memory is left the same where neither register of a store is the one that is set
 store_commutes : (c : Configuration) (t b : Register) (n w : ℕ) (left : (base word : ℕ) → machines.Memory) → (t.number == n || b.number == n) ≡ false
@@ -238,26 +224,26 @@ store_commutes : (c : Configuration) (t b : Register) (n w : ℕ) (left : (base 
     ≡ (let m : machines.Memory = left (word_in c b.number) (word_in c t.number) in let d : Configuration = record (with_word c n w) { globals = m.globals; stack = m.stack; store = m.store; line = c.line + 1 } in d)
 store_commutes c t b n w left free =
     ap (λ (m : machines.Memory). let d : Configuration = record (with_word c n w) { globals = m.globals; stack = m.stack; store = m.store; line = c.line + 1 } in d)
-    (ap (λ (x : ℕ). left x (word_in (with_word c n w) t.number)) (unread_register c n w b.number (or_right (t.number == n) (b.number == n) free))
-    ∙ ap (left (word_in c b.number)) (unread_register c n w t.number (or_left (t.number == n) (b.number == n) free)))
+    (ap (λ (x : ℕ). left x (word_in (with_word c n w) t.number)) (unread_register c n w b.number (or_right_false (t.number == n) (b.number == n) free))
+    ∙ ap (left (word_in c b.number)) (unread_register c n w t.number (or_left_false (t.number == n) (b.number == n) free)))
 
 -- a register set before it that it neither reads nor sets could as well be set behind it: so a call may link first
 pub commutes : (c : Configuration) (i : Instr) (n w : ℕ) → is_movable i ≡ true → reads i n ≡ false → names_result i n ≡ false → did (with_word c n w) i ≡ with_word (did c i) n w
 commutes c (Immediate op t b h) n w movable free none =
     ap (λ (rs : List ℕ). record (did c (Immediate op t b h)) { registers = rs })
-    (both_set (core_of c) t.number n w _ _ (ap (λ (x : ℕ). immediate_result op x h) (unread_register c n w b.number free)) (numbers_apart t.number n none))
+    (both_set (core_of c) t.number n w _ _ (ap (λ (x : ℕ). immediate_result op x h) (unread_register c n w b.number free)) (other_from_eqb t.number n none))
 commutes c (LoadUpper t h) n w movable free none =
     ap (λ (rs : List ℕ). record (did c (LoadUpper t h)) { registers = rs })
-    (both_set (core_of c) t.number n w (load_upper_result h) (load_upper_result h) refl (numbers_apart t.number n none))
+    (both_set (core_of c) t.number n w (load_upper_result h) (load_upper_result h) refl (other_from_eqb t.number n none))
 commutes c (Memory LoadWord t b h) n w movable free none =
     ap (λ (rs : List ℕ). record (did c (Memory LoadWord t b h)) { registers = rs })
-    (both_set (core_of c) t.number n w _ _ (ap (λ (x : ℕ). loaded (memory_of c) (place_of (memory_of c) (memory_address x h))) (unread_register c n w b.number free)) (numbers_apart t.number n none))
+    (both_set (core_of c) t.number n w _ _ (ap (λ (x : ℕ). loaded (memory_of c) (place_of (memory_of c) (memory_address x h))) (unread_register c n w b.number free)) (other_from_eqb t.number n none))
 commutes c (Memory StoreWord t b h) n w movable free none =
     store_commutes c t b n w (λ base word. stored (memory_of c) (place_of (memory_of c) (memory_address base h)) word) free
 commutes c (Memory LoadByte t b h) n w movable free none =
     ap (λ (rs : List ℕ). record (did c (Memory LoadByte t b h)) { registers = rs })
     (both_set (core_of c) t.number n w _ _
-    (ap (λ (x : ℕ). byte_in (loaded (memory_of c) (place_of (memory_of c) (word_of (memory_address x h)))) (memory_address x h % 4)) (unread_register c n w b.number free)) (numbers_apart t.number n none))
+    (ap (λ (x : ℕ). byte_in (loaded (memory_of c) (place_of (memory_of c) (word_of (memory_address x h)))) (memory_address x h % 4)) (unread_register c n w b.number free)) (other_from_eqb t.number n none))
 commutes c (Memory StoreByte t b h) n w movable free none =
     store_commutes c t b n w
     (λ base word. let place : Place = place_of (memory_of c) (word_of (memory_address base h)) in stored (memory_of c) place (with_byte (loaded (memory_of c) place) (memory_address base h % 4) (word % 256))) free
@@ -266,29 +252,29 @@ commutes c (BranchZero op b h) n w movable free none = cc
 commutes c (Jump op x) n w movable free none = cc
 commutes c (Shift op d b a) n w movable free none =
     ap (λ (rs : List ℕ). record (did c (Shift op d b a)) { registers = rs })
-    (both_set (core_of c) d.number n w _ _ (ap (λ (x : ℕ). shift_result op x a.bits) (unread_register c n w b.number free)) (numbers_apart d.number n none))
+    (both_set (core_of c) d.number n w _ _ (ap (λ (x : ℕ). shift_result op x a.bits) (unread_register c n w b.number free)) (other_from_eqb d.number n none))
 commutes c (ShiftVariable op d b k) n w movable free none =
     ap (λ (rs : List ℕ). record (did c (ShiftVariable op d b k)) { registers = rs })
     (both_set (core_of c) d.number n w _ _
-    (ap (λ (x : ℕ). shift_result op x (word_in (with_word c n w) k.number)) (unread_register c n w b.number (or_left (b.number == n) (k.number == n) free))
-    ∙ ap (shift_result op (word_in c b.number)) (unread_register c n w k.number (or_right (b.number == n) (k.number == n) free))) (numbers_apart d.number n none))
+    (ap (λ (x : ℕ). shift_result op x (word_in (with_word c n w) k.number)) (unread_register c n w b.number (or_left_false (b.number == n) (k.number == n) free))
+    ∙ ap (shift_result op (word_in c b.number)) (unread_register c n w k.number (or_right_false (b.number == n) (k.number == n) free))) (other_from_eqb d.number n none))
 commutes c (JumpRegister b) n w movable free none = cc
 commutes c (JumpRegisterLink d b) n w movable free none = cc
 commutes c (Exception op x) n w movable free none = cc
 commutes c (MoveFrom High d) n w movable free none =
-    ap (λ (rs : List ℕ). record (did c (MoveFrom High d)) { registers = rs }) (both_set (core_of c) d.number n w c.high c.high refl (numbers_apart d.number n none))
+    ap (λ (rs : List ℕ). record (did c (MoveFrom High d)) { registers = rs }) (both_set (core_of c) d.number n w c.high c.high refl (other_from_eqb d.number n none))
 commutes c (MoveFrom Low d) n w movable free none =
-    ap (λ (rs : List ℕ). record (did c (MoveFrom Low d)) { registers = rs }) (both_set (core_of c) d.number n w c.low c.low refl (numbers_apart d.number n none))
+    ap (λ (rs : List ℕ). record (did c (MoveFrom Low d)) { registers = rs }) (both_set (core_of c) d.number n w c.low c.low refl (other_from_eqb d.number n none))
 commutes c (MultiplyDivide op l r) n w movable free none =
-    let left : word_in (with_word c n w) l.number ≡ word_in c l.number = unread_register c n w l.number (or_left (l.number == n) (r.number == n) free) in
-    let right : word_in (with_word c n w) r.number ≡ word_in c r.number = unread_register c n w r.number (or_right (l.number == n) (r.number == n) free) in
+    let left : word_in (with_word c n w) l.number ≡ word_in c l.number = unread_register c n w l.number (or_left_false (l.number == n) (r.number == n) free) in
+    let right : word_in (with_word c n w) r.number ≡ word_in c r.number = unread_register c n w r.number (or_right_false (l.number == n) (r.number == n) free) in
     ap (λ (x : ℕ). record (with_word c n w) { high = high_result op x (word_in (with_word c n w) r.number); low = low_result op x (word_in (with_word c n w) r.number); line = c.line + 1 }) left
     ∙ ap (λ (y : ℕ). record (with_word c n w) { high = high_result op (word_in c l.number) y; low = low_result op (word_in c l.number) y; line = c.line + 1 }) right
 commutes c (Arithmetic op d l r) n w movable free none =
     ap (λ (rs : List ℕ). record (did c (Arithmetic op d l r)) { registers = rs })
     (both_set (core_of c) d.number n w _ _
-    (ap (λ (x : ℕ). arithmetic_result op x (word_in (with_word c n w) r.number)) (unread_register c n w l.number (or_left (l.number == n) (r.number == n) free))
-    ∙ ap (arithmetic_result op (word_in c l.number)) (unread_register c n w r.number (or_right (l.number == n) (r.number == n) free))) (numbers_apart d.number n none))
+    (ap (λ (x : ℕ). arithmetic_result op x (word_in (with_word c n w) r.number)) (unread_register c n w l.number (or_left_false (l.number == n) (r.number == n) free))
+    ∙ ap (arithmetic_result op (word_in c l.number)) (unread_register c n w r.number (or_right_false (l.number == n) (r.number == n) free))) (other_from_eqb d.number n none))
 
 -- why a load, a store or a division may be refused, from the words of its registers
 abbrev memory_cause : Configuration → (stores : Bool) → (address : ℕ) → Option Cause
@@ -317,13 +303,13 @@ division_cause left right = first_of (
 pub same_refusal : (c : Configuration) (i : Instr) (n w : ℕ) → is_movable i ≡ true → reads i n ≡ false → cause_of (machine_of (with_word c n w)) i ≡ cause_of (machine_of c) i
 same_refusal c (Memory LoadWord t b h) n w movable free = ap (λ (x : ℕ). memory_cause c false (memory_address x h)) (unread_register c n w b.number free)
 same_refusal c (Memory StoreWord t b h) n w movable free =
-    ap (λ (x : ℕ). memory_cause c true (memory_address x h)) (unread_register c n w b.number (or_right (t.number == n) (b.number == n) free))
+    ap (λ (x : ℕ). memory_cause c true (memory_address x h)) (unread_register c n w b.number (or_right_false (t.number == n) (b.number == n) free))
 same_refusal c (Memory LoadByte t b h) n w movable free = ap (λ (x : ℕ). memory_cause c false (word_of (memory_address x h))) (unread_register c n w b.number free)
 same_refusal c (Memory StoreByte t b h) n w movable free =
-    ap (λ (x : ℕ). memory_cause c true (word_of (memory_address x h))) (unread_register c n w b.number (or_right (t.number == n) (b.number == n) free))
+    ap (λ (x : ℕ). memory_cause c true (word_of (memory_address x h))) (unread_register c n w b.number (or_right_false (t.number == n) (b.number == n) free))
 same_refusal c (MultiplyDivide Divide l r) n w movable free =
-    ap (λ (y : ℕ). division_cause (word_in (with_word c n w) l.number) y) (unread_register c n w r.number (or_right (l.number == n) (r.number == n) free))
-    ∙ ap (λ (x : ℕ). division_cause x (word_in c r.number)) (unread_register c n w l.number (or_left (l.number == n) (r.number == n) free))
+    ap (λ (y : ℕ). division_cause (word_in (with_word c n w) l.number) y) (unread_register c n w r.number (or_right_false (l.number == n) (r.number == n) free))
+    ∙ ap (λ (x : ℕ). division_cause x (word_in c r.number)) (unread_register c n w l.number (or_left_false (l.number == n) (r.number == n) free))
 same_refusal c (MultiplyDivide Multiply l r) n w movable free = refl
 same_refusal c (Immediate op t b h) n w movable free = refl
 same_refusal c (LoadUpper t h) n w movable free = refl

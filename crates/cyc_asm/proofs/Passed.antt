@@ -3,15 +3,11 @@ use Rattle.std.proofs.Common.{◌≡◌, ℕ, suc, ◌+◌, ◌-◌, ◌<◌, na
 use Rattle.std.specs.Prelude.{◌&&◌, slice_get}
 use Rattle.std.specs.Option.{is_some}
 use Rattle.std.proofs.lemmas.Bool.{leb-false}
+use Rattle.cyc_words.proofs.Booleans.{and_and_false}
 use Rattle.cyc_select.specs.declared.code.Line.{Line}
 use Rattle.cyc_select.specs.declared.code.Line.TheVariants as lines
 use Rattle.cyc_asm.specs.inside.Slots.{is_named, moved, filling}
 use Rattle.cyc_asm.specs.inside.Order.{passes_all, comes_down, sunk, sunk_from, tried, is_ordinary, settled}
-
-never_both : (a b : Bool) → (a && (b && false)) ≡ false
-never_both true true = refl
-never_both true false = refl
-never_both false b = refl
 
 none_moves : (before : Option Line) (line : Line) → is_ordinary line ≡ true → is_some (moved before (Some line)) ≡ false
 none_moves (Some (lines.Ordinary instruction)) (lines.Ordinary other) ordinary = refl
@@ -26,7 +22,7 @@ none_comes code number count line here ordinary many =
     ∙ ap (λ (x : Option Line). is_some (moved (slice_get code from) x)) here
     ∙ none_moves (slice_get code from) line ordinary in
     ap (λ (x : Bool). passes_all code from count && (not (is_named code (from + suc count)) && x)) none
-    ∙ never_both (passes_all code from count) (not (is_named code (from + suc count)))
+    ∙ and_and_false (passes_all code from count) (not (is_named code (from + suc count)))
 
 tried_passed : (code : List Line) (number count : ℕ) (line : Line) → slice_get code number ≡ Some line → is_ordinary line ≡ true → tried code number count ≡ code
 tried_passed code number count line here ordinary = by (nat_le number count) refl (is_some (filling code number))

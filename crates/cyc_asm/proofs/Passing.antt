@@ -1,6 +1,7 @@
 -- An instruction that passes another does the same behind it as before it, and so does the other.
 use Rattle.std.proofs.Common.{◌≡◌, ℕ, ◌+◌, Bool, true, false, not, ◌==◌, ◌&&◌, None, refl, sym, ap, ◌∙◌}
 use Rattle.std.specs.Prelude.{if◌then◌else◌, slice_set}
+use Rattle.std.proofs.lemmas.Bool.{not-true}
 use Rattle.cyc_words.proofs.Booleans.{and_right, and_left}
 use Rattle.cyc_isa.specs.Effect.{immediate_result, load_upper_result, arithmetic_result, shift_result}
 use Rattle.cyc_isa.specs.Uses.{reads, names_result, writes}
@@ -11,7 +12,7 @@ use Rattle.cyc_machine.specs.Step.{cause_of}
 use Rattle.cyc_select.specs.inside.Machine.{Configuration, machine_of, word_in}
 use Rattle.cyc_asm.specs.inside.Slots.{is_movable}
 use Rattle.cyc_asm.specs.inside.Order.{is_apart, passes}
-use Rattle.cyc_asm.proofs.Moving.{false_from_not, did, with_word, unwritten_stays, commutes, same_refusal}
+use Rattle.cyc_asm.proofs.Moving.{did, with_word, unwritten_stays, commutes, same_refusal}
 
 -- what is passed may move itself, and is never refused
 pub passed_movable : (i j : Instr) → passes i j ≡ true → is_movable j ≡ true
@@ -49,10 +50,10 @@ passed_allowed c i (MultiplyDivide op l r) may = cc
 -- ---- a register that the other sets
 
 apart_reads : (i : Instr) (r : Register) → is_apart i r ≡ true → reads i r.number ≡ false
-apart_reads i r apart = false_from_not (reads i r.number) (and_left (not (reads i r.number)) (not (writes i r.number)) apart)
+apart_reads i r apart = not-true (reads i r.number) (and_left (not (reads i r.number)) (not (writes i r.number)) apart)
 
 apart_writes : (i : Instr) (r : Register) → is_apart i r ≡ true → writes i r.number ≡ false
-apart_writes i r apart = false_from_not (writes i r.number) (and_right (not (reads i r.number)) (not (writes i r.number)) apart)
+apart_writes i r apart = not-true (writes i r.number) (and_right (not (reads i r.number)) (not (writes i r.number)) apart)
 
 -- register 0 stays as it is
 unset : (c : Configuration) (n w : ℕ) → (n == 0) ≡ true → with_word c n w ≡ c
@@ -81,7 +82,7 @@ set_before c i r w w' movable apart same =
 
 -- a register that the instruction does not set has its word in both
 same_word : (c : Configuration) (i : Instr) (r : Register) → is_movable i ≡ true → not (writes i r.number) ≡ true → word_in (did c i) r.number ≡ word_in c r.number
-same_word c i r movable free = unwritten_stays c i r.number movable (false_from_not (writes i r.number) free)
+same_word c i r movable free = unwritten_stays c i r.number movable (not-true (writes i r.number) free)
 
 pub either_order : (c : Configuration) (i j : Instr) → is_movable i ≡ true → passes i j ≡ true → did (did c i) j ≡ did (did c j) i
 either_order c i (Immediate op t b h) movable may =

@@ -1,8 +1,7 @@
 -- Each step of the labelled machine is matched by steps of the machine that runs the words.
-use Rattle.std.proofs.Common.{◌≡◌, ◌≢◌, ℕ, zero, suc, ℤ, pos, ◌+◌, ◌*◌, ◌%◌, ◌≤◌, ◌<◌, List, [], ◌∷◌, length, Bool, true, false, cond, not, nat_eq, Option, None, Some, refl, sym, ap, subst, ◌∙◌, arith, inl, inr}
-use Rattle.std.specs.Prelude.{◌⊎◌, ◌&&◌, Contains, int_le, int_lt, slice_get, slice_set}
-use Rattle.std.proofs.lemmas.Bool.{cases_eq, cases_lt}
-use Rattle.std.proofs.lemmas.Int.{ints}
+use Rattle.std.proofs.Common.{◌≡◌, ◌≢◌, ℕ, zero, suc, pos, ◌+◌, ◌*◌, ◌%◌, ◌≤◌, ◌<◌, List, [], ◌∷◌, length, Bool, true, false, cond, not, nat_eq, Option, None, Some, refl, sym, ap, subst, ◌∙◌, arith, inl, inr}
+use Rattle.std.specs.Prelude.{◌⊎◌, ◌&&◌, Contains, slice_get, slice_set}
+use Rattle.std.proofs.lemmas.Bool.{cases_eq, cases_lt, not-true}
 use Rattle.std.proofs.lemmas.Option.{slice_get_within}
 use Rattle.cyc_words.specs.Ending.{Ending}
 use Rattle.cyc_words.specs.Word.{add_of, signed}
@@ -12,7 +11,8 @@ use Rattle.cyc_words.specs.inside.Following.{Matching, IsOnTheWay, IsMatchedStep
 use Rattle.cyc_words.proofs.Simulation.{running_ended}
 use Rattle.cyc_words.proofs.SeenLemmas.{seen_same}
 use Rattle.cyc_words.proofs.Matching.{by_one, way_before}
-use Rattle.cyc_words.proofs.Booleans.{and_right, and_left, not_not}
+use Rattle.cyc_words.proofs.Booleans.{and_right, and_left, not_not, cond-not}
+use Rattle.cyc_words.proofs.Integers.{int_lt-not_le, int_le-not_lt}
 use Rattle.cyc_isa.specs.Effect.{branch_target, jump_target, return_address}
 use Rattle.cyc_isa.specs.Uses.{reads, writes}
 use Rattle.cyc_isa.specs.declared.instr.Instr.{Instr}
@@ -45,7 +45,7 @@ use Rattle.cyc_asm.specs.inside.Slots.{is_movable, leaves, moves, label_of, fill
 use Rattle.cyc_asm.specs.inside.Layout.{is_near}
 use Rattle.cyc_asm.specs.inside.Text.{IsAt, IsJumpAt, IsTextInOrder, Stands, StandsBranch, StandsFrom, StandsFilled, StandsOrdinary, own, nothing, branch_of, inverse_of, return_register}
 use Rattle.cyc_asm.proofs.Fetching.{world_at, fetches, goes_to, through}
-use Rattle.cyc_asm.proofs.Moving.{false_from_not, did, performs_did, performs_refused, with_word, movable_ordinary, movable_does, after_runs, same_stack, unwritten_stays, holds_stays, commutes, same_refusal}
+use Rattle.cyc_asm.proofs.Moving.{did, performs_did, performs_refused, with_word, movable_ordinary, movable_does, after_runs, same_stack, unwritten_stays, holds_stays, commutes, same_refusal}
 use Rattle.cyc_asm.proofs.Ordinary.{Shown, same_cause, performed}
 use Rattle.cyc_asm.proofs.Fillings.{is_jump, IsFilled, filled, filled_moves, named_empty, behind_empty, ordinary_empty}
 use Rattle.cyc_asm.proofs.Stretches.{in_own}
@@ -90,16 +90,6 @@ find code addresses address (suc count) within = elim (find code addresses addre
 
 -- ---- branches
 
-not_above : (x y : ℤ) → int_lt y x ≡ not (int_le x y)
-not_above x y = grind (arith, ints)
-
-int_not_below : (x y : ℤ) → int_le x y ≡ not (int_lt y x)
-int_not_below x y = grind (arith, ints)
-
-cond-not : (b : Bool) (x y : ℕ) → cond (not b) x y ≡ cond b y x
-cond-not true x y = refl
-cond-not false x y = refl
-
 running_over : (end : End) → phases.Running ≡ phases.Over end → ⊥
 running_over end is = let e : phases.Running ≡ phases.Over end = is in cc
 
@@ -108,10 +98,10 @@ running_over end is = let e : phases.Running ≡ phases.Over end = is in cc
 holds-inverse : (words : ℕ → ℕ) (condition : Condition) → holds_of words (inverse_of condition) ≡ not (holds_of words condition)
 holds-inverse words (conditions.Registers Equal left right) = refl
 holds-inverse words (conditions.Registers NotEqual left right) = sym (not_not (nat_eq (words left.number) (words right.number)))
-holds-inverse words (conditions.Sign signs.LessOrEqual source) = not_above (signed (words source.number)) (pos 0)
-holds-inverse words (conditions.Sign signs.Greater source) = int_not_below (signed (words source.number)) (pos 0)
-holds-inverse words (conditions.Sign signs.Less source) = int_not_below (pos 0) (signed (words source.number))
-holds-inverse words (conditions.Sign signs.GreaterOrEqual source) = not_above (pos 0) (signed (words source.number))
+holds-inverse words (conditions.Sign signs.LessOrEqual source) = int_lt-not_le (signed (words source.number)) (pos 0)
+holds-inverse words (conditions.Sign signs.Greater source) = int_le-not_lt (signed (words source.number)) (pos 0)
+holds-inverse words (conditions.Sign signs.Less source) = int_le-not_lt (pos 0) (signed (words source.number))
+holds-inverse words (conditions.Sign signs.GreaterOrEqual source) = int_lt-not_le (pos 0) (signed (words source.number))
 
 -- a branch leaves its slot to be executed, and then goes where it is taken to
 branches_to : (words : List ℕ) (c : Configuration) (from : ℕ) (condition : Condition) (offset : ℕ) → executes (world_at words c from (from + 4) false).machine (branch_of condition offset)
@@ -250,8 +240,8 @@ module _ (code : Labelled) (addresses : ℕ → ℕ) (words : List ℕ) (text : 
   headed_moves number (lines.Call label) c i may =
       let free = and_right (is_movable i) (not (reads i RETURN_ADDRESS) && not (writes i RETURN_ADDRESS)) may in
       commutes c i RETURN_ADDRESS (addresses (suc number)) (and_left (is_movable i) (not (reads i RETURN_ADDRESS) && not (writes i RETURN_ADDRESS)) may)
-      (false_from_not (reads i RETURN_ADDRESS) (and_left (not (reads i RETURN_ADDRESS)) (not (writes i RETURN_ADDRESS)) free))
-      (false_from_not (writes i RETURN_ADDRESS) (and_right (not (reads i RETURN_ADDRESS)) (not (writes i RETURN_ADDRESS)) free))
+      (not-true (reads i RETURN_ADDRESS) (and_left (not (reads i RETURN_ADDRESS)) (not (writes i RETURN_ADDRESS)) free))
+      (not-true (writes i RETURN_ADDRESS) (and_right (not (reads i RETURN_ADDRESS)) (not (writes i RETURN_ADDRESS)) free))
   headed_moves number lines.Return c i may = refl
 
   headed_allowed : (number : ℕ) (line : Line) (c : Configuration) (i : Instr) → moves i line ≡ true → cause_of (machine_of c) i ≡ None → cause_of (machine_of (headed number line c)) i ≡ None
@@ -261,7 +251,7 @@ module _ (code : Labelled) (addresses : ℕ → ℕ) (words : List ℕ) (text : 
   headed_allowed number (lines.Call label) c i may allowed =
       let free = and_right (is_movable i) (not (reads i RETURN_ADDRESS) && not (writes i RETURN_ADDRESS)) may in
       same_refusal c i RETURN_ADDRESS (addresses (suc number)) (and_left (is_movable i) (not (reads i RETURN_ADDRESS) && not (writes i RETURN_ADDRESS)) may)
-      (false_from_not (reads i RETURN_ADDRESS) (and_left (not (reads i RETURN_ADDRESS)) (not (writes i RETURN_ADDRESS)) free)) ∙ allowed
+      (not-true (reads i RETURN_ADDRESS) (and_left (not (reads i RETURN_ADDRESS)) (not (writes i RETURN_ADDRESS)) free)) ∙ allowed
   headed_allowed number lines.Return c i may allowed = allowed
 
   -- and leaves where it leads
@@ -273,7 +263,7 @@ module _ (code : Labelled) (addresses : ℕ → ℕ) (words : List ℕ) (text : 
   leads_moves number (lines.Jump label) c i may = refl
   leads_moves number (lines.Call label) c i may = refl
   leads_moves number lines.Return c i may =
-      sym (unwritten_stays c i RETURN_ADDRESS (and_left (is_movable i) (not (writes i RETURN_ADDRESS)) may) (false_from_not (writes i RETURN_ADDRESS) (and_right (is_movable i) (not (writes i RETURN_ADDRESS)) may)))
+      sym (unwritten_stays c i RETURN_ADDRESS (and_left (is_movable i) (not (writes i RETURN_ADDRESS)) may) (not-true (writes i RETURN_ADDRESS) (and_right (is_movable i) (not (writes i RETURN_ADDRESS)) may)))
 
   -- it does so in the slot
   slot_goes : (c : Configuration) (small : length c.stack ≤ 1048576) (i : Instr) → is_movable i ≡ true → cause_of (machine_of c) i ≡ None → (at next : ℕ) → IsAt words at i → at % 4 ≡ 0

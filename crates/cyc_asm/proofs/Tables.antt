@@ -1,5 +1,5 @@
 -- What the tables of the layout hold.
-use Rattle.std.proofs.Common.{◌≡◌, ℕ, suc, ◌+◌, ◌≤◌, ◌<◌, List, [], ◌∷◌, ◌++◌, length, get_or, map, Bool, true, false, nat_le, None, Some, refl, sym, ap, subst, ◌∙◌, arith, inl, inr, append_assoc}
+use Rattle.std.proofs.Common.{◌≡◌, ℕ, suc, ◌+◌, ◌≤◌, ◌<◌, List, [], ◌∷◌, ◌++◌, length, get_or, map, Bool, true, false, nat_le, None, Some, refl, sym, ap, subst, ◌∙◌, arith, inl, inr}
 use Rattle.std.specs.Prelude.{◌&&◌, All, slice_get}
 use Rattle.std.specs.List.{range_with_len}
 use Rattle.std.proofs.lemmas.Bool.{cases_lt}
@@ -170,13 +170,6 @@ head_before_line code positions number d i is below here =
     (omega (arith, at, wide, next), omega (arith, at, wide, next))
 
 -- words one behind the other
-
-pub pushed_two : (old first second : List ℕ) (a : ℕ) (rest : List ℕ) → first ≡ old ++ a ∷ [] → second ≡ first ++ rest → second ≡ old ++ a ∷ rest
-pushed_two old first second a rest one two = two ∙ ap (λ (xs : List ℕ). xs ++ rest) one ∙ append_assoc old (a ∷ []) rest
-
-pub pushed_three : (old first second third : List ℕ) (a b c : ℕ) → first ≡ old ++ a ∷ [] → second ≡ first ++ b ∷ [] → third ≡ second ++ c ∷ [] → third ≡ old ++ a ∷ b ∷ c ∷ []
-pushed_three old first second third a b c one two three =
-    pushed_two old first third a (b ∷ c ∷ []) one (pushed_two first second third b (c ∷ []) two three)
 
 -- the words of an ordinary instruction's line, from what fills the slot behind it
 

@@ -2,11 +2,12 @@
 use Rattle.std.proofs.Common.{◌≡◌, ℕ, ◌+◌, ◌<◌, ◌≤◌, ◌⊎◌, min, max, true, false, List, [], ◌∷◌, length, get_or, drop, Option, refl, sym, ap, subst, ◌∙◌, inl, inr, arith}
 use Rattle.std.specs.Prelude.{slice_get, Contains}
 use Rattle.std.proofs.lemmas.Bool.{cases_lt, false≢true}
-use Rattle.std.proofs.lemmas.List.{drop_more, drop_all, get_or_default}
+use Rattle.std.proofs.lemmas.List.{drop_all, get_or_default}
 use Rattle.std.proofs.lemmas.List.Elements.{Contains-get_or}
 use Rattle.std.specs.declared.vec.Vec.{Vec}
 use Rattle.std.specs.declared.boxed.Box.{Box}
 use Rattle.std.specs.declared.alloc.Global.{Global as Heap}
+use Rattle.cyc_words.proofs.Lists.{drop_read}
 use Rattle.cyc_types.specs.declared.typed.Stmt.{Stmt}
 use Rattle.cyc_types.specs.declared.typed.Stmt.TheVariants as stmt
 use Rattle.cyc_types.specs.declared.typed.Item.{Item as ItemCode}
@@ -32,10 +33,6 @@ ItemsLeft m costs js i most = (min too_many (max most (items_at_once m costs (it
 abbrev pub ClausesLeft : Measure → (costs : List ℕ) → List Clause → (i most : ℕ) → Type 0
 ClausesLeft m costs cs i most =
     (min too_many (max most (clauses_at_once m costs (clauses_of (drop i cs) NoClauses))) ≡ min too_many (clauses_at_once m costs (clauses_of cs NoClauses))) × (most ≤ too_many)
-
--- what is left of a list begins with the element that is walked next
-next_of : {A : Type 0} (xs : List A) (i : ℕ) (x : A) → i < length xs → x ≡ get_or xs i x → drop i xs ≡ x ∷ drop (i + 1) xs
-next_of xs i x less at = drop_more xs i x less ∙ ap (λ y. y ∷ drop (i + 1) xs) (sym at)
 
 one_at_once_more : (most cost next part rest whole : ℕ) → min too_many (max most (max part rest)) ≡ whole → cost ≡ min too_many part → next ≡ max most cost → min too_many (max next rest) ≡ whole
 one_at_once_more most cost next part rest whole so_far one two = omega (arith, so_far, one, two)
@@ -63,13 +60,13 @@ module _ (m : Measure) (costs : List ℕ) where
       → cost ≡ min too_many (item_at_once m costs (view_item j)) → next ≡ max most cost → ItemsLeft m costs js (i + 1) next
   items_next js i most j cost next less at closed h one two =
       let first : items_at_once m costs (items_of (drop i js)) ≡ max (item_at_once m costs (view_item j)) (items_at_once m costs (items_of (drop (i + 1) js))) =
-      ap (λ (l : List ItemCode). items_at_once m costs (items_of l)) (next_of js i j less at) ∙ item_first j (drop (i + 1) js) closed in
+      ap (λ (l : List ItemCode). items_at_once m costs (items_of l)) (drop_read js i j less at) ∙ item_first j (drop (i + 1) js) closed in
       (one_at_once_more most cost next _ _ _ (ap (λ (n : ℕ). min too_many (max most n)) (sym first) ∙ h.0) one two, omega (arith, h.1, one, two))
 
   pub items_opened : (js : List ItemCode) (i most : ℕ) (j : ItemCode) (rest : List ItemCode) (cost result : ℕ) → i < length js → j ≡ get_or js i j → opens (view_item j) ≡ true → ItemsLeft m costs js i most
       → rest ≡ drop i js → cost ≡ min too_many (items_cost m costs (items_of rest)) → result ≡ max most cost → result ≡ min too_many (items_at_once m costs (items_of js))
   items_opened js i most j rest cost result less at declares h is one two =
-      let whole : drop i js ≡ j ∷ drop (i + 1) js = next_of js i j less at in
+      let whole : drop i js ≡ j ∷ drop (i + 1) js = drop_read js i j less at in
       let first : items_at_once m costs (items_of (drop i js)) ≡ items_cost m costs (items_of rest) =
       ap (λ (l : List ItemCode). items_at_once m costs (items_of l)) whole ∙ region_first j (drop (i + 1) js) declares ∙ ap (λ (l : List ItemCode). items_cost m costs (items_of l)) (sym (is ∙ whole)) in
       numbers (items_cost m costs (items_of rest)) one two h.1 ∙ ap (λ (n : ℕ). min too_many (max most n)) (sym first) ∙ h.0
@@ -89,7 +86,7 @@ module _ (m : Measure) (costs : List ℕ) where
       → cost ≡ min too_many (items_at_once m costs (items_of c.items.items)) → next ≡ max most cost → ClausesLeft m costs cs (i + 1) next
   clauses_next cs i most c cost next less at h one two =
       let first : clauses_at_once m costs (clauses_of (drop i cs) NoClauses) ≡ max (items_at_once m costs (items_of c.items.items)) (clauses_at_once m costs (clauses_of (drop (i + 1) cs) NoClauses)) =
-      ap (λ (l : List Clause). clauses_at_once m costs (clauses_of l NoClauses)) (next_of cs i c less at) in
+      ap (λ (l : List Clause). clauses_at_once m costs (clauses_of l NoClauses)) (drop_read cs i c less at) in
       (one_at_once_more most cost next _ _ _ (ap (λ (n : ℕ). min too_many (max most n)) (sym first) ∙ h.0) one two, omega (arith, h.1, one, two))
 
   pub clauses_all : (cs : List Clause) (i most : ℕ) → length cs ≤ i → ClausesLeft m costs cs i most → most ≡ min too_many (clauses_at_once m costs (clauses_of cs NoClauses))

@@ -1,9 +1,8 @@
 -- Rows of calls, and lists of what a function calls.
-use Rattle.std.proofs.Common.{◌≡◌, ℕ, suc, ◌≤◌, List, [], ◌∷◌, ◌++◌, Option, Some, subst, sym, arith}
+use Rattle.std.proofs.Common.{◌≡◌, ℕ, suc, ◌≤◌, List, [], ◌∷◌, Option, Some, subst, sym, arith}
 use Rattle.std.specs.Prelude.{slice_get, Contains}
-use Rattle.std.specs.List.{AllByRecursion}
+use Rattle.cyc_words.proofs.Members.{all_from_members}
 use Rattle.cyc_types.specs.TypedTrees.{Function, Program}
-use Rattle.cyc_types.proofs.ClosureLemmas.{Contains-head, Contains-tail}
 use Rattle.cyc_meaning.specs.State.{Entry, Needs, NeedsPlace, Discard, Rest, Join, Loop, CloseRegion, CloseLexical, EndLoan, Handler, Caller, Main, calls_in}
 use Rattle.cyc_bound.specs.Callees.{items_callees}
 use Rattle.cyc_bound.specs.Bound.{callees_of, Calls, Row, Alone, Before}
@@ -38,20 +37,7 @@ module _ (program : Program) where
 
 -- ---- what a function calls
 
--- what holds of two lists of calls
-pub both : (P : ℕ → Type 0) (xs ys : List ℕ) → AllByRecursion P (xs ++ ys) → AllByRecursion P xs × AllByRecursion P ys
-both P [] ys h = (tt, h)
-both P (x ∷ xs) ys h = let k = both P xs ys h.1 in ((h.0, k.0), k.1)
-
-pub all_joined : (P : ℕ → Type 0) (xs ys : List ℕ) → AllByRecursion P xs → AllByRecursion P ys → AllByRecursion P (xs ++ ys)
-all_joined P [] ys first second = second
-all_joined P (x ∷ xs) ys first second = (first.0, all_joined P xs ys first.1 second)
-
-all_contained : (P : ℕ → Type 0) (xs : List ℕ) → ((x : ℕ) → Contains xs x → P x) → AllByRecursion P xs
-all_contained P [] h = tt
-all_contained P (x ∷ xs) h = (h x (Contains-head x xs), all_contained P xs (λ y k. h y (Contains-tail x xs y k)))
-
 -- a function calls what stands in its body
 pub body_is_of : (program : Program) (function : ℕ) (h : Function) → slice_get program.functions function ≡ Some h → AreOf program function (items_callees h.body)
 body_is_of program function h there =
-    all_contained (λ (callee : ℕ). Calls program function callee) (items_callees h.body) (λ callee k. subst (λ (o : Option Function). Contains (callees_of o) callee) (sym there) k)
+    all_from_members (λ (callee : ℕ). Calls program function callee) (items_callees h.body) (λ callee k. subst (λ (o : Option Function). Contains (callees_of o) callee) (sym there) k)

@@ -1,6 +1,8 @@
 -- A step keeps the calls that are under way a row of functions of which each calls the next.
 use Rattle.std.proofs.Common.{◌≡◌, ℕ, suc, Bool, true, false, List, [], ◌∷◌, ◌++◌, length, reverse, Option, Some, None, refl}
 use Rattle.std.specs.Prelude.{◌==◌, ◌*◌, ◌&&◌, nat_le, if◌then◌else◌, slice_get}
+use Rattle.cyc_words.proofs.Members.{all_append_parts}
+use Rattle.cyc_words.proofs.Lists.{all_append}
 use Rattle.cyc_types.specs.declared.typed.Kind.{Kind}
 use Rattle.cyc_types.specs.declared.typed.Kind.TheVariants as kinds
 use Rattle.cyc_types.specs.declared.typed.Callee.{Callee}
@@ -28,7 +30,7 @@ use Rattle.cyc_meaning.specs.Step as steps
 use Rattle.cyc_bound.specs.Callees.{callee_of, expression_callees, dereference_callees, placement_callees, initial_callees, converted_callees, arguments_callees, operations_callees, value_callees, thrown_callees, side_callees, statement_callees, items_callees, clauses_callees}
 use Rattle.cyc_bound.specs.Bound.{Calls}
 use Rattle.cyc_bound.specs.inside.UnderWay.{awaiting_callees, focus_callees, AreOf, Waits, IsIn}
-use Rattle.cyc_bound.proofs.CallLemmas.{both, all_joined, body_is_of}
+use Rattle.cyc_bound.proofs.CallLemmas.{body_is_of}
 
 -- in a run that goes on some function's call is the newest
 abbrev pub IsInSome : Program → State → Type 0
@@ -47,7 +49,7 @@ module _ (program : Program) (f : ℕ) where
   I s = IsIn program f s
 
   split : (xs ys : List ℕ) → C (xs ++ ys) → C xs × C ys
-  split xs ys h = both (λ (callee : ℕ). Calls program f callee) xs ys h
+  split xs ys h = all_append_parts (λ (callee : ℕ). Calls program f callee) xs ys h
 
   either : (b : Bool) (s t : State) → I s → I t → I (if b then s else t)
   either true s t first second = first
@@ -292,7 +294,7 @@ module _ (program : Program) (f : ℕ) where
   passing callee before (MoreArguments (Convert from to a) later) stack e w now h =
       let k = split (expression_callees a ++ arguments_callees later) (callee_of callee) now in
       let l = split (expression_callees a) (arguments_callees later) k.0 in
-      (l.0, (tt, (all_joined (λ (callee : ℕ). Calls program f callee) (arguments_callees later) (callee_of callee) l.1 k.1, h)))
+      (l.0, (tt, (all_append (λ (callee : ℕ). Calls program f callee) (arguments_callees later) (callee_of callee) l.1 k.1, h)))
 
   assigns : (o : Option ℕ) (c : Converted) (stack : List Entry) (e : Environment) (w : World) → C (converted_callees c) → W stack → I (assigned o c stack e w)
   assigns (Some object) (Convert from to a) stack e w now h = (now, (tt, (tt, h)))

@@ -37,15 +37,6 @@ ItemsLeft js i old found = found ++ items_callees (items_of (drop i js)) ≡ old
 abbrev pub ClausesLeft : List Clause → (i : ℕ) → (old found : List ℕ) → Type 0
 ClausesLeft cs i old found = found ++ clauses_callees (clauses_of (drop i cs) NoClauses) ≡ old ++ clauses_callees (clauses_of cs NoClauses)
 
--- ---- parts one behind the other
-
-pub one_part_found : (new old a whole : List ℕ) → whole ≡ a → new ≡ old ++ a → new ≡ old ++ whole
-one_part_found new old a whole is added = added ∙ ap (λ (l : List ℕ). old ++ l) (sym is)
-
-pub two_parts : (new middle old a b whole : List ℕ) → whole ≡ a ++ b → middle ≡ old ++ a → new ≡ middle ++ b → new ≡ old ++ whole
-two_parts new middle old a b whole is first second =
-    second ∙ ap (λ (l : List ℕ). l ++ b) first ∙ append_assoc old a b ∙ ap (λ (l : List ℕ). old ++ l) (sym is)
-
 -- ---- nodes with lists
 
 pub call_calls : (value : Expr) {w : _} (f : Callee) (v : Vec ConvertedCode Heap) (t : ValueTypeCode) → value ≡ expr.Call w f v t → (items : List ConvertedCode) → items ≡ v.items

@@ -1,6 +1,6 @@
 -- What parts of a state cost at least, and how costs of a stack compare by what is known of the value that is to come.
 use Rattle.std.proofs.Common.{◌≡◌, ℕ, zero, suc, ◌+◌, ◌*◌, ◌-◌, ◌^◌, ◌<◌, ◌≤◌, min, Bool, true, false, List, [], ◌∷◌, length, Option, Some, None, refl, sym, ap, ◌∙◌, arith, mul-le-mul_right}
-use Rattle.std.specs.Prelude.{◌==◌, nat_le, if◌then◌else◌, get_or, slice_get, map}
+use Rattle.std.specs.Prelude.{◌==◌, nat_le, if◌then◌else◌}
 use Rattle.std.proofs.lemmas.Bool.{leb-true, le-leb, lt-leb, eqb-true}
 use Rattle.cyc_words.specs.Demand.{class_from, class_of}
 use Rattle.cyc_types.specs.declared.typed.Kind.{Kind}
@@ -502,10 +502,3 @@ pub class_from-next : (left class less next size : ℕ) → left ≡ suc less �
 class_from-next left class less next size one_less one_more past =
     ap (λ (n : ℕ). class_from n class size) one_less
     ∙ (ap (λ (b : Bool). if b then class else class_from less (suc class) size) (lt-leb size (2 ^ class) past) ∙ ap (λ (n : ℕ). class_from less n size) (sym one_more))
-
--- ---- tables
-
-pub get_or_map : {A : Type 0} (f : A → ℕ) (xs : List A) (n : ℕ) (x : A) → slice_get xs n ≡ Some x → get_or (map f xs) n 0 ≡ f x
-get_or_map f [] n x there = absurd (let e : None ≡ Some x = there in cc)
-get_or_map f (y ∷ xs) zero x there = let e : Some y ≡ Some x = there in let same : y ≡ x = cc in ap f same
-get_or_map f (y ∷ xs) (suc n) x there = get_or_map f xs n x there

@@ -1,6 +1,7 @@
 -- What whole runs cost: they are over after so many steps, and spend no more than that.
 use Rattle.std.proofs.Common.{◌≡◌, ℕ, zero, suc, ◌+◌, ◌*◌, ◌-◌, ◌<◌, ◌≤◌, min, Bool, true, false, List, [], ◌∷◌, length, Option, Some, None, refl, sym, subst, arith, suc-mul}
 use Rattle.std.specs.Prelude.{◌==◌, if◌then◌else◌, slice_get, map}
+use Rattle.cyc_words.proofs.Items.{get_or-map}
 use Rattle.cyc_types.specs.TypedTrees.{GlobalVariable, Function, Program}
 use Rattle.cyc_meaning.specs.State.{global_object, no_locals, first_world, Main, Entering, State, Running, Ended, Dead, Wrong}
 use Rattle.cyc_meaning.specs.Parts.{wrong}
@@ -12,7 +13,7 @@ use Rattle.cyc_bound.specs.declared.costs.Measure.TheVariants as measures
 use Rattle.cyc_bound.specs.Costs.{too_many, step_cost, opening_cost, function_cost, IsClosed, run_cost, IsRunCost}
 use Rattle.cyc_bound.specs.Steps.{IsOver}
 use Rattle.cyc_bound.specs.inside.Remaining.{objects_spent, spent, CostsAtMost}
-use Rattle.cyc_bound.proofs.CostLemmas.{IsNoMore, FitsIn, always_fits, focus_least, get_or_map}
+use Rattle.cyc_bound.proofs.CostLemmas.{IsNoMore, FitsIn, always_fits, focus_least}
 use Rattle.cyc_bound.proofs.CostWorlds.{all_counts}
 use Rattle.cyc_bound.proofs.CostSteps.{step_costs}
 
@@ -30,7 +31,7 @@ module _ (program : Program) (m : Measure) where
         → CostsAtMost m costs (run_cost program m costs) (called o [] (Main ∷ []) (first_world program input))
     start_called input None there = tt
     start_called input (Some f) there =
-        let cost = get_or_map (λ (g : Function). min too_many (function_cost m costs g)) program.functions program.main f there in
+        let cost = get_or-map (λ (g : Function). min too_many (function_cost m costs g)) program.functions program.main f there in
         starts (omega (arith, less, cost, closed program.main, start_spent input))
       where
         starts : function_cost m costs f + (step_cost m + 0 + spent m (first_world program input)) ≤ run_cost program m costs

@@ -4,6 +4,7 @@ use Rattle.std.proofs.Common.{◌≡◌, ℕ, zero, suc, ◌+◌, ◌*◌, ◌-�
 use Rattle.std.specs.Prelude.{◌==◌, ◌&&◌, nat_le, if◌then◌else◌, unwrap_or, slice_get, get_or}
 use Rattle.std.proofs.lemmas.Bool.{leb-true, eqb-false}
 use Rattle.std.proofs.lemmas.List.{length-reverse}
+use Rattle.cyc_words.proofs.Items.{get_or-map}
 use Rattle.cyc_types.specs.declared.typed.Kind.{Kind}
 use Rattle.cyc_types.specs.declared.typed.Kind.TheVariants as kinds
 use Rattle.cyc_types.specs.declared.typed.Callee.{Callee}
@@ -32,7 +33,7 @@ use Rattle.cyc_bound.specs.declared.costs.Measure.{Measure}
 use Rattle.cyc_bound.specs.declared.costs.Site.TheVariants as sites
 use Rattle.cyc_bound.specs.Costs.{too_many, step_cost, block_cost, size_of_bytes, written_length, elements_cost, array_cost, callee_cost, expression_cost, place_cost, initial_cost, fields_cost, converted_cost, arguments_cost, operations_cost, value_cost, thrown_cost, side_cost, loop_cost, caught_cost, statement_cost, items_cost, clauses_cost, function_cost, IsClosed, most_elements}
 use Rattle.cyc_bound.specs.inside.Remaining.{Delivery, Nothing, Anything, OfKind, delivered_by, number_of, focus_delivers, entry_delivers, site_of_owner, bytes_before, elements_left, awaiting_cost, stack_cost, swapping_cost, focus_cost, TakesAtMost}
-use Rattle.cyc_bound.proofs.CostLemmas.{IsNoMore, initial_no_more, Fits, FitsIn, loop_is_free, kind_is, elements_fit, length_is, items_least, clauses_least, array_least, elements_from, elements_within, awaiting_least, awaiting_place_least, nothing, known, kept, get_or_map}
+use Rattle.cyc_bound.proofs.CostLemmas.{IsNoMore, initial_no_more, Fits, FitsIn, loop_is_free, kind_is, elements_fit, length_is, items_least, clauses_least, array_least, elements_from, elements_within, awaiting_least, awaiting_place_least, nothing, known, kept}
 use Rattle.cyc_bound.proofs.CostWorlds.{fields_size, elements_size, Counts}
 
 abbrev int : ℕ → Operand
@@ -712,7 +713,7 @@ module _ (program : Program) (m : Measure) (costs : List ℕ) (closed : IsClosed
       → step_cost m + get_or costs number 0 + R Anything stack w ≤ k → D (called o arguments (Caller outer ∷ stack) w)
   begins_call number arguments outer stack w None there h = tt
   begins_call number arguments outer stack w (Some f) there h =
-      let cost = get_or_map (λ (g : Function). min too_many (function_cost m costs g)) program.functions number f there in
+      let cost = get_or-map (λ (g : Function). min too_many (function_cost m costs g)) program.functions number f there in
       either program m costs counted adds k few (length arguments == length f.parameters) _ _ (omega (arith, h, few, cost, closed number)) tt
 
   calling : (callee : Callee) (arguments : List Operand) (stack : List Entry) (e : Environment) (w : World)

@@ -2,13 +2,13 @@
 use Rattle.std.proofs.Common.{◌≡◌, ℕ, zero, suc, ◌+◌, ◌≤◌, true, false, List, [], ◌∷◌, ◌++◌, set, reverse, Option, Some, None, refl, sym, ap, ◌∙◌, arith}
 use Rattle.std.specs.Prelude.{slice_get, ◌*◌}
 use Rattle.std.proofs.lemmas.Grind.{reverse_onto}
+use Rattle.cyc_words.proofs.Items.{map-set}
 use Rattle.cyc_types.specs.declared.typed.Kind.{Kind}
 use Rattle.cyc_types.specs.declared.typed.Kind.TheVariants as kinds
 use Rattle.cyc_meaning.specs.Values.{Value, Operand, Cell, kinds_of, bytes_of_kind, begins, behind, bytes_from, block_size}
 use Rattle.cyc_meaning.specs.State.{Sort, Region, Owner, InRegion, Unique, Object, World, Access, Found, Closed, Missing, region_at, Located, cell_at, new_region, opened_as, closed, variable, made, written}
 use Rattle.cyc_meaning.specs.Objects.{made_in, made_unique, created_in, created, freed}
 use Rattle.cyc_meaning.specs.Allocation.{blanks_of, blanks}
-use Rattle.cyc_meaning.proofs.ListLemmas.{map-set}
 use Rattle.cyc_meaning.proofs.NestingLemmas.{region_found}
 use Rattle.cyc_meaning.proofs.WorldLaws.{cell_found}
 use Rattle.cyc_bound.specs.declared.costs.Measure.{Measure}

@@ -1,10 +1,11 @@
 -- What is added up of lists so far, with what is still to come, and what nodes with lists cost.
 use Rattle.std.proofs.Common.{◌≡◌, ℕ, zero, suc, ◌+◌, ◌*◌, ◌<◌, ◌≤◌, min, max, List, [], ◌∷◌, length, get_or, drop, Option, Some, None, refl, sym, ap, subst, ◌∙◌, arith, suc-mul}
 use Rattle.std.specs.Prelude.{map}
-use Rattle.std.proofs.lemmas.List.{drop_more, drop_all}
+use Rattle.std.proofs.lemmas.List.{drop_all}
 use Rattle.std.specs.declared.vec.Vec.{Vec}
 use Rattle.std.specs.declared.boxed.Box.{Box}
 use Rattle.std.specs.declared.alloc.Global.{Global as Heap}
+use Rattle.cyc_words.proofs.Lists.{drop_read}
 use Rattle.cyc_types.specs.declared.ty.Ty.{Ty as TyCode}
 use Rattle.cyc_types.specs.declared.typed.ValueType.{ValueType as ValueTypeCode}
 use Rattle.cyc_types.specs.declared.typed.Kind.{Kind}
@@ -93,16 +94,12 @@ operation_first m costs (operation.Test operator e) os = refl
 operation_first m costs (operation.Pointer operator e) os = refl
 operation_first m costs (operation.PointerPeek n operator e) os = refl
 
--- what is left of a list begins with the element that is walked next
-next_of : {A : Type 0} (xs : List A) (i : ℕ) (x : A) → i < length xs → x ≡ get_or xs i x → drop i xs ≡ x ∷ drop (i + 1) xs
-next_of xs i x less at = drop_more xs i x less ∙ ap (λ y. y ∷ drop (i + 1) xs) (sym at)
-
 module _ (m : Measure) (costs : List ℕ) where
   pub arguments_next : (cs : List ConvertedCode) (i total : ℕ) (c : ConvertedCode) (cost next : ℕ) → i < length cs → c ≡ get_or cs i c → ArgumentsLeft m costs cs i total
       → cost ≡ min too_many (converted_cost m costs (view_converted c)) → next ≡ min too_many (total + cost) → ArgumentsLeft m costs cs (i + 1) next
   arguments_next cs i total c cost next less at h one two =
       let first : arguments_cost m costs (arguments_of (drop i cs)) ≡ converted_cost m costs (view_converted c) + arguments_cost m costs (arguments_of (drop (i + 1) cs)) =
-      ap (λ (l : List ConvertedCode). arguments_cost m costs (arguments_of l)) (next_of cs i c less at) in
+      ap (λ (l : List ConvertedCode). arguments_cost m costs (arguments_of l)) (drop_read cs i c less at) in
       (one_cost_more total cost next _ _ _ (ap (λ (n : ℕ). min too_many (total + n)) (sym first) ∙ h.0) one two, omega (arith, two))
 
   pub arguments_all : (cs : List ConvertedCode) (i total : ℕ) → length cs ≤ i → ArgumentsLeft m costs cs i total → total ≡ min too_many (arguments_cost m costs (arguments_of cs))
@@ -117,7 +114,7 @@ module _ (m : Measure) (costs : List ℕ) where
       → cost ≡ min too_many (operation_cost m costs o) → next ≡ min too_many (total + cost) → OperationsLeft m costs os (i + 1) next
   operations_next os i total o cost next less at h one two =
       let first : operations_cost m costs (operations_of (drop i os)) ≡ operation_cost m costs o + operations_cost m costs (operations_of (drop (i + 1) os)) =
-      ap (λ (l : List Operation). operations_cost m costs (operations_of l)) (next_of os i o less at) ∙ operation_first m costs o (drop (i + 1) os) in
+      ap (λ (l : List Operation). operations_cost m costs (operations_of l)) (drop_read os i o less at) ∙ operation_first m costs o (drop (i + 1) os) in
       (one_cost_more total cost next _ _ _ (ap (λ (n : ℕ). min too_many (total + n)) (sym first) ∙ h.0) one two, omega (arith, two))
 
   pub operations_all : (os : List Operation) (i total : ℕ) → length os ≤ i → OperationsLeft m costs os i total → total ≡ min too_many (operations_cost m costs (operations_of os))
@@ -141,7 +138,7 @@ module _ (m : Measure) (costs : List ℕ) where
       → cost ≡ min too_many (converted_cost m costs (view_converted c)) → next ≡ min too_many (total + cost) → more ≡ behind c.to bytes → FieldsLeft m costs site cs (i + 1) next more
   fields_next site cs i total bytes c cost next more less at h one two is =
       let first : fields_cost m costs site i bytes (arguments_of (drop i cs)) ≡ converted_cost m costs (view_converted c) + fields_cost m costs site (suc i) (behind c.to bytes) (arguments_of (drop (i + 1) cs)) =
-      ap (λ (l : List ConvertedCode). fields_cost m costs site i bytes (arguments_of l)) (next_of cs i c less at) in
+      ap (λ (l : List ConvertedCode). fields_cost m costs site i bytes (arguments_of l)) (drop_read cs i c less at) in
       let count : suc i ≡ i + 1 = omega arith in
       let so_far = one_cost_more total cost next _ _ _ (ap (λ (n : ℕ). min too_many (total + n)) (sym first) ∙ h.0) one two in
       let counted = subst (λ (n : ℕ). min too_many (next + fields_cost m costs site n (behind c.to bytes) (arguments_of (drop (i + 1) cs))) ≡ min too_many (fields_cost m costs site 0 0 (arguments_of cs))) count so_far in
@@ -163,7 +160,7 @@ module _ (m : Measure) (costs : List ℕ) where
       → cost ≡ min too_many (item_cost m costs (view_item j)) → next ≡ min too_many (total + cost) → ItemsLeft m costs js (i + 1) next
   items_next js i total j cost next less at h one two =
       let first : items_cost m costs (items_of (drop i js)) ≡ item_cost m costs (view_item j) + items_cost m costs (items_of (drop (i + 1) js)) =
-      ap (λ (l : List ItemCode). items_cost m costs (items_of l)) (next_of js i j less at) in
+      ap (λ (l : List ItemCode). items_cost m costs (items_of l)) (drop_read js i j less at) in
       one_cost_more total cost next _ _ _ (ap (λ (n : ℕ). min too_many (total + n)) (sym first) ∙ h) one two
 
   pub items_all : (js : List ItemCode) (i total result : ℕ) → length js ≤ i → ItemsLeft m costs js i total → result ≡ min too_many (1 * step_cost m + total) → result ≡ min too_many (items_cost m costs (items_of js))
@@ -182,7 +179,7 @@ module _ (m : Measure) (costs : List ℕ) where
       let rest = clauses_then m costs (drop (i + 1) cs) last in
       let all = items_cost m costs (items_of c.items.items) in
       let first : clauses_then m costs (drop i cs) last ≡ step_cost m + max (caught_cost m c.number all) rest =
-      ap (λ (l : List Clause). clauses_then m costs l last) (next_of cs i c less at) in (
+      ap (λ (l : List Clause). clauses_then m costs l last) (drop_read cs i c less at) in (
         numbers (step_cost m) tried most (caught_cost m c.number all) caught next both more rest (caught_capped c.number all items one caught three) two four five
             ∙ ap (λ (n : ℕ). min too_many (max most (tried + n))) (sym first) ∙ h.0,
         omega (arith, h.1, four, five),

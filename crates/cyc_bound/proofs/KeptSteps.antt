@@ -5,6 +5,7 @@ use Rattle.std.specs.List.{AllByRecursion}
 use Rattle.std.proofs.lemmas.Grind.{reverse_onto}
 use Rattle.cyc_words.specs.Word.{add_of, sub_of}
 use Rattle.cyc_words.proofs.Lists.{all_append}
+use Rattle.cyc_words.proofs.Members.{all_at, all_set}
 use Rattle.cyc_types.specs.declared.typed.Kind.{Kind}
 use Rattle.cyc_types.specs.declared.typed.Kind.TheVariants as kinds
 use Rattle.cyc_types.specs.declared.typed.Callee.{Callee}
@@ -44,19 +45,6 @@ use Rattle.cyc_bound.proofs.CostLemmas.{loop_is_free}
 
 -- ---- lists
 
-all_get : {A : Type 0} (P : A → Type 0) (xs : List A) (n : ℕ) (x : A) → slice_get xs n ≡ Some x → AllByRecursion P xs → P x
-all_get P [] n x there h = absurd (let e : None ≡ Some x = there in cc)
-all_get P (y ∷ xs) zero x there h =
-    let e : Some y ≡ Some x = there in
-    let same : y ≡ x = cc in
-    subst P same h.0
-all_get P (y ∷ xs) (suc n) x there h = all_get P xs n x there h.1
-
-all_set : {A : Type 0} (P : A → Type 0) (xs : List A) (n : ℕ) (x : A) → P x → AllByRecursion P xs → AllByRecursion P (set xs n x)
-all_set P [] n x new h = tt
-all_set P (y ∷ xs) zero x new h = (new, h.1)
-all_set P (y ∷ xs) (suc n) x new h = (h.0, all_set P xs n x new h.1)
-
 reverse_own : (vs : List Operand) → AreOwn vs → AreOwn (reverse vs)
 reverse_own [] own = tt
 reverse_own (v ∷ vs) own = subst AreOwn (sym (last_first v vs)) (all_append (λ (x : Operand). IsOwn x.value) (reverse vs) (v ∷ []) (reverse_own vs own.1) (own.0, tt))
@@ -95,7 +83,7 @@ sorted_set (heap ∷ regions) zero r s there same h =
     let is : heap ≡ r = cc in
     (same ∙ ap (λ (q : Region). q.sort) (sym is) ∙ h.0, h.1)
 sorted_set (heap ∷ regions) (suc n) r s there same h =
-    (h.0, all_set (λ (q : Region). IsLeft q.sort) regions n s (subst IsLeft (sym same) (all_get (λ (q : Region). IsLeft q.sort) regions n r there h.1)) h.1)
+    (h.0, all_set (λ (q : Region). IsLeft q.sort) regions n s (subst IsLeft (sym same) (all_at (λ (q : Region). IsLeft q.sort) regions n r h.1 there)) h.1)
 
 own_closed : (w : World) (n : ℕ) (r : Region) → region_at w n ≡ Found r → IsOwnWorld w → IsOwnWorld (closed w n r)
 own_closed w n r found o = (sorted_set w.regions n r (record r { is_open = false }) (region_found w n r found) refl o.0, o.1)
@@ -126,13 +114,13 @@ own_created w new (Unique false) cells own is o = absurd (let e : Missing ≡ Fo
 
 own_freed : (w : World) (n : ℕ) (x : Object) → slice_get w.objects n ≡ Some x → IsOwnWorld w → IsOwnWorld (freed w n x)
 own_freed w n x there o =
-    (o.0, all_set (λ (y : Object). AllByRecursion IsOwnCell y.cells) w.objects n (record x { owner = Unique false }) (all_get (λ (y : Object). AllByRecursion IsOwnCell y.cells) w.objects n x there o.1) o.1)
+    (o.0, all_set (λ (y : Object). AllByRecursion IsOwnCell y.cells) w.objects n (record x { owner = Unique false }) (all_at (λ (y : Object). AllByRecursion IsOwnCell y.cells) w.objects n x o.1 there) o.1)
 
 cells_own : (w : World) (object offset : ℕ) (at : Located) → cell_at w object offset ≡ Found at → IsOwnWorld w → AllByRecursion IsOwnCell at.object.cells
-cells_own w object offset at found o = all_get (λ (y : Object). AllByRecursion IsOwnCell y.cells) w.objects object at.object (cell_found w object offset at found).0 o.1
+cells_own w object offset at found o = all_at (λ (y : Object). AllByRecursion IsOwnCell y.cells) w.objects object at.object o.1 (cell_found w object offset at found).0
 
 content_own : (w : World) (object offset : ℕ) (at : Located) → cell_at w object offset ≡ Found at → IsOwnWorld w → IsOwnContent at.cell.content
-content_own w object offset at found o = all_get IsOwnCell at.object.cells offset at.cell (cell_found w object offset at found).1 (cells_own w object offset at found o)
+content_own w object offset at found o = all_at IsOwnCell at.object.cells offset at.cell (cells_own w object offset at found o) (cell_found w object offset at found).1
 
 own_written : (w : World) (object offset : ℕ) (at : Located) (value : Value) → cell_at w object offset ≡ Found at → IsOwn value → IsOwnWorld w → IsOwnWorld (written w object offset at value)
 own_written w object offset at value found own o =

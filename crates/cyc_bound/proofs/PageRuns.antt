@@ -1,5 +1,5 @@
 -- No run asks for more pages than its costs tell.
-use Rattle.std.proofs.Common.{◌≡◌, ℕ, zero, suc, ◌+◌, ◌-◌, ◌*◌, ◌/◌, ◌<◌, ◌≤◌, max, Bool, true, false, List, [], ◌∷◌, drop, set, length, get_or, Option, Some, None, refl, sym, ap, subst, ◌∙◌, inl, inr, arith, div-mul-le_self}
+use Rattle.std.proofs.Common.{◌≡◌, ℕ, zero, suc, ◌+◌, ◌-◌, ◌*◌, ◌/◌, ◌<◌, ◌≤◌, max, Bool, true, false, List, [], ◌∷◌, drop, set, length, get_or, Option, Some, None, refl, sym, ap, subst, ◌∙◌, inl, inr, arith}
 use Rattle.std.specs.Prelude.{◌==◌, ◌&&◌, nat_le, if◌then◌else◌, slice_get}
 use Rattle.std.specs.List.{AllByRecursion}
 use Rattle.std.proofs.lemmas.Bool.{cases_eq, le-leb, leb-false, eq-eqb}
@@ -7,6 +7,7 @@ use Rattle.std.proofs.lemmas.List.{length-set, get_or-set_same, get_or-set_other
 use Rattle.std.proofs.lemmas.Nat.{le-div}
 use Rattle.cyc_words.specs.Demand.{page_words, pages_from, region_pages, greatest_class, blocks_in_page, pages_for, total, demand_of}
 use Rattle.cyc_words.specs.Ending.{Full}
+use Rattle.cyc_words.proofs.Numbers.{quotient_monotone}
 use Rattle.cyc_types.specs.TypedTrees.{Function, Program}
 use Rattle.cyc_meaning.specs.Values.{block_size}
 use Rattle.cyc_meaning.specs.State.{Sort, Heap, Globals, Stack, Lexical, Dynamic, Region, Owner, InRegion, Unique, Object, World, first_world, first_classes, has_pages, counted, Main, no_locals, Environment, Entry, Focus, Given, Entering, State, HasEnded, GoesOn, Running, Ended, Dead, Wrong, output_of, input_of, demand, depth}
@@ -127,10 +128,6 @@ spent_in m (Wrong output input) = 0
 
 -- ---- classes
 
-quotient_more : (m n k : ℕ) → m ≤ n → m / k ≤ n / k
-quotient_more m n zero less = omega arith
-quotient_more m n (suc k) less = le-div (m / suc k) n (suc k) (omega arith) (omega (arith, less, div-mul-le_self m (suc k)))
-
 live_within : (class : ℕ) (objects : List Object) → live_in class objects ≤ objects_spent (measures.Uniques class) objects
 live_within class [] = omega arith
 live_within class (x ∷ objects) = go x.owner (live_within class objects)
@@ -190,7 +187,7 @@ module _ (program : Program) (cost : Measure → ℕ) where
   -- ---- runs
 
   pages_more : (class m n : ℕ) → m ≤ n → pages_for class m ≤ pages_for class n
-  pages_more class m n less = quotient_more (m + (blocks_in_page class - 1)) (n + (blocks_in_page class - 1)) (blocks_in_page class) (omega (arith, less))
+  pages_more class m n less = quotient_monotone (m + (blocks_in_page class - 1)) (n + (blocks_in_page class - 1)) (blocks_in_page class) (omega (arith, less))
 
   raised_few : (classes : List ℕ) (class value : ℕ) → AreFew classes → (class ≤ greatest_class → value ≤ P class) → AreFew (set classes class (max (get_or classes class 0) value))
   raised_few classes class value h most = record {

@@ -1,10 +1,11 @@
 -- A walk over the functions that `main` leads to: each of those that were found is led to, and what the walk is through with calls nothing
 -- that was not found.
-use Rattle.std.proofs.Common.{◌≡◌, ℕ, zero, suc, ◌+◌, ◌<◌, ◌≤◌, ◌⊎◌, Bool, true, false, List, [], ◌∷◌, ◌++◌, length, get_or, refl, sym, ap, subst, ◌∙◌, inl, inr, arith}
+use Rattle.std.proofs.Common.{◌≡◌, ℕ, suc, ◌+◌, ◌<◌, ◌≤◌, ◌⊎◌, Bool, true, false, List, [], ◌∷◌, ◌++◌, length, get_or, refl, sym, ap, subst, ◌∙◌, inl, inr, arith}
 use Rattle.std.specs.Prelude.{set, slice_get, Contains}
 use Rattle.std.proofs.lemmas.Bool.{cases_eq, cases_lt, false≢true}
 use Rattle.std.proofs.lemmas.List.{get_or_default, get_or-set_other, length-append}
 use Rattle.std.proofs.lemmas.List.Elements.{Contains-append_left, Contains-push, Contains-push_cases, Contains-get_or}
+use Rattle.cyc_words.proofs.Items.{get_or_before}
 use Rattle.cyc_types.specs.TypedTrees.{Program}
 use Rattle.cyc_bound.specs.Bound.{callees_of, Calls, Row, Alone, Before}
 use Rattle.cyc_bound.specs.inside.Reached.{AreMarked, IsNoted, AreLedTo, AreReached}
@@ -48,15 +49,10 @@ module _ (program : Program) where
     | inr more ↦ subst (λ (l : List ℕ). Contains l g) (sym more) (Contains-append_left before (f ∷ []) g is)
   ]
 
-  front : (before : List ℕ) (f : ℕ) (k : ℕ) → k < length before → get_or (before ++ f ∷ []) k 0 ≡ get_or before k 0
-  front [] f k less = absurd (omega (arith, less))
-  front (x ∷ before) f zero less = refl
-  front (x ∷ before) f (suc k) less = front before f k (omega (arith, less))
-
   pub same_at : (before : List ℕ) (f : ℕ) (marks : List Bool) (after : List ℕ) → IsNoted before f marks after → (k : ℕ) → k < length before → get_or after k 0 ≡ get_or before k 0
   same_at before f marks after h k less = elim h.alike [
     | inl same ↦ ap (λ (l : List ℕ). get_or l k 0) same
-    | inr more ↦ ap (λ (l : List ℕ). get_or l k 0) more ∙ front before f k less
+    | inr more ↦ ap (λ (l : List ℕ). get_or l k 0) more ∙ get_or_before before f k less
   ]
 
   -- nothing else is new

@@ -1,20 +1,14 @@
 -- What rounds make of costs: they stay below all that are enough, and come to at least as many calls, one behind the other, as there were
 -- rounds.
-use Rattle.std.proofs.Common.{◌≡◌, ℕ, zero, suc, ◌+◌, ◌<◌, ◌≤◌, min, max, List, [], ◌∷◌, length, get_or, refl, sym, ap, subst, ◌∙◌, inl, inr, arith}
-use Rattle.std.specs.Prelude.{map}
+use Rattle.std.proofs.Common.{◌≡◌, ℕ, suc, ◌+◌, ◌<◌, ◌≤◌, min, max, List, length, get_or, refl, sym, ap, subst, ◌∙◌, inl, inr, arith}
 use Rattle.std.proofs.lemmas.Bool.{cases_eq, cases_lt}
 use Rattle.std.proofs.lemmas.List.{length-set, get_or-set_same, get_or-set_other, set_past}
+use Rattle.cyc_words.proofs.Items.{get_or-map_beyond}
 use Rattle.cyc_types.specs.TypedTrees.{Function, Program}
 use Rattle.cyc_bound.specs.declared.costs.Measure.{Measure}
 use Rattle.cyc_bound.specs.Costs.{too_many, function_cost, next_costs, Below, IsClosed, AreCosts, IsRunCost, costs_after, most_rounds, StillGrow}
 use Rattle.cyc_bound.specs.inside.Rounds.{raised, AreRaised}
 use Rattle.cyc_bound.proofs.MoreLemmas.{next_more}
-
--- a table has nothing behind its end
-past_end : {A : Type 0} (cost : A → ℕ) (xs : List A) (f : ℕ) → length xs ≤ f → get_or (map cost xs) f 0 ≡ 0
-past_end cost [] f past = refl
-past_end cost (x ∷ xs) zero past = absurd (omega (arith, past))
-past_end cost (x ∷ xs) (suc f) past = past_end cost xs f (omega (arith, past))
 
 module _ (program : Program) (m : Measure) where
   abbrev N : List ℕ → ℕ → ℕ
@@ -103,7 +97,7 @@ module _ (program : Program) (m : Measure) where
     more = h.more;
     next = λ f. elim (cases_lt f i) [
       | inl earlier ↦ h.next f earlier
-      | inr past ↦ omega (arith, past_end (λ (g : Function). min too_many (function_cost m before g)) program.functions f (omega (arith, whole, past)))
+      | inr past ↦ omega (arith, get_or-map_beyond (λ (g : Function). min too_many (function_cost m before g)) program.functions f (omega (arith, whole, past)))
     ];
     least = h.least;
   }
@@ -154,7 +148,7 @@ module _ (program : Program) (m : Measure) where
   pub closed_all : (costs : List ℕ) (i : ℕ) → length program.functions ≤ i → ((f : ℕ) → f < i → N costs f ≤ get_or costs f 0) → IsClosed program m costs
   closed_all costs i whole h f = elim (cases_lt f i) [
     | inl earlier ↦ h f earlier
-    | inr past ↦ omega (arith, past_end (λ (g : Function). min too_many (function_cost m costs g)) program.functions f (omega (arith, whole, past)))
+    | inr past ↦ omega (arith, get_or-map_beyond (λ (g : Function). min too_many (function_cost m costs g)) program.functions f (omega (arith, whole, past)))
   ]
 
   pub closed_more : (costs : List ℕ) (i : ℕ) → ((f : ℕ) → f < i → N costs f ≤ get_or costs f 0) → N costs i ≤ get_or costs i 0 → (f : ℕ) → f < i + 1 → N costs f ≤ get_or costs f 0

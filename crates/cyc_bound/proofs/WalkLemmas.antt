@@ -1,12 +1,9 @@
 -- What the walk over calls goes by: paths and circles, rows that are joined, and heights.
-use Rattle.std.proofs.Common.{◌≡◌, ℕ, zero, suc, ◌+◌, ◌-◌, ◌<◌, ◌≤◌, max, List, [], ◌∷◌, ◌++◌, length, get_or, set, take, drop, refl, subst, sym, ap, ◌∙◌, inl, inr, arith, length-append}
-use Rattle.std.specs.Prelude.{if◌then◌else◌, slice_get, Contains}
+use Rattle.std.proofs.Common.{◌≡◌, ℕ, zero, suc, ◌+◌, ◌<◌, ◌≤◌, max, List, [], ◌∷◌, ◌++◌, length, get_or, set, drop, subst, sym, ap, ◌∙◌, inl, inr, arith}
+use Rattle.std.specs.Prelude.{slice_get, Contains}
 use Rattle.std.proofs.lemmas.Bool.{cases_eq, cases_lt}
-use Rattle.std.proofs.lemmas.Cmp.{ranked}
-use Rattle.std.specs.Ordering.{MatchOrdering, nat_cmp, is_lt, ord_max}
-use Rattle.std.specs.declared.cmp.Ordering.{Ordering}
-use Rattle.std.specs.declared.cmp.Ordering.TheVariants.{Less, Equal, Greater}
-use Rattle.std.proofs.lemmas.List.{length-drop, take_all, get_or-set_same, get_or-set_other, get_or_default, set_past}
+use Rattle.std.proofs.lemmas.List.{get_or-set_same, get_or-set_other, get_or_default, set_past}
+use Rattle.cyc_words.proofs.Members.{Contains-read}
 use Rattle.cyc_types.specs.TypedTrees.{Program}
 use Rattle.cyc_bound.specs.Bound.{callees_of, Calls, Row, Alone, Before, IsAtMost, IsHeight, most_calls, LeadTo, IsCircle}
 use Rattle.cyc_bound.specs.inside.Walk.{AreHeights}
@@ -59,9 +56,6 @@ module _ (program : Program) where
     above = λ k less last count row. absurd (omega (arith, less));
   }
 
-  at_index : (callees : List ℕ) (i callee : ℕ) → i < length callees → callee ≡ get_or callees i callee → Contains callees callee
-  at_index callees i callee less at = (i, less, sym at)
-
   pub so_far_more : (f : ℕ) (callees : List ℕ) (i height callee count : ℕ) → callees ≡ callees_of (slice_get program.functions f)
       → IsSoFar f callees i height → i < length callees → callee ≡ get_or callees i callee → IsHeight program callee count → count < most_calls
       → IsSoFar f callees (i + 1) (max height (count + 1))
@@ -82,7 +76,7 @@ module _ (program : Program) where
   }
     where
       call : Calls program f callee
-      call = subst (λ (cs : List ℕ). Contains cs callee) are (at_index callees i callee less at)
+      call = subst (λ (cs : List ℕ). Contains cs callee) are (Contains-read callees i callee less at)
 
   pub so_far_all : (f : ℕ) (callees : List ℕ) (i height : ℕ) → callees ≡ callees_of (slice_get program.functions f) → length callees ≤ i → IsSoFar f callees i height → IsHeight program f height
   so_far_all f callees i height are whole h = (h.row, most)
@@ -112,11 +106,11 @@ module _ (program : Program) where
   pub deep_through : (f : ℕ) (callees : List ℕ) (i callee count before : ℕ) → callees ≡ callees_of (slice_get program.functions f) → i < length callees → callee ≡ get_or callees i callee
       → Row program program.main f before → 1 ≤ before → IsHeight program callee count → most_calls ≤ count → (last n : ℕ) × Row program program.main last n × (most_calls < n)
   deep_through f callees i callee count before are less at row some is many =
-      let call = subst (λ (cs : List ℕ). Contains cs callee) are (at_index callees i callee less at) in
+      let call = subst (λ (cs : List ℕ). Contains cs callee) are (Contains-read callees i callee less at) in
       (is.0.0, before + count, rows_joined program.main f is.0.0 before count row (Before f callee is.0.0 count call is.0.1), omega (arith, some, many))
 
   pub calls_at : (f : ℕ) (callees : List ℕ) (i callee : ℕ) → callees ≡ callees_of (slice_get program.functions f) → i < length callees → callee ≡ get_or callees i callee → Calls program f callee
-  calls_at f callees i callee are less at = subst (λ (cs : List ℕ). Contains cs callee) are (at_index callees i callee less at)
+  calls_at f callees i callee are less at = subst (λ (cs : List ℕ). Contains cs callee) are (Contains-read callees i callee less at)
 
   -- ---- circles
 
@@ -136,34 +130,3 @@ module _ (program : Program) where
   no_bound (f ∷ functions) bound is most =
       let (n, row, less) = grows f is.1.0 functions is.0 is.1.1 (suc bound) in
       omega (arith, less, most f n row)
-
--- ---- the path behind a function
-
-take_front : (xs : List ℕ) (y : ℕ) → take (length xs) (xs ++ y ∷ []) ≡ xs
-take_front [] y = refl
-take_front (x ∷ xs) y = ap (λ (l : List ℕ). x ∷ l) (take_front xs y)
-
--- what is left of a path when its last function is taken away
-pub popped : (old now after : List ℕ) (f count : ℕ) → now ≡ old ++ f ∷ [] → count ≡ length now → after ≡ take (count - 1) now → after ≡ old
-popped old now after f count is counted taken =
-    let e : count - 1 ≡ length old = omega (arith, counted, ap (λ (l : List ℕ). length l) is, length-append old (f ∷ [])) in
-    taken ∙ ap (λ (l : List ℕ). take (count - 1) l) is ∙ ap (λ (n : ℕ). take n (old ++ f ∷ [])) e ∙ take_front old f
-
--- with a function more at its end it is longer by one
-pub longer : (old now : List ℕ) (f m n : ℕ) → now ≡ old ++ f ∷ [] → m ≡ length old → n ≡ length now → n ≡ m + 1
-longer old now f m n is first second = omega (arith, first, second, ap (λ (l : List ℕ). length l) is, length-append old (f ∷ []))
-
--- ---- what the code computes
-
--- the greater of two numbers
-pub greater_is_max : (a b : ℕ) → ord_max nat_cmp a b ≡ max a b
-greater_is_max a b = go (nat_cmp b a) (ranked b a (nat_cmp b a) refl)
-  where
-    go : (o : Ordering) → MatchOrdering o (b < a) (b ≡ a) (a < b) → (if is_lt o then a else b) ≡ max a b
-    go Less h = omega (arith, h)
-    go Equal h = omega (arith, h)
-    go Greater h = omega (arith, h)
-
--- what is left of a list from a place on
-pub rest_whole : (place : ℕ) (xs : List ℕ) → take (length xs - place) (drop place xs) ≡ drop place xs
-rest_whole place xs = take_all (length xs - place) (drop place xs) (omega (arith, length-drop place xs))

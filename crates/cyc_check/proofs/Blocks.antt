@@ -1,5 +1,5 @@
 -- How the code walks the items of a block, and where it leaves the scope.
-use Rattle.std.proofs.Common.{◌≡◌, ℕ, suc, ◌+◌, List, [], ◌∷◌, ◌++◌, Some, None, Result, Ok, Err, OnOk, refl, sym, ap, subst, ◌∙◌, arith}
+use Rattle.std.proofs.Common.{◌≡◌, ℕ, suc, ◌+◌, List, [], ◌∷◌, ◌++◌, Some, None, Ok, refl, sym, ap, subst, ◌∙◌, arith}
 use Rattle.std.proofs.lemmas.List.{append_assoc}
 use Rattle.cyc_syntax.specs.Symbols.{Place}
 use Rattle.cyc_syntax.specs.Trees.{Named, Expression, Statement, IfElse, Items, NoItems, MoreItems, Item, Execute, Local, Region, Alias, DynamicRegion}
@@ -118,8 +118,6 @@ labelled_left g n l is b =
     ∙ ap (λ (k : ℕ). record (numbered_as g n) { next_local = g.next_local + item_locals is; next_region = k }) count
     ∙ ap (λ (ns : List ℕ). record (behind_labelled g l is) { taken = ns }) (b.taken ∙ sym (append_assoc (item_names is) (l.name ∷ []) g.taken))
 
--- ---- bodies of loops
-
 -- ---- the same by the scopes and the mark that the code holds
 
 pub block_is_left : (g h n : Scope) (m : Mark) (is : Items) → m ≡ mark_of g → h ≡ in_block g → IsBehindItems h is n → left_to m n ≡ behind_block g is
@@ -127,10 +125,6 @@ block_is_left g h n m is at entered b = ap (λ (x : Mark). left_to x n) at ∙ b
 
 pub labelled_is_left : (g h n : Scope) (m : Mark) (l : Named) (is : Items) → m ≡ mark_of g → h ≡ in_labelled l g → IsBehindItems h is n → left_to m n ≡ behind_labelled g l is
 labelled_is_left g h n m l is at entered b = ap (λ (x : Mark). left_to x n) at ∙ labelled_left g n l is (subst (λ x. IsBehindItems x is n) entered b)
-
-pub on_ok : {A E : Type 0} (r : Result A E) (P : Type 0) → P → OnOk r P
-on_ok (Ok a) P p = p
-on_ok (Err e) P p = tt
 
 -- ---- both sides of an `if`
 

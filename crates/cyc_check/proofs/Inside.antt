@@ -1,6 +1,7 @@
 -- A scope inside another: what was declared there stands in front of what was there before, so that leaving it takes that away.
-use Rattle.std.proofs.Common.{◌≡◌, ℕ, ◌-◌, ◌≤◌, List, [], ◌∷◌, ◌++◌, length, drop, refl, sym, ap, subst, ◌∙◌, arith}
-use Rattle.std.proofs.lemmas.List.{append_assoc, length-append}
+use Rattle.std.proofs.Common.{◌≡◌, ◌-◌, ◌≤◌, List, [], ◌∷◌, ◌++◌, length, drop, refl, sym, ap, subst, ◌∙◌, arith}
+use Rattle.std.proofs.lemmas.List.{append_assoc}
+use Rattle.cyc_words.proofs.Lists.{drop_to_last}
 use Rattle.cyc_types.specs.declared.scope.Scope.{Scope as Opened}
 use Rattle.cyc_syntax.specs.Trees.{Named, Statement}
 use Rattle.cyc_types.specs.typing.Scopes.{Scope, RegionName, LocalVariable, Sort, behind, in_block, in_labelled, in_body, with_local, with_opened, with_region, with_key_opened}
@@ -65,15 +66,6 @@ inside_body g s = record { locals = []; names = []; opened = []; same = refl }
 
 -- ---- leaving
 
-rest_of_append : {A : Type 0} (xs ys : List A) → drop (length (xs ++ ys) - length ys) (xs ++ ys) ≡ ys
-rest_of_append xs ys =
-    let n : length (xs ++ ys) - length ys ≡ length xs = omega (arith, length-append xs ys) in
-    ap (λ (k : ℕ). drop k (xs ++ ys)) n ∙ front xs
-  where
-    front : (zs : List _) → drop (length zs) (zs ++ ys) ≡ ys
-    front [] = refl
-    front (z ∷ zs) = front zs
-
 -- what stays: the numbers that were used, and the names of regions that were taken
 abbrev pub numbered_as : Scope → Scope → Scope
 numbered_as g n = record g { taken = n.taken; next_local = n.next_local; next_region = n.next_region }
@@ -81,9 +73,9 @@ numbered_as g n = record g { taken = n.taken; next_local = n.next_local; next_re
 pub left_numbered : (g n : Scope) → Inside g n → left_to (mark_of g) n ≡ numbered_as g n
 left_numbered g n i =
     ap (left_to (mark_of g)) i.same
-    ∙ ap (λ (ls : List LocalVariable). record (numbered_as g n) { locals = ls; names = drop (length (i.names ++ g.names) - length g.names) (i.names ++ g.names); regions = record g.regions { opened = drop (length (i.opened ++ g.regions.opened) - length g.regions.opened) (i.opened ++ g.regions.opened) } }) (rest_of_append i.locals g.locals)
-    ∙ ap (λ (ns : List RegionName). record (numbered_as g n) { names = ns; regions = record g.regions { opened = drop (length (i.opened ++ g.regions.opened) - length g.regions.opened) (i.opened ++ g.regions.opened) } }) (rest_of_append i.names g.names)
-    ∙ ap (λ (os : List Opened). record (numbered_as g n) { regions = record g.regions { opened = os } }) (rest_of_append i.opened g.regions.opened)
+    ∙ ap (λ (ls : List LocalVariable). record (numbered_as g n) { locals = ls; names = drop (length (i.names ++ g.names) - length g.names) (i.names ++ g.names); regions = record g.regions { opened = drop (length (i.opened ++ g.regions.opened) - length g.regions.opened) (i.opened ++ g.regions.opened) } }) (drop_to_last i.locals g.locals)
+    ∙ ap (λ (ns : List RegionName). record (numbered_as g n) { names = ns; regions = record g.regions { opened = drop (length (i.opened ++ g.regions.opened) - length g.regions.opened) (i.opened ++ g.regions.opened) } }) (drop_to_last i.names g.names)
+    ∙ ap (λ (os : List Opened). record (numbered_as g n) { regions = record g.regions { opened = os } }) (drop_to_last i.opened g.regions.opened)
 
 -- regions stay in order
 pub order_left : (g n : Scope) → IsInOrder g → Inside g n → g.next_region ≤ n.next_region → IsInOrder (left_to (mark_of g) n)

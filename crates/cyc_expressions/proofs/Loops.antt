@@ -1,6 +1,5 @@
 -- A list that the code walks in a loop: what was made of its front, and what is made of the rest.
-use Rattle.std.proofs.Common.{◌≡◌, ℕ, zero, suc, ◌+◌, ◌<◌, get_or, List, [], ◌∷◌, ◌++◌, drop, length, Ok, Err, refl, sym, ap, arith}
-use Rattle.std.proofs.lemmas.List.{drop_more}
+use Rattle.std.proofs.Common.{◌≡◌, zero, suc, List, [], ◌∷◌, ◌++◌, Ok, Err, refl, sym, ap}
 use Rattle.cyc_types.specs.Rules.{Checked, and_then}
 
 module _ {X Y B : Type 0} (view : X → Y) (add : Y → B → B) where
@@ -24,8 +23,3 @@ module _ {X Y B : Type 0} (view : X → Y) (add : Y → B → B) where
   pub onto_nothing : (checked : Checked B) → with_front [] checked ≡ checked
   onto_nothing (Ok b) = refl
   onto_nothing (Err e) = refl
-
--- where a loop has read no item yet
-pub next_element : {A : Type 0} (xs : List A) (i : ℕ) → i < length xs → (x : A) × (drop i xs ≡ x ∷ drop (i + 1) xs)
-next_element [] i lt = absurd (omega (arith, lt))
-next_element (x ∷ xs) i lt = (get_or (x ∷ xs) i x, drop_more (x ∷ xs) i x lt)

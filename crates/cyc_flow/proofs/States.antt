@@ -37,12 +37,6 @@ lowered_all xs ys whole i n d e k =
 abbrev pub Compared : List FullnessCode → List FullnessCode → ℕ → (all : Bool) → (whole : Bool) → Type 0
 Compared xs ys i all whole = (all && are_as_full (map view_fullness (drop i xs)) (map view_fullness (drop i ys))) ≡ whole
 
-pub compared_one : (a b c : Bool) → ((b && a) && c) ≡ (a && (b && c))
-compared_one true true c = refl
-compared_one true false c = refl
-compared_one false true c = refl
-compared_one false false c = refl
-
 none_to_compare : (xs ys : List FullnessCode) → length xs ≡ 0 → length ys ≡ 0 → are_as_full (views xs) (views ys) ≡ true
 none_to_compare [] [] h k = refl
 none_to_compare [] (y ∷ ys) h k = absurd (omega arith)

@@ -202,7 +202,7 @@ fn lower_each(mut one: Vec<Fullness>, other: &[Fullness]) -> Vec<Fullness>
     one
 }
 
-#[tactic(auto, using(crate::proofs::States::unequal, crate::proofs::States::compared_one))]
+#[tactic(auto, using(crate::proofs::States::unequal, cyc_words::proofs::Booleans::and_second_first))]
 fn are_as_full(one: &[Fullness], other: &[Fullness]) -> bool
     ensures { result ≡ are_as_full (map view_fullness one.now) (map view_fullness other.now) }
 {

@@ -4,7 +4,6 @@ pub mod TypeTests
 pub mod Settling
 pub mod Handed
 -- calls
-pub mod Lists
 pub mod Instances
 pub mod PassedValues
 -- new structs

@@ -1,8 +1,8 @@
 -- Demands that are settled in two places.
-use Rattle.std.proofs.Common.{◌≡◌, ℕ, Bool, true, false, cond, nat_lt, List, [], ◌∷◌, ◌++◌, Option, Some, None, refl, sym, ap, ◌∙◌, arith}
-use Rattle.std.proofs.lemmas.Bool.Decides.{nat_tests}
+use Rattle.std.proofs.Common.{◌≡◌, Bool, true, false, cond, nat_lt, List, [], ◌∷◌, ◌++◌, Option, Some, None, refl, sym, ap, ◌∙◌}
 use Rattle.cyc_words.specs.declared.fault.Fault.{Fault}
 use Rattle.cyc_words.specs.Fault.{number_of}
+use Rattle.cyc_words.proofs.Numbers.{nat_lt-trans, nat_lt-false_trans}
 use Rattle.cyc_types.specs.Rules.{Demand, fault_of, lesser, noted, settled}
 use Rattle.cyc_types.proofs.RuleLaws.{settled_append}
 use Rattle.cyc_forms.specs.inside.Forms.{merged}
@@ -23,12 +23,6 @@ settled_four known k l m n as' bs cs ds h i j e =
     ∙ ap (λ o. settled o (bs ++ (cs ++ ds))) h ∙ sym (settled_append known as' (bs ++ (cs ++ ds)))
 
 -- ---- what two lists of demands settle to, each by itself
-
-less_of_less : (k m n : ℕ) → nat_lt m n ≡ true → nat_lt k m ≡ true → nat_lt k n ≡ true
-less_of_less k m n g h = grind (arith, nat_tests)
-
-not_between : (k m n : ℕ) → nat_lt m n ≡ false → nat_lt k m ≡ false → nat_lt k n ≡ false
-not_between k m n g h = grind (arith, nat_tests)
 
 by_tests : (a b c : Bool) (e f g : Fault) → (a ≡ true → b ≡ true → c ≡ true) → (a ≡ false → b ≡ false → c ≡ false)
     → cond a (cond b (Some g) (Some f)) (cond c (Some g) (Some e)) ≡ cond b (cond c (Some g) (Some e)) (cond a (Some f) (Some e))
@@ -55,7 +49,7 @@ lesser_lesser (Some e) f g =
     let m = number_of e.code in
     let n = number_of f.code in
     let k = number_of g.code in
-    first_test (nat_lt n m) e f g ∙ by_tests (nat_lt n m) (nat_lt k n) (nat_lt k m) e f g (less_of_less k n m) (not_between k n m) ∙ sym (second_test (nat_lt k n) e f g)
+    first_test (nat_lt n m) e f g ∙ by_tests (nat_lt n m) (nat_lt k n) (nat_lt k m) e f g (nat_lt-trans k n m) (nat_lt-false_trans k n m) ∙ sym (second_test (nat_lt k n) e f g)
 
 merged_noted : (known : Option Fault) (d : Demand) (o : Option Fault) → merged (noted known d) o ≡ merged known (merged (noted None d) o)
 merged_noted known d o = by_test d.kept o

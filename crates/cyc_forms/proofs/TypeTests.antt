@@ -83,14 +83,6 @@ module _ (m : List Region) where
   char_at (Key r) = refl
   char_at (Struct n rs) = refl
 
--- two tests in the other order
-pub in_turn : (a b c : Bool) → (a && (b && c)) ≡ (a && (c && b))
-in_turn true true true = refl
-in_turn true true false = refl
-in_turn true false true = refl
-in_turn true false false = refl
-in_turn false b c = refl
-
 -- ---- the arguments of two structs
 
 module _ (f : Region → Region) where

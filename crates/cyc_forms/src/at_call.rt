@@ -96,7 +96,7 @@ fn same_arguments(table: &[Option<Region>], regions: &[Region], wanted: &[Region
 }
 
 /// Whether a type is equal in all parts to that of a parameter.
-#[tactic(auto, using(crate::proofs::TypeTests::in_turn))]
+#[tactic(auto, using(cyc_words::proofs::Booleans::and_last_two_swapped))]
 fn same_type_at(table: &[Option<Region>], of_type: &Ty, wanted: &Ty) -> bool
     ensures { result ≡ ty_eq (view_ty of_type.now) (substituted_ty (instance_in table.now) (view_ty wanted.now)) }
 {

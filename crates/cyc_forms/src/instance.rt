@@ -162,7 +162,7 @@ fn has_unique_argument(variables: &[Region], regions: &[Region]) -> bool
     false
 }
 
-#[tactic(auto, using(crate::proofs::Instances::any_turned))]
+#[tactic(auto, using(cyc_words::proofs::Searches::any-push_turned))]
 fn has_unique_in(parameter: &Ty, given: &Ty) -> bool
     ensures { result ≡ list_any is_unique_for_variable (paired (view_ty parameter.now) (view_ty given.now)) }
 {

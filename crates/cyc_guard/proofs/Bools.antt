@@ -1,50 +1,21 @@
 -- Tests on numbers, and what two of them say together.
-use Rattle.std.proofs.Common.{◌≡◌, ℕ, Bool, true, false, cond, not, ◌||◌, nat_eq, List, [], ◌∷◌, ◌++◌, refl, sym, ap, subst, ◌∙◌, arith}
+use Rattle.std.proofs.Common.{◌≡◌, ℕ, Bool, true, false, cond, ◌||◌, nat_eq, List, [], ◌∷◌, ◌++◌, refl, sym, ap, subst, ◌∙◌}
 use Rattle.std.specs.List.{list_any}
 use Rattle.std.proofs.lemmas.Bool.{or_left, or_right}
-use Rattle.std.proofs.lemmas.Bool.Decides.{nat_tests}
 use Rattle.std.proofs.lemmas.List.Folds.{list_any-append}
+use Rattle.cyc_words.proofs.Numbers.{nat_eq-true, nat_eq-false_turned, nat_eq-itself}
 use Rattle.cyc_guard.specs.inside.Held.{updated}
 
 pub data Told (m n : ℕ) : Bool → Type 0 where
   same : m ≡ n → Told m n true
   other : (n ≡ m → ⊥) → Told m n false
 
-are_same : (m n : ℕ) → nat_eq m n ≡ true → m ≡ n
-are_same m n e = grind (arith, nat_tests)
-
-are_other : (m n : ℕ) → nat_eq m n ≡ false → n ≡ m → ⊥
-are_other m n e h = absurd (grind (arith, nat_tests))
-
 pub told : (m n : ℕ) → Told m n (nat_eq m n)
 told m n = go (nat_eq m n) refl
   where
     go : (b : Bool) → nat_eq m n ≡ b → Told m n b
-    go true e = same (are_same m n e)
-    go false e = other (are_other m n e)
-
-pub same_told : (n : ℕ) → nat_eq n n ≡ true
-same_told n = grind (arith, nat_tests)
-
-pub not_false : (b : Bool) → b ≡ false → not b ≡ true
-not_false b h = ap not h
-
-pub from_or_false : (b : Bool) → b ≡ (b || false)
-from_or_false true = refl
-from_or_false false = refl
-
-pub or_true : (b : Bool) → (b || true) ≡ true
-or_true true = refl
-or_true false = refl
-
-pub or_assoc : (a b c : Bool) → ((a || b) || c) ≡ (a || (b || c))
-or_assoc true b c = refl
-or_assoc false b c = refl
-
--- what would come of a test does not, so the test fails
-pub refuted : (a b : Bool) → (a ≡ true → b ≡ true) → b ≡ false → a ≡ false
-refuted true b h k = let e : b ≡ true = h refl in absurd (cc)
-refuted false b h k = refl
+    go true e = same (nat_eq-true m n e)
+    go false e = other (nat_eq-false_turned m n e)
 
 -- ---- lists of numbers
 
@@ -61,12 +32,12 @@ pub has_right : (as' bs : List ℕ) (n : ℕ) → has bs n ≡ true → has (as'
 has_right as' bs n h = has_append as' bs n ∙ or_right (has as' n) (has bs n) h
 
 pub has_last : (ns : List ℕ) (n : ℕ) → has (ns ++ (n ∷ [])) n ≡ true
-has_last ns n = has_right ns (n ∷ []) n (or_left (nat_eq n n) false (same_told n))
+has_last ns n = has_right ns (n ∷ []) n (or_left (nat_eq n n) false (nat_eq-itself n))
 
 -- ---- sets of numbers
 
 pub updated_same : (f : ℕ → Bool) (n : ℕ) (b : Bool) (m : ℕ) → n ≡ m → updated f n b m ≡ b
-updated_same f n b m e = subst (λ k. updated f n b k ≡ b) e (ap (λ t. cond t b (f n)) (same_told n))
+updated_same f n b m e = subst (λ k. updated f n b k ≡ b) e (ap (λ t. cond t b (f n)) (nat_eq-itself n))
 
 pub updated_other : (f : ℕ → Bool) (n : ℕ) (b : Bool) (m : ℕ) → (m ≡ n → ⊥) → updated f n b m ≡ f m
 updated_other f n b m h = go (nat_eq n m) (told n m)

@@ -1,10 +1,11 @@
 -- A state fits a guard where just what the guard has for locked is locked, and all that it relies on holds a value. Where code is never
 -- run (`never`), no more is known than that.
 use Rattle.std.proofs.Common.{◌≡◌, ◌⊎◌, ℕ, Bool, true, false, cond, not, ◌||◌, nat_eq, List, [], ◌∷◌, ◌++◌, Option, Some, None, get_or, slice_set, inl, inr, refl, sym, ap, subst, ◌∙◌}
-use Rattle.std.proofs.lemmas.Bool.{not-true}
+use Rattle.std.proofs.lemmas.Bool.{not-true, not_from_false}
+use Rattle.cyc_words.proofs.Booleans.{or_false_right, or_true_right, or_assoc, false_from_false}
 use Rattle.cyc_types.specs.flow.States.{Fullness, Vacant, Locked, Full, State, Unreached, Reached, lower, meet, fullness, with_fullness, with_each, is_vacant, is_locked, emptied}
 use Rattle.cyc_guard.specs.inside.Held.{Held, Holds, IsAtLeast, updated, Guard, peeking}
-use Rattle.cyc_guard.proofs.Bools.{Told, same, other, told, not_false, from_or_false, or_true, or_assoc, refuted, has, has_append}
+use Rattle.cyc_guard.proofs.Bools.{Told, same, other, told, has, has_append}
 use Rattle.cyc_guard.proofs.States.{is_full, held_of, set_there, set_other, set_at, lower_at, at_least_trans, emptied_one, emptied_never, Emptied, emptied_at, refilled_never, Refilled, refilled_at}
 
 abbrev pub FitsAt : Guard → ℕ → Fullness → Type 0
@@ -46,7 +47,7 @@ pub not_locked : (p : Guard) (as' : List Fullness) (n : ℕ) → FitsEach p as' 
 not_locked p as' n h k = sym (h n).0 ∙ not-true (is_locked (get_or as' n Vacant)) k
 
 pub not_relied : (p : Guard) (n : ℕ) (ns : List ℕ) → Rests p ns → has ns n ≡ true → p.locked n ≡ false → p.relied n ≡ false
-not_relied p n ns r h k = refuted (p.relied n) (p.locked n) (λ s. r n s h) k
+not_relied p n ns r h k = false_from_false (p.relied n) (p.locked n) (λ s. r n s h) k
 
 -- a number that is not locked gets a value
 pub filled_fits : (p : Guard) (e : Bool) (f : State) (n : ℕ) → Fits p e f → p.locked n ≡ false → Fits p e (with_fullness Full f n)
@@ -116,7 +117,7 @@ Leaves ls p false o false = (n : ℕ) → LeavesAt (has ls n) p o n
 
 pub leaves_none : (p : Guard) (e : Bool) → Leaves [] p e p e
 leaves_none p true = tt
-leaves_none p false = λ n. (from_or_false (p.locked n), λ h. absurd (cc), λ s. s)
+leaves_none p false = λ n. (sym (or_false_right (p.locked n)), λ h. absurd (cc), λ s. s)
 
 composed_lock : (w0 w1 h1 h2 : Bool) → w1 ≡ (w0 || h1) → (h1 ≡ true → w0 ≡ false) → (h2 ≡ true → w1 ≡ false) → (h1 || h2) ≡ true → w0 ≡ false
 composed_lock w0 w1 true h2 a b c h = b refl
@@ -143,7 +144,7 @@ locked_full Full h = refl
 module _ (ls : List ℕ) (p o : Guard) (as' : List Fullness) (x : (n : ℕ) → LeavesAt (has ls n) p o n) (h : FitsEach p as') where
   listed_full : (n : ℕ) → has ls n ≡ true → is_vacant (get_or as' n Vacant) ≡ false
   listed_full n l =
-      locked_full (get_or as' n Vacant) ((h n).0 ∙ (x n).0 ∙ ap (λ t. o.locked n || t) l ∙ or_true (o.locked n))
+      locked_full (get_or as' n Vacant) ((h n).0 ∙ (x n).0 ∙ ap (λ t. o.locked n || t) l ∙ or_true_right (o.locked n))
 
   again_fits : (bs : List Fullness) → ((n : ℕ) → has ls n ≡ true → is_vacant (get_or as' n Vacant) ≡ false → get_or bs n Vacant ≡ Full)
       → ((n : ℕ) → has ls n ≡ false → get_or bs n Vacant ≡ get_or as' n Vacant) → FitsEach o bs
@@ -152,13 +153,13 @@ module _ (ls : List ℕ) (p o : Guard) (as' : List Fullness) (x : (n : ℕ) → 
       go : (b : Bool) → has ls n ≡ b → FitsAt o n (get_or bs n Vacant)
       go true l = subst (FitsAt o n) (sym (full n l (listed_full n l))) (full_fits o n ((x n).1 l))
       go false l =
-          subst (FitsAt o n) (sym (rest n l)) ((h n).0 ∙ (x n).0 ∙ ap (λ t. o.locked n || t) l ∙ sym (from_or_false (o.locked n)), λ s. (h n).1 ((x n).2 s))
+          subst (FitsAt o n) (sym (rest n l)) ((h n).0 ∙ (x n).0 ∙ ap (λ t. o.locked n || t) l ∙ or_false_right (o.locked n), λ s. (h n).1 ((x n).2 s))
 
   again_full : (bs : List Fullness) → ((n : ℕ) → has ls n ≡ false → get_or bs n Vacant ≡ get_or as' n Vacant) → (n : ℕ) → is_full bs n ≡ true → is_full as' n ≡ true
   again_full bs rest n = go (has ls n) refl
     where
       go : (b : Bool) → has ls n ≡ b → is_full bs n ≡ true → is_full as' n ≡ true
-      go true l k = not_false (is_vacant (get_or as' n Vacant)) (listed_full n l)
+      go true l k = not_from_false (is_vacant (get_or as' n Vacant)) (listed_full n l)
       go false l k = subst (λ a. not (is_vacant a) ≡ true) (rest n l) k
 
 -- where what they are listed for ends, they are full again
@@ -193,8 +194,8 @@ leaves_lent p m h n = go (nat_eq m n) (told m n)
   where
     go : (b : Bool) → Told m n b
         → (cond b true (p.locked n) ≡ (p.locked n || (b || false))) × ((b || false) ≡ true → p.locked n ≡ false) × (p.relied n ≡ true → p.relied n ≡ true)
-    go true (same e) = (sym (or_true (p.locked n)), λ k. subst (λ i. p.locked i ≡ false) e h, λ s. s)
-    go false (other k) = (from_or_false (p.locked n), λ l. absurd (cc), λ s. s)
+    go true (same e) = (sym (or_true_right (p.locked n)), λ k. subst (λ i. p.locked i ≡ false) e h, λ s. s)
+    go false (other k) = (sym (or_false_right (p.locked n)), λ l. absurd (cc), λ s. s)
 
 -- behind an item that lends one out and declares another
 pub record Lent (p : Guard) (e : Bool) (m : ℕ) (f : State) : Type 0 where

@@ -1,6 +1,7 @@
 -- What the rules derive is guarded: each state of the rules, taken for what holds a value in it, is one that the guarded form may choose.
 use Rattle.std.proofs.Common.{◌≡◌, ℕ, Bool, true, false, cond, not, ◌&&◌, ◌||◌, nat_eq, List, [], ◌∷◌, ◌++◌, Option, Some, None, get_or, refl, sym, ap, subst, ◌∙◌}
 use Rattle.std.proofs.lemmas.Bool.{and_parts, not-true}
+use Rattle.cyc_words.proofs.Booleans.{or_false_right, or_true_right}
 use Rattle.cyc_types.specs.TypedTrees.{Lvalue, Local, Global, Expression, Number, NullPointer, HeapRegion, Counter, Copy, Move, Peek, Load, AddressOf, AddressOfCell, NumberOfElements, FreeUnique, FreeKey, Call, Unary, Binary, Assign, Store, New, Dereference, Target, Member, Element, Placement, OnHeap, AsUnique, ByHandle, Initial, Plain, Fields, Array, Converted, Convert, Arguments, NoArguments, MoreArguments, Operations, NoOperations, ThenCompute, ThenTest, ThenPointer, ThenPointerPeek, Side, VariableSide, CellSide, Statement, Block, Empty, Evaluate, Swap, If, While, Return, Break, Continue, Throw, Try, Items, NoItems, MoreItems, Item, Execute, Declare, DeclareRegion, OpenRegion, DeclareAlias, DeclareKey, Clauses, NoClauses, Default, Case}
 use Rattle.cyc_types.specs.Rules.{Demand, Derives, AllKept}
 use Rattle.cyc_types.specs.flow.States.{Fullness, State, Unreached, Reached, Vacant, Locked, Full, meet, fullness, with_fullness, with_each, is_vacant, is_locked, emptied}
@@ -11,7 +12,7 @@ use Rattle.cyc_types.specs.flow.Statements as published
 use Rattle.cyc_guard.specs.inside.Held.{Held, IsAtLeast, with_held, and_held, Guard, peeking, relying, IsSeen, IsUsable, IsAssignable, IsSpared, IsReliable, at_catch}
 use Rattle.cyc_guard.specs.inside.Expressions.{KeepsUse, KeepsAssignment, Keeps, KeepsPlace, KeepsPlacement, KeepsInitial, KeepsConverted, KeepsArguments, KeepsOperations}
 use Rattle.cyc_guard.specs.inside.Statements.{Exits, KeepsValue, KeepsThrown, KeepsSide, IsSwappable, KeepsBreak, KeepsContinue, behind_item, KeepsDeclaration, KeepsLoan, KeepsStatement, KeepsItems, KeepsItem, KeepsClauses}
-use Rattle.cyc_guard.proofs.Bools.{from_or_false, or_true, has, has_append, has_last}
+use Rattle.cyc_guard.proofs.Bools.{has, has_append, has_last}
 use Rattle.cyc_guard.proofs.States.{is_full, held_of, at_least_same, at_least_trans, meet_left, meet_right, tested, filled_at_least, emptied_at_least, lent_at_least, emptied_one, emptied_never, Emptied, emptied_at}
 use Rattle.cyc_guard.proofs.Fitting.{FitsAt, Fits, Rests, not_locked, not_relied, fits_meet, emptied_fits, Leaves, leaves_none, leaves_append, unlocked, unlocked_at_least, peeking_fits, peeking_rests}
 use Rattle.cyc_guard.proofs.Numbers.{IsFresh, AreFresh, IsFreshItem, AreFreshClauses}
@@ -23,8 +24,8 @@ abbrev pub Waits : Guard → List ℕ → Type 0
 Waits p q = (n : ℕ) → p.peeked n ≡ has q n
 
 peek_added : (t x y : Bool) → x ≡ y → cond t true x ≡ (y || (t || false))
-peek_added true x y h = sym (or_true y)
-peek_added false x y h = h ∙ from_or_false y
+peek_added true x y h = sym (or_true_right y)
+peek_added false x y h = h ∙ sym (or_false_right y)
 
 waits_more : (o : Option ℕ) (p : Guard) (q : List ℕ) → Waits p q → Waits (peeking o p) (and_peeked o q)
 waits_more None p q h = h

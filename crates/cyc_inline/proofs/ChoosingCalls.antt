@@ -5,6 +5,7 @@ use Rattle.std.proofs.lemmas.Bool.{false≢true}
 use Rattle.std.proofs.lemmas.List.{length-append}
 use Rattle.std.proofs.lemmas.List.Elements.{recursion_from_All}
 use Rattle.std.proofs.lemmas.List.Sums.{sum_by-cons, get_or-le-sum_by}
+use Rattle.cyc_words.proofs.Members.{All_at}
 use Rattle.cyc_plain.specs.declared.instruction.BinaryOperator.{BinaryOperator}
 use Rattle.cyc_plain.specs.declared.instruction.BinaryOperator.TheVariants as binary
 use Rattle.cyc_plain.specs.declared.instruction.Instruction.{Instruction}
@@ -17,7 +18,7 @@ use Rattle.cyc_plain.specs.declared.instruction.Request.{Request}
 use Rattle.cyc_plain.specs.inside.Requests.{request_size}
 use Rattle.cyc_plain.specs.inside.Straight.{At}
 use Rattle.cyc_plain.specs.inside.WellFormed.{IsOperand, IsCallInRange, IsInRange, IsPlain}
-use Rattle.cyc_plain.proofs.Placed.{holds_at, routine_in}
+use Rattle.cyc_plain.proofs.Placed.{routine_in}
 use Rattle.cyc_inline.specs.declared.choice.Choice.{Choice}
 use Rattle.cyc_inline.specs.declared.choice.Need.{Need}
 use Rattle.cyc_inline.specs.declared.site.Call.{Call}
@@ -52,7 +53,7 @@ call_is i line call is = absurd (let e : None ≡ Some call = is in cc)
 pub in_code : (program : Program) (number index : ℕ) (i : Instruction) → IsPlain program → number < length program.functions → At (routine_at program number).code index i
     → IsInRange program (routine_at program number) i
 in_code program number index i plain is_function at =
-    holds_at (IsInRange program (routine_at program number)) (routine_at program number).code index i (routine_in program number plain.well_formed is_function).instructions at
+    All_at (IsInRange program (routine_at program number)) (routine_at program number).code index i (routine_in program number plain.well_formed is_function).instructions at
 
 pub call_in_range : (program : Program) (r : Routine) (i : Instruction) (line : ℕ) (call : Call) → IsInRange program r i → chosen_call i line ≡ Some call
     → IsCallInRange program r call.callee call.arguments call.count call.result

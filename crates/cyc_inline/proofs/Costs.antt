@@ -6,6 +6,7 @@ use Rattle.std.proofs.lemmas.Bool.{and_from, and_parts, eq-eqb, eqb-true}
 use Rattle.std.proofs.lemmas.List.Sums.{sum_by-cons}
 use Rattle.cyc_words.specs.Distinct.{IsDistinct}
 use Rattle.cyc_words.proofs.Lists.{all_append}
+use Rattle.cyc_words.proofs.Sums.{sum_by-plus}
 use Rattle.cyc_plain.specs.declared.instruction.Instruction.{Instruction}
 use Rattle.cyc_plain.specs.inside.Program.{Routine, Program, CodePlace, routine_at, places_from, places_of}
 use Rattle.cyc_plain.specs.inside.Straight.{At, places_behind}
@@ -54,16 +55,6 @@ module _ {P Q : Type 0} (same : P → P → Bool) (is : (p r : P) → same p r �
           let here : (if same p r then x else 0) ≡ 0 = ap (λ (b : Bool). if b then x else 0) e in
           omega (arith, head, here, later)
 
-  adds : (f g h : P → ℕ) (ps : List P) → ((p : P) → f p ≡ g p + h p) → sum_by f ps ≡ sum_by g ps + sum_by h ps
-  adds f g h [] each = refl
-  adds f g h (p ∷ ps) each =
-      let a = sum_by-cons f p ps in
-      let b = sum_by-cons g p ps in
-      let c = sum_by-cons h p ps in
-      let one = each p in
-      let rest = adds f g h ps each in
-      omega (arith, a, b, c, one, rest)
-
   nothing : (ps : List P) (price : Q → ℕ) → sum_by (λ (p : P). sum_by price (made_of [] p)) ps ≡ 0
   nothing [] price = refl
   nothing (p ∷ ps) price = let a = sum_by-cons (λ (x : P). sum_by price (made_of [] x)) p ps in let r = nothing ps price in let z : sum_by price (made_of [] p) ≡ 0 = refl in omega (arith, a, r, z)
@@ -72,7 +63,7 @@ module _ {P Q : Type 0} (same : P → P → Bool) (is : (p r : P) → same p r �
   pub parts_cheap : (price : Q → ℕ) (ps : List P) (qs : List Q) → IsDistinct ps → sum_by (λ (p : P). sum_by price (made_of qs p)) ps ≤ sum_by price qs
   parts_cheap price ps [] distinct = let n = nothing ps price in omega (arith, n)
   parts_cheap price ps (q ∷ qs) distinct =
-      let split = adds (λ (p : P). sum_by price (made_of (q ∷ qs) p)) (λ (p : P). if same p (origin q) then price q else 0) (λ (p : P). sum_by price (made_of qs p)) ps
+      let split = sum_by-plus (λ (p : P). sum_by price (made_of (q ∷ qs) p)) (λ (p : P). if same p (origin q) then price q else 0) (λ (p : P). sum_by price (made_of qs p)) ps
       (λ p. own_sum price q qs p (same p (origin q)) refl) in
       let one = once (price q) (origin q) ps distinct in
       let rest = parts_cheap price ps qs distinct in

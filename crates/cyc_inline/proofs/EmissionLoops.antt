@@ -1,5 +1,6 @@
 -- What is emitted in a loop, turn by turn: what is made so far, with what the rest becomes, is all of it.
-use Rattle.std.proofs.Common.{◌≡◌, ℕ, zero, suc, ◌+◌, ◌-◌, ◌<◌, Bool, List, [], ◌∷◌, ◌++◌, drop, replicate, Some, None, slice_get, sym, ap, ◌∙◌, arith, append_assoc}
+use Rattle.std.proofs.Common.{◌≡◌, ℕ, suc, ◌+◌, ◌-◌, ◌<◌, Bool, List, [], ◌∷◌, ◌++◌, drop, sym, ap, ◌∙◌, arith}
+use Rattle.cyc_words.proofs.Lists.{drop_found, append_goes_on}
 use Rattle.cyc_plain.specs.declared.instruction.Instruction.{Instruction}
 use Rattle.cyc_plain.specs.declared.instruction.Instruction.TheVariants as instructions
 use Rattle.cyc_plain.specs.declared.instruction.Operand.TheVariants as operands
@@ -9,10 +10,6 @@ use Rattle.cyc_plain.specs.inside.Straight.{At}
 use Rattle.cyc_inline.specs.inside.Opened.{passing}
 use Rattle.cyc_inline.specs.inside.Sites.{chosen_call, place_in}
 use Rattle.cyc_inline.specs.inside.Emission.{part, part_origins, part_count, opened_code, opened_origins, opened_places, opened_end}
-
-pub rest_goes_on : {A : Type 0} (all old new next rest whole : List A) → new ≡ old ++ next → whole ≡ next ++ rest → old ++ whole ≡ all → new ++ rest ≡ all
-rest_goes_on {A} all old new next rest whole is parts before =
-    ap (λ (l : List A). l ++ rest) is ∙ append_assoc old next rest ∙ ap (λ (l : List A). old ++ l) (sym parts) ∙ before
 
 -- one word more is moved
 pub passed_next : (destination source count word : ℕ) (all old new : List Instruction) → word < count
@@ -24,28 +21,12 @@ passed_next destination source count word all old new below is before =
     let to : destination + word + 1 ≡ destination + (word + 1) = omega arith in
     let from : source + word + 1 ≡ source + (word + 1) = omega arith in
     let one : List Instruction = instructions.Move (destination + word) (operands.Slot (source + word)) ∷ [] in
-    rest_goes_on all old new one (passing (destination + (word + 1)) (source + (word + 1)) (count - (word + 1)))
+    append_goes_on all old new one (passing (destination + (word + 1)) (source + (word + 1)) (count - (word + 1)))
     (passing (destination + word) (source + word) (count - word)) is
     (ap (passing (destination + word) (source + word)) left
     ∙ ap (λ (n : ℕ). one ++ passing n (source + word + 1) (count - (word + 1))) to
     ∙ ap (λ (n : ℕ). one ++ passing (destination + (word + 1)) n (count - (word + 1))) from)
     before
-
--- and it is made of the same
-pub repeated_next : {A : Type 0} (x : A) (count word : ℕ) (all old new : List A) → word < count → new ≡ old ++ x ∷ []
-    → old ++ replicate (count - word) x ≡ all → new ++ replicate (count - (word + 1)) x ≡ all
-repeated_next {A} x count word all old new below is before =
-    let left : count - word ≡ suc (count - (word + 1)) = omega (arith, below) in
-    rest_goes_on all old new (x ∷ []) (replicate (count - (word + 1)) x) (replicate (count - word) x) is
-    (ap (λ (n : ℕ). replicate n x) left) before
-
--- what a loop has not come to begins with the instruction that it reads
-pub drop_at : {A : Type 0} (xs : List A) (k : ℕ) (x : A) → slice_get xs k ≡ Some x → drop k xs ≡ x ∷ drop (k + 1) xs
-drop_at {A} [] k x at = absurd (let e : None ≡ Some x = at in cc)
-drop_at {A} (y ∷ xs) zero x at = ap (λ (z : A). z ∷ xs) (let e : Some y ≡ Some x = at in cc)
-drop_at (y ∷ xs) (suc k) x at =
-    let next : suc k + 1 ≡ suc (k + 1) = omega arith in
-    drop_at xs k x at ∙ ap (λ (n : ℕ). x ∷ drop n (y ∷ xs)) (sym next)
 
 -- one instruction more has its place
 pub placed_next : (program : Program) (chosen : List ℕ) (in_line : Bool) (code : List Instruction) (index here count : ℕ) (i : Instruction) (all old new : List ℕ) → At code index i
@@ -54,9 +35,9 @@ pub placed_next : (program : Program) (chosen : List ℕ) (in_line : Bool) (code
     → new ++ opened_places program chosen in_line (index + 1) (here + count) (drop (index + 1) code) ≡ all
 placed_next program chosen in_line code index here count i all old new at is many before =
     let next : suc index ≡ index + 1 = omega arith in
-    rest_goes_on all old new (here ∷ []) (opened_places program chosen in_line (index + 1) (here + count) (drop (index + 1) code))
+    append_goes_on all old new (here ∷ []) (opened_places program chosen in_line (index + 1) (here + count) (drop (index + 1) code))
     (opened_places program chosen in_line index here (drop index code)) is
-    (ap (opened_places program chosen in_line index here) (drop_at code index i at)
+    (ap (opened_places program chosen in_line index here) (drop_found code index i at)
     ∙ ap (λ (n : ℕ). here ∷ opened_places program chosen in_line n (here + part_count program in_line (chosen_call i (place_in chosen index))) (drop (index + 1) code)) next
     ∙ ap (λ (n : ℕ). here ∷ opened_places program chosen in_line (index + 1) (here + n) (drop (index + 1) code)) (sym many))
     before
@@ -67,7 +48,7 @@ pub ended_next : (program : Program) (chosen : List ℕ) (in_line : Bool) (code 
     → opened_end program chosen in_line (index + 1) (here + count) (drop (index + 1) code) ≡ all
 ended_next program chosen in_line code index here count all i at many before =
     let next : suc index ≡ index + 1 = omega arith in
-    sym (ap (opened_end program chosen in_line index here) (drop_at code index i at)
+    sym (ap (opened_end program chosen in_line index here) (drop_found code index i at)
     ∙ ap (λ (n : ℕ). opened_end program chosen in_line n (here + part_count program in_line (chosen_call i (place_in chosen index))) (drop (index + 1) code)) next
     ∙ ap (λ (n : ℕ). opened_end program chosen in_line (index + 1) (here + n) (drop (index + 1) code)) (sym many))
     ∙ before
@@ -80,9 +61,9 @@ pub opened_next : (program : Program) (number : ℕ) (chosen : List ℕ) (place 
 opened_next program number chosen place rest in_line code index i all old new at is before =
     let next : suc index ≡ index + 1 = omega arith in
     let here = part program number place rest in_line index i (chosen_call i (place_in chosen index)) in
-    rest_goes_on all old new here (opened_code program number chosen place rest in_line (index + 1) (drop (index + 1) code))
+    append_goes_on all old new here (opened_code program number chosen place rest in_line (index + 1) (drop (index + 1) code))
     (opened_code program number chosen place rest in_line index (drop index code)) is
-    (ap (opened_code program number chosen place rest in_line index) (drop_at code index i at)
+    (ap (opened_code program number chosen place rest in_line index) (drop_found code index i at)
     ∙ ap (λ (n : ℕ). here ++ opened_code program number chosen place rest in_line n (drop (index + 1) code)) next)
     before
 
@@ -94,8 +75,8 @@ pub opened_origins_next : (program : Program) (number : ℕ) (chosen : List ℕ)
 opened_origins_next program number chosen in_line code index i all old new at is before =
     let next : suc index ≡ index + 1 = omega arith in
     let here = part_origins program number in_line index (chosen_call i (place_in chosen index)) in
-    rest_goes_on all old new here (opened_origins program number chosen in_line (index + 1) (drop (index + 1) code))
+    append_goes_on all old new here (opened_origins program number chosen in_line (index + 1) (drop (index + 1) code))
     (opened_origins program number chosen in_line index (drop index code)) is
-    (ap (opened_origins program number chosen in_line index) (drop_at code index i at)
+    (ap (opened_origins program number chosen in_line index) (drop_found code index i at)
     ∙ ap (λ (n : ℕ). here ++ opened_origins program number chosen in_line n (drop (index + 1) code)) next)
     before

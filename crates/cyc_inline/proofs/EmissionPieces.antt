@@ -2,6 +2,7 @@
 use Rattle.std.proofs.Common.{◌≡◌, ℕ, zero, suc, ◌+◌, ◌<◌, ◌≤◌, List, [], ◌∷◌, ◌++◌, length, replicate, Some, None, slice_get, refl, sym, ap, subst, ◌∙◌, arith, length-append}
 use Rattle.std.specs.List.{AllByRecursion}
 use Rattle.cyc_words.proofs.Lists.{all_append}
+use Rattle.cyc_words.proofs.Items.{slice_get_front, slice_get_back, slice_get_replicate}
 use Rattle.cyc_plain.specs.declared.instruction.Instruction.{Instruction}
 use Rattle.cyc_plain.specs.inside.Straight.{At, HasAt}
 use Rattle.cyc_inline.specs.declared.origin.Origin.{Origin}
@@ -13,36 +14,25 @@ use Rattle.cyc_inline.specs.inside.Opened.{AreMadeOf}
 abbrev pub StandsAt : {A : Type 0} → (all part : List A) → (at : ℕ) → Type 0
 StandsAt {A} all part at = (k : ℕ) (x : A) → slice_get part k ≡ Some x → slice_get all (at + k) ≡ Some x
 
-pub get_front : {A : Type 0} (front back : List A) (k : ℕ) (x : A) → slice_get front k ≡ Some x → slice_get (front ++ back) k ≡ Some x
-get_front {A} [] back k x is = absurd (let e : None ≡ Some x = is in cc)
-get_front (y ∷ front) back zero x is = is
-get_front (y ∷ front) back (suc k) x is = get_front front back k x is
-
-pub get_back : {A : Type 0} (front back : List A) (k : ℕ) → slice_get (front ++ back) (length front + k) ≡ slice_get back k
-get_back [] back k = ap (slice_get back) (let e : 0 + k ≡ k = omega arith in e)
-get_back (y ∷ front) back k =
-    let next : suc (length front) + k ≡ suc (length front + k) = omega arith in
-    ap (slice_get (y ∷ (front ++ back))) next ∙ get_back front back k
-
 pub stands_whole : {A : Type 0} (all : List A) → StandsAt all all 0
 stands_whole all k x is = ap (slice_get all) (let e : 0 + k ≡ k = omega arith in e) ∙ is
 
 pub stands_at_front : {A : Type 0} (all front back : List A) (at : ℕ) → StandsAt all (front ++ back) at → StandsAt all front at
-stands_at_front all front back at stands k x is = stands k x (get_front front back k x is)
+stands_at_front all front back at stands k x is = stands k x (slice_get_front front back k x is)
 
 pub stands_at_back : {A : Type 0} (all front back : List A) (at : ℕ) → StandsAt all (front ++ back) at → StandsAt all back (at + length front)
 stands_at_back all front back at stands k x is =
     let same : at + length front + k ≡ at + (length front + k) = omega arith in
-    ap (slice_get all) same ∙ stands (length front + k) x (get_back front back k ∙ is)
+    ap (slice_get all) same ∙ stands (length front + k) x (slice_get_back front back k ∙ is)
 
 -- what stands in a list stands in a longer one
 stands_at_behind : {A : Type 0} (front all part : List A) (at : ℕ) → StandsAt all part at → StandsAt (front ++ all) part (length front + at)
 stands_at_behind front all part at stands k x is =
     let same : length front + at + k ≡ length front + (at + k) = omega arith in
-    ap (slice_get (front ++ all)) same ∙ get_back front all (at + k) ∙ stands k x is
+    ap (slice_get (front ++ all)) same ∙ slice_get_back front all (at + k) ∙ stands k x is
 
 stands_before : {A : Type 0} (all back part : List A) (at : ℕ) → StandsAt all part at → StandsAt (all ++ back) part at
-stands_before all back part at stands k x is = get_front all back (at + k) x (stands k x is)
+stands_before all back part at stands k x is = slice_get_front all back (at + k) x (stands k x is)
 
 -- a part of a part
 pub stands_within : {A : Type 0} (all part smaller : List A) (at inner : ℕ) → StandsAt all part at → StandsAt part smaller inner → StandsAt all smaller (at + inner)
@@ -59,13 +49,8 @@ has_at code (i ∷ is) at stands =
           let same : at + 1 + k ≡ at + suc k = omega arith in ap (slice_get code) same ∙ stands (suc k) x there),
     )
 
-get_replicate : {A : Type 0} (count : ℕ) (x : A) (k : ℕ) → k < count → slice_get (replicate count x) k ≡ Some x
-get_replicate zero x k below = absurd (omega (arith, below))
-get_replicate (suc count) x zero below = refl
-get_replicate (suc count) x (suc k) below = get_replicate count x k (omega (arith, below))
-
 pub made_of : (origins : List Origin) (from count : ℕ) (origin : Origin) → StandsAt origins (replicate count origin) from → AreMadeOf origins from count origin
-made_of origins from count origin stands k below = stands k origin (get_replicate count origin k below)
+made_of origins from count origin stands k below = stands k origin (slice_get_replicate count origin k below)
 
 -- ---- pieces
 

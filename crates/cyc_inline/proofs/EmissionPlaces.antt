@@ -1,13 +1,14 @@
 -- Where the instructions of a function stand whose calls are opened, and so what its code is.
 use Rattle.std.proofs.Common.{◌≡◌, ℕ, zero, suc, ◌+◌, ◌<◌, ◌^◌, ◌≤◌, Bool, true, false, List, [], ◌∷◌, ◌++◌, length, replicate, Option, Some, None, refl, sym, ap, subst, ◌∙◌, arith, inl, inr}
 use Rattle.std.specs.Prelude.{◌⊎◌, if◌then◌else◌}
+use Rattle.cyc_words.proofs.Items.{below_from_slice_get}
 use Rattle.cyc_plain.specs.declared.instruction.Instruction.{Instruction}
 use Rattle.cyc_plain.specs.declared.instruction.Instruction.TheVariants as instructions
 use Rattle.cyc_plain.specs.declared.limits.TheConstants.{LAYOUT_WORDS}
 use Rattle.cyc_plain.specs.inside.Program.{Routine, Program, routine_at}
 use Rattle.cyc_plain.specs.inside.Straight.{At}
 use Rattle.cyc_plain.specs.inside.WellFormed.{IsRoutine, IsPlain}
-use Rattle.cyc_plain.proofs.Placed.{below_of_get, routine_in}
+use Rattle.cyc_plain.proofs.Placed.{routine_in}
 use Rattle.cyc_inline.specs.declared.origin.Origin.{Origin}
 use Rattle.cyc_inline.specs.declared.site.Call.{Call}
 use Rattle.cyc_inline.specs.inside.Opened.{moved, origin_at, AreMadeOf, IsSite, StandsFor}
@@ -72,7 +73,7 @@ parts_are program number chosen places rests slots end last plain is_function ca
 pub place_next : (program : Program) (chosen : List ℕ) (in_line : Bool) (here : ℕ) (code : List Instruction) (places : List ℕ) (k : ℕ) (i : Instruction)
     → places ≡ opened_places program chosen in_line 0 here code → At code k i → place_in places (k + 1) ≡ place_in places k + count_at program chosen in_line k i
 place_next program chosen in_line start code places k i are at =
-    let within = below_of_get code k i at in
+    let within = below_from_slice_get code k i at in
     let here = ap (λ (ps : List ℕ). place_in ps k) are ∙ place_is program chosen in_line 0 start code k (omega (arith, within)) in
     let there = ap (λ (ps : List ℕ). place_in ps (k + 1)) are ∙ place_is program chosen in_line 0 start code (k + 1) (omega (arith, within)) in
     let same : count_at program chosen in_line (0 + k) i ≡ count_at program chosen in_line k i = (let e : 0 + k ≡ k = omega arith in ap (λ (n : ℕ). count_at program chosen in_line n i) e) in
@@ -202,7 +203,7 @@ module _ (program : Program) (number : ℕ) (chosen places rests : List ℕ) (s 
   piece_stands_at : (in_line : Bool) (k : ℕ) (i : Instruction) → At r.code k i → StandsAt s.code (piece_at program number chosen place rest in_line k i) (begins in_line k)
   piece_stands_at in_line k i at =
       let piece = piece_at program number chosen place rest in_line in
-      let within = below_of_get r.code k i at in
+      let within = below_from_slice_get r.code k i at in
       let same : 0 + k ≡ k = omega arith in
       let whole : StandsAt s.code (pieces piece 0 r.code) (begin in_line) =
       subst (λ (js : List Instruction). StandsAt s.code js (begin in_line)) (code_is program number chosen place rest in_line 0 r.code) (code_stands in_line) in
@@ -214,7 +215,7 @@ module _ (program : Program) (number : ℕ) (chosen places rests : List ℕ) (s 
   origins_stand_at : (in_line : Bool) (k : ℕ) (i : Instruction) → At r.code k i → StandsAt origins (origins_at program number chosen place rest in_line k i) (begins in_line k)
   origins_stand_at in_line k i at =
       let piece = origins_at program number chosen place rest in_line in
-      let within = below_of_get r.code k i at in
+      let within = below_from_slice_get r.code k i at in
       let same : 0 + k ≡ k = omega arith in
       let whole : StandsAt origins (pieces piece 0 r.code) (begin in_line) =
       subst (λ (os : List Origin). StandsAt origins os (begin in_line)) (origins_are program number chosen place rest in_line 0 r.code) (origins_stand in_line) in

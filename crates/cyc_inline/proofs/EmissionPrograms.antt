@@ -1,11 +1,13 @@
 -- A program that is made function by function.
-use Rattle.std.proofs.Common.{◌≡◌, ℕ, zero, suc, ◌+◌, ◌<◌, ◌≤◌, List, [], ◌∷◌, ◌++◌, length, map, max, refl, sym, ap, subst, ◌∙◌, arith, inl, inr, length-append}
+use Rattle.std.proofs.Common.{◌≡◌, ℕ, ◌+◌, ◌<◌, ◌≤◌, List, [], ◌∷◌, ◌++◌, length, map, max, sym, ap, subst, ◌∙◌, arith, inl, inr, length-append}
 use Rattle.std.specs.Prelude.{sum_by, slice_index_or}
 use Rattle.std.specs.declared.alloc.Global.{Global}
 use Rattle.std.specs.declared.vec.Vec.{Vec}
 use Rattle.std.proofs.lemmas.Bool.{cases_lt}
 use Rattle.std.proofs.lemmas.List.{length-map}
 use Rattle.std.proofs.lemmas.List.Sums.{sum_by_push, sum_by-drop_more}
+use Rattle.cyc_words.proofs.Lists.{map_last}
+use Rattle.cyc_words.proofs.Items.{slice_index_or_before, slice_index_or_last}
 use Rattle.cyc_plain.specs.declared.limits.TheConstants.{MOST_SIZE}
 use Rattle.cyc_plain.specs.declared.program.Function.{Function}
 use Rattle.cyc_plain.specs.inside.Program.{Routine, Program, no_routine, routine_of, routine_at, program_of, size}
@@ -15,19 +17,6 @@ use Rattle.cyc_inline.specs.inside.Inlined.{IsInlined}
 use Rattle.cyc_inline.specs.inside.Opened.{origins_of}
 use Rattle.cyc_inline.specs.inside.Emission.{IsMade, AreFirstMade, AreTold, AreBegun, told}
 use Rattle.cyc_inline.proofs.Whole.{is_plain, are_inlined}
-
-item_before : {A : Type 0} (xs : List A) (x d : A) (k : ℕ) → k < length xs → slice_index_or (xs ++ x ∷ []) k d ≡ slice_index_or xs k d
-item_before [] x d k below = absurd (omega (arith, below))
-item_before (y ∷ xs) x d zero below = refl
-item_before (y ∷ xs) x d (suc k) below = item_before xs x d k (omega (arith, below))
-
-item_last : {A : Type 0} (xs : List A) (x d : A) → slice_index_or (xs ++ x ∷ []) (length xs) d ≡ x
-item_last [] x d = refl
-item_last (y ∷ xs) x d = item_last xs x d
-
-map_last : {A B : Type 0} (f : A → B) (xs : List A) (x : A) → map f (xs ++ x ∷ []) ≡ map f xs ++ f x ∷ []
-map_last f [] x = refl
-map_last {A} {B} f (y ∷ xs) x = ap (λ (zs : List B). f y ∷ zs) (map_last f xs x)
 
 abbrev IsMadeAt : Program → List Routine → List (List Origin) → (k : ℕ) → Type 0
 IsMadeAt program routines origins k = IsMade program k (slice_index_or routines k no_routine) (origins_of origins k)
@@ -48,13 +37,13 @@ made_more program count routines origins s os are made = record {
     earlier k before =
         let many = are.as_many in
         let told = are.as_many_origins in
-        subst (λ (x : Routine). IsMade program k x (origins_of (origins ++ os ∷ []) k)) (sym (item_before routines s no_routine k (omega (arith, before, many))))
-        (subst (IsMade program k (slice_index_or routines k no_routine)) (sym (item_before origins os [] k (omega (arith, before, told)))) (are.each k before))
+        subst (λ (x : Routine). IsMade program k x (origins_of (origins ++ os ∷ []) k)) (sym (slice_index_or_before routines s no_routine k (omega (arith, before, many))))
+        (subst (IsMade program k (slice_index_or routines k no_routine)) (sym (slice_index_or_before origins os [] k (omega (arith, before, told)))) (are.each k before))
 
     last : (k : ℕ) → k ≡ count → IsMadeAt program (routines ++ s ∷ []) (origins ++ os ∷ []) k
     last k same =
-        let routine : slice_index_or (routines ++ s ∷ []) count no_routine ≡ s = subst (λ (n : ℕ). slice_index_or (routines ++ s ∷ []) n no_routine ≡ s) are.as_many (item_last routines s no_routine) in
-        let origin : origins_of (origins ++ os ∷ []) count ≡ os = subst (λ (n : ℕ). origins_of (origins ++ os ∷ []) n ≡ os) are.as_many_origins (item_last origins os []) in
+        let routine : slice_index_or (routines ++ s ∷ []) count no_routine ≡ s = subst (λ (n : ℕ). slice_index_or (routines ++ s ∷ []) n no_routine ≡ s) are.as_many (slice_index_or_last routines s no_routine) in
+        let origin : origins_of (origins ++ os ∷ []) count ≡ os = subst (λ (n : ℕ). origins_of (origins ++ os ∷ []) n ≡ os) are.as_many_origins (slice_index_or_last origins os []) in
         subst (IsMadeAt program (routines ++ s ∷ []) (origins ++ os ∷ [])) (sym same)
         (subst (λ (x : Routine). IsMade program count x (origins_of (origins ++ os ∷ []) count)) (sym routine) (subst (IsMade program count s) (sym origin) made))
 

@@ -4,12 +4,13 @@ use Rattle.std.specs.Prelude.{◌==◌, nat_lt, if◌then◌else◌}
 use Rattle.std.proofs.lemmas.Bool.{cases_lt, eqb-true, le-leb, false≢true}
 use Rattle.std.proofs.lemmas.List.{replicate_more, length-replicate}
 use Rattle.cyc_words.proofs.Numbers.{lt-nat_lt, le-nat_lt}
+use Rattle.cyc_words.proofs.Items.{below_from_slice_get}
 use Rattle.cyc_plain.specs.declared.instruction.Instruction.{Instruction}
 use Rattle.cyc_plain.specs.declared.instruction.Instruction.TheVariants as instructions
 use Rattle.cyc_plain.specs.inside.Program.{Routine, Program, routine_at}
 use Rattle.cyc_plain.specs.inside.Straight.{At}
 use Rattle.cyc_plain.specs.inside.WellFormed.{IsRoutine, leaves}
-use Rattle.cyc_plain.proofs.Placed.{below_of_get, has_code, goes_behind}
+use Rattle.cyc_plain.proofs.Placed.{has_code, goes_behind}
 use Rattle.cyc_inline.specs.declared.origin.Origin.{Origin}
 use Rattle.cyc_inline.specs.declared.site.Call.{Call}
 use Rattle.cyc_inline.specs.declared.site.Site.{Site}
@@ -155,12 +156,12 @@ module _ (program : Program) (code : List Instruction) (origins : List Origin) (
     | inl before ↦ record {
       in_line = true;
       stands = lt-nat_lt k site.call.line before;
-      at = line_place site.results site.call.line 0 first site.rest t.code k (below_of_get t.code k i at) (omega (arith, before));
+      at = line_place site.results site.call.line 0 first site.rest t.code k (below_from_slice_get t.code k i at) (omega (arith, before));
     }
     | inr past ↦ record {
       in_line = false;
       stands = le-leb site.call.line k past;
-      at = rest_place site.results site.call.line 0 first site.rest t.code k (below_of_get t.code k i at) (omega (arith, past));
+      at = rest_place site.results site.call.line 0 first site.rest t.code k (below_from_slice_get t.code k i at) (omega (arith, past));
     }
   ]
 
@@ -204,13 +205,13 @@ module _ (program : Program) (code : List Instruction) (origins : List Origin) (
     next_place : (k : ℕ) (i : Instruction) → At t.code k i → leaves i ≡ false → k + 1 < length t.code → place (k + 1) ≡ place k + inside_count site.results site.call.line k (is_end i)
     next_place k i at stays more = elim (cases_lt (k + 1) site.call.line) [
       | inl before ↦
-          (let here = line_place site.results site.call.line 0 first site.rest t.code k (below_of_get t.code k i at) (omega (arith, before)) in
+          (let here = line_place site.results site.call.line 0 first site.rest t.code k (below_from_slice_get t.code k i at) (omega (arith, before)) in
           let behind = line_place site.results site.call.line 0 first site.rest t.code (k + 1) more (omega (arith, before)) in
           omega (arith, here, behind, further true k i at (lt-nat_lt k site.call.line (omega (arith, before)))))
       | inr past ↦ elim (cases_lt k site.call.line) [
         | inl last ↦ absurd (false≢true (sym stays ∙ leaf.last k i at (omega (arith, past, last))))
         | inr rest ↦
-            (let here = rest_place site.results site.call.line 0 first site.rest t.code k (below_of_get t.code k i at) (omega (arith, rest)) in
+            (let here = rest_place site.results site.call.line 0 first site.rest t.code k (below_from_slice_get t.code k i at) (omega (arith, rest)) in
             let behind = rest_place site.results site.call.line 0 first site.rest t.code (k + 1) more (omega (arith, rest)) in
             omega (arith, here, behind, further false k i at (le-leb site.call.line k rest)))
       ]
@@ -219,7 +220,7 @@ module _ (program : Program) (code : List Instruction) (origins : List Origin) (
     -- and behind the last one in line the caller goes on
     last_place : (k : ℕ) (i : Instruction) → At t.code k i → k + 1 ≡ site.call.line → site.behind ≡ place k + inside_count site.results site.call.line k (is_end i)
     last_place k i at last =
-        let here = line_place site.results site.call.line 0 first site.rest t.code k (below_of_get t.code k i at) (omega (arith, last)) in
+        let here = line_place site.results site.call.line 0 first site.rest t.code k (below_from_slice_get t.code k i at) (omega (arith, last)) in
         let all = size_is site.results site.call.line true 0 t.code in
         let end = line_end site.results site.call.line 0 t.code (k + 1) (omega (arith, last)) in
         omega (arith, behind, here, all, end, further true k i at (lt-nat_lt k site.call.line (omega (arith, last))))

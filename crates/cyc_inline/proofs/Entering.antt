@@ -7,6 +7,7 @@ use Rattle.cyc_words.specs.Distinct.{IsDistinct}
 use Rattle.cyc_words.specs.Ending.{Full}
 use Rattle.cyc_words.specs.inside.Following.{IsOnTheWay, IsMatchedStep, IsStepped}
 use Rattle.cyc_words.proofs.Matching.{way_before}
+use Rattle.cyc_words.proofs.Numbers.{nat_le-one_less}
 use Rattle.cyc_store.specs.State as stores
 use Rattle.cyc_plain.specs.declared.instruction.Instruction.{Instruction}
 use Rattle.cyc_plain.specs.declared.instruction.Instruction.TheVariants as instructions
@@ -16,7 +17,7 @@ use Rattle.cyc_plain.specs.inside.State.{Words, copied, Activation, Frame, Confi
 use Rattle.cyc_plain.specs.inside.Step.{Choice, IsAllowed, MayLie, callee_of, advanced, instruction_at, is_within, limited, limited_step, Step, machine}
 use Rattle.cyc_plain.specs.inside.Straight.{At, HasAt, places_behind}
 use Rattle.cyc_plain.specs.inside.WellFormed.{IsCallInRange, IsPlain}
-use Rattle.cyc_plain.proofs.RunLaws.{room_same, called_at}
+use Rattle.cyc_plain.proofs.RunLaws.{called_at}
 use Rattle.cyc_plain.proofs.SlotLaws.{copied-inside, copied-above}
 use Rattle.cyc_plain.proofs.Straight.{has_front, has_back, behind-distinct}
 use Rattle.cyc_inline.specs.declared.origin.Origin.{Origin}
@@ -154,7 +155,7 @@ module _ (program inlined : Program) (origins : List (List Origin)) (are : AreOp
   within_same : (choice : Choice) → is_within pages (calls - 1) (Running (advanced e)) ≡ is_within pages calls (Running (entered choice))
   within_same choice =
       ap (λ (n : ℕ). nat_le (stores.demand c.store) pages && nat_le (suc n) (calls - 1)) (as_deep program inlined origins are c.active.function c.frames gs waiting)
-      ∙ ap (λ (t : Bool). nat_le (stores.demand c.store) pages && t) (room_same (length c.frames) calls)
+      ∙ ap (λ (t : Bool). nat_le (stores.demand c.store) pages && t) (nat_le-one_less (length c.frames) calls)
 
   -- ---- the step
 

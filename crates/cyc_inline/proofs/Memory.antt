@@ -2,7 +2,8 @@
 use Rattle.std.proofs.Common.{◌≡◌, ℕ, zero, suc, ◌+◌, ◌-◌, ◌*◌, ◌/◌, ◌<◌, Bool, true, false, ◌&&◌, ◌||◌, List, [], ◌∷◌, Option, Some, None, refl, sym, ap, subst, ◌∙◌, inl, inr}
 use Rattle.std.specs.Prelude.{◌==◌, if◌then◌else◌}
 use Rattle.std.specs.List.{AllByRecursion}
-use Rattle.std.proofs.lemmas.Bool.{or_left, or_right}
+use Rattle.std.proofs.lemmas.Bool.{or_left, or_right, or_cases}
+use Rattle.cyc_words.proofs.Booleans.{same_tests}
 use Rattle.cyc_store.specs.State.{StoreState, saved}
 use Rattle.cyc_plain.specs.declared.instruction.Instruction.{Instruction}
 use Rattle.cyc_plain.specs.declared.instruction.Instruction.TheVariants as instructions
@@ -12,7 +13,7 @@ use Rattle.cyc_plain.specs.inside.State.{Words, put, Activation, Frame, Configur
 use Rattle.cyc_plain.specs.inside.Step.{advanced}
 use Rattle.cyc_plain.specs.inside.Straight.{At}
 use Rattle.cyc_plain.specs.inside.WellFormed.{IsWellFormed}
-use Rattle.cyc_plain.proofs.MemoryLaws.{or_either, numbered-from, pinned-inside}
+use Rattle.cyc_plain.proofs.MemoryLaws.{numbered-from, pinned-inside}
 use Rattle.cyc_inline.specs.declared.origin.Origin.{Origin}
 use Rattle.cyc_inline.specs.inside.Opened.{is_of_leaf, AreOpened}
 use Rattle.cyc_inline.proofs.Agreeing.{put_agree}
@@ -20,15 +21,10 @@ use Rattle.cyc_inline.proofs.Waiting.{each_opened, place_in, slots_of, AreSlotte
 
 -- ---- what has its address taken
 
-same_truth : (a b : Bool) → (a ≡ true → b ≡ true) → (b ≡ true → a ≡ true) → a ≡ b
-same_truth true b there back = sym (there refl)
-same_truth false true there back = absurd (let e : false ≡ true = back refl in cc)
-same_truth false false there back = refl
-
 -- an instruction of the code names the slot
 pinned_there : (code : List Instruction) (slot : ℕ) → is_pinned code slot ≡ true → (p : ℕ) × (i : Instruction) × At code p i × (pins i slot ≡ true)
 pinned_there [] slot pinned = absurd (let e : false ≡ true = pinned in cc)
-pinned_there (i ∷ code) slot pinned = elim (or_either (pins i slot) (is_pinned code slot) pinned) [
+pinned_there (i ∷ code) slot pinned = elim (or_cases (pins i slot) (is_pinned code slot) pinned) [
   | inl here ↦ (0, i, refl, here)
   | inr there ↦ (let (p, j, at, names) = pinned_there code slot there in (suc p, j, at, names))
 ]
@@ -50,7 +46,7 @@ leaf_pinned (i ∷ code) slot (first, rest) = ap (λ (b : Bool). b || is_pinned 
 
 module _ (program inlined : Program) (origins : List (List Origin)) (are : AreOpened program inlined origins) (well : IsWellFormed program) where
   pinned_same : (function slot : ℕ) → is_pinned (routine_at inlined function).code slot ≡ is_pinned (routine_at program function).code slot
-  pinned_same function slot = same_truth (is_pinned (routine_at inlined function).code slot) (is_pinned (routine_at program function).code slot) above below
+  pinned_same function slot = same_tests (is_pinned (routine_at inlined function).code slot) (is_pinned (routine_at program function).code slot) above below
     where
       above : is_pinned (routine_at inlined function).code slot ≡ true → is_pinned (routine_at program function).code slot ≡ true
       above pinned =

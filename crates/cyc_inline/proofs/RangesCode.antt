@@ -5,6 +5,7 @@ use Rattle.std.specs.List.{AllByRecursion}
 use Rattle.std.proofs.lemmas.Bool.{cases_lt, eqb-true, le-leb, false≢true}
 use Rattle.std.proofs.lemmas.List.Elements.{All-from_recursion}
 use Rattle.cyc_words.proofs.Lists.{all_append}
+use Rattle.cyc_words.proofs.Members.{All_at}
 use Rattle.cyc_plain.specs.declared.instruction.Instruction.{Instruction}
 use Rattle.cyc_plain.specs.declared.instruction.Instruction.TheVariants as instructions
 use Rattle.cyc_plain.specs.declared.instruction.Operand.TheVariants as operands
@@ -12,7 +13,7 @@ use Rattle.cyc_plain.specs.inside.Memory.{pins, is_pinned}
 use Rattle.cyc_plain.specs.inside.Program.{Routine, Program, routine_at}
 use Rattle.cyc_plain.specs.inside.Straight.{At}
 use Rattle.cyc_plain.specs.inside.WellFormed.{HasSlots, IsCallInRange, IsInRange, IsRoutine, HasWord, is_return, leaves}
-use Rattle.cyc_plain.proofs.Placed.{holds_at, routine_in, goes_behind}
+use Rattle.cyc_plain.proofs.Placed.{routine_in, goes_behind}
 use Rattle.cyc_inline.specs.declared.origin.Origin.{Origin}
 use Rattle.cyc_inline.specs.declared.site.Call.{Call}
 use Rattle.cyc_inline.specs.declared.site.Site.{Site}
@@ -220,12 +221,12 @@ module _ (program : Program) (number : ℕ) (chosen places rests : List ℕ) (s 
   module _ (words : All HasWord r.code) (each_words : (f : ℕ) → f < length program.functions → All HasWord (routine_at program f).code) where
     pub words_of : All HasWord s.code
     words_of =
-        All-from_recursion HasWord s.code (all_code HasWord (λ k i at. has_word 0 place i (holds_at HasWord r.code k i words at)) (λ k call opened. record {
+        All-from_recursion HasWord s.code (all_code HasWord (λ k i at. has_word 0 place i (All_at HasWord r.code k i words at)) (λ k call opened. record {
           passed = λ n below. tt;
           enters = tt;
           inside = λ j i at no_end.
               has_word r.slots (inner k call) i
-              (holds_at HasWord (routine_at program call.callee).code j i (each_words call.callee opened.call_in_range.function_in_range) at);
+              (All_at HasWord (routine_at program call.callee).code j i (each_words call.callee opened.call_in_range.function_in_range) at);
           given = λ j i value n at end below. tt;
           goes = tt;
         }))
@@ -233,7 +234,7 @@ module _ (program : Program) (number : ℕ) (chosen places rests : List ℕ) (s 
   returns_no_more : All (λ i. is_return i ≡ false) r.code → All (λ i. is_return i ≡ false) s.code
   returns_no_more none =
       All-from_recursion (λ (i : Instruction). is_return i ≡ false) s.code
-      (all_code (λ (i : Instruction). is_return i ≡ false) (λ k i at. same_return_moved 0 place i ∙ holds_at (λ (j : Instruction). is_return j ≡ false) r.code k i none at)
+      (all_code (λ (i : Instruction). is_return i ≡ false) (λ k i at. same_return_moved 0 place i ∙ All_at (λ (j : Instruction). is_return j ≡ false) r.code k i none at)
       (λ k call opened. record {
         passed = λ n below. refl;
         enters = refl;
@@ -247,12 +248,12 @@ module _ (program : Program) (number : ℕ) (chosen places rests : List ℕ) (s 
 
   leaf_at : (k j : ℕ) (call : Call) (i : Instruction) → IsOpenedAt k call → At (routine_at program call.callee).code j i → is_of_leaf i ≡ true
   leaf_at k j call i opened at =
-      holds_at (λ (x : Instruction). is_of_leaf x ≡ true) (routine_at program call.callee).code j i
+      All_at (λ (x : Instruction). is_of_leaf x ≡ true) (routine_at program call.callee).code j i
       (All-from_recursion (λ (x : Instruction). is_of_leaf x ≡ true) (routine_at program call.callee).code opened.openable.leaf.all) at
 
   pub pinned : (p : ℕ) (i : Instruction) → At s.code p i → (slot : ℕ) → pins i slot ≡ true → is_pinned r.code slot ≡ true
   pinned p i at =
-      holds_at PinsNoMore s.code p i
+      All_at PinsNoMore s.code p i
       (All-from_recursion PinsNoMore s.code
       (all_code PinsNoMore (λ k j there slot pinned. pinned_at r.code k j slot there (sym (same_pins 0 place j slot) ∙ pinned)) (λ k call opened. record {
         passed = λ n below slot pinned. absurd (false≢true pinned);
@@ -324,10 +325,10 @@ module _ (program : Program) (number : ℕ) (chosen places rests : List ℕ) (s 
         passed = λ n below. (omega (arith, below, takes, parameters, room), omega (arith, below, arguments, least));
         enters = in_range.function_in_range;
         inside = λ j i at no_end.
-            moved_in program callee s r.slots (inner k call) room (inner_placed k call opened) i (holds_at (IsInRange program callee) callee.code j i leaf.instructions at)
+            moved_in program callee s r.slots (inner k call) room (inner_placed k call opened) i (All_at (IsInRange program callee) callee.code j i leaf.instructions at)
             (λ value end. absurd (let e : None ≡ Some value = sym no_end ∙ end in cc))
             (λ first handler same. absurd (no_try first handler i (leaf_at k j call i opened at) same));
-        given = λ j i value n at end below. (omega (arith, below, results, least), slot_given callee j i value n end below (holds_at (IsInRange program callee) callee.code j i leaf.instructions at) room);
+        given = λ j i value n at end below. (omega (arith, below, results, least), slot_given callee j i value n end below (All_at (IsInRange program callee) callee.code j i leaf.instructions at) room);
         goes = placed (k + 1) opened.further;
       }
     where

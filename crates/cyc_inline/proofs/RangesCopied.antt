@@ -1,5 +1,7 @@
 -- A function that is copied stands for itself.
 use Rattle.std.proofs.Common.{◌≡◌, ℕ, zero, suc, ◌+◌, ◌<◌, List, length, Some, slice_get, refl, sym, ap, ◌∙◌, arith, inl}
+use Rattle.cyc_words.proofs.Numbers.{zero_plus}
+use Rattle.cyc_words.proofs.Items.{below_from_slice_get}
 use Rattle.cyc_plain.specs.declared.instruction.Instruction.{Instruction}
 use Rattle.cyc_plain.specs.declared.instruction.Instruction.TheVariants as instructions
 use Rattle.cyc_plain.specs.declared.instruction.Operand.{Operand}
@@ -7,7 +9,7 @@ use Rattle.cyc_plain.specs.declared.instruction.Operand.TheVariants as operands
 use Rattle.cyc_plain.specs.inside.Program.{Program, routine_at}
 use Rattle.cyc_plain.specs.inside.Straight.{At}
 use Rattle.cyc_plain.specs.inside.WellFormed.{IsPlain}
-use Rattle.cyc_plain.proofs.Placed.{below_of_get, routine_in}
+use Rattle.cyc_plain.proofs.Placed.{routine_in}
 use Rattle.cyc_inline.specs.declared.origin.Origin.{Origin}
 use Rattle.cyc_inline.specs.inside.Opened.{shifted_operand, moved, origin_at, AreMadeOf, StandsFor}
 use Rattle.cyc_inline.specs.inside.Emission.{AreOwn, IsMade}
@@ -16,28 +18,25 @@ use Rattle.cyc_inline.proofs.RangesFunction.{function_words}
 
 -- ---- nothing moved
 
-none_added : (number : ℕ) → 0 + number ≡ number
-none_added number = omega arith
-
 operand_stays : (operand : Operand) → shifted_operand 0 operand ≡ operand
-operand_stays (operands.Slot number) = ap operands.Slot (none_added number)
+operand_stays (operands.Slot number) = ap operands.Slot (zero_plus number)
 operand_stays (operands.Word word) = refl
 
 stays : (i : Instruction) → moved 0 (λ (index : ℕ). index) i ≡ i
-stays (instructions.Move destination source) = λ k. instructions.Move (none_added destination k) (operand_stays source k)
-stays (instructions.MoveWords destination source count) = λ k. instructions.MoveWords (none_added destination k) (none_added source k) count
-stays (instructions.Unary operator destination operand) = λ k. instructions.Unary operator (none_added destination k) (operand_stays operand k)
-stays (instructions.Binary operator destination left right) = λ k. instructions.Binary operator (none_added destination k) (operand_stays left k) (operand_stays right k)
+stays (instructions.Move destination source) = λ k. instructions.Move (zero_plus destination k) (operand_stays source k)
+stays (instructions.MoveWords destination source count) = λ k. instructions.MoveWords (zero_plus destination k) (zero_plus source k) count
+stays (instructions.Unary operator destination operand) = λ k. instructions.Unary operator (zero_plus destination k) (operand_stays operand k)
+stays (instructions.Binary operator destination left right) = λ k. instructions.Binary operator (zero_plus destination k) (operand_stays left k) (operand_stays right k)
 stays (instructions.Branch comparison left right target) = λ k. instructions.Branch comparison (operand_stays left k) (operand_stays right k) target
-stays (instructions.ReadByte destination) = λ k. instructions.ReadByte (none_added destination k)
+stays (instructions.ReadByte destination) = λ k. instructions.ReadByte (zero_plus destination k)
 stays (instructions.WriteByte source) = λ k. instructions.WriteByte (operand_stays source k)
-stays (instructions.LoadGlobal destination global) = λ k. instructions.LoadGlobal (none_added destination k) global
+stays (instructions.LoadGlobal destination global) = λ k. instructions.LoadGlobal (zero_plus destination k) global
 stays (instructions.StoreGlobal global source) = λ k. instructions.StoreGlobal global (operand_stays source k)
-stays (instructions.Load destination address offset) = λ k. instructions.Load (none_added destination k) (operand_stays address k) offset
+stays (instructions.Load destination address offset) = λ k. instructions.Load (zero_plus destination k) (operand_stays address k) offset
 stays (instructions.Store address offset source) = λ k. instructions.Store (operand_stays address k) offset (operand_stays source k)
-stays (instructions.LoadByte destination address offset) = λ k. instructions.LoadByte (none_added destination k) (operand_stays address k) offset
+stays (instructions.LoadByte destination address offset) = λ k. instructions.LoadByte (zero_plus destination k) (operand_stays address k) offset
 stays (instructions.StoreByte address offset source) = λ k. instructions.StoreByte (operand_stays address k) offset (operand_stays source k)
-stays (instructions.CountLexical destination) = λ k. instructions.CountLexical (none_added destination k)
+stays (instructions.CountLexical destination) = λ k. instructions.CountLexical (zero_plus destination k)
 stays (instructions.Throw tag value) = λ k. instructions.Throw (operand_stays tag k) (operand_stays value k)
 stays i = refl
 
@@ -68,6 +67,6 @@ copied_is_made program number origins plain is_function are = record {
   where
     stands : (index : ℕ) (i : Instruction) → At (routine_at program number).code index i → StandsFor program (routine_at program number) (routine_at program number) origins number own_place index i
     stands index (instructions.Call callee arguments count result) at =
-        inl (at, made_of_own number origins (length (routine_at program number).code) index are (below_of_get (routine_at program number).code index _ at), refl)
+        inl (at, made_of_own number origins (length (routine_at program number).code) index are (below_from_slice_get (routine_at program number).code index _ at), refl)
     stands index i at =
-        (at ∙ ap Some (sym (stays i)), made_of_own number origins (length (routine_at program number).code) index are (below_of_get (routine_at program number).code index i at), λ further. refl)
+        (at ∙ ap Some (sym (stays i)), made_of_own number origins (length (routine_at program number).code) index are (below_from_slice_get (routine_at program number).code index i at), λ further. refl)

@@ -4,6 +4,7 @@ use Rattle.std.specs.Prelude.{IsSomeAnd, ◌==◌, nat_le, if◌then◌else◌}
 use Rattle.std.proofs.lemmas.Bool.{eqb-true, leb-true}
 use Rattle.std.proofs.lemmas.List.{append-nil}
 use Rattle.cyc_words.proofs.Lists.{slice_get_below}
+use Rattle.cyc_words.proofs.Items.{slice_get_back}
 use Rattle.cyc_plain.specs.declared.instruction.Instruction.{Instruction}
 use Rattle.cyc_plain.specs.declared.instruction.Instruction.TheVariants as instructions
 use Rattle.cyc_plain.specs.inside.Program.{Routine, Program}
@@ -12,7 +13,7 @@ use Rattle.cyc_plain.specs.inside.WellFormed.{IsRoutine, leaves}
 use Rattle.cyc_inline.specs.declared.site.Site.{Site}
 use Rattle.cyc_inline.specs.inside.Opened.{moved, passing, is_end}
 use Rattle.cyc_inline.specs.inside.Sites.{way_behind, inside_part, inside_code}
-use Rattle.cyc_inline.proofs.EmissionPieces.{get_back, pieces}
+use Rattle.cyc_inline.proofs.EmissionPieces.{pieces}
 use Rattle.cyc_inline.proofs.EmissionSites.{piece_inside, piece_long}
 use Rattle.cyc_inline.proofs.RangesCode.{rest_some}
 use Rattle.cyc_inline.proofs.RangesMoved.{same_leaving}
@@ -27,7 +28,7 @@ ends_right front back some ends k i at last =
     let long = length-append front back in
     let j = length back - 1 in
     let here : k ≡ length front + j = omega (arith, last, long, some) in
-    let there : slice_get back j ≡ Some i = sym (get_back front back j) ∙ sym (ap (slice_get (front ++ back)) here) ∙ at in
+    let there : slice_get back j ≡ Some i = sym (slice_get_back front back j) ∙ sym (ap (slice_get (front ++ back)) here) ∙ at in
     ends j i there (omega (arith, some))
 
 pub ends_both : (front back : List Instruction) → EndsWell front → EndsWell back → EndsWell (front ++ back)

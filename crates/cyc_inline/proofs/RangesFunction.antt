@@ -13,13 +13,14 @@ use Rattle.cyc_inline.specs.inside.Inlined.{IsLike}
 use Rattle.cyc_inline.specs.inside.Opened.{moved, IsOpened}
 use Rattle.cyc_inline.specs.inside.Sites.{chosen_call, place_in, places_inside}
 use Rattle.cyc_inline.specs.inside.Emission.{IsMade, part, site_of, opened_code, opened_origins}
-use Rattle.cyc_inline.proofs.EmissionPieces.{get_front, offset}
+use Rattle.cyc_inline.proofs.EmissionPieces.{offset}
 use Rattle.cyc_inline.proofs.EmissionPlaces.{count_at, piece_at, code_is, IsOf, begins_at, long_in, origins_long_in, itself, stands}
 use Rattle.cyc_inline.proofs.RangesMoved.{same_leaving}
 use Rattle.cyc_inline.proofs.RangesCode.{code_long, placed, opened_at, words_of, pinned, in_range_of}
 use Rattle.cyc_inline.proofs.RangesEnds.{EndsWell, none_ends, ends_both, ends_pieces, rest_ends, function_ends, last_leaves}
 use Rattle.cyc_plain.specs.inside.Straight.{At}
 use Rattle.cyc_words.proofs.Lists.{slice_get_below}
+use Rattle.cyc_words.proofs.Items.{slice_get_front}
 use Rattle.cyc_inline.specs.declared.site.Call.{Call}
 
 -- ---- a function
@@ -102,7 +103,7 @@ module _ (program : Program) (number : ℕ) (chosen places rests : List ℕ) (s 
       let long = long_in program number chosen places rests s origins is true in
       let behind : place (n + 1) ≡ place (length r.code) = ap place end in
       let same : place n ≡ k = omega (arith, next, behind, all, long, last) in
-      let at_code : At s.code k i = subst (λ (code : List Instruction). At code k i) (sym is.code) (get_front front back k i at) in
+      let at_code : At s.code k i = subst (λ (code : List Instruction). At code k i) (sym is.code) (slice_get_front front back k i at) in
       let is_it : moved 0 place j ≡ i = (let e : Some (moved 0 place j) ≡ Some i = sym here ∙ ap (slice_get s.code) same ∙ at_code in cc) in
       sym (ap leaves is_it) ∙ same_leaving 0 place j ∙ leaving
 

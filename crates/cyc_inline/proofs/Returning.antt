@@ -6,6 +6,7 @@ use Rattle.std.proofs.lemmas.Bool.{cases_lt}
 use Rattle.cyc_words.specs.Distinct.{IsDistinct}
 use Rattle.cyc_words.specs.inside.Following.{Comes, IsOnTheWay, IsMatchedStep, IsStepped}
 use Rattle.cyc_words.proofs.Matching.{by_one, way_before}
+use Rattle.cyc_words.proofs.Members.{All_at}
 use Rattle.cyc_plain.specs.declared.instruction.Instruction.{Instruction}
 use Rattle.cyc_plain.specs.declared.instruction.Instruction.TheVariants as instructions
 use Rattle.cyc_plain.specs.declared.instruction.Operand.{Operand}
@@ -14,7 +15,7 @@ use Rattle.cyc_plain.specs.inside.State.{Words, copied, Activation, Frame, Confi
 use Rattle.cyc_plain.specs.inside.Step.{Choice, operand_word, returns, throws, performed, instruction_at, limited, limited_step, Step, machine}
 use Rattle.cyc_plain.specs.inside.Straight.{At, HasAt, places_behind}
 use Rattle.cyc_plain.specs.inside.WellFormed.{IsCallInRange, IsInRange, IsOperand, IsPlain}
-use Rattle.cyc_plain.proofs.Placed.{holds_at, routine_in}
+use Rattle.cyc_plain.proofs.Placed.{routine_in}
 use Rattle.cyc_plain.proofs.RunLaws.{zeros, zeros_at, calls_nothing}
 use Rattle.cyc_plain.proofs.SlotLaws.{copied-inside, copied-below, copied-above}
 use Rattle.cyc_plain.proofs.Steps.{step_performs, function_known}
@@ -77,7 +78,7 @@ module _ (program inlined : Program) (origins : List (List Origin)) (are : AreOp
         let known = function_known program (place_at f.caller.function lodged.index) (instructions.Call c.active.function lodged.arguments lodged.count f.result) lodged.calls in
         let r = routine_in program f.caller.function plain.well_formed known in
         let range : IsCallInRange program (routine_at program f.caller.function) c.active.function lodged.arguments lodged.count f.result =
-        holds_at (IsInRange program (routine_at program f.caller.function)) (routine_at program f.caller.function).code lodged.index (instructions.Call c.active.function lodged.arguments lodged.count f.result) r.instructions lodged.calls in
+        All_at (IsInRange program (routine_at program f.caller.function)) (routine_at program f.caller.function).code lodged.index (instructions.Call c.active.function lodged.arguments lodged.count f.result) r.instructions lodged.calls in
         range.result_in_range
 
     -- above, the caller goes on

@@ -1,5 +1,5 @@
 -- Each run of an inlined program is one of the program given.
-use Rattle.std.proofs.Common.{◌≡◌, ℕ, zero, suc, ◌+◌, ◌<◌, ◌≤◌, true, false, List, [], ◌∷◌, Some, None, slice_get, refl, sym, ap, subst, ◌∙◌, inl, inr}
+use Rattle.std.proofs.Common.{◌≡◌, ℕ, ◌+◌, ◌<◌, ◌≤◌, true, false, List, [], Some, refl, sym, ap, subst, ◌∙◌, inl, inr}
 use Rattle.std.specs.Prelude.{◌⊎◌}
 use Rattle.std.specs.List.{AllByRecursion}
 use Rattle.cyc_words.specs.Simulation as simulation
@@ -7,6 +7,7 @@ use Rattle.cyc_words.specs.Simulation.{NeverFails}
 use Rattle.cyc_words.specs.inside.Following.{Steps, IsStepped, Follows}
 use Rattle.cyc_words.proofs.Lists.{slice_get_below}
 use Rattle.cyc_words.proofs.Simulation.{running_ended, running_failed, simulates}
+use Rattle.cyc_words.proofs.Members.{all_at, All_at}
 use Rattle.cyc_store.specs.State as stores
 use Rattle.cyc_store.specs.State.{StoreState, IsNew}
 use Rattle.cyc_plain.specs.declared.instruction.Instruction.{Instruction}
@@ -16,7 +17,7 @@ use Rattle.cyc_plain.specs.inside.State.{Activation, Frame, Configuration, State
 use Rattle.cyc_plain.specs.inside.Step.{finishes, Step, start, machine}
 use Rattle.cyc_plain.specs.inside.Straight.{At}
 use Rattle.cyc_plain.specs.inside.WellFormed.{IsInRange, IsPlain}
-use Rattle.cyc_plain.proofs.Placed.{holds_at, routine_in, placed_start}
+use Rattle.cyc_plain.proofs.Placed.{routine_in, placed_start}
 use Rattle.cyc_plain.proofs.RunLaws.{lawful, starts_within}
 use Rattle.cyc_plain.proofs.WordLaws.{words_at_start}
 use Rattle.cyc_inline.specs.declared.origin.Origin.{Origin}
@@ -30,11 +31,6 @@ use Rattle.cyc_inline.proofs.Steps.{either_stands, steps_itself}
 use Rattle.cyc_inline.proofs.Entering.{steps_opened}
 use Rattle.cyc_inline.proofs.Inside.{steps_ordinary}
 use Rattle.cyc_inline.proofs.Returning.{steps_returned, steps_thrown}
-
-all_at : {X : Type 0} (P : X → Type 0) (xs : List X) (k : ℕ) (x : X) → AllByRecursion P xs → slice_get xs k ≡ Some x → P x
-all_at P [] k x all at = absurd (let e : None ≡ Some x = at in cc)
-all_at P (y ∷ ys) zero x (first, rest) at = subst P (let e : Some y ≡ Some x = at in cc) first
-all_at P (y ∷ ys) (suc k) x (first, rest) at = all_at P ys k x rest at
 
 module _ (program inlined : Program) (origins : List (List Origin)) (are : AreOpened program inlined origins) (plain : IsPlain program) (fine : IsPlain inlined) (pages calls : ℕ) where
   abbrev Matched : State → State → Type 0
@@ -59,7 +55,7 @@ module _ (program inlined : Program) (origins : List (List Origin)) (are : AreOp
       record {
         i = i;
         at = at;
-        range = holds_at (IsInRange program (routine_at program c.active.function)) (routine_at program c.active.function).code c.active.next i (routine_in program c.active.function plain.well_formed known).instructions at;
+        range = All_at (IsInRange program (routine_at program c.active.function)) (routine_at program c.active.function).code c.active.next i (routine_in program c.active.function plain.well_formed known).instructions at;
       }
 
   -- ---- outside

@@ -1,21 +1,19 @@
 -- A program of functions that are each made of one of a plain program is plain, and does what that does.
 use Rattle.std.proofs.Common.{◌≡◌, ℕ, ◌<◌, ◌≤◌, List, length, Some, slice_get, refl, sym, subst, ◌∙◌, arith}
-use Rattle.std.specs.Prelude.{All, sum_by, get_or}
-use Rattle.std.proofs.lemmas.Option.{slice_get-get_or, get_or_from_slice_get}
+use Rattle.std.specs.Prelude.{All, sum_by}
+use Rattle.std.proofs.lemmas.Option.{get_or_from_slice_get}
+use Rattle.cyc_words.proofs.Members.{All_by_number, All_at}
+use Rattle.cyc_words.proofs.Items.{below_from_slice_get}
 use Rattle.cyc_plain.specs.declared.instruction.Instruction.{Instruction}
 use Rattle.cyc_plain.specs.declared.instruction.Instruction.TheVariants as instructions
 use Rattle.cyc_plain.specs.declared.limits.TheConstants.{MOST_SIZE}
 use Rattle.cyc_plain.specs.inside.Program.{Routine, Program, no_routine, routine_at, size}
 use Rattle.cyc_plain.specs.inside.WellFormed.{HasSlots, IsInRange, IsRoutine, HasWord, IsPlain}
-use Rattle.cyc_plain.proofs.Placed.{below_of_get, holds_at}
 use Rattle.cyc_inline.specs.declared.origin.Origin.{Origin}
 use Rattle.cyc_inline.specs.inside.Inlined.{IsLike, IsInlined}
 use Rattle.cyc_inline.specs.inside.Opened.{AreOpened}
 use Rattle.cyc_inline.specs.inside.Emission.{IsMade, AreFirstMade}
 use Rattle.cyc_inline.proofs.Runs.{is_inlined}
-
-all_by_index : {X : Type 0} (P : X → Type 0) (xs : List X) → ((k : ℕ) (x : X) → slice_get xs k ≡ Some x → P x) → All P xs
-all_by_index P xs each = λ k d below. each k (get_or xs k d) (slice_get-get_or xs k d below)
 
 module _ (program : Program) (routines : List Routine) (origins : List (List Origin)) (plain : IsPlain program) (made : AreFirstMade program (length program.functions) routines origins) where
   abbrev inlined : Program
@@ -51,14 +49,14 @@ module _ (program : Program) (routines : List Routine) (origins : List (List Ori
     parameters = is.parameters;
     results = is.results;
     frame = is.frame;
-    instructions = all_by_index (IsInRange inlined s) s.code (λ k i at. in_range s i (holds_at (IsInRange program s) s.code k i is.instructions at));
+    instructions = All_by_number (IsInRange inlined s) s.code (λ k i at. in_range s i (All_at (IsInRange program s) s.code k i is.instructions at));
     last = is.last;
   }
 
   -- a function of the program, as it was made
   each_made : (k : ℕ) (s : Routine) → slice_get routines k ≡ Some s → IsRoutine program s × All HasWord s.code
   each_made k s at =
-      let is : IsMade program k (routine_at inlined k) _ = made.each k (let below = below_of_get routines k s at in let many = made.as_many in omega (arith, below, many)) in
+      let is : IsMade program k (routine_at inlined k) _ = made.each k (let below = below_from_slice_get routines k s at in let many = made.as_many in omega (arith, below, many)) in
       let same : routine_at inlined k ≡ s = get_or_from_slice_get routines k s no_routine at in
       subst (λ (r : Routine). IsRoutine program r × All HasWord r.code) same (is.routine, is.words)
 
@@ -68,14 +66,14 @@ module _ (program : Program) (routines : List Routine) (origins : List (List Ori
       let same = like program.main well.main in
       record {
         well_formed = record {
-          functions = all_by_index (IsRoutine inlined) routines (λ k s at. routine s (each_made k s at).0);
+          functions = All_by_number (IsRoutine inlined) routines (λ k s at. routine s (each_made k s at).0);
           main = (let many = made.as_many in let known = well.main in omega (arith, many, known));
           main_parameters = same.parameters ∙ well.main_parameters;
           main_results = same.results ∙ well.main_results;
           globals = well.globals;
         };
         words = record {
-          functions = all_by_index (λ (s : Routine). All HasWord s.code) routines (λ k s at. (each_made k s at).1);
+          functions = All_by_number (λ (s : Routine). All HasWord s.code) routines (λ k s at. (each_made k s at).1);
           globals = plain.words.globals;
         };
         small = small;

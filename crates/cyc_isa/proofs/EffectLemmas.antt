@@ -1,11 +1,12 @@
 -- What the operations compute is a word, and targets as whole numbers.
-use Rattle.std.proofs.Common.{◌≡◌, ℕ, ◌*◌, ◌/◌, ◌%◌, ◌^◌, ◌<◌, ℤ, pos, negsuc, neg_ℤ, ◌+ℤ◌, ◌*ℤ◌, FitsSigned, zero, suc, lit<, subst, sym, arith}
+use Rattle.std.proofs.Common.{◌≡◌, ℕ, ◌*◌, ◌/◌, ◌%◌, ◌^◌, ◌<◌, ℤ, pos, negsuc, ◌+ℤ◌, ◌*ℤ◌, FitsSigned, suc, subst, sym, arith}
 use Rattle.std.specs.Int.{w32, w64, cast_unsigned}
 use Rattle.std.proofs.lemmas.Nat.{mul-le}
 use Rattle.std.proofs.Math.IntN.{pos-*ℤ-pos, pos-*ℤ-negsuc, negsuc-*ℤ-pos, negsuc-*ℤ-negsuc}
 use Rattle.std.proofs.Math.Nat.{mod-eq_of_lt}
 use Rattle.cyc_words.specs.Word.{IsWord, IsHalf, unsigned, signed, signed_half, sign_extended, mul_of}
 use Rattle.cyc_words.proofs.WordLemmas.{IsWord-add_of, IsWord-sub_of, IsWord-shl_of, IsWord-shr_of, IsWord-sar_of, IsWord-div_of, IsWord-rem_of, IsWord-slt_of, IsWord-sltu_of, IsWord-bit_and, IsWord-bit_or, IsWord-bit_xor, unsigned-add, unsigned-mul, FitsSigned-signed}
+use Rattle.cyc_words.proofs.Integers.{negated_below_wide_word}
 use Rattle.cyc_isa.specs.Effect.{immediate_result, load_upper_result, arithmetic_result, shift_result, product_of, high_result, low_result, memory_address, slot_address, branch_target, jump_target}
 use Rattle.cyc_isa.specs.declared.instr.ImmediateOp.{ImmediateOp}
 use Rattle.cyc_isa.specs.declared.instr.ShiftOp.{ShiftOp}
@@ -68,10 +69,6 @@ jump_target-lower a x f = omega arith
 
 -- ---- the signed product
 
-negated_fits : (k : ℕ) → cast_unsigned w64 (neg_ℤ (pos k)) < 2 ^ 64
-negated_fits zero = lit< tt
-negated_fits (suc k) = omega arith
-
 -- a number that 64 bits hold, as they hold it
 abbrev FitsTwoWords : ℤ → Type 0
 FitsTwoWords z = cast_unsigned w64 z < 2 ^ 64
@@ -80,8 +77,8 @@ product_fits : (x y : ℤ) → FitsSigned w32 x → FitsSigned w32 y → FitsTwo
 product_fits (pos m) (pos n) f g =
     subst (λ z. FitsTwoWords z) (sym (pos-*ℤ-pos m n))
     (omega (arith, mul-le m n (2 ^ 31) (2 ^ 31) (omega (arith, f.sfits)) (omega (arith, g.sfits))))
-product_fits (pos m) (negsuc n) f g = subst (λ z. FitsTwoWords z) (sym (pos-*ℤ-negsuc m n)) (negated_fits (m * suc n))
-product_fits (negsuc m) (pos n) f g = subst (λ z. FitsTwoWords z) (sym (negsuc-*ℤ-pos m n)) (negated_fits (suc m * n))
+product_fits (pos m) (negsuc n) f g = subst (λ z. FitsTwoWords z) (sym (pos-*ℤ-negsuc m n)) (negated_below_wide_word (m * suc n))
+product_fits (negsuc m) (pos n) f g = subst (λ z. FitsTwoWords z) (sym (negsuc-*ℤ-pos m n)) (negated_below_wide_word (suc m * n))
 product_fits (negsuc m) (negsuc n) f g =
     subst (λ z. FitsTwoWords z) (sym (negsuc-*ℤ-negsuc m n))
     (omega (arith, mul-le (suc m) (suc n) (2 ^ 31) (2 ^ 31) (omega (arith, f.sfits)) (omega (arith, g.sfits))))

@@ -3,10 +3,11 @@ use Rattle.std.proofs.Common.{◌≡◌, ◌≢◌, ℕ, ◌+◌, ◌-◌, ◌<�
 use Rattle.std.specs.Prelude.{All, slice_range}
 use Rattle.std.proofs.lemmas.Bool.{cases_lt, cond-true, cond-false}
 use Rattle.std.proofs.lemmas.Bool.Decides.{nat_tests}
-use Rattle.std.proofs.lemmas.List.{take-append-drop, length-drop, length_push, length-map, drop-drop, map_push}
+use Rattle.std.proofs.lemmas.List.{length-drop, length_push, length-map, drop-drop, map_push}
 use Rattle.std.proofs.Math.Seq.{take-add}
 use Rattle.std.proofs.lemmas.List.Elements.{All-push, All-append, All-cons, All-nil}
 use Rattle.cyc_words.specs.declared.span.Span.{Span}
+use Rattle.cyc_words.proofs.Lists.{drop_in_two}
 use Rattle.cyc_syntax.specs.declared.tokens.Token.{Token as CodeToken}
 use Rattle.cyc_syntax.specs.declared.tokens.TokenKind.{TokenKind}
 use Rattle.cyc_syntax.specs.Spelling.{is_letter, is_digit, is_space, Piece, Lexeme, Space, Comment, OpenComment, SpellsToken}
@@ -62,11 +63,6 @@ tokens_within text tokens start place done =
     let most = done.within.count in
     omega (arith, count, most)
 
--- the bytes of the next piece, and what follows them
-rest_is : (text : List ℕ) (start len : ℕ) → drop start text ≡ take len (drop start text) ++ drop (start + len) text
-rest_is text start len =
-    sym (take-append-drop len (drop start text)) ∙ ap (λ l. take len (drop start text) ++ l) (drop-drop len start text)
-
 tokens_push : (ps : List Part) (p : Part) → tokens_of [] (ps ++ p ∷ []) ≡ tokens_of [] ps ++ part_tokens (bytes_of ps) p.piece
 tokens_push ps p = tokens_of-append [] ps (p ∷ []) ∙ ap (λ l. tokens_of [] ps ++ l) (append-nil (part_tokens (bytes_of ps) p.piece))
 
@@ -89,7 +85,7 @@ module _ (text : List ℕ) (tokens : List CodeToken) (start len : ℕ) (place ne
       → IsCut (done.parts ++ part_at text start len m ∷ []) text (drop (start + len) text)
   next_cut m read closed =
       IsCut-push done.parts (part_at text start len m) text (drop (start + len) text)
-      (subst (IsCut done.parts text) (rest_is text start len) done.cut)
+      (subst (IsCut done.parts text) (drop_in_two text start len) done.cut)
       (subst (IsRead m (take len (drop start text))) (drop-drop len start text) read)
       closed
 

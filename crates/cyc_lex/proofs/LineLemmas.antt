@@ -1,7 +1,7 @@
 -- No token ends a line, so behind one the place is on the same line.
 use Rattle.std.proofs.Common.{◌≡◌, ℕ, ◌+◌, ◌==◌, ◌&&◌, ◌||◌, Bool, true, false, not, Some, List, [], ◌∷◌, ◌++◌, length, refl, sym, ap, subst, ◌∙◌, append-nil, ⊎_elim, arith}
 use Rattle.std.specs.List.{list_all}
-use Rattle.std.proofs.lemmas.Bool.{true≢false, cases_Bool, and_from, and_parts, eqb-true}
+use Rattle.std.proofs.lemmas.Bool.{true≢false, cases_Bool, and_from, and_parts, eqb-true, not-true}
 use Rattle.std.proofs.lemmas.Bool.Decides.{nat_tests}
 use Rattle.std.proofs.lemmas.List.{append_assoc}
 use Rattle.cyc_words.specs.declared.span.Span.{Span}
@@ -21,10 +21,6 @@ stays b = not (is_line_feed b)
 
 abbrev pub is_one_line : List ℕ → Bool
 is_one_line bytes = list_all stays bytes
-
-is_off : (t : Bool) → not t ≡ true → t ≡ false
-is_off true h = absurd (true≢false (sym h))
-is_off false h = refl
 
 all_stay : (p : ℕ → Bool) → ((b : ℕ) → p b ≡ true → stays b ≡ true) → (bytes : List ℕ) → list_all p bytes ≡ true → is_one_line bytes ≡ true
 all_stay p step [] passes = refl
@@ -137,4 +133,4 @@ behind_one_line place next front (b ∷ bs) passes line column behind =
     let one : Span = record { line = place.line; column = place.column + 1 } in
     let count : next.column ≡ one.column + length bs = omega (arith, column) in
     subst (IsBehind next) (append_assoc front (b ∷ []) bs)
-    (behind_one_line one next (front ++ b ∷ []) bs parts.1 line count (behind_other place one front b (is_off _ parts.0) refl refl behind))
+    (behind_one_line one next (front ++ b ∷ []) bs parts.1 line count (behind_other place one front b (not-true _ parts.0) refl refl behind))

@@ -4,13 +4,14 @@ use Rattle.std.specs.List.{list_all, prefix_len}
 use Rattle.std.proofs.lemmas.Bool.{true≢false, cond-true, and_from, and_parts, or_left}
 use Rattle.std.proofs.lemmas.List.Sums.{prefix_len-le-length}
 use Rattle.std.proofs.Math.Numerals.{one-add}
+use Rattle.cyc_words.proofs.Searches.{prefix_len-passes, prefix_len-at_least}
 use Rattle.cyc_syntax.specs.declared.tokens.Keyword.{Keyword}
 use Rattle.cyc_syntax.specs.declared.tokens.TokenKind.TheVariants as kinds
 use Rattle.cyc_syntax.specs.Spelling.{is_letter, is_name_byte, is_name, keyword_text, Lexeme}
 use Rattle.cyc_syntax.specs.Tokens.{Identifier, Word}
 use Rattle.cyc_syntax.proofs.PieceLemmas.{AtName, AtRegion, start_of}
 use Rattle.cyc_lex.specs.inside.Found.{IsFound}
-use Rattle.cyc_lex.proofs.ShapeLemmas.{Shape, read_at, run_passes, run_bound}
+use Rattle.cyc_lex.proofs.ShapeLemmas.{Shape, read_at}
 
 -- a name is of name bytes
 pub name_bytes : (name : List ℕ) → is_name name ≡ true → list_all is_name_byte name ≡ true
@@ -24,14 +25,14 @@ name_run : (text : List ℕ) → is_letter (get_or text 0 0) ≡ true → 0 < le
 name_run [] letter within = absurd (omega arith)
 name_run (b ∷ bs) letter within =
     ap (λ n. is_name (take n (b ∷ bs))) (cond-true (is_name_byte b) (1 + prefix_len is_name_byte bs) 0 (or_left _ _ letter))
-    ∙ rw one-add (and_from _ _ letter (run_passes is_name_byte bs))
+    ∙ rw one-add (and_from _ _ letter (prefix_len-passes is_name_byte bs))
 
 module _ (text : List ℕ) (n : ℕ) (len : n ≡ prefix_len is_name_byte text) (within : 0 < length text) (letter : is_letter (get_or text 0 0) ≡ true) where
   named : is_name (take n text) ≡ true
   named = ap (λ k. is_name (take k text)) len ∙ name_run text letter within
 
   bound : (front rest : List ℕ) → text ≡ front ++ rest → Shape AtName front → length front ≤ n
-  bound front rest whole shape = rw len (run_bound is_name_byte text front rest whole (name_bytes front shape))
+  bound front rest whole shape = rw len (prefix_len-at_least is_name_byte text front rest whole (name_bytes front shape))
 
   inside : n ≤ length text
   inside = rw len (prefix_len-le-length is_name_byte text)
@@ -54,7 +55,7 @@ module _ (text : List ℕ) (n : ℕ) (len : n ≡ prefix_len is_name_byte text) 
 region_bound : (text front rest : List ℕ) → text ≡ front ++ rest → Shape AtRegion front → length front ≤ 1 + prefix_len is_name_byte (drop 1 text)
 region_bound text front rest whole shape =
     let tail : drop 1 text ≡ shape.0 ++ rest = ap (drop 1) (whole ∙ ap (λ l. l ++ rest) shape.1) in
-    let run = run_bound is_name_byte (drop 1 text) shape.0 rest tail (name_bytes shape.0 shape.2) in
+    let run = prefix_len-at_least is_name_byte (drop 1 text) shape.0 rest tail (name_bytes shape.0 shape.2) in
     omega (arith, run, ap length shape.1)
 
 pub found_region : (text : List ℕ) (n : ℕ) → n ≡ prefix_len is_name_byte (drop 1 text) → get_or text 0 0 ≡ 96 → 2 ≤ length text → is_letter (get_or text 1 0) ≡ true

@@ -9,6 +9,8 @@ use Rattle.std.proofs.lemmas.List.Elements.{All-weaker}
 use Rattle.std.proofs.lemmas.List.Sums.{prefix_len-le-length, AllPass-from_list_all}
 use Rattle.std.proofs.Math.Numerals.{one-add}
 use Rattle.cyc_words.specs.declared.fault.Code.TheVariants as codes
+use Rattle.cyc_words.proofs.Lists.{get_or_first}
+use Rattle.cyc_words.proofs.Searches.{prefix_len-passes, prefix_len-at_least}
 use Rattle.cyc_syntax.specs.declared.tokens.TokenKind.TheVariants as kinds
 use Rattle.cyc_syntax.specs.Spelling.{is_between, is_digit, is_hex_digit, is_decimal, is_hexadecimal, number_in, Lexeme}
 use Rattle.cyc_syntax.specs.Tokens.{Number}
@@ -16,7 +18,7 @@ use Rattle.cyc_syntax.specs.TokenRule.{IsRead, max_number}
 use Rattle.cyc_syntax.proofs.PieceLemmas.{AtNumber, start_of, digit_starts, leading_digit}
 use Rattle.cyc_lex.specs.inside.Found.{IsFound}
 use Rattle.cyc_lex.specs.Refusals.{FailsHere}
-use Rattle.cyc_lex.proofs.ShapeLemmas.{Shape, read_at, run_passes, run_bound}
+use Rattle.cyc_lex.proofs.ShapeLemmas.{Shape, read_at}
 
 -- a number that is read is found or too large
 pub found_number : (text : List ℕ) (n v : ℕ) → n ≤ length text → IsRead (Lexeme (Number v)) (take n text) (drop n text) → v ≤ max_number
@@ -57,18 +59,14 @@ decimal_zero (b ∷ []) decimal first = omega arith
 decimal_zero (b ∷ c ∷ bs) decimal first =
     absurd (true≢false (sym (and_parts _ _ decimal).0 ∙ ap (is_between 49 57) first))
 
-first_of : (text front rest : List ℕ) → text ≡ front ++ rest → 0 < length front → get_or front 0 0 ≡ get_or text 0 0
-first_of text [] rest whole some = absurd (omega arith)
-first_of text (b ∷ bs) rest whole some = ap (λ l. get_or l 0 0) (sym whole)
-
 hexadecimal_bound : (text front rest : List ℕ) → text ≡ front ++ rest → get_or text 0 0 ≡ 48 → Shape AtNumber front
     → length front ≤ 2 + prefix_len is_hex_digit (drop 2 text)
 hexadecimal_bound text [] rest whole first shape = omega arith
 hexadecimal_bound text (b ∷ []) rest whole first shape = omega arith
 hexadecimal_bound text (b ∷ c ∷ bs) rest whole first shape =
     ⊎_elim
-    (λ decimal. absurd (omega (arith, decimal_zero (b ∷ c ∷ bs) decimal (first_of text (b ∷ c ∷ bs) rest whole (omega arith) ∙ first))))
-    (λ hex. omega (arith, run_bound is_hex_digit (drop 2 text) bs rest (ap (drop 2) whole) (hexadecimal_parts (b ∷ c ∷ bs) hex).digits))
+    (λ decimal. absurd (omega (arith, decimal_zero (b ∷ c ∷ bs) decimal (get_or_first text (b ∷ c ∷ bs) rest whole (omega arith) ∙ first))))
+    (λ hex. omega (arith, prefix_len-at_least is_hex_digit (drop 2 text) bs rest (ap (drop 2) whole) (hexadecimal_parts (b ∷ c ∷ bs) hex).digits))
     shape
 
 -- how a text begins that begins with a hexadecimal number
@@ -105,7 +103,7 @@ module _ (text : List ℕ) (n : ℕ) (len : n ≡ prefix_len is_hex_digit (drop 
 
   pub hexadecimal_read : (v : ℕ) → v ≡ number_in 16 (take n (drop 2 text)) → IsRead (Lexeme (Number v)) (take (2 + n) text) (drop (2 + n) text)
   hexadecimal_read v value =
-      let digits = ap (λ k. list_all is_hex_digit (take k (drop 2 text))) len ∙ run_passes is_hex_digit (drop 2 text) in
+      let digits = ap (λ k. list_all is_hex_digit (take k (drop 2 text))) len ∙ prefix_len-passes is_hex_digit (drop 2 text) in
       let inside = hexadecimal_inside in
       let some = begins.some in
       let size = length-take-le n (drop 2 text) (omega (arith, length-drop 2 text, inside)) in
@@ -118,7 +116,7 @@ module _ (text : List ℕ) (n : ℕ) (len : n ≡ prefix_len is_hex_digit (drop 
 
   -- and these are digits
   pub hexadecimal_digits : All (λ b. is_hex_digit b ≡ true) (take n (drop 2 text))
-  hexadecimal_digits = AllPass-from_list_all is_hex_digit _ (ap (λ k. list_all is_hex_digit (take k (drop 2 text))) len ∙ run_passes is_hex_digit (drop 2 text))
+  hexadecimal_digits = AllPass-from_list_all is_hex_digit _ (ap (λ k. list_all is_hex_digit (take k (drop 2 text))) len ∙ prefix_len-passes is_hex_digit (drop 2 text))
 
 -- a digit other than 0, and digits
 
@@ -144,16 +142,16 @@ decimal_run : (text : List ℕ) → 0 < length text → is_digit (get_or text 0 
 decimal_run [] within digit nonzero = absurd (omega arith)
 decimal_run (b ∷ bs) within digit nonzero =
     ap (λ n. is_decimal (take n (b ∷ bs))) (cond-true (is_digit b) (1 + prefix_len is_digit bs) 0 digit)
-    ∙ rw one-add (decimal_from b (take (prefix_len is_digit bs) bs) digit nonzero (run_passes is_digit bs))
+    ∙ rw one-add (decimal_from b (take (prefix_len is_digit bs) bs) digit nonzero (prefix_len-passes is_digit bs))
 
 decimal_bound : (text front rest : List ℕ) → text ≡ front ++ rest → get_or text 0 0 ≢ 48 → Shape AtNumber front
     → length front ≤ prefix_len is_digit text
 decimal_bound text front rest whole nonzero shape =
     ⊎_elim
-    (λ decimal. run_bound is_digit text front rest whole (decimal_digits front decimal))
+    (λ decimal. prefix_len-at_least is_digit text front rest whole (decimal_digits front decimal))
     (λ hex.
     let parts = hexadecimal_parts front hex in
-    absurd (nonzero (sym (first_of text front rest whole (omega (arith, parts.long))) ∙ parts.first)))
+    absurd (nonzero (sym (get_or_first text front rest whole (omega (arith, parts.long))) ∙ parts.first)))
     shape
 
 module _ (text : List ℕ) (n : ℕ) (len : n ≡ prefix_len is_digit text) where
@@ -170,4 +168,4 @@ module _ (text : List ℕ) (n : ℕ) (len : n ≡ prefix_len is_digit text) wher
   pub decimal_all_digits : All (λ b. is_hex_digit b ≡ true) (take n text)
   decimal_all_digits =
       All-weaker (λ b. is_digit b ≡ true) (λ b. is_hex_digit b ≡ true) digit_hex_digit _
-      (AllPass-from_list_all is_digit _ (ap (λ k. list_all is_digit (take k text)) len ∙ run_passes is_digit text))
+      (AllPass-from_list_all is_digit _ (ap (λ k. list_all is_digit (take k text)) len ∙ prefix_len-passes is_digit text))

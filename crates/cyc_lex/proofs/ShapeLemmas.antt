@@ -1,10 +1,7 @@
 -- What a piece looks like that begins with a given byte, and what follows for the longest piece at the head of a text.
-use Rattle.std.proofs.Common.{◌≡◌, ℕ, ◌+◌, ◌≤◌, Bool, true, cond, Some, ◌⊎◌, inl, inr, ⊎_elim, List, [], ◌∷◌, ◌++◌, length, get_or, take, drop, refl, sym, ap, subst, ◌∙◌, arith}
+use Rattle.std.proofs.Common.{◌≡◌, ℕ, ◌≤◌, true, Some, ◌⊎◌, inl, inr, ⊎_elim, List, [], ◌∷◌, ◌++◌, length, get_or, take, drop, refl, sym, ap, subst, ◌∙◌, arith}
 use Rattle.std.specs.Prelude.{codes}
-use Rattle.std.specs.List.{list_all, prefix_len}
 use Rattle.std.proofs.lemmas.List.{take-append-drop, length-take-le}
-use Rattle.std.proofs.lemmas.Bool.{cases_Bool, cond-true, and_from, and_parts}
-use Rattle.std.proofs.Math.Numerals.{one-add}
 use Rattle.cyc_syntax.specs.declared.tokens.Sign.{Sign}
 use Rattle.cyc_syntax.specs.declared.tokens.Sign.TheVariants as signs
 use Rattle.cyc_syntax.specs.Tokens.{Identifier, RegionName, Number, Character, Word, Mark}
@@ -65,22 +62,3 @@ read_at m s text n start within spelled bound = record {
 }
 
 -- runs of one class
-
--- the bytes of a run pass, and no front that passes is longer
-pub run_passes : (p : ℕ → Bool) (text : List ℕ) → list_all p (take (prefix_len p text) text) ≡ true
-run_passes p [] = refl
-run_passes p (b ∷ bs) =
-    ⊎_elim
-    (λ passes. ap (λ t. list_all p (take (cond t (1 + prefix_len p bs) 0) (b ∷ bs))) passes ∙ rw one-add (and_from _ _ passes (run_passes p bs)))
-    (λ fails. ap (λ t. list_all p (take (cond t (1 + prefix_len p bs) 0) (b ∷ bs))) fails)
-    (cases_Bool (p b))
-
-pub run_bound : (p : ℕ → Bool) (text front rest : List ℕ) → text ≡ front ++ rest → list_all p front ≡ true → length front ≤ prefix_len p text
-run_bound p text front rest e passes = subst (λ t. length front ≤ prefix_len p t) (sym e) (within front passes)
-  where
-    within : (front : List ℕ) → list_all p front ≡ true → length front ≤ prefix_len p (front ++ rest)
-    within [] passes = omega arith
-    within (b ∷ bs) passes =
-        let parts = and_parts (p b) (list_all p bs) passes in
-        let here : prefix_len p ((b ∷ bs) ++ rest) ≡ 1 + prefix_len p (bs ++ rest) = cond-true (p b) (1 + prefix_len p (bs ++ rest)) 0 parts.0 in
-        omega (arith, here, within bs parts.1)

@@ -1,11 +1,13 @@
 -- Comments at the head of a text, and signs.
-use Rattle.std.proofs.Common.{◌≡◌, ◌≢◌, ℕ, suc, ◌+◌, ◌-◌, ◌<◌, ◌≤◌, true, false, not, Some, None, inl, inr, ⊎_elim, List, [], ◌∷◌, ◌++◌, length, get_or, take, drop, refl, sym, ap, ◌∙◌, append_assoc, append-nil, arith}
+use Rattle.std.proofs.Common.{◌≡◌, ◌≢◌, ℕ, ◌+◌, ◌-◌, ◌<◌, ◌≤◌, true, false, not, Some, None, inl, inr, ⊎_elim, List, [], ◌∷◌, ◌++◌, length, get_or, take, drop, refl, sym, ap, ◌∙◌, append_assoc, append-nil, arith}
 use Rattle.std.specs.Prelude.{codes}
 use Rattle.std.specs.List.{list_all, list_any, prefix_len}
 use Rattle.std.proofs.lemmas.Bool.{cases_lt, and_left, and_from, and_parts, or_from, or_parts, not-true, not_from_false, cond-false, ne_eqb}
 use Rattle.std.proofs.lemmas.List.{take-append-drop, take-append-le, take_at, length-append, length-drop}
 use Rattle.std.proofs.lemmas.List.Sums.{prefix_len-le-length}
 use Rattle.cyc_words.specs.declared.fault.Code.TheVariants as codes_of
+use Rattle.cyc_words.proofs.Lists.{two_first, take_two_first}
+use Rattle.cyc_words.proofs.Searches.{prefix_len-passes, prefix_len-at_least}
 use Rattle.cyc_syntax.specs.declared.tokens.Sign.{Sign}
 use Rattle.cyc_syntax.specs.declared.tokens.TokenKind.TheVariants as kinds
 use Rattle.cyc_syntax.specs.Spelling.{is_letter, is_digit, is_space, is_line_feed, sign_text, HasNoClose, Lexeme, Comment}
@@ -13,17 +15,7 @@ use Rattle.cyc_syntax.specs.Tokens.{Mark}
 use Rattle.cyc_syntax.proofs.PieceLemmas.{AtSlash, AtSign, start_of}
 use Rattle.cyc_lex.specs.inside.Found.{IsFound}
 use Rattle.cyc_lex.specs.Refusals.{FailsHere}
-use Rattle.cyc_lex.proofs.ShapeLemmas.{Shape, read_at, run_passes, run_bound}
-
-two_bytes : (text : List ℕ) → 2 ≤ length text → text ≡ get_or text 0 0 ∷ get_or text 1 0 ∷ drop 2 text
-two_bytes [] long = absurd (omega arith)
-two_bytes (b ∷ []) long = absurd (omega arith)
-two_bytes (b ∷ c ∷ bs) long = refl
-
-take_two : (text : List ℕ) (n : ℕ) → 2 ≤ length text → take (2 + n) text ≡ get_or text 0 0 ∷ get_or text 1 0 ∷ take n (drop 2 text)
-take_two text n long =
-    let two : 2 + n ≡ suc (suc n) = omega arith in
-    ap (λ k. take k text) two ∙ ap (take (suc (suc n))) (two_bytes text long)
+use Rattle.cyc_lex.proofs.ShapeLemmas.{Shape, read_at}
 
 -- what the second byte rules out
 module _ (text front rest body : List ℕ) (b c : ℕ) (whole : text ≡ front ++ rest) (is : front ≡ b ∷ c ∷ body) where
@@ -54,7 +46,7 @@ line_bound text front rest slash whole shape =
     (λ sign. omega (arith, ap length sign))
     (λ comment. ⊎_elim
     (λ line.
-    let run = run_bound (λ b. not (is_line_feed b)) (drop 2 text) line.0 rest (body_of text front rest line.0 47 47 whole line.1) (no_line_feed line.0 line.2) in
+    let run = prefix_len-at_least (λ b. not (is_line_feed b)) (drop 2 text) line.0 rest (body_of text front rest line.0 47 47 whole line.1) (no_line_feed line.0 line.2) in
     omega (arith, run, ap length line.1))
     (λ starred. ⊎_elim
     (λ block. absurd (omega (arith, slash, second_byte text front rest (block.0 ++ codes "*/") 47 42 whole block.1)))
@@ -72,8 +64,8 @@ found_line_comment text n long first second len =
       piece = inr (read_at Comment AtSlash text (2 + n) (ap start_of first) inside
           (inl (
             take n (drop 2 text),
-            take_two text n long ∙ (λ i. first i ∷ second i ∷ take n (drop 2 text)),
-            line_feed_nowhere (take n (drop 2 text)) (ap (λ k. list_all (λ b. not (is_line_feed b)) (take k (drop 2 text))) len ∙ run_passes (λ b. not (is_line_feed b)) (drop 2 text)),
+            take_two_first text n long ∙ (λ i. first i ∷ second i ∷ take n (drop 2 text)),
+            line_feed_nowhere (take n (drop 2 text)) (ap (λ k. list_all (λ b. not (is_line_feed b)) (take k (drop 2 text))) len ∙ prefix_len-passes (λ b. not (is_line_feed b)) (drop 2 text)),
           ))
           (λ front rest whole shape. rw len (line_bound text front rest second whole shape)));
     }
@@ -120,7 +112,7 @@ found_block_comment text n long first second some fits closed first_close =
       piece = inr (read_at Comment AtSlash text (2 + n) (ap start_of first) inside
           (inr (
             take (n - 2) (drop 2 text),
-            take_two text n long ∙ (λ i. first i ∷ second i ∷ closed i),
+            take_two_first text n long ∙ (λ i. first i ∷ second i ∷ closed i),
             first_close,
           ))
           (λ front rest whole shape. block_bound text front rest n second some closed whole shape));
@@ -133,7 +125,7 @@ open_comment text long first second none = (
   [],
   sym (append-nil text),
   record {
-    spelled = (drop 2 text, two_bytes text long ∙ (λ i. first i ∷ second i ∷ drop 2 text), none);
+    spelled = (drop 2 text, two_first text long ∙ (λ i. first i ∷ second i ∷ drop 2 text), none);
     longest = λ other front rest whole also. omega (arith, ap length whole, length-append front rest, length-append text []);
   },
 )

@@ -6,7 +6,6 @@ pub mod WorldLaws
 pub mod DemandLaws
 pub mod NestingLemmas
 pub mod Nested
-pub mod ListLemmas
 -- examples
 pub mod ExampleTrees
 pub mod Examples

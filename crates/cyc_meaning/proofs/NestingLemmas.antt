@@ -4,12 +4,13 @@ use Rattle.std.specs.Prelude.{◌≢◌, ◌==◌, ◌||◌, if◌then◌else◌
 use Rattle.std.specs.List.{list_any}
 use Rattle.std.proofs.lemmas.Bool.{eq-eqb, eqb-true, false_from_ne_true, cases_eq}
 use Rattle.std.proofs.lemmas.List.{length-set}
+use Rattle.cyc_words.proofs.Lists.{slice_get_last}
+use Rattle.cyc_words.proofs.Items.{slice_get-set_other}
 use Rattle.cyc_meaning.specs.Values.{Cell, block_size}
 use Rattle.cyc_meaning.specs.State.{Sort, Stack, Lexical, Dynamic, Region, World, Found, Closed, Missing, found_region, is_open, region_at, globals_number, new_region, stack_region, opened, opened_as, closed, Environment, no_locals, Entry, CloseRegion, CloseLexical, Caller}
 use Rattle.cyc_meaning.specs.Parts.{inside, region_end}
 use Rattle.cyc_meaning.specs.Objects.{made_in}
 use Rattle.cyc_meaning.specs.inside.Nesting.{ends_of, IsScoped, IsFound, AreOpen, AreBelow, IsHome, lexicals_of, is_scope, is_open_scope, AreScopes, IsNested}
-use Rattle.cyc_meaning.proofs.ListLemmas.{slice_get-end, slice_get-set_other}
 
 -- ---- what is found
 
@@ -124,7 +125,7 @@ scopes_new : (regions : List Region) (r : Region) (ns : List ℕ) → is_scope r
 scopes_new regions r ns scope are number = elim (cases_eq (length regions) number) [
   | inl same ↦
       ap (λ (i : ℕ). is_open_scope (slice_get (regions ++ r ∷ []) i)) (sym same)
-      ∙ (ap is_open_scope (slice_get-end regions r) ∙ (scope ∙ sym (one_here number (length regions) ns same)))
+      ∙ (ap is_open_scope (slice_get_last regions r) ∙ (scope ∙ sym (one_here number (length regions) ns same)))
   | inr other ↦ behind_others regions r number (λ e. other (sym e)) ∙ (are number ∙ sym (one_there number (length regions) ns other))
 ]
 
@@ -172,7 +173,7 @@ opened_open : (sort : Sort) (stack : List Entry) (w : World) → AreOpen w.regio
 opened_open sort stack w h = still_open w.regions (new_region sort ∷ []) (ends_of stack) h
 
 opened_found : (sort : Sort) (w : World) → IsScoped sort → IsFound (found_region (slice_get (opened_as sort w).regions (length w.regions)))
-opened_found sort w scoped = subst (λ (o : Option Region). IsFound (found_region o)) (sym (slice_get-end w.regions (new_region sort))) scoped
+opened_found sort w scoped = subst (λ (o : Option Region). IsFound (found_region o)) (sym (slice_get_last w.regions (new_region sort))) scoped
 
 pub nested_opened : (stack : List Entry) (e : Environment) (w : World) → IsNested stack e w → IsNested (region_end e w ∷ stack) (inside e w) (opened w)
 nested_opened stack e w (open_all, below, is, are) = (

@@ -6,6 +6,7 @@ use Rattle.std.proofs.lemmas.Bool.{le-leb, and_from}
 use Rattle.cyc_words.specs.Ending.{Full}
 use Rattle.cyc_words.specs.Seen.{IsPrefix}
 use Rattle.cyc_words.proofs.PrefixLemmas.{IsPrefix-refl, IsPrefix-trans}
+use Rattle.cyc_words.proofs.Lists.{read_before_drop, all_append}
 use Rattle.cyc_types.specs.TypedTrees.{Function, Program}
 use Rattle.cyc_meaning.specs.State.{World, Environment, Entry, Main, Focus, Entering, no_locals, State, Running, Ended, Dead, Wrong, Status, GoesOn, HasEnded, IsDead, IsWrong, output_of, input_of, status_of, depth, first_world}
 use Rattle.cyc_meaning.specs.Step.{called, wrong, step}
@@ -173,14 +174,9 @@ GoesOnFrom old new = IsPrefix (output_of old) (output_of new) × ((read : List �
 same_traces : (s : State) → GoesOnFrom s s
 same_traces s = (IsPrefix-refl (output_of s), ([], refl))
 
-dropped : (count : ℕ) (input : List ℕ) → (read : List ℕ) × (input ≡ read ++ drop count input)
-dropped zero input = ([], refl)
-dropped (suc count) [] = ([], refl)
-dropped (suc count) (b ∷ input) = let (read, is) = dropped count input in (b ∷ read, ap (λ l. b ∷ l) is)
-
 pub step_goes_on : (program : Program) (s : State) → GoesOnFrom s (step program s)
 step_goes_on program (Running focus stack e w) =
-    let (read, is) = dropped (read_by focus) w.input in
+    let (read, is) = read_before_drop (read_by focus) w.input in
     ((printed_by focus, step_prints program focus stack e w), (read, is ∙ ap (λ l. read ++ l) (sym (step_reads program focus stack e w))))
 step_goes_on program (Ended ending output input) = (IsPrefix-refl output, ([], refl))
 step_goes_on program (Dead output input) = (IsPrefix-refl output, ([], refl))
@@ -282,14 +278,10 @@ bytes_printed (Ends ending other) = tt
 bytes_printed (Dies alone) = tt
 bytes_printed Fails = tt
 
-bytes-append : (xs ys : List ℕ) → AllByRecursion (λ b. b < 256) xs → AllByRecursion (λ b. b < 256) ys → AllByRecursion (λ b. b < 256) (xs ++ ys)
-bytes-append [] ys all others = others
-bytes-append (x ∷ xs) ys (small, all) others = (small, bytes-append xs ys all others)
-
 step_bytes : (program : Program) (s : State) → AllByRecursion (λ b. b < 256) (output_of s) → AllByRecursion (λ b. b < 256) (output_of (step program s))
 step_bytes program (Running focus stack e w) bytes =
     subst (AllByRecursion (λ b. b < 256)) (sym (step_prints program focus stack e w))
-    (bytes-append w.output (printed_by focus) bytes (bytes_printed (outcome program focus stack e w)))
+    (all_append (λ (b : ℕ). b < 256) w.output (printed_by focus) bytes (bytes_printed (outcome program focus stack e w)))
 step_bytes program (Ended ending output input) bytes = bytes
 step_bytes program (Dead output input) bytes = bytes
 step_bytes program (Wrong output input) bytes = bytes

@@ -3,11 +3,11 @@ use Rattle.std.proofs.Common.{◌≡◌, ℕ, zero, suc, Bool, true, false, List
 use Rattle.std.specs.Prelude.{◌⊎◌, ◌<◌, if◌then◌else◌, slice_get}
 use Rattle.std.proofs.lemmas.Bool.{cases_eq}
 use Rattle.std.proofs.lemmas.List.{length-set}
+use Rattle.cyc_words.proofs.Items.{slice_get-set_other}
 use Rattle.cyc_meaning.specs.Values.{Value, Cell, block_size}
 use Rattle.cyc_meaning.specs.State.{Sort, Region, InRegion, Unique, Object, World, Found, Closed, found_region, region_at, Located, cell_at, new_region, opened_as, closed, written, Environment, no_locals, Entry, CloseRegion, Caller}
 use Rattle.cyc_meaning.specs.Objects.{made_in, made_unique, freed}
 use Rattle.cyc_meaning.specs.inside.Variables.{region_of, LivesIn, IsShut, HasVariables, Locals, waiting, IsLocal, AreLow, LiveInRegions, AreNamed}
-use Rattle.cyc_meaning.proofs.ListLemmas.{slice_get-set_other}
 use Rattle.cyc_meaning.proofs.NestingLemmas.{region_found}
 use Rattle.cyc_meaning.proofs.WorldLaws.{cell_found}
 use Rattle.cyc_meaning.proofs.VariableLemmas.{lives_once, lives_more, lives_newest, lives_same, shut_open, shut_more, region_below, region_before, set_region_there, shut_set, Passes, passes}

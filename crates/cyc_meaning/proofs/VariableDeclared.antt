@@ -2,13 +2,13 @@
 use Rattle.std.proofs.Common.{◌≡◌, ℕ, zero, suc, Bool, List, [], ◌∷◌, ◌++◌, length, Option, Some, None, refl, sym, ap, subst, ◌∙◌, inl, inr, arith}
 use Rattle.std.specs.Prelude.{◌≢◌, ◌⊎◌, ◌<◌, ◌==◌, if◌then◌else◌, slice_get}
 use Rattle.std.proofs.lemmas.Bool.{eq-eqb, eqb-true, false_from_ne_true, cases_eq}
+use Rattle.cyc_words.proofs.Lists.{slice_get_last}
 use Rattle.cyc_types.specs.declared.typed.Kind.{Kind}
 use Rattle.cyc_types.specs.TypedTrees.{Statement}
 use Rattle.cyc_meaning.specs.Values.{Value}
 use Rattle.cyc_meaning.specs.State.{Region, Object, World, Found, region_at, globals_number, variable, Environment, with_local, Initialise, Choose, Test, OpenBy, AliasOf, Entry, Needs, Rest, Loop, CloseRegion, CloseLexical, EndLoan, Handler, Caller}
 use Rattle.cyc_meaning.specs.inside.Nesting.{ends_of, AreBelow, IsHome, IsNested}
 use Rattle.cyc_meaning.specs.inside.Variables.{region_in, LivesIn, IsShut, HasVariables, Locals, waiting, IsLocal, IsOfCall, IsInBlock, AreLow, StatementDeclares, DeclareLater, LiveInBlocks, WaitInBlocks, HaveNames, AreDistinct, AreNamed}
-use Rattle.cyc_meaning.proofs.ListLemmas.{slice_get-end}
 use Rattle.cyc_meaning.proofs.NestingLemmas.{region_found}
 use Rattle.cyc_meaning.proofs.VariableLemmas.{lives_once, lives_below, lives_more, lives_newest, shut_open, region_below, later_passes, waiting_pass}
 use Rattle.cyc_meaning.proofs.VariableChanges.{local_here}
@@ -141,7 +141,7 @@ module _ (globals number : ℕ) (kind : Kind) (content : Option Value) (stack : 
   more = w.objects ++ x ∷ []
 
   owns : LivesIn more (length w.objects) e.home
-  owns = ap (λ (o : Option Object). region_in o) (slice_get-end w.objects x)
+  owns = ap (λ (o : Option Object). region_in o) (slice_get_last w.objects x)
 
   open_home : e.home < length w.regions
   open_home = region_below w.regions e.home r (region_found w e.home r found)

@@ -1,13 +1,13 @@
 -- Laws of the world: numbers are never used again.
-use Rattle.std.proofs.Common.{◌≡◌, ℕ, zero, suc, Bool, true, false, List, [], ◌∷◌, set, Option, Some, None, refl, sym, ap, subst, ◌∙◌}
+use Rattle.std.proofs.Common.{◌≡◌, ℕ, zero, suc, Bool, true, false, List, [], ◌∷◌, Option, Some, None, refl, sym, ap, subst, ◌∙◌}
 use Rattle.std.specs.Prelude.{if◌then◌else◌, slice_get}
+use Rattle.cyc_words.proofs.Items.{slice_get-set_related, slice_get_front, map-set}
 use Rattle.cyc_types.specs.TypedTrees.{Program}
 use Rattle.cyc_meaning.specs.Values.{Cell}
 use Rattle.cyc_meaning.specs.State.{Region, Owner, InRegion, Unique, Object, World, Found, Closed, Missing, Located, located, is_live, cell_in, cell_at, new_region, variable, State, Running, Ended, Dead, Wrong}
 use Rattle.cyc_meaning.specs.Step.{step, stepped}
 use Rattle.cyc_meaning.specs.inside.Effects.{Changes, Keeps, Opens, Closes, Makes, MakesIn, MakesUnique, Frees, Writes, Prints, Reads, OwnerStays, RegionStays, ObjectStays, WorldStays, StaysIn}
 use Rattle.cyc_meaning.specs.Run.{steps}
-use Rattle.cyc_meaning.proofs.ListLemmas.{slice_get-append, map-set}
 use Rattle.cyc_meaning.proofs.NestingLemmas.{region_found}
 use Rattle.cyc_meaning.proofs.Outcomes.{Outcome, Goes, Ends, Dies, Fails, outcome}
 
@@ -73,49 +73,38 @@ world_later u v w first second = record {
       (z, at_z, record { owner = owner_later x.owner y.owner z.owner stays.owner more.owner; kinds = more.kinds ∙ stays.kinds });
 }
 
--- an element that is replaced by one that is related to it
-replaced : {A : Type 0} (R : A → A → Type 0) (xs : List A) (i : ℕ) (x y : A) → slice_get xs i ≡ Some x → R x y → ((a : A) → R a a) → (j : ℕ) (a : A) → slice_get xs j ≡ Some a → (b : A) × (slice_get (set xs i y) j ≡ Some b) × R a b
-replaced R [] i x y there related same j a found = absurd (let e : None ≡ Some a = found in cc)
-replaced R (c ∷ xs) zero x y there related same zero a found =
-    let e : Some x ≡ Some a = sym there ∙ found in
-    let k : x ≡ a = cc in
-    (y, refl, subst (λ z. R z y) k related)
-replaced R (c ∷ xs) zero x y there related same (suc j) a found = (a, found, same a)
-replaced R (c ∷ xs) (suc i) x y there related same zero a found = (a, found, same a)
-replaced R (c ∷ xs) (suc i) x y there related same (suc j) a found = replaced R xs i x y there related same j a found
-
 change_stays : {w new : World} {printed : List ℕ} {count : ℕ} → Changes w printed count new → WorldStays w new
 change_stays {w} Keeps = world_same w
 change_stays {w} (Opens sort) = record {
-  regions = λ number r found. (r, slice_get-append w.regions (new_region sort ∷ []) number r found, region_same r);
+  regions = λ number r found. (r, slice_get_front w.regions (new_region sort ∷ []) number r found, region_same r);
   objects = λ number x found. (x, found, object_same x);
 }
 change_stays {w} (Closes number r found) = record {
-  regions = replaced RegionStays w.regions number r (record r { is_open = false }) (region_found w number r found) (record { sort = refl; closed = λ e. refl }) region_same;
+  regions = slice_get-set_related RegionStays w.regions number r (record r { is_open = false }) (region_found w number r found) (record { sort = refl; closed = λ e. refl }) region_same;
   objects = λ object x there. (x, there, object_same x);
 }
 change_stays {w} (Makes number r kind content found) = record {
   regions = λ other s is. (s, is, region_same s);
-  objects = λ object y there. (y, slice_get-append w.objects (variable number kind content ∷ []) object y there, object_same y);
+  objects = λ object y there. (y, slice_get_front w.objects (variable number kind content ∷ []) object y there, object_same y);
 }
 change_stays {w} (MakesIn number r cells found) = record {
-  regions = replaced RegionStays w.regions number r _ (region_found w number r found) (record { sort = refl; closed = λ e. e }) region_same;
-  objects = λ object y there. (y, slice_get-append w.objects (record { owner = InRegion number; cells = cells } ∷ []) object y there, object_same y);
+  regions = slice_get-set_related RegionStays w.regions number r _ (region_found w number r found) (record { sort = refl; closed = λ e. e }) region_same;
+  objects = λ object y there. (y, slice_get_front w.objects (record { owner = InRegion number; cells = cells } ∷ []) object y there, object_same y);
 }
 change_stays {w} (MakesUnique cells) = record {
   regions = λ other s is. (s, is, region_same s);
-  objects = λ object y there. (y, slice_get-append w.objects (record { owner = Unique true; cells = cells } ∷ []) object y there, object_same y);
+  objects = λ object y there. (y, slice_get_front w.objects (record { owner = Unique true; cells = cells } ∷ []) object y there, object_same y);
 }
 change_stays {w} (Frees number x there live) = record {
   regions = λ other s is. (s, is, region_same s);
-  objects = replaced ObjectStays w.objects number x (record x { owner = Unique false }) there
+  objects = slice_get-set_related ObjectStays w.objects number x (record x { owner = Unique false }) there
       (record { owner = subst (λ o. OwnerStays o (Unique false)) (sym live) (false, refl); kinds = refl }) object_same;
 }
 change_stays {w} (Writes object offset at value found) =
     let (there, cell) = cell_found w object offset at found in
     record {
       regions = λ number r is. (r, is, region_same r);
-      objects = replaced ObjectStays w.objects object at.object _ there
+      objects = slice_get-set_related ObjectStays w.objects object at.object _ there
           (record { owner = owner_same at.object.owner; kinds = map-set (λ (c : Cell). c.kind) at.object.cells offset at.cell _ cell refl }) object_same;
     }
 change_stays {w} (Prints word) = record {

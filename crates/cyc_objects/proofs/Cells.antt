@@ -5,20 +5,19 @@ use Rattle.std.proofs.lemmas.Bool.{cases_Bool, cases_lt, cond-false}
 use Rattle.cyc_types.specs.declared.typed.Kind.{Kind}
 use Rattle.cyc_words.specs.Bytes.{word_of}
 use Rattle.cyc_words.specs.Demand.{class_of}
+use Rattle.cyc_words.proofs.Options.{none_or_some, same_from_some}
+use Rattle.cyc_words.proofs.Items.{map-set, slice_get-set_cases, slice_get-map}
 use Rattle.cyc_store.specs.State.{Memory, put, AreWords, Block, StoreState, homes, word_at, has_saved, saved, room}
 use Rattle.cyc_store.specs.declared.range.TheConstants.{STORE_BASE, PAGE_WORDS, MOST_PAGES, UNIQUE}
-use Rattle.cyc_store.proofs.LookupLemmas.{cases_option, same_some}
 use Rattle.cyc_store.proofs.HolderLemmas.{covers_from}
 use Rattle.cyc_store.proofs.ServiceLemmas.{word-live, one_block}
 use Rattle.cyc_meaning.specs.Values.{Value, bytes_of_kind, begins, behind, bytes_from, words_for, Cell, kinds_of, block_size}
 use Rattle.cyc_meaning.specs.State.{Owner, InRegion, Unique, Object, World, Found, Closed, Located, located, is_open, is_live, cell_in, cell_at, Region, has_pages, written}
 use Rattle.cyc_meaning.specs.Objects.{is_live_in, live_in}
-use Rattle.cyc_meaning.proofs.ListLemmas.{map-set}
 use Rattle.cyc_meaning.proofs.WorldLaws.{cell_found}
 use Rattle.cyc_objects.specs.inside.Tables.{Row, Variable, Placed, Tables}
 use Rattle.cyc_objects.specs.inside.Words.{bytes_of_kinds, before_from, before, byte_at, Points, IsPartOf, Holds, IsContent, AreCells, IsBeside}
 use Rattle.cyc_objects.specs.inside.Related.{sort_of, lies_in, Alive, Stands, IsOutside, IsOfVariable, IsVariableAt, LiveVariable, Within, Related}
-use Rattle.cyc_objects.proofs.NumberLemmas.{slice_get-set_cases, slice_get-map}
 use Rattle.cyc_objects.proofs.Places.{IsAligned, begins-least, begins-aligned, bytes-least, before-least, before-inside, before-aligned}
 use Rattle.cyc_objects.proofs.Values.{IsContent-same, AreCells-same}
 use Rattle.cyc_objects.proofs.Pointers.{same-row, fat-to_cell}
@@ -27,12 +26,12 @@ use Rattle.cyc_objects.proofs.RegionLemmas.{sort-some, entry-found, lies-from, l
 -- ---- what is there is live, or a variable
 
 pub not-placed : {o : Option Row} {a : ℕ} {ks : List Kind} → o ≡ Some Variable → o ≡ Some (Placed a ks) → ⊥
-not-placed {o} {a} {ks} p q = let e : Variable ≡ Placed a ks = same_some (sym p ∙ q) in cc
+not-placed {o} {a} {ks} p q = let e : Variable ≡ Placed a ks = same_from_some (sym p ∙ q) in cc
 
 module _ {t : Tables} {w : World} {s : StoreState} (related : Related t w s) where
   pub live-lies : (owner : Owner) → is_live w owner ≡ true
       → ((h : ℕ) × (lies_in t.handles w.regions owner ≡ Some h)) ⊎ ((n : ℕ) × (owner ≡ InRegion n) × (slice_get t.handles n ≡ Some None))
-  live-lies (InRegion n) live = elim (cases_option (slice_get w.regions n)) [
+  live-lies (InRegion n) live = elim (none_or_some (slice_get w.regions n)) [
     | inl none ↦ absurd (let e : false ≡ true = sym (ap is_open none) ∙ live in cc)
     | inr (r, there) ↦
         let (h, entry, same) = entry-found related.regions n r there in
@@ -73,7 +72,7 @@ module _ {t : Tables} {w : World} {s : StoreState} (related : Related t w s) whe
   pub variable-outside : (o a : ℕ) (ks : List Kind) (x : Object) → LiveVariable t w o x → slice_get t.rows o ≡ Some (Placed a ks) → IsOutside a ks
   variable-outside o a ks x v placed =
       let (row, at, outside) = related.variables o v.region x v.at v.owner v.entry in
-      subst IsOfVariable (same_some (sym at ∙ placed)) outside
+      subst IsOfVariable (same_from_some (sym at ∙ placed)) outside
 
   -- an element of a part that is there, by the kind of its cell
   pub element-found : {o start n p : ℕ} (i : ℕ) (at : Located) (part : IsPartOf t o start n p) → i < n → cell_at w o (start + i) ≡ Found at
@@ -91,7 +90,7 @@ module _ {t : Tables} {w : World} {s : StoreState} (related : Related t w s) whe
   pub variable-elsewhere : (o n h : ℕ) (x : Object) → x.owner ≡ InRegion n → slice_get t.handles n ≡ Some None → Alive t w o h x → ⊥
   variable-elsewhere o n h x owner entry alive =
       let (r, at, kept, other) = lies-home t.handles w.regions n h (ap (lies_in t.handles w.regions) (sym owner) ∙ alive.lies) in
-      let e : None ≡ Some h = same_some (sym entry ∙ other) in cc
+      let e : None ≡ Some h = same_from_some (sym entry ∙ other) in cc
 
 -- ---- one of several cells
 
@@ -100,7 +99,7 @@ module _ (t : Tables) where
       → IsContent t c.kind c.content m (a + before_from at k (kinds_of cells))
   cell-among [] m a at k c are found = absurd (let e : None ≡ Some c = found in cc)
   cell-among (d ∷ cells) m a at zero c are found =
-      subst (λ (z : Cell). IsContent t z.kind z.content m (a + begins d.kind at)) (same_some found) are.0
+      subst (λ (z : Cell). IsContent t z.kind z.content m (a + begins d.kind at)) (same_from_some found) are.0
   cell-among (d ∷ cells) m a at (suc k) c are found = cell-among cells m a (behind d.kind at) k c are.1 found
 
   -- the bytes of one change alone, and it holds another value
@@ -110,7 +109,7 @@ module _ (t : Tables) where
       → AreCells t (set cells k (record c { content = Some v })) n a at
   cells-set [] m n a at k c v even old new are found is same = absurd (let e : None ≡ Some c = found in cc)
   cells-set (d ∷ cells) m n a at zero c v even old new are found is same =
-      let kind : d.kind ≡ c.kind = ap (λ (z : Cell). z.kind) (same_some found) in (
+      let kind : d.kind ≡ c.kind = ap (λ (z : Cell). z.kind) (same_from_some found) in (
         subst (λ z. Holds t c.kind v n (a + begins z at)) kind is,
         subst (λ z. AreCells t cells n a (behind z at)) kind
             (AreCells-same t cells m n a (behind d.kind at) even old new
@@ -149,7 +148,7 @@ live_in-set class [] o x y there owner same = refl
 live_in-set class (a ∷ xs) zero x y there owner same =
     ap (λ (b : Bool). if b then suc (live_in class xs) else live_in class xs)
     (ap (λ z. is_live_in class z y.cells) owner
-    ∙ (class-same class x.owner y.cells x.cells same ∙ ap (λ (z : Object). is_live_in class z.owner z.cells) (sym (same_some there))))
+    ∙ (class-same class x.owner y.cells x.cells same ∙ ap (λ (z : Object). is_live_in class z.owner z.cells) (sym (same_from_some there))))
 live_in-set class (a ∷ xs) (suc o) x y there owner same =
     ap (λ n. if is_live_in class a.owner a.cells then suc n else n) (live_in-set class xs o x y there owner same)
 
@@ -320,7 +319,7 @@ module _ {t : Tables} {w : World} {s : StoreState} (related : Related t w s) {o 
       ];
       objects = λ i g y beside. elim (before-written i g y beside) [
         | inl here ↦
-            let same : h ≡ g = same_some (sym alive.lies ∙ (sym (ap (λ (z : Object). lies_in t.handles w.regions z.owner) here.1) ∙ beside.lies)) in
+            let same : h ≡ g = same_from_some (sym alive.lies ∙ (sym (ap (λ (z : Object). lies_in t.handles w.regions z.owner) here.1) ∙ beside.lies)) in
             subst (λ q. Stands t (homes s) m q i y.cells) same
             (subst (λ q. Stands t (homes s) m h q y.cells) (sym here.0) (subst (λ (z : Object). Stands t (homes s) m h o z.cells) (sym here.1) stands-now))
         | inr other ↦ stands-other i g y other.0 other.1

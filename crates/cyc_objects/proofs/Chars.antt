@@ -71,18 +71,11 @@ module _ (t : Tables) where
   char-stored (Int byte) words p m a is = put_byte-same m a (words p) (subst (λ w. w < 256) (sym is.0) is.1) ∙ is.0
   char-stored v words p m a is = absurd is
 
--- a store of a byte takes the low one of a word
-pub low-same : (word : ℕ) → word < 256 → word % 256 ≡ word
-low-same word small = omega (arith, small)
-
 -- ---- variables
 
 -- A variable of one word at this address is found by that of the word's last byte.
 pub last-word : (x : ℕ) → x % 4 ≡ 0 → word_of (x + 3) ≡ x
 last-word x even = let e : 4 * ((x + 3) / 4) ≡ x = omega (arith, even) in e
-
-pub last-place : (x : ℕ) → x % 4 ≡ 0 → (x + 3) % 4 ≡ 3
-last-place x even = omega (arith, even)
 
 -- what is loaded by it is the word
 pub last-loaded : (word : ℕ) → word < 256 → byte_in word 3 ≡ word

@@ -3,11 +3,13 @@ use Rattle.std.proofs.Common.{◌≡◌, ℕ, zero, suc, ◌+◌, ◌*◌, ◌�
 use Rattle.std.specs.Prelude.{◌≢◌, nat_le, if◌then◌else◌, slice_get}
 use Rattle.std.proofs.lemmas.Bool.{cases_Bool, cond-true, cond-false, le-leb}
 use Rattle.cyc_words.proofs.Numbers.{when_equal}
+use Rattle.cyc_words.proofs.Options.{same_from_some}
+use Rattle.cyc_words.proofs.Booleans.{never_true_and_false}
 use Rattle.cyc_store.specs.State.{lookup, without, AreDistinct, Block, address_of, Home, handle_of, StoreState, homes, block_in, block_at, is_lexical, lexical_count, down_to}
 use Rattle.cyc_store.specs.State as stores
 use Rattle.cyc_store.specs.Services.{CloseTo, BadMark, Choice, served, any_choice, refusal, IsAllowed}
 use Rattle.cyc_store.specs.Soundness.{IsSound}
-use Rattle.cyc_store.proofs.LookupLemmas.{when_other, same_some, IsPart, is_kept, lookup-part}
+use Rattle.cyc_store.proofs.LookupLemmas.{when_other, IsPart, is_kept, lookup-part}
 use Rattle.cyc_store.proofs.HolderLemmas.{covers_from, IsPart-down_to}
 use Rattle.cyc_store.proofs.ServiceLemmas.{served-sound}
 use Rattle.cyc_meaning.specs.State.{Sort, Heap, Globals, Stack, Lexical, Dynamic, Region, World, has_pages, closed}
@@ -16,7 +18,7 @@ use Rattle.cyc_store.proofs.KeptUnwinding.{step-in, step-by, down_to-lower}
 use Rattle.cyc_objects.specs.inside.Tables.{Tables}
 use Rattle.cyc_objects.specs.inside.Related.{sort_of, has_home, Regions, no_regions, passed, taken, Related, scopes, IsNewest, closed_to}
 use Rattle.cyc_objects.proofs.Values.{Grows-same}
-use Rattle.cyc_objects.proofs.RegionLemmas.{not_true, HasHome, home-found, first-other, shut, without-absent}
+use Rattle.cyc_objects.proofs.RegionLemmas.{HasHome, home-found, first-other, shut, without-absent}
 use Rattle.cyc_objects.proofs.Serving.{WordsStay, block-home, objects-inherited}
 use Rattle.cyc_objects.proofs.Services.{region-closed}
 
@@ -47,11 +49,11 @@ down-all (r ∷ rs) = elim (cases_Bool (is_lexical r.sort)) [
 -- ---- lexical regions of the source and of the store
 
 scope-sort : (sort : Sort) (flag : Bool) (is : stores.Sort) → sort_of sort ≡ Some is → has_pages sort flag ≡ true → is_lexical is ≡ is_scope sort flag
-scope-sort Heap flag is same kept = ap is_lexical (sym (same_some same))
+scope-sort Heap flag is same kept = ap is_lexical (sym (same_from_some same))
 scope-sort Globals flag is same kept = absurd (let e : None ≡ Some is = same in cc)
 scope-sort Stack flag is same kept = absurd (let e : None ≡ Some is = same in cc)
-scope-sort Lexical flag is same kept = ap is_lexical (sym (same_some same)) ∙ sym kept
-scope-sort Dynamic flag is same kept = ap is_lexical (sym (same_some same))
+scope-sort Lexical flag is same kept = ap is_lexical (sym (same_from_some same)) ∙ sym kept
+scope-sort Dynamic flag is same kept = ap is_lexical (sym (same_from_some same))
 
 scope-kept : (sort : Sort) (flag : Bool) → is_scope sort flag ≡ true → has_pages sort flag ≡ true
 scope-kept Heap flag scope = refl
@@ -76,7 +78,7 @@ scope-shut Dynamic = refl
 
 not-scope : (r : Region) → has_home r ≡ false → is_scope r.sort r.is_open ≡ false
 not-scope r out = elim (cases_Bool (is_scope r.sort r.is_open)) [
-  | inl scope ↦ absurd (not_true out (scope-kept r.sort r.is_open scope))
+  | inl scope ↦ absurd (never_true_and_false (scope-kept r.sort r.is_open scope) out)
   | inr other ↦ other
 ]
 
@@ -92,7 +94,7 @@ scopes-same (taken {r} {home = o} {regions = rs} {open_homes = os} m rest) =
 pub scopes-closed : (rs : List Region) (n : ℕ) (r : Region) → slice_get rs n ≡ Some r → is_scope r.sort r.is_open ≡ true → scopes rs ≡ suc (scopes (set rs n (shut r)))
 scopes-closed [] n r there scope = absurd (let e : None ≡ Some r = there in cc)
 scopes-closed (q ∷ rs) zero r there scope =
-    cond-true (is_scope q.sort q.is_open) (suc (scopes rs)) (scopes rs) (ap (λ (z : Region). is_scope z.sort z.is_open) (same_some there) ∙ scope)
+    cond-true (is_scope q.sort q.is_open) (suc (scopes rs)) (scopes rs) (ap (λ (z : Region). is_scope z.sort z.is_open) (same_from_some there) ∙ scope)
     ∙ ap suc (sym (cond-false (is_scope r.sort false) (suc (scopes rs)) (scopes rs) (scope-shut r.sort)))
 scopes-closed (q ∷ rs) (suc n) r there scope =
     ap (λ m. if is_scope q.sort q.is_open then suc m else m) (scopes-closed rs n r there scope)
@@ -124,13 +126,13 @@ down-newest : {hs : List (Option ℕ)} {rs : List Region} {os : List Home} → R
     → without handle_of os g ≡ down_to m os
 down-newest no_regions distinct n g m r there scope entry newest count = absurd (let e : None ≡ Some r = there in cc)
 down-newest (passed {r = q} out some empty rest) distinct zero g m r there scope entry newest count =
-    absurd (not_true (not-scope q out) (ap (λ (z : Region). is_scope z.sort z.is_open) (same_some there) ∙ scope))
+    absurd (never_true_and_false (ap (λ (z : Region). is_scope z.sort z.is_open) (same_from_some there) ∙ scope) (not-scope q out))
 down-newest (passed {r = q} {regions = rs} out some empty rest) distinct (suc n) g m r there scope entry newest count =
     down-newest rest distinct n g m r there scope entry (newest-rest q rs n newest) count
 down-newest (taken {handle = h} {r = q} {home = o} {regions = rs} {open_homes = os} found rest) distinct zero g m r there scope entry newest count =
-    let same : o.handle ≡ g = found.named ∙ same_some (same_some entry) in
+    let same : o.handle ≡ g = found.named ∙ same_from_some (same_from_some entry) in
     let lexical : is_lexical o.sort ≡ true =
-    scope-sort q.sort q.is_open o.sort found.sort found.kept ∙ (ap (λ (z : Region). is_scope z.sort z.is_open) (same_some there) ∙ scope) in
+    scope-sort q.sort q.is_open o.sort found.sort found.kept ∙ (ap (λ (z : Region). is_scope z.sort z.is_open) (same_from_some there) ∙ scope) in
     let none : lexical_count os ≡ 0 = scopes-same rest ∙ scopes-none rs (newest-none q rs newest) in
     let last : m ≡ 0 = zero-left m (lexical_count os) (sym count ∙ count-lexical o os lexical) none in
     when_equal o.handle g (without handle_of os g) (o ∷ without handle_of os g) same

@@ -2,9 +2,10 @@
 use Rattle.std.proofs.Common.{◌≡◌, ℕ, ◌+◌, ◌*◌, ◌<◌, ◌≤◌, Bool, true, false, length, Some, refl, sym, ap, subst, ◌∙◌, inl, inr, arith}
 use Rattle.std.specs.Prelude.{◌==◌, ◌&&◌, ◌⊎◌, if◌then◌else◌, slice_get}
 use Rattle.std.proofs.lemmas.Bool.{cases_eq, cases_Bool, cond-true, cond-false, and_from, eq-eqb, ne_eqb}
+use Rattle.cyc_words.proofs.Options.{none_or_some}
+use Rattle.cyc_words.proofs.Lists.{slice_get_below}
 use Rattle.cyc_store.specs.State.{Block, StoreState, homes, covers, room}
 use Rattle.cyc_store.specs.declared.range.TheConstants.{STORE_BASE, PAGE_WORDS, MOST_PAGES}
-use Rattle.cyc_store.proofs.LookupLemmas.{cases_option}
 use Rattle.cyc_store.proofs.HolderLemmas.{covers_from}
 use Rattle.cyc_store.proofs.ServiceLemmas.{one_block}
 use Rattle.cyc_types.specs.declared.typed.Kind.{Kind}
@@ -14,7 +15,6 @@ use Rattle.cyc_meaning.specs.Objects.{found_object, object_at, both_found, compa
 use Rattle.cyc_objects.specs.inside.Tables.{Placed, Tables}
 use Rattle.cyc_objects.specs.inside.Words.{bytes_of_kinds, before, Points}
 use Rattle.cyc_objects.specs.inside.Related.{Alive, Stands, LiveVariable, AreApart, Related}
-use Rattle.cyc_objects.proofs.NumberLemmas.{slice_get-there}
 use Rattle.cyc_objects.proofs.Places.{bytes-some, before-inside, one-place}
 use Rattle.cyc_objects.proofs.Pointers.{same-row, not-null, one_address, ThinIs, thin_null, thin_cell}
 use Rattle.cyc_objects.proofs.Cells.{live-either, variable-outside}
@@ -36,7 +36,7 @@ module _ {t : Tables} {w : World} {s : StoreState} (related : Related t w s) whe
       → covers (record { address = st.address; size = room h (block_size x.cells) }) p ≡ true
   pointer-covered {o} {h} {k} {p} {x} alive points st =
       let (same, kinds) = same-row points.row st.row in
-      let (kind, there) = slice_get-there points.kinds k points.inside in
+      let (kind, there) = slice_get_below points.kinds k points.inside in
       let short : before k points.kinds + bytes_of_kind kind ≤ bytes_of_kinds points.kinds = before-inside 0 k points.kinds kind there in
       let some : 0 < bytes_of_kind kind = bytes-some kind in
       let enough : bytes_of_kinds points.kinds ≤ 4 * room h (block_size x.cells) = subst (λ ks. bytes_of_kinds ks ≤ 4 * room h (block_size x.cells)) (sym kinds) st.enough in
@@ -67,7 +67,7 @@ module _ {t : Tables} {w : World} {s : StoreState} (related : Related t w s) whe
       let st : Stands t (homes s) s.memory h o x.cells = related.objects o h x alive in
       let placed = related.sound.regions.placed h st.address (record { address = st.address; size = room h (block_size x.cells) }) st.found in
       let (same, kinds) = same-row points.row st.row in
-      let (kind, there) = slice_get-there points.kinds k points.inside in
+      let (kind, there) = slice_get_below points.kinds k points.inside in
       let short : before k points.kinds + bytes_of_kind kind ≤ bytes_of_kinds points.kinds = before-inside 0 k points.kinds kind there in
       let some : 0 < bytes_of_kind kind = bytes-some kind in
       let enough : bytes_of_kinds points.kinds ≤ 4 * room h (block_size x.cells) = subst (λ ks. bytes_of_kinds ks ≤ 4 * room h (block_size x.cells)) (sym kinds) st.enough in
@@ -80,7 +80,7 @@ module _ {t : Tables} {w : World} {s : StoreState} (related : Related t w s) whe
   -- and one to a variable is not
   pub pointer-outside : {o k p : ℕ} {x : Object} → LiveVariable t w o x → Points t o k p → (p < STORE_BASE) ⊎ (STORE_BASE + 4 * (PAGE_WORDS * MOST_PAGES) ≤ p)
   pointer-outside {o} {k} {p} {x} variable points =
-      let (kind, there) = slice_get-there points.kinds k points.inside in
+      let (kind, there) = slice_get_below points.kinds k points.inside in
       let short : before k points.kinds + bytes_of_kind kind ≤ bytes_of_kinds points.kinds = before-inside 0 k points.kinds kind there in
       let some : 0 < bytes_of_kind kind = bytes-some kind in
       let at : p ≡ points.address + before k points.kinds = points.at in
@@ -106,7 +106,7 @@ module _ {t : Tables} {w : World} {s : StoreState} (related : Related t w s) whe
       (number, same-cell first (subst (λ n. Points t n q p) (sym number) second))
 
   live-found : (o : ℕ) (x : Object) → object_at w o ≡ Found x → (slice_get w.objects o ≡ Some x) × (is_live w x.owner ≡ true)
-  live-found o x found = elim (cases_option (slice_get w.objects o)) [
+  live-found o x found = elim (none_or_some (slice_get w.objects o)) [
     | inl none ↦ absurd (let e : Missing ≡ Found x = sym (ap (found_object w) none) ∙ found in cc)
     | inr (y, there) ↦
         let at : (if is_live w y.owner then Found y else Closed) ≡ Found x = sym (ap (found_object w) there) ∙ found in

@@ -2,11 +2,11 @@
 -- and its handle again; and the relation holds before and after, by the lemmas on each service.
 use Rattle.std.proofs.Common.{◌≡◌, ℕ, ◌+◌, ◌^◌, ◌<◌, ◌≤◌, length, true, false, List, [], ◌∷◌, None, Some, refl, ap, arith, inr}
 use Rattle.std.specs.Prelude.{◌==◌, if◌then◌else◌, slice_get}
+use Rattle.cyc_words.proofs.Options.{never_none_and_some}
 use Rattle.cyc_types.specs.declared.typed.Kind.TheVariants as kinds
 use Rattle.cyc_store.specs.State.{StoreState, start, homes, sizes_in, block_at}
 use Rattle.cyc_store.specs.Services.{OpenLexical, CloseTo, Allocate, Free, Choice, served, block_of, IsPlaced, IsAllowed}
 use Rattle.cyc_store.specs.declared.range.TheConstants.{HEAP, STORE_BASE, UNIQUE}
-use Rattle.cyc_store.proofs.LookupLemmas.{not_both}
 use Rattle.cyc_store.proofs.ServiceLemmas.{start-sound}
 use Rattle.cyc_meaning.specs.Values.{Int, Null, Thin, Handle, Cell, blank}
 use Rattle.cyc_meaning.specs.State.{Heap, Stack, Lexical, InRegion, Unique, World, Found, Closed, cell_at, new_region, opened_as, closed, variable, made, first_classes, counted}
@@ -81,18 +81,18 @@ new-related = record {
   regions = taken (record { kept = refl; named = refl; sort = refl; sizes = refl }) no_regions;
   classes = refl;
   uniques = λ class. refl;
-  owned = λ o x at. absurd (not_both refl at);
-  shapes = λ o a ks x at row. absurd (not_both refl at);
-  variables = λ o n x at owner entry. absurd (not_both refl at);
-  objects = λ o h x alive. absurd (not_both refl alive.at);
-  alone = λ o i h g a x y ks ls first second row also. absurd (not_both refl first.at);
+  owned = λ o x at. absurd (never_none_and_some refl at);
+  shapes = λ o a ks x at row. absurd (never_none_and_some refl at);
+  variables = λ o n x at owner entry. absurd (never_none_and_some refl at);
+  objects = λ o h x alive. absurd (never_none_and_some refl alive.at);
+  alone = λ o i h g a x y ks ls first second row also. absurd (never_none_and_some refl first.at);
 }
 
 -- nothing is live, so any place may be chosen and nothing is to be kept
 may-make : IsAllowed new (Allocate UNIQUE 1) choice
 may-make = record {
   may = (placed, λ x inside. refl);
-  keeps = λ x h before after. absurd (not_both refl before);
+  keeps = λ x h before after. absurd (never_none_and_some refl before);
   words = words;
 }
 
@@ -108,7 +108,7 @@ freed-related = freed-unique once-related 0 STORE_BASE (record { owner = Unique 
 may-make_again : IsAllowed without_it (Allocate UNIQUE 1) choice
 may-make_again = record {
   may = (placed, λ x inside. refl);
-  keeps = λ x h before after. absurd (not_both refl before);
+  keeps = λ x h before after. absurd (never_none_and_some refl before);
   words = words;
 }
 

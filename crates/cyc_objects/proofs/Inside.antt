@@ -2,6 +2,8 @@
 use Rattle.std.proofs.Common.{◌≡◌, ℕ, ◌+◌, ◌*◌, ◌<◌, ◌≤◌, List, None, Some, is_some, sym, subst, inl, inr, arith}
 use Rattle.std.specs.Prelude.{nat_le, if◌then◌else◌, slice_get}
 use Rattle.std.proofs.lemmas.Bool.{and_parts, leb-true}
+use Rattle.cyc_words.proofs.Lists.{slice_get_below}
+use Rattle.cyc_words.proofs.Items.{slice_get_last_cases, slice_get-map_from}
 use Rattle.cyc_types.specs.declared.typed.Kind.{Kind}
 use Rattle.cyc_types.specs.TypedTrees.{GlobalVariable, Program}
 use Rattle.cyc_store.specs.State.{lookup, Block, handle_of, StoreState, homes}
@@ -13,12 +15,10 @@ use Rattle.cyc_meaning.specs.State.{Object, World, Found, Located, cell_at}
 use Rattle.cyc_objects.specs.inside.Tables.{Row, Variable, Placed, Tables, with_row, first_tables, without_addresses}
 use Rattle.cyc_objects.specs.inside.Words.{bytes_of_kinds, before, Points}
 use Rattle.cyc_objects.specs.inside.Related.{Alive, LiveVariable, AreApart, Related}
-use Rattle.cyc_objects.proofs.NumberLemmas.{slice_get-there, slice_get-last}
 use Rattle.cyc_objects.proofs.Places.{bytes-some, before-inside}
 use Rattle.cyc_objects.proofs.Cells.{found-either}
 use Rattle.cyc_objects.proofs.Comparing.{pointer-outside}
 use Rattle.cyc_objects.proofs.Making.{room-fits}
-use Rattle.cyc_objects.proofs.Start.{slice_get-image}
 
 -- a row of the store's, or of a variable that stands nowhere
 abbrev pub IsInside : Row → Type 0
@@ -29,7 +29,7 @@ abbrev pub AreInside : Tables → Type 0
 AreInside t = (number : ℕ) (row : Row) → slice_get t.rows number ≡ Some row → IsInside row
 
 pub inside-more : (t : Tables) (row : Row) → AreInside t → IsInside row → AreInside (with_row t row)
-inside-more t row all one number other at = elim (slice_get-last t.rows row number other at) [
+inside-more t row all one number other at = elim (slice_get_last_cases t.rows row number other at) [
   | inl old ↦ all number other old
   | inr new ↦ subst IsInside (sym new.1) one
 ]
@@ -37,7 +37,7 @@ inside-more t row all one number other at = elim (slice_get-last t.rows row numb
 -- the globals at the start
 pub start-inside : (program : Program) → AreInside (first_tables (without_addresses program))
 start-inside program number row at =
-    let (g, there, same) = slice_get-image (λ (g : GlobalVariable). Variable) program.globals number row at in
+    let (g, there, same) = slice_get-map_from (λ (g : GlobalVariable). Variable) program.globals number row at in
     subst IsInside (sym same) tt
 
 -- a block that the store placed
@@ -63,7 +63,7 @@ module _ {t : Tables} {w : World} {s : StoreState} (related : Related t w s) (in
   pub no-variable : (o k p : ℕ) (x : Object) → LiveVariable t w o x → Points t o k p → ⊥
   no-variable o k p x variable points =
       let (low, high) = inside o (Placed points.address points.kinds) points.row in
-      let (kind, there) = slice_get-there points.kinds k points.inside in
+      let (kind, there) = slice_get_below points.kinds k points.inside in
       let short : before k points.kinds + bytes_of_kind kind ≤ bytes_of_kinds points.kinds = before-inside 0 k points.kinds kind there in
       let some : 0 < bytes_of_kind kind = bytes-some kind in
       let at : p ≡ points.address + before k points.kinds = points.at in

@@ -16,6 +16,5 @@ pub mod Scopes
 pub mod Start
 pub mod Inside
 -- what stands below
-pub mod NumberLemmas
 -- examples
 pub mod Examples

@@ -7,12 +7,15 @@ use Rattle.std.proofs.lemmas.Bool.{cases_eq, cases_Bool, cond-true, cond-false}
 use Rattle.cyc_types.specs.declared.typed.Kind.{Kind}
 use Rattle.cyc_words.specs.Demand.{page_words, class_of, demand_of}
 use Rattle.cyc_words.proofs.Numbers.{when_equal}
+use Rattle.cyc_words.proofs.Options.{never_none_and_some, same_from_some, same_from_some_some}
+use Rattle.cyc_words.proofs.Items.{slice_get_front, below_from_slice_get, slice_get_last_cases, slice_get-set_same}
+use Rattle.cyc_words.proofs.Lists.{slice_get_last, slice_get_below}
 use Rattle.cyc_store.specs.State.{lookup, changed, Block, Home, handle_of, StoreState, homes, covers, block_at, sizes_in, with_block, made_in, made_unique, room, demand}
 use Rattle.cyc_store.specs.State as stores
 use Rattle.cyc_store.specs.Services.{Allocate, BadHandle, BadSize, Allocated, Choice, block_of, served, any_choice, is_full, full_at, is_size, refusal, IsPlaced, IsApart, Keeps, IsAllowed, ServesBy, Serves}
 use Rattle.cyc_store.specs.Soundness.{IsSound}
 use Rattle.cyc_store.specs.declared.range.TheConstants.{MOST_PAGES, UNIQUE}
-use Rattle.cyc_store.proofs.LookupLemmas.{when_other, not_both, same_some, lookup-here, lookup-there}
+use Rattle.cyc_store.proofs.LookupLemmas.{when_other, lookup-here, lookup-there}
 use Rattle.cyc_store.proofs.HolderLemmas.{covers_first}
 use Rattle.cyc_store.proofs.CountLemmas.{class_of-bound, class_of-holds, live_in-append_same, live_in-append_other}
 use Rattle.cyc_store.proofs.SlotCounts.{class-power}
@@ -25,15 +28,13 @@ use Rattle.cyc_meaning.specs.Objects.{class_of_cells, is_live_in, live_in, raise
 use Rattle.cyc_meaning.specs.Allocation.{blanks, blanks_of}
 use Rattle.cyc_meaning.specs.inside.Effects.{pages_of}
 use Rattle.cyc_meaning.proofs.NestingLemmas.{region_found}
-use Rattle.cyc_meaning.proofs.ListLemmas.{slice_get-append, slice_get-end}
 use Rattle.cyc_objects.specs.inside.Tables.{Row, Placed, Tables, with_row}
 use Rattle.cyc_objects.specs.inside.Words.{bytes_of_kinds, InRange, Points, IsPartOf, AreBlank}
 use Rattle.cyc_objects.specs.inside.Related.{has_home, Regions, lies_in, Alive, Stands, Within, Related}
-use Rattle.cyc_objects.proofs.NumberLemmas.{slice_get-below, slice_get-there, slice_get-last, slice_get-set_same}
 use Rattle.cyc_objects.proofs.Places.{size-enough}
 use Rattle.cyc_objects.proofs.Values.{Grows-row, AreCells-blank, variable-grows}
 use Rattle.cyc_objects.proofs.Pointers.{same-row, first-points, whole-part}
-use Rattle.cyc_objects.proofs.RegionLemmas.{sort-some, entry-found, counted-same, HasHome, home-found, with_size, Regions-made, lies-from, lies-home, lies-set, same_entry}
+use Rattle.cyc_objects.proofs.RegionLemmas.{sort-some, entry-found, counted-same, HasHome, home-found, with_size, Regions-made, lies-from, lies-home, lies-set}
 use Rattle.cyc_objects.proofs.Serving.{block-made_in, block-made_unique, words-stay, Stands-served}
 
 -- ---- sizes
@@ -97,14 +98,14 @@ module _ {t : Tables} {w : World} {s r : StoreState} (related : Related t w s) (
     (apart : IsApart (homes s) (record { address = a; size = room g (block_size x.cells) })) where
   before-made : (o h : ℕ) (y : Object) → Alive (with_row t (Placed a (kinds_of x.cells))) (record w { objects = w.objects ++ x ∷ []; regions = rs; classes = cs }) o h y
       → Alive t w o h y ⊎ ((o ≡ length w.objects) × (y ≡ x))
-  before-made o h y alive = elim (slice_get-last w.objects x o y alive.at) [
+  before-made o h y alive = elim (slice_get_last_cases w.objects x o y alive.at) [
     | inl old ↦ inl (record { at = old; lies = before y.owner h alive.lies })
     | inr new ↦ inr new
   ]
 
   row-new : slice_get (t.rows ++ Placed a (kinds_of x.cells) ∷ []) (length w.objects) ≡ Some (Placed a (kinds_of x.cells))
   row-new = subst (λ n. slice_get (t.rows ++ Placed a (kinds_of x.cells) ∷ []) n ≡ Some (Placed a (kinds_of x.cells))) related.rows
-      (slice_get-end t.rows (Placed a (kinds_of x.cells)))
+      (slice_get_last t.rows (Placed a (kinds_of x.cells)))
 
   stands-new : Stands (with_row t (Placed a (kinds_of x.cells))) (homes r) r.memory g (length w.objects) x.cells
   stands-new = record {
@@ -119,10 +120,10 @@ module _ {t : Tables} {w : World} {s r : StoreState} (related : Related t w s) (
   none-there : (o h : ℕ) (y : Object) (ks : List Kind) → Alive t w o h y → slice_get (t.rows ++ Placed a (kinds_of x.cells) ∷ []) o ≡ Some (Placed a ks) → ⊥
   none-there o h y ks alive row =
       let st : Stands t (homes s) s.memory h o y.cells = related.objects o h y alive in
-      let same : st.address ≡ a = (same-row (slice_get-append t.rows (Placed a (kinds_of x.cells) ∷ []) o (Placed st.address (kinds_of y.cells)) st.row) row).0 in
+      let same : st.address ≡ a = (same-row (slice_get_front t.rows (Placed a (kinds_of x.cells) ∷ []) o (Placed st.address (kinds_of y.cells)) st.row) row).0 in
       let old : Block = record { address = st.address; size = room h (block_size y.cells) } in
       let here : covers old st.address ≡ true = covers_first old (related.sound.regions.placed h st.address old st.found).some in
-      not_both
+      never_none_and_some
       (apart a (covers_first (record { address = a; size = room g (block_size x.cells) }) (after.regions.placed g a (record { address = a; size = room g (block_size x.cells) }) found).some))
       (subst (λ n. stores.holder (homes s) n ≡ Some (record { handle = h; block = old })) same (related.sound.regions.apart h st.address st.address old st.found here))
 
@@ -137,24 +138,24 @@ module _ {t : Tables} {w : World} {s r : StoreState} (related : Related t w s) (
     regions = regions;
     classes = classes;
     uniques = uniques;
-    owned = λ o y there. elim (slice_get-last w.objects x o y there) [
+    owned = λ o y there. elim (slice_get_last_cases w.objects x o y there) [
       | inl old ↦ subst (λ n. Within n y.owner) (sym equal) (related.owned o y old)
       | inr new ↦ subst (λ (z : Object). Within (length rs) z.owner) (sym new.1) (subst (λ n. Within n x.owner) (sym equal) owned)
     ];
-    shapes = λ o f ks y there row. elim (slice_get-last w.objects x o y there) [
+    shapes = λ o f ks y there row. elim (slice_get_last_cases w.objects x o y there) [
       | inl old ↦
-          let (q, at) = slice_get-there t.rows o (subst (λ n. o < n) (sym related.rows) (slice_get-below w.objects o y old)) in
+          let (q, at) = slice_get_below t.rows o (subst (λ n. o < n) (sym related.rows) (below_from_slice_get w.objects o y old)) in
           related.shapes o f ks y old
-          (at ∙ (sym (slice_get-append t.rows (Placed a (kinds_of x.cells) ∷ []) o q at) ∙ row))
+          (at ∙ (sym (slice_get_front t.rows (Placed a (kinds_of x.cells) ∷ []) o q at) ∙ row))
       | inr new ↦
           (same-row row (subst (λ n. slice_get (t.rows ++ Placed a (kinds_of x.cells) ∷ []) n ≡ Some (Placed a (kinds_of x.cells))) (sym new.0) row-new)).1
           ∙ ap (λ (z : Object). kinds_of z.cells) (sym new.1)
     ];
-    variables = λ o n y there owner entry. elim (slice_get-last w.objects x o y there) [
+    variables = λ o n y there owner entry. elim (slice_get_last_cases w.objects x o y there) [
       | inl old ↦ variable-grows (Grows-row t (Placed a (kinds_of x.cells))) o (related.variables o n y old owner entry)
       | inr new ↦
           let (q, at, kept, other) = lies-home t.handles rs n g (ap (lies_in t.handles rs) (sym owner ∙ ap (λ (z : Object). z.owner) new.1) ∙ lies) in
-          absurd (let e : None ≡ Some g = same_some (sym entry ∙ other) in cc)
+          absurd (let e : None ≡ Some g = same_from_some (sym entry ∙ other) in cc)
     ];
     objects = λ o h y alive. elim (before-made o h y alive) [
       | inl old ↦
@@ -162,7 +163,7 @@ module _ {t : Tables} {w : World} {s r : StoreState} (related : Related t w s) (
           Stands-served (Grows-row t (Placed a (kinds_of x.cells))) (words-stay related.sound after keeps) h o y.cells st
           (stays h st.address (record { address = st.address; size = room h (block_size y.cells) }) st.found)
       | inr new ↦
-          let same : g ≡ h = same_some (sym lies ∙ (ap (λ (z : Object). lies_in t.handles rs z.owner) (sym new.1) ∙ alive.lies)) in
+          let same : g ≡ h = same_from_some (sym lies ∙ (ap (λ (z : Object). lies_in t.handles rs z.owner) (sym new.1) ∙ alive.lies)) in
           subst (λ q. Stands (with_row t (Placed a (kinds_of x.cells))) (homes r) r.memory q o y.cells) same
           (subst (λ q. Stands (with_row t (Placed a (kinds_of x.cells))) (homes r) r.memory g q y.cells) (sym new.0)
           (subst (λ (z : Object). Stands (with_row t (Placed a (kinds_of x.cells))) (homes r) r.memory g (length w.objects) z.cells) (sym new.1) stands-new))
@@ -182,7 +183,7 @@ module _ {t : Tables} {w : World} {s r : StoreState} (related : Related t w s) (
       old-row : (o h b : ℕ) (ks : List Kind) (y : Object) → Alive t w o h y → slice_get (t.rows ++ Placed a (kinds_of x.cells) ∷ []) o ≡ Some (Placed b ks) → slice_get t.rows o ≡ Some (Placed b ks)
       old-row o h b ks y alive row =
           let st : Stands t (homes s) s.memory h o y.cells = related.objects o h y alive in
-          st.row ∙ (sym (slice_get-append t.rows (Placed a (kinds_of x.cells) ∷ []) o (Placed st.address (kinds_of y.cells)) st.row) ∙ row)
+          st.row ∙ (sym (slice_get_front t.rows (Placed a (kinds_of x.cells) ∷ []) o (Placed st.address (kinds_of y.cells)) st.row) ∙ row)
 
       at-new : (o b : ℕ) (ks : List Kind) → o ≡ length w.objects → slice_get (t.rows ++ Placed a (kinds_of x.cells) ∷ []) o ≡ Some (Placed b ks) → b ≡ a
       at-new o b ks is row = (same-row row (subst (λ n. slice_get (t.rows ++ Placed a (kinds_of x.cells) ∷ []) n ≡ Some (Placed a (kinds_of x.cells))) (sym is) row-new)).0
@@ -206,8 +207,8 @@ pub handle-other : {t : Tables} {w : World} {s : StoreState} → Related t w s �
     → slice_get t.handles n ≡ Some (Some g) → (g ≢ UNIQUE) × ((o : Home) × (lookup handle_of s.regions g ≡ Some o))
 handle-other {t} {w} {s} related n g r there kept entry =
     let is : HasHome t.handles s.regions n r = home-found related.regions related.sound.regions.handles.1 n r there kept in
-    let found : lookup handle_of s.regions g ≡ Some is.home = subst (λ h. lookup handle_of s.regions h ≡ Some is.home) (same_entry is.entry entry) is.there in
-    (λ e. not_both (subst (λ h. lookup handle_of s.regions h ≡ None) (sym e) related.sound.regions.handles.0) found, (is.home, found))
+    let found : lookup handle_of s.regions g ≡ Some is.home = subst (λ h. lookup handle_of s.regions h ≡ Some is.home) (same_from_some_some is.entry entry) is.there in
+    (λ e. never_none_and_some (subst (λ h. lookup handle_of s.regions h ≡ None) (sym e) related.sound.regions.handles.0) found, (is.home, found))
 
 -- an open region that has a handle is one of the store's
 pub open-home : {t : Tables} {w : World} {s : StoreState} → Related t w s → (n g : ℕ) (r : Region) → region_at w n ≡ Found r
@@ -217,7 +218,7 @@ open-home {t} {w} related n g r found entry =
     let (h, is, same) = entry-found related.regions n r there in (
       there,
       subst (λ (b : Bool). has_pages r.sort b ≡ true) (sym (region-open w n r found there))
-          (sort-some r.sort (sym same ∙ ap (λ o. is_some o) (same_some (sym is ∙ entry)))),
+          (sort-some r.sort (sym same ∙ ap (λ o. is_some o) (same_from_some (sym is ∙ entry)))),
     )
 
 module _ {t : Tables} {w : World} {s : StoreState} (related : Related t w s) (n g : ℕ) (r : Region) (cells : List Cell)
@@ -251,7 +252,7 @@ module _ {t : Tables} {w : World} {s : StoreState} (related : Related t w s) (n 
       allowed.may.1
       refl
       (length-set w.regions n (with_size (block_size cells) r))
-      (slice_get-below w.regions n r there)
+      (below_from_slice_get w.regions n r there)
       (regions-in c)
       related.classes
       (λ class. related.uniques class ∙ sym (live-last class w.objects (record { owner = InRegion n; cells = cells }))))
@@ -343,7 +344,7 @@ operands-blank (v ∷ values) = (refl, operands-blank values)
 
 module _ {t : Tables} {w : World} {s : StoreState} (related : Related t w s) where
   pub row-made : (row : Row) → slice_get (with_row t row).rows (length w.objects) ≡ Some row
-  row-made row = subst (λ n. slice_get (t.rows ++ row ∷ []) n ≡ Some row) related.rows (slice_get-end t.rows row)
+  row-made row = subst (λ n. slice_get (t.rows ++ row ∷ []) n ≡ Some row) related.rows (slice_get_last t.rows row)
 
   range-made : (g : ℕ) (cells : List Cell) (c : Choice) → block_size cells ≤ page_words → IsAllowed s (Allocate g (block_size cells)) c → InRange c.address (kinds_of cells)
   range-made g cells c short allowed =

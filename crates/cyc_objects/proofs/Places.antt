@@ -2,13 +2,13 @@
 use Rattle.std.proofs.Common.{◌≡◌, ℕ, zero, suc, ◌+◌, ◌*◌, ◌%◌, ◌<◌, ◌≤◌, max, List, [], ◌∷◌, ◌++◌, length, Some, None, refl, sym, ap, subst, ◌∙◌, inl, inr, arith, add-zero}
 use Rattle.std.specs.Prelude.{slice_get}
 use Rattle.std.proofs.lemmas.Bool.{cases_lt}
+use Rattle.cyc_words.proofs.Options.{same_from_some}
+use Rattle.cyc_words.proofs.Lists.{slice_get_below}
 use Rattle.cyc_types.specs.declared.typed.Kind.{Kind}
 use Rattle.cyc_types.specs.declared.typed.Kind.TheVariants as kinds
-use Rattle.cyc_store.proofs.LookupLemmas.{same_some}
 use Rattle.cyc_meaning.specs.Values.{Cell, kinds_of, bytes_of_kind, begins, behind, bytes_from, words_for, block_size}
 use Rattle.cyc_meaning.specs.Allocation.{blanks}
 use Rattle.cyc_objects.specs.inside.Words.{bytes_of_kinds, before_from, before}
-use Rattle.cyc_objects.proofs.NumberLemmas.{slice_get-there}
 
 -- ---- one cell
 
@@ -98,7 +98,7 @@ before-least at (suc k) (kind ∷ ks) = omega (arith, begins-least kind at, befo
 pub before-inside : (at k : ℕ) (ks : List Kind) (kind : Kind) → slice_get ks k ≡ Some kind → before_from at k ks + bytes_of_kind kind ≤ bytes_from at ks
 before-inside at k [] kind found = absurd (let e : None ≡ Some kind = found in cc)
 before-inside at zero (a ∷ ks) kind found =
-    let bytes : bytes_of_kind a ≡ bytes_of_kind kind = ap bytes_of_kind (same_some found) in
+    let bytes : bytes_of_kind a ≡ bytes_of_kind kind = ap bytes_of_kind (same_from_some found) in
     omega (arith, bytes, bytes-least (behind a at) ks)
 before-inside at (suc k) (a ∷ ks) kind found = before-inside (behind a at) k ks kind found
 
@@ -112,15 +112,15 @@ pub before-more : (at k l : ℕ) (ks : List Kind) (kind : Kind) → slice_get ks
 before-more at k l [] kind found less = absurd (let e : None ≡ Some kind = found in cc)
 before-more at k zero (a ∷ ks) kind found less = absurd (omega (arith, less))
 before-more at zero (suc l) (a ∷ ks) kind found less =
-    let bytes : bytes_of_kind a ≡ bytes_of_kind kind = ap bytes_of_kind (same_some found) in
+    let bytes : bytes_of_kind a ≡ bytes_of_kind kind = ap bytes_of_kind (same_from_some found) in
     omega (arith, bytes, before-least (behind a at) l ks)
 before-more at (suc k) (suc l) (a ∷ ks) kind found less = before-more (behind a at) k l ks kind found (omega (arith, less))
 
 -- one place is that of one cell
 pub one-place : (ks : List Kind) (k l : ℕ) → k < length ks → l < length ks → before k ks ≡ before l ks → k ≡ l
 one-place ks k l first second same =
-    let (a, here) = slice_get-there ks k first in
-    let (b, there) = slice_get-there ks l second in
+    let (a, here) = slice_get_below ks k first in
+    let (b, there) = slice_get_below ks l second in
     elim (cases_lt k l) [
       | inl less ↦ absurd (omega (arith, same, before-more 0 k l ks a here less, bytes-some a))
       | inr least ↦ elim (cases_lt l k) [
@@ -135,13 +135,13 @@ pub before-next : (at k : ℕ) (ks : List Kind) (a b : Kind) → slice_get ks k 
 before-next at k [] a b first second = absurd (let e : None ≡ Some a = first in cc)
 before-next at zero (c ∷ []) a b first second = absurd (let e : None ≡ Some b = second in cc)
 before-next at zero (c ∷ d ∷ ks) a b first second =
-    ap (λ z. begins z (behind c at)) (same_some second) ∙ ap (λ z. begins b (begins c at + bytes_of_kind z)) (same_some first)
+    ap (λ z. begins z (behind c at)) (same_from_some second) ∙ ap (λ z. begins b (begins c at + bytes_of_kind z)) (same_from_some first)
 before-next at (suc k) (c ∷ ks) a b first second = before-next (behind c at) k ks a b first second
 
 -- a cell begins where its kind may begin
 pub before-begins : (at k : ℕ) (ks : List Kind) (kind : Kind) → slice_get ks k ≡ Some kind → begins kind (before_from at k ks) ≡ before_from at k ks
 before-begins at k [] kind found = absurd (let e : None ≡ Some kind = found in cc)
-before-begins at zero (a ∷ ks) kind found = subst (λ z. begins z (begins a at) ≡ begins a at) (same_some found) (begins-twice a at)
+before-begins at zero (a ∷ ks) kind found = subst (λ z. begins z (begins a at) ≡ begins a at) (same_from_some found) (begins-twice a at)
 before-begins at (suc k) (a ∷ ks) kind found = before-begins (behind a at) k ks kind found
 
 pub before-aligned : (a k : ℕ) (ks : List Kind) (kind : Kind) → a % 4 ≡ 0 → slice_get ks k ≡ Some kind → IsAligned kind (a + before k ks)

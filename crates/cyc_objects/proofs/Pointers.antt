@@ -2,10 +2,12 @@
 use Rattle.std.proofs.Common.{◌≡◌, ℕ, zero, suc, ◌+◌, ◌-◌, ◌*◌, ◌^◌, ◌<◌, ◌≤◌, Bool, true, false, not, List, ◌∷◌, length, Option, Some, refl, sym, ap, subst, ◌∙◌, arith, add-zero}
 use Rattle.std.specs.Prelude.{◌==◌, ◌≢◌, nat_le, if◌then◌else◌, slice_get}
 use Rattle.cyc_words.proofs.Numbers.{when_equal}
+use Rattle.cyc_words.proofs.Options.{same_from_some}
+use Rattle.cyc_words.proofs.Lists.{slice_get_below}
 use Rattle.cyc_types.specs.declared.typed.Kind.{Kind}
 use Rattle.cyc_types.specs.declared.typed.Kind.TheVariants as kinds
 use Rattle.cyc_store.specs.State.{put}
-use Rattle.cyc_store.proofs.LookupLemmas.{when_other, same_some}
+use Rattle.cyc_store.proofs.LookupLemmas.{when_other}
 use Rattle.cyc_meaning.specs.Values.{Value, Int, Null, Thin, Fat, is_thin, words_of_kind, bytes_of_kind, kinds_of}
 use Rattle.cyc_meaning.specs.Operators.{Gives, Raises, truth}
 use Rattle.cyc_meaning.specs.Pointers.{moved, element_count, null_test}
@@ -13,12 +15,11 @@ use Rattle.cyc_meaning.specs.Conversion.{conversion}
 use Rattle.cyc_meaning.specs.Allocation.{blanks}
 use Rattle.cyc_objects.specs.inside.Tables.{Row, Placed, Tables}
 use Rattle.cyc_objects.specs.inside.Words.{bytes_of_kinds, before, InRange, Points, IsPartOf, Is}
-use Rattle.cyc_objects.proofs.NumberLemmas.{slice_get-there}
 use Rattle.cyc_objects.proofs.Places.{before-all, before-first, before-part}
 use Rattle.cyc_objects.proofs.Values.{Is-same}
 
 pub same-row : {o : Option Row} {a b : ℕ} {ks ls : List Kind} → o ≡ Some (Placed a ks) → o ≡ Some (Placed b ls) → (a ≡ b) × (ks ≡ ls)
-same-row {o} {a} {b} {ks} {ls} p q = let e : Placed a ks ≡ Placed b ls = same_some (sym p ∙ q) in (cc, cc)
+same-row {o} {a} {b} {ks} {ls} p q = let e : Placed a ks ≡ Placed b ls = same_from_some (sym p ∙ q) in (cc, cc)
 
 -- the first cell of an object stands at its address
 first-at : (a : ℕ) (ks : List Kind) → a + before 0 ks ≡ a
@@ -80,12 +81,12 @@ module _ {t : Tables} where
   pub fat-to_cell : {o start n w : ℕ} (i : ℕ) (kind : Kind) (part : IsPartOf t o start n w) → i < n → slice_get part.kinds (start + i) ≡ Some kind
       → Points t o (start + i) (w + i * bytes_of_kind kind)
   fat-to_cell {o} {start} {n} {w} i kind part below there =
-      subst (λ k. Points t o (start + i) (w + i * bytes_of_kind k)) (same_some (sym (part.even i below) ∙ there)) (thinned i part below)
+      subst (λ k. Points t o (start + i) (w + i * bytes_of_kind k)) (same_from_some (sym (part.even i below) ∙ there)) (thinned i part below)
 
   -- a thin pointer as a part of one cell
   pub part-of-cell : {o k w : ℕ} → Points t o k w → IsPartOf t o k 1 w
   part-of-cell {o} {k} p =
-      let (kind, there) = slice_get-there p.kinds k p.inside in
+      let (kind, there) = slice_get_below p.kinds k p.inside in
       record {
         address = p.address;
         kinds = p.kinds;

@@ -4,18 +4,17 @@ use Rattle.std.specs.Prelude.{◌≢◌, if◌then◌else◌, slice_get}
 use Rattle.std.proofs.lemmas.List.{map-append}
 use Rattle.std.proofs.lemmas.Bool.{cases_Bool, cond-true, cond-false}
 use Rattle.cyc_words.proofs.Numbers.{when_equal}
+use Rattle.cyc_words.proofs.Booleans.{never_true_and_false}
+use Rattle.cyc_words.proofs.Options.{same_from_some_some, none_or_some, never_none_and_some, same_from_some}
+use Rattle.cyc_words.proofs.Items.{slice_get_front, slice_get-set_cases}
+use Rattle.cyc_words.proofs.Lists.{slice_get_below}
 use Rattle.cyc_store.specs.State.{lookup, without, changed, AreDistinct, Block, Home, handle_of, empty_home, sizes_of, sizes_in, with_block}
 use Rattle.cyc_store.specs.State as stores
-use Rattle.cyc_store.proofs.LookupLemmas.{when_other, cases_option, not_both, same_some, lookup-here, lookup-there, lookup-none}
+use Rattle.cyc_store.proofs.LookupLemmas.{when_other, lookup-here, lookup-there, lookup-none}
 use Rattle.cyc_meaning.specs.State.{Sort, Heap, Globals, Stack, Lexical, Dynamic, Region, Owner, InRegion, Unique, new_region, has_pages, counted}
-use Rattle.cyc_meaning.proofs.ListLemmas.{slice_get-append}
 use Rattle.cyc_objects.specs.inside.Related.{sort_of, has_home, Matches, Regions, no_regions, passed, taken, stands_there, entry_of, lies_in, Within}
-use Rattle.cyc_objects.proofs.NumberLemmas.{slice_get-there, slice_get-set_cases}
 
 -- ---- sorts
-
-pub not_true : {b : Bool} → b ≡ false → b ≡ true → ⊥
-not_true {b} out holds = let e : false ≡ true = sym out ∙ holds in cc
 
 -- a region of variables is never one of the store's
 pub no-sort-no-pages : (sort : Sort) (flag : Bool) → is_some (sort_of sort) ≡ false → has_pages sort flag ≡ false
@@ -53,18 +52,18 @@ handles-length (taken m rest) = ap suc (handles-length rest)
 pub entry-found : {hs : List (Option ℕ)} {rs : List Region} {os : List Home} → Regions hs rs os → (n : ℕ) (r : Region) → slice_get rs n ≡ Some r
     → (h : Option ℕ) × (slice_get hs n ≡ Some h) × (is_some h ≡ is_some (sort_of r.sort))
 entry-found no_regions n r found = absurd (let e : None ≡ Some r = found in cc)
-entry-found (passed {handle = h} out entry empty rest) zero r found = (h, refl, entry ∙ ap (λ (q : Region). is_some (sort_of q.sort)) (same_some found))
+entry-found (passed {handle = h} out entry empty rest) zero r found = (h, refl, entry ∙ ap (λ (q : Region). is_some (sort_of q.sort)) (same_from_some found))
 entry-found (passed out entry empty rest) (suc n) r found = entry-found rest n r found
 entry-found (taken {handle = h} {r = q} m rest) zero r found =
-    (Some h, refl, sym (ap (λ o. is_some o) m.sort) ∙ ap (λ (q : Region). is_some (sort_of q.sort)) (same_some found))
+    (Some h, refl, sym (ap (λ o. is_some o) m.sort) ∙ ap (λ (q : Region). is_some (sort_of q.sort)) (same_from_some found))
 entry-found (taken m rest) (suc n) r found = entry-found rest n r found
 
 -- no block was made in a region of variables
 pub variables-empty : {hs : List (Option ℕ)} {rs : List Region} {os : List Home} → Regions hs rs os → (n : ℕ) (r : Region) → slice_get hs n ≡ Some None → slice_get rs n ≡ Some r → r.blocks ≡ []
 variables-empty no_regions n r entry found = absurd (let e : None ≡ Some r = found in cc)
-variables-empty (passed out some empty rest) zero r entry found = sym (ap (λ (z : Region). z.blocks) (same_some found)) ∙ empty (same_some entry)
+variables-empty (passed out some empty rest) zero r entry found = sym (ap (λ (z : Region). z.blocks) (same_from_some found)) ∙ empty (same_from_some entry)
 variables-empty (passed out some empty rest) (suc n) r entry found = variables-empty rest n r entry found
-variables-empty (taken {handle = h} m rest) zero r entry found = absurd (let e : Some h ≡ None = same_some entry in cc)
+variables-empty (taken {handle = h} m rest) zero r entry found = absurd (let e : Some h ≡ None = same_from_some entry in cc)
 variables-empty (taken m rest) (suc n) r entry found = variables-empty rest n r entry found
 
 -- the store's region that a region of the source is
@@ -78,7 +77,7 @@ pub record HasHome (hs : List (Option ℕ)) (os : List Home) (n : ℕ) (r : Regi
 pub home-found : {hs : List (Option ℕ)} {rs : List Region} {os : List Home} → Regions hs rs os → AreDistinct handle_of os → (n : ℕ) (r : Region)
     → slice_get rs n ≡ Some r → has_home r ≡ true → HasHome hs os n r
 home-found no_regions distinct n r found kept = absurd (let e : None ≡ Some r = found in cc)
-home-found (passed {r = q} out entry empty rest) distinct zero r found kept = absurd (not_true (sym (ap has_home (same_some found)) ∙ out) kept)
+home-found (passed {r = q} out entry empty rest) distinct zero r found kept = absurd (never_true_and_false kept (sym (ap has_home (same_from_some found)) ∙ out))
 home-found (passed out entry empty rest) distinct (suc n) r found kept =
     let is : HasHome _ _ n r = home-found rest distinct n r found kept in
     record { handle = is.handle; home = is.home; entry = is.entry; there = is.there; matches = is.matches }
@@ -87,7 +86,7 @@ home-found (taken {handle = h} {r = q} {home = o} {open_homes = os} m rest) dist
   home = o;
   entry = refl;
   there = lookup-here handle_of o os h m.named;
-  matches = subst (λ (z : Region). Matches h z o) (same_some found) m;
+  matches = subst (λ (z : Region). Matches h z o) (same_from_some found) m;
 }
 home-found (taken {home = o} {open_homes = os} m rest) distinct (suc n) r found kept =
     let is : HasHome _ _ n r = home-found rest distinct.1 n r found kept in
@@ -95,34 +94,31 @@ home-found (taken {home = o} {open_homes = os} m rest) distinct (suc n) r found 
       handle = is.handle;
       home = is.home;
       entry = is.entry;
-      there = lookup-there handle_of o os is.handle (λ e. not_both (subst (λ h. lookup handle_of os h ≡ None) e distinct.0) is.there) ∙ is.there;
+      there = lookup-there handle_of o os is.handle (λ e. never_none_and_some (subst (λ h. lookup handle_of os h ≡ None) e distinct.0) is.there) ∙ is.there;
       matches = is.matches;
     }
-
-pub same_entry : {o : Option (Option ℕ)} {g h : ℕ} → o ≡ Some (Some g) → o ≡ Some (Some h) → g ≡ h
-same_entry first second = same_some (same_some (sym first ∙ second))
 
 -- the first of the store's regions has another handle than any later one
 pub first-other : {hs : List (Option ℕ)} {rs : List Region} {os : List Home} (o : Home) → Regions hs rs os → AreDistinct handle_of (o ∷ os) → (n g : ℕ) (r : Region)
     → slice_get rs n ≡ Some r → has_home r ≡ true → slice_get hs n ≡ Some (Some g) → o.handle ≢ g
 first-other {os = os} o regions distinct n g r found kept entry e =
     let is : HasHome _ os n r = home-found regions distinct.1 n r found kept in
-    not_both (subst (λ h. lookup handle_of os h ≡ None) (e ∙ same_entry entry is.entry) distinct.0) is.there
+    never_none_and_some (subst (λ h. lookup handle_of os h ≡ None) (e ∙ same_from_some_some entry is.entry) distinct.0) is.there
 
 -- a handle names one of the open regions
 pub handle-names : {hs : List (Option ℕ)} {rs : List Region} {os : List Home} → Regions hs rs os → AreDistinct handle_of os → (n i g : ℕ) (q r : Region)
     → slice_get rs n ≡ Some q → slice_get rs i ≡ Some r → has_home q ≡ true → has_home r ≡ true
     → slice_get hs n ≡ Some (Some g) → slice_get hs i ≡ Some (Some g) → n ≡ i
 handle-names no_regions distinct n i g q r at there first second e f = absurd (let k : None ≡ Some q = at in cc)
-handle-names (passed out entry empty rest) distinct zero i g q r at there first second e f = absurd (not_true (sym (ap has_home (same_some at)) ∙ out) first)
-handle-names (passed out entry empty rest) distinct (suc n) zero g q r at there first second e f = absurd (not_true (sym (ap has_home (same_some there)) ∙ out) second)
+handle-names (passed out entry empty rest) distinct zero i g q r at there first second e f = absurd (never_true_and_false first (sym (ap has_home (same_from_some at)) ∙ out))
+handle-names (passed out entry empty rest) distinct (suc n) zero g q r at there first second e f = absurd (never_true_and_false second (sym (ap has_home (same_from_some there)) ∙ out))
 handle-names (passed out entry empty rest) distinct (suc n) (suc i) g q r at there first second e f =
     ap suc (handle-names rest distinct n i g q r at there first second e f)
 handle-names (taken m rest) distinct zero zero g q r at there first second e f = refl
 handle-names (taken {home = o} m rest) distinct zero (suc i) g q r at there first second e f =
-    absurd (first-other o rest distinct i g r there second f (m.named ∙ same_some (same_some e)))
+    absurd (first-other o rest distinct i g r there second f (m.named ∙ same_from_some (same_from_some e)))
 handle-names (taken {home = o} m rest) distinct (suc n) zero g q r at there first second e f =
-    absurd (first-other o rest distinct n g q at first e (m.named ∙ same_some (same_some f)))
+    absurd (first-other o rest distinct n g q at first e (m.named ∙ same_from_some (same_from_some f)))
 handle-names (taken m rest) distinct (suc n) (suc i) g q r at there first second e f =
     ap suc (handle-names rest distinct.1 n i g q r at there first second e f)
 
@@ -159,24 +155,24 @@ pub Regions-shut : {hs : List (Option ℕ)} {rs : List Region} {os : List Home} 
 Regions-shut no_regions n r found entry = absurd (let e : None ≡ Some r = found in cc)
 Regions-shut (passed {handle = h} {r = q} out some empty rest) zero r found entry =
     let none : is_some (sort_of r.sort) ≡ false =
-    sym (ap (λ (z : Region). is_some (sort_of z.sort)) (same_some found)) ∙ (sym some ∙ ap (λ o. is_some o) (same_some entry)) in
-    passed (no-sort-no-pages r.sort false none) (some ∙ ap (λ (z : Region). is_some (sort_of z.sort)) (same_some found)) (λ is. sym (ap (λ (z : Region). z.blocks) (same_some found)) ∙ empty is) rest
+    sym (ap (λ (z : Region). is_some (sort_of z.sort)) (same_from_some found)) ∙ (sym some ∙ ap (λ o. is_some o) (same_from_some entry)) in
+    passed (no-sort-no-pages r.sort false none) (some ∙ ap (λ (z : Region). is_some (sort_of z.sort)) (same_from_some found)) (λ is. sym (ap (λ (z : Region). z.blocks) (same_from_some found)) ∙ empty is) rest
 Regions-shut (passed out some empty rest) (suc n) r found entry = passed out some empty (Regions-shut rest n r found entry)
-Regions-shut (taken {handle = h} m rest) zero r found entry = absurd (let e : Some h ≡ None = same_some entry in cc)
+Regions-shut (taken {handle = h} m rest) zero r found entry = absurd (let e : Some h ≡ None = same_from_some entry in cc)
 Regions-shut (taken m rest) (suc n) r found entry = taken m (Regions-shut rest n r found entry)
 
 pub Regions-closed : {hs : List (Option ℕ)} {rs : List Region} {os : List Home} → Regions hs rs os → AreDistinct handle_of os → (n g : ℕ) (r : Region)
     → slice_get rs n ≡ Some r → has_home r ≡ true → has_home (shut r) ≡ false → slice_get hs n ≡ Some (Some g)
     → Regions hs (set rs n (shut r)) (without handle_of os g)
 Regions-closed no_regions distinct n g r found kept ends entry = absurd (let e : None ≡ Some r = found in cc)
-Regions-closed (passed out some empty rest) distinct zero g r found kept ends entry = absurd (not_true (sym (ap has_home (same_some found)) ∙ out) kept)
+Regions-closed (passed out some empty rest) distinct zero g r found kept ends entry = absurd (never_true_and_false kept (sym (ap has_home (same_from_some found)) ∙ out))
 Regions-closed (passed out some empty rest) distinct (suc n) g r found kept ends entry = passed out some empty (Regions-closed rest distinct n g r found kept ends entry)
 Regions-closed (taken {handle = h} {r = q} {home = o} {handles = hs} {regions = rs} {open_homes = os} m rest) distinct zero g r found kept ends entry =
-    let same : o.handle ≡ g = m.named ∙ same_some (same_some entry) in
+    let same : o.handle ≡ g = m.named ∙ same_from_some (same_from_some entry) in
     subst (Regions (Some h ∷ hs) (shut r ∷ rs))
     (sym (when_equal o.handle g (without handle_of os g) (o ∷ without handle_of os g) same
     ∙ without-absent handle_of os g (subst (λ n. lookup handle_of os n ≡ None) same distinct.0)))
-    (passed ends (sym (ap (λ o. is_some o) m.sort) ∙ ap (λ (z : Region). is_some (sort_of z.sort)) (same_some found)) (λ is. absurd (let e : Some h ≡ None = is in cc)) rest)
+    (passed ends (sym (ap (λ o. is_some o) m.sort) ∙ ap (λ (z : Region). is_some (sort_of z.sort)) (same_from_some found)) (λ is. absurd (let e : Some h ≡ None = is in cc)) rest)
 Regions-closed (taken {handle = h} {r = q} {home = o} {handles = hs} {regions = rs} {open_homes = os} m rest) distinct (suc n) g r found kept ends entry =
     subst (Regions (Some h ∷ hs) (q ∷ set rs n (shut r)))
     (sym (when_other o.handle g (without handle_of os g) (o ∷ without handle_of os g) (first-other o rest distinct n g r found kept entry)))
@@ -191,11 +187,11 @@ pub Regions-made : {hs : List (Option ℕ)} {rs : List Region} {os : List Home} 
     → slice_get rs n ≡ Some r → has_home r ≡ true → slice_get hs n ≡ Some (Some g)
     → Regions hs (set rs n (with_size b.size r)) (changed handle_of (with_block b) os g)
 Regions-made no_regions distinct n g r b found kept entry = absurd (let e : None ≡ Some r = found in cc)
-Regions-made (passed out some empty rest) distinct zero g r b found kept entry = absurd (not_true (sym (ap has_home (same_some found)) ∙ out) kept)
+Regions-made (passed out some empty rest) distinct zero g r b found kept entry = absurd (never_true_and_false kept (sym (ap has_home (same_from_some found)) ∙ out))
 Regions-made (passed out some empty rest) distinct (suc n) g r b found kept entry = passed out some empty (Regions-made rest distinct n g r b found kept entry)
 Regions-made (taken {handle = h} {r = q} {home = o} {handles = hs} {regions = rs} {open_homes = os} m rest) distinct zero g r b found kept entry =
-    let same : o.handle ≡ g = m.named ∙ same_some (same_some entry) in
-    let is : Matches h r o = subst (λ (z : Region). Matches h z o) (same_some found) m in
+    let same : o.handle ≡ g = m.named ∙ same_from_some (same_from_some entry) in
+    let is : Matches h r o = subst (λ (z : Region). Matches h z o) (same_from_some found) m in
     subst (Regions (Some h ∷ hs) (with_size b.size r ∷ rs))
     (sym (when_equal o.handle g (with_block b o ∷ os) (o ∷ changed handle_of (with_block b) os g) same))
     (taken (record { kept = is.kept; named = is.named; sort = is.sort; sizes = map-append (λ (z : Block). z.size) o.blocks (b ∷ []) ∙ ap (λ l. l ++ b.size ∷ []) is.sizes }) rest)
@@ -219,14 +215,14 @@ module _ (hs : List (Option ℕ)) where
 
   pub lies-home : (rs : List Region) (n h : ℕ) → lies_in hs rs (InRegion n) ≡ Some h
       → (r : Region) × (slice_get rs n ≡ Some r) × (has_home r ≡ true) × (slice_get hs n ≡ Some (Some h))
-  lies-home rs n h lies = elim (cases_option (slice_get rs n)) [
-    | inl none ↦ absurd (not_both (ap (λ o. if stands_there o then entry_of (slice_get hs n) else None) none) lies)
+  lies-home rs n h lies = elim (none_or_some (slice_get rs n)) [
+    | inl none ↦ absurd (never_none_and_some (ap (λ o. if stands_there o then entry_of (slice_get hs n) else None) none) lies)
     | inr (r, there) ↦
         let at : (if has_home r then entry_of (slice_get hs n) else None) ≡ Some h =
         sym (ap (λ o. if stands_there o then entry_of (slice_get hs n) else None) there) ∙ lies in
         elim (cases_Bool (has_home r)) [
           | inl kept ↦ (r, there, kept, entry-is (slice_get hs n) h (sym (cond-true (has_home r) (entry_of (slice_get hs n)) None kept) ∙ at))
-          | inr out ↦ absurd (not_both (cond-false (has_home r) (entry_of (slice_get hs n)) None out) at)
+          | inr out ↦ absurd (never_none_and_some (cond-false (has_home r) (entry_of (slice_get hs n)) None out) at)
         ]
   ]
 
@@ -247,17 +243,17 @@ module _ (hs : List (Option ℕ)) where
   pub lies-out : (rs : List Region) (n h : ℕ) (r : Region) → slice_get rs n ≡ Some r → has_home r ≡ false → lies_in hs rs (InRegion n) ≡ Some h → ⊥
   lies-out rs n h r there out lies =
       let (z, at, kept, entry) = lies-home rs n h lies in
-      not_true (ap has_home (same_some (sym at ∙ there)) ∙ out) kept
+      never_true_and_false kept (ap has_home (same_from_some (sym at ∙ there)) ∙ out)
 
 -- a region and an entry more
 pub lies-last : (hs : List (Option ℕ)) (rs : List Region) (e : Option ℕ) (q : Region) (h : ℕ) (owner : Owner) → length hs ≡ length rs → Within (length rs) owner
     → lies_in (hs ++ e ∷ []) (rs ++ q ∷ []) owner ≡ Some h → lies_in hs rs owner ≡ Some h
 lies-last hs rs e q h (InRegion n) equal within lies =
     let (z, at, kept, entry) = lies-home (hs ++ e ∷ []) (rs ++ q ∷ []) n h lies in
-    let (r, there) = slice_get-there rs n within in
-    let (o, old) = slice_get-there hs n (subst (λ m. n < m) (sym equal) within) in
-    let same : z ≡ r = same_some (sym at ∙ slice_get-append rs (q ∷ []) n r there) in
+    let (r, there) = slice_get_below rs n within in
+    let (o, old) = slice_get_below hs n (subst (λ m. n < m) (sym equal) within) in
+    let same : z ≡ r = same_from_some (sym at ∙ slice_get_front rs (q ∷ []) n r there) in
     lies-from hs rs n h r there (subst (λ (y : Region). has_home y ≡ true) same kept)
-    (old ∙ (sym (slice_get-append hs (e ∷ []) n o old) ∙ entry))
+    (old ∙ (sym (slice_get_front hs (e ∷ []) n o old) ∙ entry))
 lies-last hs rs e q h (Unique true) equal within lies = lies
 lies-last hs rs e q h (Unique false) equal within lies = lies

@@ -3,6 +3,7 @@
 use Rattle.std.proofs.Common.{◌≡◌, ℕ, suc, ◌≤◌, Bool, true, false, List, [], ◌∷◌, length, set, Option, None, Some, refl, sym, ap, ◌∙◌, inl, inr, arith}
 use Rattle.std.specs.Prelude.{slice_get}
 use Rattle.std.proofs.lemmas.Bool.{cases_lt, cond-true}
+use Rattle.cyc_words.proofs.Booleans.{never_true_and_false}
 use Rattle.cyc_store.specs.State.{StoreState, lexical_count}
 use Rattle.cyc_store.specs.Soundness.{IsSound}
 use Rattle.cyc_store.proofs.KeptServices.{lexical-few, regions-few}
@@ -10,7 +11,7 @@ use Rattle.cyc_meaning.specs.State.{Sort, Heap, Globals, Stack, Lexical, Dynamic
 use Rattle.cyc_meaning.specs.inside.Nesting.{ends_of, AreBelow, lexicals_of, is_scope, is_open_scope, AreScopes, IsNested}
 use Rattle.cyc_meaning.proofs.NestingLemmas.{one_here, one_there, none_above, scopes_closed}
 use Rattle.cyc_objects.specs.inside.Related.{scopes, IsNewest}
-use Rattle.cyc_objects.proofs.RegionLemmas.{shut, not_true}
+use Rattle.cyc_objects.proofs.RegionLemmas.{shut}
 use Rattle.cyc_objects.proofs.Closing.{scopes-closed, scopes-none}
 
 -- a region that is found as a lexical one that is open
@@ -20,7 +21,7 @@ scope-there (Some r) scope = (r, refl, scope)
 
 scopes-are : (stack : List Entry) (regions : List Region) (bound : ℕ) → AreBelow bound (ends_of stack) → AreScopes regions (lexicals_of stack) → scopes regions ≡ length (lexicals_of stack)
 scopes-are [] regions bound below are =
-    scopes-none regions (λ i q there scope. not_true (sym (ap is_open_scope there) ∙ are i) scope)
+    scopes-none regions (λ i q there scope. never_true_and_false scope (sym (ap is_open_scope there) ∙ are i))
 scopes-are (CloseLexical region ∷ stack) regions bound (less, below) are =
     let (r, there, scope) = scope-there (slice_get regions region) (are region ∙ one_here region region (lexicals_of stack) refl) in
     scopes-closed regions region r there scope
@@ -61,9 +62,7 @@ ends-newest number stack e w (found, (less, below), home, are) =
     newest : IsNewest w.regions number
     newest other q at open_too = elim (cases_lt number other) [
       | inl past ↦
-          absurd (not_true
-          (one_there other number (lexicals_of stack) (λ e. (let same : number ≡ other = e in absurd (omega (arith, past, same)))) ∙ none_above stack number other below (omega (arith, past)))
-          (sym (are other) ∙ (ap is_open_scope at ∙ open_too)))
+          absurd (never_true_and_false (sym (are other) ∙ (ap is_open_scope at ∙ open_too)) (one_there other number (lexicals_of stack) (λ e. (let same : number ≡ other = e in absurd (omega (arith, past, same)))) ∙ none_above stack number other below (omega (arith, past))))
       | inr before ↦ before
     ]
 

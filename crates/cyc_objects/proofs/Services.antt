@@ -6,25 +6,26 @@ use Rattle.std.proofs.lemmas.Bool.{cases_eq, cond-true}
 use Rattle.cyc_types.specs.declared.typed.Kind.{Kind}
 use Rattle.cyc_words.specs.Demand.{class_of, demand_of}
 use Rattle.cyc_words.proofs.Numbers.{when_equal}
+use Rattle.cyc_words.proofs.Options.{never_none_and_some, same_from_some, same_from_some_some}
+use Rattle.cyc_words.proofs.Items.{slice_get_front, slice_get-set_cases}
+use Rattle.cyc_words.proofs.Booleans.{never_true_and_false}
 use Rattle.cyc_store.specs.State.{lookup, without, AreDistinct, Memory, Block, address_of, Home, handle_of, empty_home, StoreState, homes, block_in, block_at, room}
 use Rattle.cyc_store.specs.State as stores
 use Rattle.cyc_store.specs.Services.{OpenLexical, OpenDynamic, CloseDynamic, Free, Choice, served, names_dynamic, full_at, refusal, BadHandle, NotABlock, IsAllowed}
 use Rattle.cyc_store.specs.Services as services
 use Rattle.cyc_store.specs.Soundness.{IsSound}
 use Rattle.cyc_store.specs.declared.range.TheConstants.{HEAP, UNIQUE}
-use Rattle.cyc_store.proofs.LookupLemmas.{when_other, not_both, same_some, lookup-here, lookup-there}
+use Rattle.cyc_store.proofs.LookupLemmas.{when_other, lookup-here, lookup-there}
 use Rattle.cyc_store.proofs.ServiceLemmas.{served-sound}
 use Rattle.cyc_meaning.specs.Values.{kinds_of, block_size}
 use Rattle.cyc_meaning.specs.State.{Sort, Lexical, Dynamic, Region, Owner, InRegion, Unique, Object, World, heap_number, has_pages, new_region, opened_as, closed, counted}
 use Rattle.cyc_meaning.specs.Objects.{class_of_cells, is_live_in, live_in, freed}
 use Rattle.cyc_meaning.specs.inside.Effects.{pages_of}
-use Rattle.cyc_meaning.proofs.ListLemmas.{slice_get-append}
 use Rattle.cyc_objects.specs.inside.Tables.{Placed, Tables, with_handle}
 use Rattle.cyc_objects.specs.inside.Related.{sort_of, has_home, lies_in, Alive, Stands, Within, Related}
-use Rattle.cyc_objects.proofs.NumberLemmas.{slice_get-set_cases}
 use Rattle.cyc_objects.proofs.Values.{Grows-same, Grows-handle}
 use Rattle.cyc_objects.proofs.Pointers.{same-row}
-use Rattle.cyc_objects.proofs.RegionLemmas.{not_true, handles-length, counted-same, HasHome, home-found, same_entry, handle-names, Regions-opened, shut, without-absent, Regions-closed, lies-home, lies-set, lies-last}
+use Rattle.cyc_objects.proofs.RegionLemmas.{handles-length, counted-same, HasHome, home-found, handle-names, Regions-opened, shut, without-absent, Regions-closed, lies-home, lies-set, lies-last}
 use Rattle.cyc_objects.proofs.Serving.{WordsStay, words-stay, block-opened, block-freed, block-closed, objects-inherited, alone-inherited}
 use Rattle.cyc_objects.proofs.Making.{either-order, class-room, handle-other}
 use Rattle.cyc_objects.proofs.Variables.{within-more, entry-older}
@@ -38,7 +39,7 @@ module _ {t : Tables} {w : World} {s : StoreState} (related : Related t w s) whe
   region-opened sort is same h m after stay = record {
     sound = after;
     few = related.few;
-    heap = slice_get-append t.handles (Some h ∷ []) heap_number (Some HEAP) related.heap;
+    heap = slice_get_front t.handles (Some h ∷ []) heap_number (Some HEAP) related.heap;
     rows = related.rows;
     regions = Regions-opened h sort is same related.regions;
     classes = related.classes;
@@ -90,10 +91,10 @@ module _ {t : Tables} {w : World} {s : StoreState} (related : Related t w s) whe
   elsewhere n g r there kept ends entry (InRegion i) h lies e =
       let (z, at, stays, other) = lies-home t.handles (set w.regions n (shut r)) i h lies in
       elim (slice_get-set_cases w.regions n i r (shut r) z there at) [
-        | inl here ↦ not_true (ap has_home here.1 ∙ ends) stays
+        | inl here ↦ never_true_and_false stays (ap has_home here.1 ∙ ends)
         | inr away ↦ away.0 (handle-names related.regions related.sound.regions.handles.1 i n g z r away.1 there stays kept (other ∙ ap (λ k. Some (Some k)) e) entry)
       ]
-  elsewhere n g r there kept ends entry (Unique true) h lies e = (handle-other related n g r there kept entry).0 (sym e ∙ sym (same_some lies))
+  elsewhere n g r there kept ends entry (Unique true) h lies e = (handle-other related n g r there kept entry).0 (sym e ∙ sym (same_from_some lies))
   elsewhere n g r there kept ends entry (Unique false) h lies e = let k : None ≡ Some h = lies in cc
 
   pub region-closed : (n g : ℕ) (r : Region) (m : Memory) → slice_get w.regions n ≡ Some r → has_home r ≡ true → has_home (shut r) ≡ false
@@ -120,7 +121,7 @@ module _ {t : Tables} {w : World} {s : StoreState} (related : Related t w s) whe
       before : (o h : ℕ) (y : Object) → Alive t (closed w n r) o h y → Alive t w o h y
       before o h y alive = record {
         at = alive.at;
-        lies = lies-set t.handles w.regions n h (shut r) r y.owner there (λ e. absurd (not_true ends e)) alive.lies;
+        lies = lies-set t.handles w.regions n h (shut r) r y.owner there (λ e. absurd (never_true_and_false e ends)) alive.lies;
       }
 
   -- the store knows the handle of an open dynamic region
@@ -128,8 +129,8 @@ module _ {t : Tables} {w : World} {s : StoreState} (related : Related t w s) whe
       → refusal s (CloseDynamic g) ≡ None
   refusal-close n g r there kept dynamic entry =
       let is : HasHome t.handles s.regions n r = home-found related.regions related.sound.regions.handles.1 n r there kept in
-      let found : lookup handle_of s.regions g ≡ Some is.home = subst (λ h. lookup handle_of s.regions h ≡ Some is.home) (same_entry is.entry entry) is.there in
-      let sort : stores.Dynamic ≡ is.home.sort = same_some (sym (ap sort_of dynamic) ∙ is.matches.sort) in
+      let found : lookup handle_of s.regions g ≡ Some is.home = subst (λ h. lookup handle_of s.regions h ≡ Some is.home) (same_from_some_some is.entry entry) is.there in
+      let sort : stores.Dynamic ≡ is.home.sort = same_from_some (sym (ap sort_of dynamic) ∙ is.matches.sort) in
       cond-true (names_dynamic (lookup handle_of s.regions g)) None (Some BadHandle)
       (ap names_dynamic found ∙ ap services.is_dynamic (sym sort))
 
@@ -148,7 +149,7 @@ live-without : (class : ℕ) (bs : List Block) (a : ℕ) (b : Block) → AreDist
 live-without class [] a b distinct found = absurd (let e : None ≡ Some b = found in cc)
 live-without class (d ∷ bs) a b distinct found = elim (cases_eq d.address a) [
   | inl same ↦
-      let is : d ≡ b = same_some (sym (lookup-here address_of d bs a same) ∙ found) in
+      let is : d ≡ b = same_from_some (sym (lookup-here address_of d bs a same) ∙ found) in
       let rest : without address_of (d ∷ bs) a ≡ bs =
       when_equal d.address a (without address_of bs a) (d ∷ without address_of bs a) same
       ∙ without-absent address_of bs a (subst (λ n. lookup address_of bs n ≡ None) same distinct.0) in
@@ -167,7 +168,7 @@ live-freed : (class : ℕ) (xs : List Object) (o : ℕ) (x y : Object) → slice
     → live_in class xs ≡ (if is_live_in class x.owner x.cells then suc (live_in class (set xs o y)) else live_in class (set xs o y))
 live-freed class [] o x y there gone = absurd (let e : None ≡ Some x = there in cc)
 live-freed class (a ∷ xs) zero x y there gone =
-    ap (λ (z : Object). if is_live_in class z.owner z.cells then suc (live_in class xs) else live_in class xs) (same_some there)
+    ap (λ (z : Object). if is_live_in class z.owner z.cells then suc (live_in class xs) else live_in class xs) (same_from_some there)
     ∙ ap (λ n. if is_live_in class x.owner x.cells then suc n else n) (ap (λ b. if b then suc (live_in class xs) else live_in class xs) (sym gone))
 live-freed class (a ∷ xs) (suc o) x y there gone =
     ap (λ n. if is_live_in class a.owner a.cells then suc n else n) (live-freed class xs o x y there gone)
@@ -206,7 +207,7 @@ module _ {t : Tables} {w : World} {s : StoreState} (related : Related t w s) (o 
   -- what is live then was live, and is another object
   before-freed : (i h : ℕ) (y : Object) → Alive t (freed w o x) i h y → (i ≢ o) × Alive t w i h y
   before-freed i h y alive = elim (slice_get-set_cases w.objects o i x (record x { owner = Unique false }) y there alive.at) [
-    | inl here ↦ absurd (not_both (ap (λ (z : Object). lies_in t.handles w.regions z.owner) here.1) alive.lies)
+    | inl here ↦ absurd (never_none_and_some (ap (λ (z : Object). lies_in t.handles w.regions z.owner) here.1) alive.lies)
     | inr other ↦ (other.0, record { at = other.1; lies = alive.lies })
   ]
 

@@ -1,23 +1,17 @@
 -- The start: a program's globals are variables, and a new store has the heap.
-use Rattle.std.proofs.Common.{◌≡◌, ℕ, zero, suc, ◌≤◌, List, [], ◌∷◌, map, None, Some, refl, sym, ap, subst, ◌∙◌, arith}
+use Rattle.std.proofs.Common.{◌≡◌, ℕ, ◌≤◌, List, [], ◌∷◌, map, Some, refl, sym, ap, subst, ◌∙◌, arith}
 use Rattle.std.specs.Prelude.{slice_get}
 use Rattle.std.proofs.lemmas.List.{length-map}
+use Rattle.cyc_words.proofs.Items.{slice_get-map_from, slice_get-map}
+use Rattle.cyc_words.proofs.Options.{never_none_and_some, same_from_some}
 use Rattle.cyc_types.specs.TypedTrees.{GlobalVariable, Program}
 use Rattle.cyc_store.specs.State.{Memory, AreWords, start}
 use Rattle.cyc_store.specs.declared.range.TheConstants.{MOST_PAGES}
-use Rattle.cyc_store.proofs.LookupLemmas.{not_both, same_some}
 use Rattle.cyc_store.proofs.ServiceLemmas.{start-sound}
 use Rattle.cyc_meaning.specs.State.{Object, InRegion, globals_number, global_object, first_regions, first_world}
 use Rattle.cyc_meaning.specs.Objects.{live_in}
 use Rattle.cyc_objects.specs.inside.Tables.{Row, Variable, first_tables, without_addresses}
 use Rattle.cyc_objects.specs.inside.Related.{lies_in, IsOfVariable, HasKinds, AreGlobals, Alive, Within, Related, passed, taken, no_regions}
-use Rattle.cyc_objects.proofs.NumberLemmas.{slice_get-map}
-
--- what is found among images is the image of what is found
-pub slice_get-image : {A B : Type 0} (f : A → B) (xs : List A) (i : ℕ) (y : B) → slice_get (map f xs) i ≡ Some y → (x : A) × (slice_get xs i ≡ Some x) × (y ≡ f x)
-slice_get-image f [] i y found = absurd (let e : None ≡ Some y = found in cc)
-slice_get-image f (x ∷ xs) zero y found = (x, refl, sym (same_some found))
-slice_get-image f (x ∷ xs) (suc i) y found = slice_get-image f xs i y found
 
 none-unique : (class : ℕ) (globals : List GlobalVariable) → live_in class (map global_object globals) ≡ 0
 none-unique class [] = refl
@@ -41,7 +35,7 @@ module _ (program : Program) (globals : List Row) (are : AreGlobals program glob
 
   first-row : (o : ℕ) (x : Object) → slice_get (map global_object program.globals) o ≡ Some x → IsGlobal o x
   first-row o x at =
-      let (g, there, same) = slice_get-image global_object program.globals o x at in
+      let (g, there, same) = slice_get-map_from global_object program.globals o x at in
       let (row, found, fits, outside) = are.each o g there in
       record {
         owner = ap (λ (z : Object). z.owner) same;
@@ -53,7 +47,7 @@ module _ (program : Program) (globals : List Row) (are : AreGlobals program glob
 
   none-alive : (o h : ℕ) (x : Object) → Alive (first_tables globals) (first_world program input) o h x → ⊥
   none-alive o h x alive =
-      not_both (ap (lies_in (first_tables globals).handles first_regions) (first-row o x alive.at).owner) alive.lies
+      never_none_and_some (ap (lies_in (first_tables globals).handles first_regions) (first-row o x alive.at).owner) alive.lies
 
   pub start-related : AreWords memory → 1 ≤ pages → pages ≤ MOST_PAGES → Related (first_tables globals) (first_world program input) (start pages memory)
   start-related words some few = record {
@@ -65,7 +59,7 @@ module _ (program : Program) (globals : List Row) (are : AreGlobals program glob
     classes = refl;
     uniques = λ class. sym (none-unique class program.globals);
     owned = λ o x at. subst (Within 2) (sym (first-row o x at).owner) (omega arith);
-    shapes = λ o a ks x at row. let g = first-row o x at in subst (HasKinds x.cells) (same_some (sym g.at ∙ row)) g.fits;
+    shapes = λ o a ks x at row. let g = first-row o x at in subst (HasKinds x.cells) (same_from_some (sym g.at ∙ row)) g.fits;
     variables = λ o n x at owner entry. let g = first-row o x at in (g.row, g.at, g.outside);
     objects = λ o h x alive. absurd (none-alive o h x alive);
     alone = λ o i h g a x y ks ls first second row also. absurd (none-alive o h x first);

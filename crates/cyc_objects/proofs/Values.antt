@@ -1,10 +1,10 @@
 -- Values and their words, cells and their bytes: what stays said of them when tables grow, and of equal words and bytes.
 use Rattle.std.proofs.Common.{◌≡◌, ℕ, ◌+◌, ◌*◌, ◌%◌, ◌<◌, ◌≤◌, true, false, List, [], ◌∷◌, Option, None, Some, sym, ap, subst, ◌∙◌, arith, add-zero}
+use Rattle.cyc_words.proofs.Items.{slice_get_front}
 use Rattle.cyc_types.specs.declared.typed.Kind.{Kind}
 use Rattle.cyc_types.specs.declared.typed.Kind.TheVariants as kinds
 use Rattle.cyc_store.specs.State.{Memory, AreWords}
 use Rattle.cyc_meaning.specs.Values.{Value, Int, Null, Thin, Fat, Handle, Key, is_kind, words_of_kind, bytes_of_kind, begins, behind, bytes_from, Cell, kinds_of}
-use Rattle.cyc_meaning.proofs.ListLemmas.{slice_get-append}
 use Rattle.cyc_objects.specs.inside.Tables.{Row, Placed, Tables, with_row, with_handle, Grows}
 use Rattle.cyc_objects.specs.inside.Related.{IsVariableAt}
 use Rattle.cyc_objects.specs.inside.Words.{byte_at, words_from, Points, IsPartOf, Is, Holds, IsContent, AreCells, AreBlank}
@@ -17,10 +17,10 @@ pub Grows-same : (t : Tables) → Grows t t
 Grows-same t = record { rows = λ o row found. found; handles = λ n h found. found }
 
 pub Grows-row : (t : Tables) (row : Row) → Grows t (with_row t row)
-Grows-row t row = record { rows = λ o r found. slice_get-append t.rows (row ∷ []) o r found; handles = λ n h found. found }
+Grows-row t row = record { rows = λ o r found. slice_get_front t.rows (row ∷ []) o r found; handles = λ n h found. found }
 
 pub Grows-handle : (t : Tables) (handle : Option ℕ) → Grows t (with_handle t handle)
-Grows-handle t handle = record { rows = λ o r found. found; handles = λ n h found. slice_get-append t.handles (handle ∷ []) n h found }
+Grows-handle t handle = record { rows = λ o r found. found; handles = λ n h found. slice_get_front t.handles (handle ∷ []) n h found }
 
 pub Grows-later : {t u v : Tables} → Grows t u → Grows u v → Grows t v
 Grows-later first second = record {

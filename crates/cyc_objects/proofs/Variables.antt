@@ -2,16 +2,16 @@
 use Rattle.std.proofs.Common.{◌≡◌, ℕ, ◌+◌, ◌<◌, Bool, true, false, List, [], ◌∷◌, ◌++◌, length, set, Option, None, Some, refl, sym, ap, subst, ◌∙◌, inl, inr, arith, length-set}
 use Rattle.std.specs.Prelude.{slice_get}
 use Rattle.std.proofs.lemmas.List.{length_push}
+use Rattle.cyc_words.proofs.Options.{same_from_some}
+use Rattle.cyc_words.proofs.Items.{slice_get_front, map-set, below_from_slice_get, slice_get_last_cases, slice_get-set_cases}
+use Rattle.cyc_words.proofs.Lists.{slice_get_last, slice_get_below}
 use Rattle.cyc_types.specs.declared.typed.Kind.{Kind}
 use Rattle.cyc_store.specs.State.{StoreState}
 use Rattle.cyc_store.specs.declared.range.TheConstants.{HEAP}
-use Rattle.cyc_store.proofs.LookupLemmas.{same_some}
 use Rattle.cyc_meaning.specs.Values.{Value, Cell, kinds_of, block_size}
 use Rattle.cyc_meaning.specs.State.{Sort, Heap, Globals, Stack, Lexical, Dynamic, Region, Owner, InRegion, Unique, Object, World, heap_number, has_pages, new_region, opened_as, closed, variable, made, written}
-use Rattle.cyc_meaning.proofs.ListLemmas.{slice_get-append, slice_get-end, map-set}
 use Rattle.cyc_objects.specs.inside.Tables.{Row, Variable, Placed, Tables, with_row, with_handle}
 use Rattle.cyc_objects.specs.inside.Related.{sort_of, lies_in, Alive, IsOfVariable, IsVariableAt, HasKinds, Within, Related}
-use Rattle.cyc_objects.proofs.NumberLemmas.{slice_get-below, slice_get-there, slice_get-last, slice_get-set_cases}
 use Rattle.cyc_objects.proofs.Values.{Grows-same, Grows-row, Grows-handle, variable-grows}
 use Rattle.cyc_objects.proofs.RegionLemmas.{handles-length, Regions-variables, shut, Regions-shut, lies-home, lies-set, lies-last}
 use Rattle.cyc_objects.proofs.Serving.{words-unmoved, objects-inherited, alone-inherited}
@@ -33,15 +33,15 @@ within-more rs q (Unique live) within = tt
 
 -- the number of the region that opens next, and its entry
 pub handle-made : {t : Tables} {w : World} {s : StoreState} → Related t w s → (h : Option ℕ) → slice_get (with_handle t h).handles (length w.regions) ≡ Some h
-handle-made {t} related h = subst (λ n. slice_get (t.handles ++ h ∷ []) n ≡ Some h) (handles-length related.regions) (slice_get-end t.handles h)
+handle-made {t} related h = subst (λ n. slice_get (t.handles ++ h ∷ []) n ≡ Some h) (handles-length related.regions) (slice_get_last t.handles h)
 
 -- the region of an object is an old one
 pub entry-older : {t : Tables} {w : World} {s : StoreState} → Related t w s → (e : Option ℕ) (o n : ℕ) (y : Object) → slice_get w.objects o ≡ Some y
     → y.owner ≡ InRegion n → slice_get (t.handles ++ e ∷ []) n ≡ Some None → slice_get t.handles n ≡ Some None
 entry-older {t} {w} related e o n y at owner entry =
     let within : n < length w.regions = subst (Within (length w.regions)) owner (related.owned o y at) in
-    let (q, old) = slice_get-there t.handles n (subst (λ m. n < m) (sym (handles-length related.regions)) within) in
-    old ∙ (sym (slice_get-append t.handles (e ∷ []) n q old) ∙ entry)
+    let (q, old) = slice_get_below t.handles n (subst (λ m. n < m) (sym (handles-length related.regions)) within) in
+    old ∙ (sym (slice_get_front t.handles (e ∷ []) n q old) ∙ entry)
 
 module _ {t : Tables} {w : World} {s : StoreState} (related : Related t w s) where
   -- ---- a variable is declared
@@ -56,19 +56,19 @@ module _ {t : Tables} {w : World} {s : StoreState} (related : Related t w s) whe
     regions = related.regions;
     classes = related.classes;
     uniques = λ class. related.uniques class ∙ sym (live-last class w.objects (variable n kind content));
-    owned = λ o y at. elim (slice_get-last w.objects (variable n kind content) o y at) [
+    owned = λ o y at. elim (slice_get_last_cases w.objects (variable n kind content) o y at) [
       | inl old ↦ related.owned o y old
-      | inr new ↦ subst (λ (z : Object). Within (length w.regions) z.owner) (sym new.1) (slice_get-below w.regions n r there)
+      | inr new ↦ subst (λ (z : Object). Within (length w.regions) z.owner) (sym new.1) (below_from_slice_get w.regions n r there)
     ];
-    shapes = λ o a ks y at placed. elim (slice_get-last w.objects (variable n kind content) o y at) [
+    shapes = λ o a ks y at placed. elim (slice_get_last_cases w.objects (variable n kind content) o y at) [
       | inl old ↦
-          let (q, is) = slice_get-there t.rows o (subst (λ m. o < m) (sym related.rows) (slice_get-below w.objects o y old)) in
-          related.shapes o a ks y old (is ∙ (sym (slice_get-append t.rows (row ∷ []) o q is) ∙ placed))
+          let (q, is) = slice_get_below t.rows o (subst (λ m. o < m) (sym related.rows) (below_from_slice_get w.objects o y old)) in
+          related.shapes o a ks y old (is ∙ (sym (slice_get_front t.rows (row ∷ []) o q is) ∙ placed))
       | inr new ↦
-          subst (HasKinds (variable n kind content).cells) (same_some (sym (row-new o new.0) ∙ placed)) fits
+          subst (HasKinds (variable n kind content).cells) (same_from_some (sym (row-new o new.0) ∙ placed)) fits
           ∙ ap (λ (z : Object). kinds_of z.cells) (sym new.1)
     ];
-    variables = λ o m y at owner is. elim (slice_get-last w.objects (variable n kind content) o y at) [
+    variables = λ o m y at owner is. elim (slice_get_last_cases w.objects (variable n kind content) o y at) [
       | inl old ↦ variable-grows (Grows-row t row) o (related.variables o m y old owner is)
       | inr new ↦ (row, row-new o new.0, outside)
     ];
@@ -77,14 +77,14 @@ module _ {t : Tables} {w : World} {s : StoreState} (related : Related t w s) whe
   }
     where
       row-new : (o : ℕ) → o ≡ length w.objects → slice_get (t.rows ++ row ∷ []) o ≡ Some row
-      row-new o is = subst (λ m. slice_get (t.rows ++ row ∷ []) m ≡ Some row) (related.rows ∙ sym is) (slice_get-end t.rows row)
+      row-new o is = subst (λ m. slice_get (t.rows ++ row ∷ []) m ≡ Some row) (related.rows ∙ sym is) (slice_get_last t.rows row)
 
       before : (o h : ℕ) (y : Object) → Alive (with_row t row) (made w (variable n kind content)) o h y → Alive t w o h y
-      before o h y alive = elim (slice_get-last w.objects (variable n kind content) o y alive.at) [
+      before o h y alive = elim (slice_get_last_cases w.objects (variable n kind content) o y alive.at) [
         | inl old ↦ record { at = old; lies = alive.lies }
         | inr new ↦
             let (z, at, kept, other) = lies-home t.handles w.regions n h (ap (λ (x : Object). lies_in t.handles w.regions x.owner) (sym new.1) ∙ alive.lies) in
-            absurd (let e : None ≡ Some h = same_some (sym entry ∙ other) in cc)
+            absurd (let e : None ≡ Some h = same_from_some (sym entry ∙ other) in cc)
       ]
 
   -- ---- a variable is assigned
@@ -145,7 +145,7 @@ module _ {t : Tables} {w : World} {s : StoreState} (related : Related t w s) whe
   opened-variables sort none = record {
     sound = related.sound;
     few = related.few;
-    heap = slice_get-append t.handles (None ∷ []) heap_number (Some HEAP) related.heap;
+    heap = slice_get_front t.handles (None ∷ []) heap_number (Some HEAP) related.heap;
     rows = related.rows;
     regions = Regions-variables sort none related.regions;
     classes = related.classes;

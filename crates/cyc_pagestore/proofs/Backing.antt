@@ -1,9 +1,10 @@
 -- What a pool and its spots say of a table is kept by each of the table's calls: lemmas over functions of the page.
-use Rattle.std.proofs.Common.{◌≡◌, ◌≢◌, ℕ, suc, ◌+◌, ◌<◌, Bool, true, false, List, [], ◌∷◌, ◌++◌, length, refl, sym, ap, subst, ◌∙◌, inl, inr, arith}
+use Rattle.std.proofs.Common.{◌≡◌, ◌≢◌, ℕ, suc, ◌+◌, ◌<◌, true, false, List, [], ◌∷◌, ◌++◌, length, refl, sym, ap, subst, ◌∙◌, inl, inr, arith}
 use Rattle.std.specs.Prelude.{◌==◌, ◌⊎◌, if◌then◌else◌}
 use Rattle.std.specs.List.{AllByRecursion}
 use Rattle.std.proofs.lemmas.Bool.{cases_eq}
 use Rattle.cyc_words.proofs.Numbers.{when_equal}
+use Rattle.cyc_words.proofs.Booleans.{never_true_and_false}
 use Rattle.cyc_store.specs.Table.{row_at}
 use Rattle.cyc_store.specs.inside.Kept.{IsChain, IsOneOf}
 use Rattle.cyc_store.specs.declared.row.Role.{Role}
@@ -39,9 +40,6 @@ rest-no_root r is (inr (inl lexical)) = clash (sym is ∙ lexical) where
 rest-no_root r is (inr (inr dynamic)) = clash (sym is ∙ dynamic) where
   clash : Rest ≡ Dynamic → ⊥
   clash e = cc
-
-not-both : {b : Bool} → b ≡ true → b ≡ false → ⊥
-not-both first second = let e : true ≡ false = sym first ∙ second in cc
 
 -- ---- a region that nothing touches
 
@@ -130,7 +128,7 @@ module _ (b : Backing) (next : ℕ) (rows : List Row) (first : ℕ) (order : Lis
   ])
 
   not-free : (p : ℕ) → b.free p ≡ false → IsOneOf order p → ⊥
-  not-free p taken which = not-both (is.free p which).1 taken
+  not-free p taken which = never_true_and_false (is.free p which).1 taken
 
   pub taken-backs : Backs taken next (λ (p : ℕ). row_at linked_rows p) (head_or_none (removed order page)) (removed order page)
   taken-backs = record {
@@ -150,7 +148,7 @@ module _ (b : Backing) (next : ℕ) (rows : List Row) (first : ℕ) (order : Lis
     apart = removed-apart order page is.apart;
     free = λ p which. let old = removed-out order page p which in ((is.free p old.0).0, at-other b.free page false p old.1 ∙ (is.free p old.0).1);
     all = λ p below free. elim (cases_eq p page) [
-      | inl same ↦ absurd (not-both free (at-same b.free page false p same))
+      | inl same ↦ absurd (never_true_and_false free (at-same b.free page false p same))
       | inr other ↦ removed-in order page p (is.all p below (sym (at-other b.free page false p other) ∙ free)) other
     ];
     unused = λ p which. is.unused p (removed-out order page p which).0;
@@ -158,7 +156,7 @@ module _ (b : Backing) (next : ℕ) (rows : List Row) (first : ℕ) (order : Lis
         let old = is.root r below root in
         region-stays b taken (λ p. row_at rows p) (λ p. row_at linked_rows p) r refl old
         (λ p which.
-        let m = old.members p which in let other : (p ≡ page → ⊥) = λ e. not-both was-free (ap b.free (sym e) ∙ m.taken) in
+        let m = old.members p which in let other : (p ≡ page → ⊥) = λ e. never_true_and_false was-free (ap b.free (sym e) ∙ m.taken) in
         record { owner = refl; serial = refl; free = at-other b.free page false p other; role = refl; chain = at-other b.chain page (page ∷ []) p other; rows = as-row (row-other p (not-free p m.taken)) });
   }
     where
@@ -213,7 +211,7 @@ module _ (b : Backing) (next : ℕ) (row : ℕ → Row) (first : ℕ) (order : L
 module _ (b : Backing) (next : ℕ) (row : ℕ → Row) (first : ℕ) (order : List ℕ) (is : Backs b next row first order) (page : ℕ) (there : page < b.pages)
     (rest : b.role page ≡ Rest) (taken : b.free page ≡ false) (alone : b.chain page ≡ page ∷ []) where
   away-order : IsOneOf order page → ⊥
-  away-order which = not-both (is.free page which).1 taken
+  away-order which = never_true_and_false (is.free page which).1 taken
 
   -- it owns no page with live words
   owns-none : (p : ℕ) → p < b.pages → b.owner p ≡ page → reach_of b p ≡ 0

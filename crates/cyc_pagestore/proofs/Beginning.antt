@@ -4,6 +4,7 @@ use Rattle.std.specs.Prelude.{◌==◌, ◌&&◌, nat_le, if◌then◌else◌, s
 use Rattle.std.specs.Global.{Vec}
 use Rattle.std.specs.List.{AllByRecursion}
 use Rattle.std.proofs.lemmas.List.{length-replicate, append-nil}
+use Rattle.cyc_words.proofs.Items.{slice_index_or_replicate_same, slice_index_or_replicate}
 use Rattle.cyc_store.specs.Ledger.{Blocks, memory_of, store_of, no_blocks}
 use Rattle.cyc_store.specs.State.{AreWords, Heap, start, opened}
 use Rattle.cyc_store.specs.Soundness.{IsSound}
@@ -27,7 +28,7 @@ use Rattle.cyc_pagestore.specs.inside.Live.{Readies}
 use Rattle.cyc_pagestore.specs.inside.Table.{AreAlone, TableState, blank_table, Opens, no_spot, IsBacked}
 use Rattle.cyc_pagestore.specs.inside.Stored.{IsStored}
 use Rattle.cyc_pagestore.proofs.Rows.{relinked-length, relinked-row, relinked-chain}
-use Rattle.cyc_pagestore.proofs.Blank.{same-at, each-at, within, new-backed}
+use Rattle.cyc_pagestore.proofs.Blank.{within, new-backed}
 use Rattle.cyc_pagestore.proofs.Calls.{view_of, open-keeps, open-gives}
 use Rattle.cyc_pagestore.proofs.Pooled.{serial_of_newer, serials_one}
 use Rattle.cyc_pagestore.proofs.Taking.{with_items, v, u, v-kept, draws, room}
@@ -50,10 +51,10 @@ module _ (n : ℕ) (least : 1 ≤ n) (few : n ≤ 65536) where
   started = record p { free = set p.free 0 false; chains = set p.chains 0 (0 ∷ []) }
 
   pub first-free : IsFree p.free 0
-  first-free = each-at n true false 0 (omega (arith, least))
+  first-free = slice_index_or_replicate n true false 0 (omega (arith, least))
 
   pub first-alone : AreAlone p
-  first-alone = record { free = length-replicate n true; chains = length-replicate n []; alone = λ page free. same-at n [] page }
+  first-alone = record { free = length-replicate n true; chains = length-replicate n []; alone = λ page free. slice_index_or_replicate_same n [] page }
 
   ready : Readies started started 1
   ready = record {
@@ -106,10 +107,10 @@ module _ (lexicals : Vec ℕ) (n : ℕ) (few : n ≤ 65536) where
   row-is : (page : ℕ) → (link : ℕ) × (row_at blank.rows page ≡ free_row link)
   row-is page =
       let r = relinked-row (replicate n (free_row NONE)) order page (within n few) in
-      (r.0, r.1 ∙ ap (λ (q : Row). record q { next = r.0 }) (same-at n (free_row NONE) page))
+      (r.0, r.1 ∙ ap (λ (q : Row). record q { next = r.0 }) (slice_index_or_replicate_same n (free_row NONE) page))
 
   no-words : (i : ℕ) → slice_index blank.words i ≡ slice_index (let empty : List ℕ = [] in empty) i
-  no-words i = same-at (1024 * n) 0 i ∙ sym (nothing i)
+  no-words i = slice_index_or_replicate_same (1024 * n) 0 i ∙ sym (nothing i)
     where
       nothing : (j : ℕ) → slice_index (let empty : List ℕ = [] in empty) j ≡ 0
       nothing j = refl
@@ -130,9 +131,9 @@ module _ (lexicals : Vec ℕ) (n : ℕ) (few : n ≤ 65536) where
     homes = λ page h owned other. absurd (let e : None ≡ Some h = owned in cc);
     roots = λ h r found. absurd (let e : None ≡ Some r = found in cc);
     newest = refl;
-    stock = λ class bound. subst (λ slots. IsStocked (λ (i : ℕ). slice_index blank.words i) slots class []) (sym (each-at 11 new_slots no_slots class (omega (arith, bound)))) (record { chain = []; all = refl; linked = refl });
+    stock = λ class bound. subst (λ slots. IsStocked (λ (i : ℕ). slice_index blank.words i) slots class []) (sym (slice_index_or_replicate 11 new_slots no_slots class (omega (arith, bound)))) (record { chain = []; all = refl; linked = refl });
     marked = λ page offset owned inside. absurd (let e : None ≡ Some UNIQUE = owned in cc);
-    unmarked = λ page offset other inside. same-at (1024 * n) false (1024 * page + offset);
+    unmarked = λ page offset other inside. slice_index_or_replicate_same (1024 * n) false (1024 * page + offset);
   }
     where
       same : (m : ℕ) → m ≤ m
@@ -160,7 +161,7 @@ module _ (lexicals : Vec ℕ) (n : ℕ) (few : n ≤ 65536) where
   blank-words address = found ((address % 4 == 0) && nat_le STORE_BASE address) ((address - STORE_BASE) / 4)
     where
       found : (b : Bool) (word : ℕ) → (if b then slice_index blank.words word else 0) < 4294967296
-      found true word = let e : slice_index blank.words word ≡ 0 = same-at (1024 * n) (let zero : ℕ = 0 in zero) word in omega (arith, e)
+      found true word = let e : slice_index blank.words word ≡ 0 = slice_index_or_replicate_same (1024 * n) (let zero : ℕ = 0 in zero) word in omega (arith, e)
       found false word = omega arith
 
   -- ---- the heap is opened

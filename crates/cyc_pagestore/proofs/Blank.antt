@@ -1,10 +1,10 @@
 -- A new pool keeps a table with all pages free.
 use Rattle.std.proofs.Common.{◌≡◌, ◌≢◌, ℕ, zero, suc, ◌+◌, ◌*◌, ◌<◌, ◌≤◌, true, false, List, [], length, replicate, refl, sym, ap, subst, ◌∙◌, inl, inr, arith}
-use Rattle.std.specs.Prelude.{slice_index, slice_index_or}
 use Rattle.std.specs.List.{AllByRecursion}
 use Rattle.std.proofs.lemmas.Bool.{cases_eq}
 use Rattle.std.proofs.lemmas.List.{length-replicate}
 use Rattle.cyc_words.specs.Distinct.{IsDistinct}
+use Rattle.cyc_words.proofs.Items.{slice_index_or_replicate_same, slice_index_or_replicate, slice_index_zeros}
 use Rattle.cyc_store.specs.Table.{free_row, row_at}
 use Rattle.cyc_store.specs.inside.Kept.{IsOneOf, numbers_from}
 use Rattle.cyc_store.specs.declared.row.Row.{Row}
@@ -19,21 +19,6 @@ use Rattle.cyc_pagestore.specs.inside.Table.{no_spot, spot_at, backing_of, reach
 use Rattle.cyc_pagestore.proofs.Rows.{relinked-length, relinked-row, relinked-chain}
 use Rattle.cyc_pagestore.proofs.Reaching.{reach-empty}
 use Rattle.cyc_pagestore.proofs.Backing.{rest-no_root}
-
-pub same-at : {A : Type 0} (n : ℕ) (x : A) (i : ℕ) → slice_index_or (replicate n x) i x ≡ x
-same-at zero x i = refl
-same-at (suc n) x zero = refl
-same-at (suc n) x (suc i) = same-at n x i
-
-pub each-at : {A : Type 0} (n : ℕ) (x d : A) (i : ℕ) → i < n → slice_index_or (replicate n x) i d ≡ x
-each-at zero x d i lt = absurd (omega (arith, lt))
-each-at (suc n) x d zero lt = refl
-each-at (suc n) x d (suc i) lt = each-at n x d i (omega (arith, lt))
-
-beyond-at : {A : Type 0} (n : ℕ) (x d : A) (i : ℕ) → n ≤ i → slice_index_or (replicate n x) i d ≡ d
-beyond-at zero x d i le = refl
-beyond-at (suc n) x d zero le = absurd (omega (arith, le))
-beyond-at (suc n) x d (suc i) le = beyond-at n x d i (omega (arith, le))
 
 -- ---- numbers one after another
 
@@ -74,23 +59,20 @@ module _ (n : ℕ) (few : n ≤ 65536) where
       below x lt = omega (arith, lt)
 
   row-is : (q : ℕ) → (link : ℕ) × (row_at l.rows q ≡ free_row link)
-  row-is q = let r = relinked-row blank order q within in (r.0, r.1 ∙ ap (λ (s : Row). record s { next = r.0 }) (same-at n (free_row NONE) q))
+  row-is q = let r = relinked-row blank order q within in (r.0, r.1 ∙ ap (λ (s : Row). record s { next = r.0 }) (slice_index_or_replicate_same n (free_row NONE) q))
 
   spot-is : (q : ℕ) → spot_at spots q ≡ no_spot
-  spot-is q = same-at n no_spot q
-
-  none : (q : ℕ) → slice_index (replicate n 0) q ≡ 0
-  none q = same-at n 0 q
+  spot-is q = slice_index_or_replicate_same n no_spot q
 
   unfilled : (q : ℕ) → reach_of (backing_of p spots) q ≡ 0
-  unfilled q = reach-empty (backing_of p spots).serial (backing_of p spots).owner (backing_of p spots).fill q (let e = none q in omega (arith, e))
+  unfilled q = reach-empty (backing_of p spots).serial (backing_of p spots).owner (backing_of p spots).fill q (let e = slice_index_zeros n q in omega (arith, e))
 
   backs : Backs (backing_of p spots) 1 (λ (q : ℕ). row_at l.rows q) l.free l.order
   backs = record {
     few = few;
-    owned = λ q below. let e = none q in omega (arith, e, below);
-    newer = λ q below. let e = none q in omega (arith, e);
-    one = λ q r below also e. none q ∙ sym (none r);
+    owned = λ q below. let e = slice_index_zeros n q in omega (arith, e, below);
+    newer = λ q below. let e = slice_index_zeros n q in omega (arith, e);
+    one = λ q r below also e. slice_index_zeros n q ∙ sym (slice_index_zeros n r);
     filled = λ q below. ap (λ (s : Row). s.filled) (row-is q).1 ∙ sym (unfilled q);
     role = λ q below. ap (λ (s : Row). s.role) (row-is q).1 ∙ sym (ap (λ (s : Spot). s.role) (spot-is q));
     newest = λ q below. ap (λ (s : Row). s.newest) (row-is q).1 ∙ sym (ap (λ (s : Spot). s.newest) (spot-is q));
@@ -98,7 +80,7 @@ module _ (n : ℕ) (few : n ≤ 65536) where
     held = λ q below. inl (unfilled q);
     linked = relinked-chain blank order within (are-distinct 0 n);
     apart = are-distinct 0 n;
-    free = λ q inside. let b = (numbers-out 0 n q inside).1 in let lt : q < n = omega (arith, b) in (lt, each-at n true false q lt);
+    free = λ q inside. let b = (numbers-out 0 n q inside).1 in let lt : q < n = omega (arith, b) in (lt, slice_index_or_replicate n true false q lt);
     all = λ q below free. numbers-in 0 n q (omega arith) (omega (arith, below));
     unused = λ q inside. ap (λ (s : Spot). s.role) (spot-is q);
     root = λ r below root. absurd (rest-no_root (spot_at spots r).role (ap (λ (s : Spot). s.role) (spot-is r)) root);

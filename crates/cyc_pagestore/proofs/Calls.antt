@@ -1,8 +1,9 @@
 -- What the calls of a table of pages over a pool owe.
-use Rattle.std.proofs.Common.{◌≡◌, ℕ, zero, suc, ◌+◌, ◌*◌, ◌^◌, ◌<◌, ◌≤◌, Bool, true, false, List, [], ◌∷◌, ◌++◌, length, set, replicate, refl, sym, ap, subst, ◌∙◌, inl, inr, arith}
+use Rattle.std.proofs.Common.{◌≡◌, ℕ, ◌+◌, ◌*◌, ◌^◌, ◌<◌, ◌≤◌, Bool, true, false, List, [], ◌∷◌, ◌++◌, length, set, replicate, refl, sym, ap, subst, ◌∙◌, inl, inr, arith}
 use Rattle.std.specs.Prelude.{◌⊎◌, slice_index, slice_index_or}
 use Rattle.std.proofs.lemmas.Bool.{true≢false}
 use Rattle.std.proofs.lemmas.List.{get_or_default}
+use Rattle.cyc_words.proofs.Items.{never_in_falses}
 use Rattle.cyc_store.specs.Table.{marked_between, row_at}
 use Rattle.cyc_store.specs.declared.row.Role.{Role}
 use Rattle.cyc_store.specs.declared.row.Role.TheVariants.{Rest, Slots}
@@ -23,11 +24,6 @@ view_of p l = record { most = p.pages; words = p.words; live = p.bits; rows = l.
 pub spot-read : (spots : List Spot) (page : ℕ) (s : Spot) → page < length spots → s ≡ slice_index_or spots page s → spot_at spots page ≡ s
 spot-read spots page s there read = get_or_default spots page no_spot s there ∙ sym read
 
-pub none-in : (n page : ℕ) → slice_index_or (replicate n false) page false ≡ true → ⊥
-none-in zero page e = cc
-none-in (suc n) zero e = cc
-none-in (suc n) (suc page) e = none-in n page e
-
 module _ (p : PoolState) (pages : ℕ) (spots : List Spot) (next : ℕ) (l : Links) (is : IsBacked p pages spots next l) (x : TableState) (view : view_of p l ≡ x) where
   pub there-in : (page : ℕ) → page < x.most → page < p.pages
   there-in page there = subst (λ (t : TableState). page < t.most) (sym view) there
@@ -40,7 +36,7 @@ module _ (p : PoolState) (pages : ℕ) (spots : List Spot) (next : ℕ) (l : Lin
 
   pub is-full : p.free ≡ replicate p.pages false → IsFull x
   is-full none = subst IsFull view (record {
-    past = subst (λ n. length l.rows ≤ n) (sym (none-first p pages spots next l is (λ page free. none-in p.pages page (subst (λ marks. IsFree marks page) none free)))) few;
+    past = subst (λ n. length l.rows ≤ n) (sym (none-first p pages spots next l is (λ page free. never_in_falses p.pages page (subst (λ marks. IsFree marks page) none free)))) few;
     all = least;
   })
     where

@@ -1,9 +1,11 @@
 -- The pages in use are counted, call by call.
-use Rattle.std.proofs.Common.{◌≡◌, ℕ, suc, ◌+◌, ◌-◌, ◌*◌, ◌<◌, ◌≤◌, List, [], ◌∷◌, ◌++◌, length, length-append, length-set, set, replicate, Option, None, Some, refl, sym, ap, subst, ◌∙◌, inl, inr, arith}
+use Rattle.std.proofs.Common.{◌≡◌, ℕ, suc, ◌+◌, ◌-◌, ◌<◌, ◌≤◌, List, [], ◌∷◌, ◌++◌, length, length-append, length-set, set, replicate, Option, None, Some, refl, sym, ap, subst, ◌∙◌, inl, inr, arith}
 use Rattle.std.specs.Prelude.{slice_index}
 use Rattle.std.proofs.lemmas.Bool.{cases_eq}
 use Rattle.std.proofs.lemmas.List.{get_or-set_same, get_or-set_other, length-replicate}
 use Rattle.cyc_words.specs.Demand.{greatest_class, region_pages}
+use Rattle.cyc_words.proofs.Numbers.{same_from_odd}
+use Rattle.cyc_words.proofs.Options.{never_none_and_some, same_from_some}
 use Rattle.cyc_store.specs.Ledger.{Blocks, no_blocks, after, store_of, plain_store, blocks_of}
 use Rattle.cyc_store.specs.Pages.{Mark, next_mark, mark_of, HasChain}
 use Rattle.cyc_store.specs.Slots.{Fills}
@@ -13,7 +15,7 @@ use Rattle.cyc_store.specs.declared.change.Change.TheVariants.{Stocked}
 use Rattle.cyc_store.specs.declared.row.ClassSlots.{ClassSlots}
 use Rattle.cyc_store.specs.inside.Kept.{handle_of_page}
 use Rattle.cyc_store.proofs.KeptMaking.{newest-is, filled-is}
-use Rattle.cyc_store.proofs.LookupLemmas.{not_both, same_some, IsPart-without, lookup-key, lookup-there, lookup-part, lookup-append_cases, lookup-append_new, lookup-append_other, lookup-changed_same, lookup-changed_other}
+use Rattle.cyc_store.proofs.LookupLemmas.{IsPart-without, lookup-key, lookup-there, lookup-part, lookup-append_cases, lookup-append_new, lookup-append_other, lookup-changed_same, lookup-changed_other}
 use Rattle.cyc_store.proofs.PagedClosing.{paged-closed}
 use Rattle.cyc_store.proofs.PagedOpening.{demand-more}
 use Rattle.cyc_store.proofs.PageServices.{pages-mark, mark-made, mark-stays, mark-goes, demand-stays, demand-grows}
@@ -25,17 +27,13 @@ use Rattle.cyc_pagestore.specs.inside.Usage.{Counts, IsUsage}
 use Rattle.cyc_pagestore.proofs.Taking.{stored-few}
 use Rattle.cyc_pagestore.proofs.Storing.{root-inside}
 
--- handles of two pages are two
-same-page : (p q : ℕ) → 2 * p + 1 ≡ 2 * q + 1 → p ≡ q
-same-page p q is = omega (arith, is)
-
 -- no handle stands before the last region that it is the handle of
 fresh-last : (rs : List Home) (r : Home) → AreDistinct handle_of (rs ++ r ∷ []) → lookup handle_of rs r.handle ≡ None
 fresh-last [] r distinct = refl
 fresh-last (q ∷ rs) r distinct =
     let rest = fresh-last rs r distinct.1 in
     elim (cases_eq q.handle r.handle) [
-      | inl same ↦ absurd (not_both (subst (λ n. lookup handle_of (rs ++ r ∷ []) n ≡ None) same distinct.0) (lookup-append_new handle_of rs r r.handle rest refl))
+      | inl same ↦ absurd (never_none_and_some (subst (λ n. lookup handle_of (rs ++ r ∷ []) n ≡ None) same distinct.0) (lookup-append_new handle_of rs r r.handle rest refl))
       | inr other ↦ lookup-there handle_of q rs r.handle other ∙ rest
     ]
 
@@ -46,9 +44,9 @@ usage-new n m is some c noted = subst (λ (b : Blocks). IsUsage (record { region
   pages = refl;
   regions = λ page r found. elim (cases_eq page 0) [
     | inl first ↦
-        let heap : region_pages (sizes_of r.blocks) ≡ 1 = ap (λ (q : Home). region_pages (sizes_of q.blocks)) (sym (same_some (ap (λ p. lookup handle_of no_blocks.regions (handle_of_page p)) (sym first) ∙ found))) in
+        let heap : region_pages (sizes_of r.blocks) ≡ 1 = ap (λ (q : Home). region_pages (sizes_of q.blocks)) (sym (same_from_some (ap (λ p. lookup handle_of no_blocks.regions (handle_of_page p)) (sym first) ∙ found))) in
         ap (slice_index (set (replicate n 0) 0 1)) first ∙ (get_or-set_same (replicate n 0) 0 1 0 (subst (λ k. 0 < k) (sym (length-replicate n 0)) some) ∙ sym heap)
-    | inr other ↦ absurd (not_both (lookup-append_other handle_of [] (empty_home 1 Sort.Heap) (handle_of_page page) (λ e. other (sym (same-page 0 page e)))) found)
+    | inr other ↦ absurd (never_none_and_some (lookup-append_other handle_of [] (empty_home 1 Sort.Heap) (handle_of_page page) (λ e. other (sym (same_from_odd 0 page e)))) found)
   ];
 })
 
@@ -97,12 +95,12 @@ module _ (x : TableState) (lexicals : List ℕ) (classes : List ClassSlots) (b :
           let last : lookup handle_of (b.regions ++ home ∷ []) (handle_of_page p) ≡ Some r = ap (λ rs. lookup handle_of rs (handle_of_page p)) (sym regions-are) ∙ found in
           elim (cases_eq p page) [
             | inl here ↦
-                let is : home ≡ r = same_some (sym (lookup-append_new handle_of b.regions home (handle_of_page page) fresh refl) ∙ (ap (λ q. lookup handle_of (b.regions ++ home ∷ []) (handle_of_page q)) (sym here) ∙ last)) in
+                let is : home ≡ r = same_from_some (sym (lookup-append_new handle_of b.regions home (handle_of_page page) fresh refl) ∙ (ap (λ q. lookup handle_of (b.regions ++ home ∷ []) (handle_of_page q)) (sym here) ∙ last)) in
                 ap (slice_index (set counts.regions page 1)) here
                 ∙ (get_or-set_same counts.regions page 1 0 there ∙ ap (λ (q : Home). region_pages (sizes_of q.blocks)) is)
             | inr away ↦
                 get_or-set_other counts.regions page p 1 0 away
-                ∙ u.regions p r (sym (lookup-append_other handle_of b.regions home (handle_of_page p) (λ e. away (sym (same-page page p e)))) ∙ last)
+                ∙ u.regions p r (sym (lookup-append_other handle_of b.regions home (handle_of_page p) (λ e. away (sym (same_from_odd page p e)))) ∙ last)
           ];
     }
 
@@ -177,11 +175,11 @@ module _ (x : TableState) (lexicals : List ℕ) (classes : List ClassSlots) (b :
     module _ (made : Block) (c : Blocks) (noted : c ≡ blocks_of (made_in (plain_store b) h made)) where
       -- what is found after it
       found-here : (q : Home) → lookup handle_of c.regions h ≡ Some q → q ≡ with_block made r
-      found-here q found = same_some (sym found ∙ (ap (λ (d : Blocks). lookup handle_of d.regions h) noted ∙ lookup-changed_same handle_of (with_block made) (λ z. refl) b.regions h r named))
+      found-here q found = same_from_some (sym found ∙ (ap (λ (d : Blocks). lookup handle_of d.regions h) noted ∙ lookup-changed_same handle_of (with_block made) (λ z. refl) b.regions h r named))
 
       found-there : (p : ℕ) (q : Home) → (p ≡ root → ⊥) → lookup handle_of c.regions (handle_of_page p) ≡ Some q → lookup handle_of b.regions (handle_of_page p) ≡ Some q
       found-there p q away found =
-          sym (lookup-changed_other handle_of (with_block made) (λ z. refl) b.regions h (handle_of_page p) (λ e. away (same-page p root e)))
+          sym (lookup-changed_other handle_of (with_block made) (λ z. refl) b.regions h (handle_of_page p) (λ e. away (same_from_odd p root e)))
           ∙ (ap (λ (d : Blocks). lookup handle_of d.regions (handle_of_page p)) (sym noted) ∙ found)
 
       own-pages : (q : Home) (m : Mark) → q ≡ with_block made r → next_mark (mark_of r) made.size ≡ m → region_pages (sizes_of q.blocks) ≡ m.pages

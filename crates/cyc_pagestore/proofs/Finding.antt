@@ -7,6 +7,7 @@ use Rattle.std.proofs.lemmas.Bool.{cases_eq, cases_lt}
 use Rattle.std.proofs.lemmas.List.{get_or_default}
 use Rattle.cyc_words.specs.Demand.{greatest_class}
 use Rattle.cyc_words.proofs.Booleans.{some_there}
+use Rattle.cyc_words.proofs.Numbers.{odd_is_twice_and_one}
 use Rattle.cyc_store.specs.Ledger.{Blocks, Stored, store_of}
 use Rattle.cyc_store.specs.State.{lookup, StoreState, Sort, Heap, Lexical, Dynamic, Uniques, Home, homes, holder, address_of, handle_of, saved, word_at}
 use Rattle.cyc_store.specs.Services.{names_dynamic}
@@ -18,7 +19,7 @@ use Rattle.cyc_store.specs.declared.range.TheConstants.{STORE_BASE, PAGE_WORDS, 
 use Rattle.cyc_store.specs.declared.row.PageTable.{PageTable}
 use Rattle.cyc_store.specs.declared.row.Row.{Row}
 use Rattle.cyc_store.specs.declared.row.ClassSlots.{ClassSlots}
-use Rattle.cyc_store.proofs.KeptClosing.{even-none, past-none, other-none, others-none, root-named, odd-handle}
+use Rattle.cyc_store.proofs.KeptClosing.{even-none, past-none, other-none, others-none, root-named}
 use Rattle.cyc_store.proofs.KeptBlocks.{block-unplaced, block-past, block-other, block-class, block-inner, block-dead, block-live}
 use Rattle.cyc_store.proofs.KeptLoads.{load-dead, load-none, load-inside, load-word}
 use Rattle.cyc_store.proofs.KeptSaving.{save-kept, save-saved}
@@ -67,13 +68,13 @@ module _ (x : TableState) (lexicals : List ℕ) (classes : List ClassSlots) (b :
     r = row_of x (h / 2)
 
     pub rest-unnamed : (r.role ≡ role.Heap → ⊥) → (r.role ≡ role.Lexical → ⊥) → (r.role ≡ role.Dynamic → ⊥) → lookup handle_of b.regions h ≡ None
-    rest-unnamed heap lexical dynamic = subst (λ n. lookup handle_of b.regions n ≡ None) (sym (odd-handle h odd))
+    rest-unnamed heap lexical dynamic = subst (λ n. lookup handle_of b.regions n ≡ None) (sym (odd_is_twice_and_one h odd))
         (other-none t lexicals classes b s.kept (h / 2) r (in-rows (h / 2) there) (row-read x lexicals classes b s (h / 2) there) heap lexical dynamic)
 
     pub root-known : IsRoot r.role → (h ≡ 2 * (h / 2) + 1) × (is_some (lookup handle_of b.regions h) ≡ true)
     root-known root = (
-      odd-handle h odd,
-      subst (λ n. is_some (lookup handle_of b.regions n) ≡ true) (sym (odd-handle h odd))
+      odd_is_twice_and_one h odd,
+      subst (λ n. is_some (lookup handle_of b.regions n) ≡ true) (sym (odd_is_twice_and_one h odd))
           (root-named t lexicals classes b s.kept (h / 2) r (in-rows (h / 2) there) (row-read x lexicals classes b s (h / 2) there) root),
     )
 

@@ -1,7 +1,8 @@
 -- The first page of a pool is taken: what the pool gives before it goes back.
-use Rattle.std.proofs.Common.{◌≡◌, ℕ, zero, suc, ◌<◌, Bool, true, false, List, [], ◌∷◌, length, length-set, set, refl, sym, ap, subst, ◌∙◌, inl, inr, arith, get_or-set_same, get_or-set_other}
+use Rattle.std.proofs.Common.{◌≡◌, ℕ, zero, suc, ◌<◌, Bool, true, false, List, [], ◌∷◌, length, length-set, set, sym, ap, subst, ◌∙◌, inl, inr, arith, get_or-set_same, get_or-set_other}
 use Rattle.std.specs.Prelude.{slice_index_or}
 use Rattle.std.proofs.lemmas.Bool.{cases_eq}
+use Rattle.cyc_words.proofs.Items.{set-back}
 use Rattle.cyc_rawpages.specs.inside.Lists.{chain_at, freed}
 use Rattle.cyc_rawpages.specs.inside.Pool.{PoolState, IsFree, IsHead}
 use Rattle.cyc_pagestore.specs.inside.Table.{AreAlone}
@@ -18,19 +19,6 @@ count-less (true ∷ xs) zero e = omega arith
 count-less (false ∷ xs) zero e = cc
 count-less (true ∷ xs) (suc i) e = let less = count-less xs i e in omega (arith, less)
 count-less (false ∷ xs) (suc i) e = count-less xs i e
-
--- an element that was written gets its old value
-pub set-again : {A : Type 0} (xs : List A) (i : ℕ) (x z d : A) → i < length xs → slice_index_or xs i d ≡ z → set (set xs i x) i z ≡ xs
-set-again [] i x z d there is = absurd (omega (arith, there))
-set-again (a ∷ xs) zero x z d there is = ap (λ y. y ∷ xs) (sym is)
-set-again (a ∷ xs) (suc i) x z d there is = ap (λ ys. a ∷ ys) (set-again xs i x z d (omega (arith, there)) is)
-
-pub set-back : {A : Type 0} (xs : List A) (i j : ℕ) (x y z d : A) → (i ≡ j → ⊥) → i < length xs → slice_index_or xs i d ≡ z → set (set (set xs i x) j y) i z ≡ set xs j y
-set-back [] i j x y z d other there is = absurd (omega (arith, there))
-set-back (a ∷ xs) zero zero x y z d other there is = absurd (other refl)
-set-back (a ∷ xs) zero (suc j) x y z d other there is = ap (λ b. b ∷ set xs j y) (sym is)
-set-back (a ∷ xs) (suc i) zero x y z d other there is = ap (λ ys. y ∷ ys) (set-again xs i x z d (omega (arith, there)) is)
-set-back (a ∷ xs) (suc i) (suc j) x y z d other there is = ap (λ ys. a ∷ ys) (set-back xs i j x y z d (λ e. other (ap suc e)) (omega (arith, there)) is)
 
 -- another page was taken before
 module _ (p : PoolState) (is : AreAlone p) (page : ℕ) (there : page < p.pages) (free : IsFree p.free page) (other : page ≡ 0 → ⊥) where

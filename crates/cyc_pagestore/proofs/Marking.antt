@@ -2,8 +2,9 @@
 use Rattle.std.proofs.Common.{◌≡◌, ℕ, ◌+◌, ◌<◌, ◌≤◌, Bool, sym, ◌∙◌, inl, inr, arith}
 use Rattle.std.specs.Prelude.{◌⊎◌}
 use Rattle.std.proofs.lemmas.Bool.{cases_lt}
+use Rattle.cyc_words.proofs.Numbers.{cases_within}
 use Rattle.cyc_store.specs.Table.{marked_between}
-use Rattle.cyc_store.proofs.TableLemmas.{cases_between, marked-in, marked-out}
+use Rattle.cyc_store.proofs.TableLemmas.{marked-in, marked-out}
 use Rattle.cyc_rawpages.specs.inside.Pool.{between}
 
 module _ (old mid new : ℕ → Bool) (first done some : ℕ) (mark : Bool)
@@ -14,7 +15,7 @@ module _ (old mid new : ℕ → Bool) (first done some : ℕ) (mark : Bool)
 
   -- so many marks more
   pub marks-more : (word : ℕ) → new word ≡ marked_between old first (done + some) mark word
-  marks-more word = elim (cases_between first (done + some) word) [
+  marks-more word = elim (cases_within first (done + some) word) [
     | inl inside ↦ elim (cases_lt word (first + done)) [
       | inl early ↦ stays word (inl early) ∙ were word ∙ marked-in old first done mark word inside.0 early ∙ sym (marked-in old first (done + some) mark word inside.0 inside.1)
       | inr late ↦ (let high = inside.1 in are word ∙ marked-in mid (first + done) some mark word late (omega (arith, high)) ∙ sym (marked-in old first (done + some) mark word inside.0 high))

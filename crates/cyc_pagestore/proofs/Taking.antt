@@ -8,6 +8,7 @@ use Rattle.std.proofs.lemmas.Bool.{cases_eq}
 use Rattle.std.proofs.lemmas.List.{append-nil}
 use Rattle.cyc_words.specs.Distinct.{IsDistinct}
 use Rattle.cyc_words.proofs.Numbers.{when_equal}
+use Rattle.cyc_words.proofs.Options.{never_none_and_some}
 use Rattle.cyc_store.specs.Ledger.{Blocks, store_of}
 use Rattle.cyc_store.specs.Pages.{IsFree}
 use Rattle.cyc_store.specs.Slots.{Layout, IsLaidOut}
@@ -20,7 +21,7 @@ use Rattle.cyc_store.specs.declared.row.TheConstants.{NONE}
 use Rattle.cyc_store.specs.declared.row.ClassSlots.{ClassSlots}
 use Rattle.cyc_store.specs.declared.range.TheConstants.{PAGE_WORDS}
 use Rattle.cyc_store.proofs.TieLemmas.{chain-also}
-use Rattle.cyc_store.proofs.LookupLemmas.{when_other, not_both}
+use Rattle.cyc_store.proofs.LookupLemmas.{when_other}
 use Rattle.cyc_store.proofs.TieClosing.{one-all, all-from}
 use Rattle.cyc_pagestore.specs.inside.Links.{head_or_none, relinked, removed}
 use Rattle.cyc_pagestore.specs.inside.Table.{TableState, Takes}
@@ -181,7 +182,7 @@ module _ (x : TableState) (lexicals : List ℕ) (classes : List ClassSlots) (b :
 
   row-owned : (p h : ℕ) → l.pages.owner p ≡ Some h → row_at (relinked x.rows front) p ≡ row_at t.rows.items p
   row-owned p h owned =
-      relinked-other x.rows front p (λ which. not_both (one-all (IsFree t.most l.pages) takes.order p unowned (front-order p which)).owner owned) ∙ ap (λ rs. row_at rs p) (sym s.reads.rows)
+      relinked-other x.rows front p (λ which. never_none_and_some (one-all (IsFree t.most l.pages) takes.order p unowned (front-order p which)).owner owned) ∙ ap (λ rs. row_at rs p) (sym s.reads.rows)
 
   rooted : (r : Home) → IsRooted (table_of t).row l.pages r → IsRooted (λ (p : ℕ). row_at (relinked x.rows front) p) l.pages r
   rooted r old = record {

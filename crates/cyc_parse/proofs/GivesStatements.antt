@@ -1,6 +1,6 @@
 -- What the parsers of statements and items answer is what the symbols spell, formed as the grammar asks.
 use Rattle.std.proofs.Common.{◌≡◌, ℕ, zero, suc, ◌≤◌, ◌<◌, Bool, true, false, ◌&&◌, ◌||◌, List, [], ◌∷◌, ◌++◌, length, Option, Some, refl, sym, ap, ◌∙◌, arith, append-nil, append_assoc, true≢false}
-use Rattle.cyc_words.proofs.Booleans.{and_right}
+use Rattle.cyc_words.proofs.Booleans.{and_right, anything_from_false_is_true}
 use Rattle.cyc_syntax.specs.declared.tokens.Keyword.TheVariants as words
 use Rattle.cyc_syntax.specs.declared.tokens.Sign.TheVariants as signs
 use Rattle.cyc_syntax.specs.Symbols.{Place, Terminal, Identifier, Word, Mark, Symbol}
@@ -16,9 +16,6 @@ use Rattle.cyc_parse.proofs.Gives.{Gives, Follows, Spells, Any, part_then, spell
 use Rattle.cyc_parse.proofs.Openings.{named_at, IsStatementBefore, statement_opened, items_opened}
 use Rattle.cyc_parse.proofs.GivesTypes.{region_of_gives, written_type_gives}
 use Rattle.cyc_parse.proofs.GivesExpressions.{Level, NestedGive, nested_give, named_climb_gives, assignment_gives}
-
-no_else : {P : Type 0} → false ≡ true → P
-no_else e = absurd (true≢false (sym e))
 
 unary_of : (e : Expression) → IsExpression 11 e → is_unary e ≡ true → IsExpression 0 e
 unary_of (Binary e os) is u = absurd (cc)
@@ -82,14 +79,14 @@ module _ (room d : ℕ) (inner : Nested) (fits : Fits (suc room) d) (h : Stateme
   expression_from_gives x ts = part_then (named_climb_gives room d (nested room) fits below x ts) (λ e xs mid (eq, is). gives_as (λ y ys rest (e', is'). (ap (λ (zs : Yield). zs ++ ys) eq ∙ e', is')) (assignment_gives room d (nested room) fits below e is mid))
 
   swap_gives : (a : Expression) → IsExpression 0 a → (ts : List Symbol) → Gives (swap room inner a) (Follows (yields.expression d a) (yields.statement d) IsStatementBefore) ts
-  swap_gives a is ts = sign_then (suc room) d signs.Swap fits (λ _ mid. spelled_then (this.unary mid) (λ b mid isb. spelled_then (end_of_swap_gives (suc room) d fits b mid) (λ _ mid _. pure_gives (refl, ((is, isb), no_else)))))
+  swap_gives a is ts = sign_then (suc room) d signs.Swap fits (λ _ mid. spelled_then (this.unary mid) (λ b mid isb. spelled_then (end_of_swap_gives (suc room) d fits b mid) (λ _ mid _. pure_gives (refl, ((is, isb), anything_from_false_is_true)))))
 
   behind_gives : (e : Expression) → IsExpression 11 e → (ts : List Symbol) → Gives (behind room inner e) (Follows (yields.expression d e) (yields.statement d) IsStatementBefore) ts
   behind_gives e is ts = test_gives (λ s. sees signs.Swap s && is_unary e) (λ t. swap_gives e (unary_of e is (and_right (sees signs.Swap ts) (is_unary e) t)) ts)
-      (λ _. sign_then (suc room) d signs.Semicolon fits (λ _ mid. pure_gives (refl, (is, no_else))))
+      (λ _. sign_then (suc room) d signs.Semicolon fits (λ _ mid. pure_gives (refl, (is, anything_from_false_is_true))))
 
   statement_from_name_gives : (x : Named) (ts : List Symbol) → Gives (statement_from_name room inner x) (Follows (leaf_at d (Identifier x.name) x.place ∷ []) (yields.statement d) IsStatementBefore) ts
-  statement_from_name_gives x ts = sees_gives signs.Colon (sign_then (suc room) d signs.Colon fits (λ _ mid. last_then (Labelled x) (body_gives mid) (λ b rest is. (refl, (is, no_else)))))
+  statement_from_name_gives x ts = sees_gives signs.Colon (sign_then (suc room) d signs.Colon fits (λ _ mid. last_then (Labelled x) (body_gives mid) (λ b rest is. (refl, (is, anything_from_false_is_true)))))
       (part_then (expression_from_gives x ts) (λ e xs mid (eq, is). gives_as (λ y ys rest (e', is'). (ap (λ (zs : Yield). zs ++ ys) eq ∙ e', is')) (behind_gives e is mid)))
 
   abbrev condition : Expression → Yield
@@ -126,7 +123,7 @@ module _ (room d : ℕ) (inner : Nested) (fits : Fits (suc room) d) (h : Stateme
   thrown_gives ts = sees_gives signs.LeftParen (last_then Some (below.group ts) (λ e rest is. (refl, is))) (pure_gives (refl, tt))
 
   throw_statement_gives : (p : Place) (ts : List Symbol) → Gives (throw_statement room inner p) (Follows (leaf_at d (Word words.Throw) p ∷ []) (yields.statement d) IsStatementBefore) ts
-  throw_statement_gives p ts = word_then (suc room) d words.New fits (λ _ mid. identifier_then room (suc d) deeper (λ x mid. spelled_then (thrown_gives mid) (λ v mid is. sign_then (suc room) d signs.Semicolon fits (λ _ mid. pure_gives (refl, (is, no_else))))))
+  throw_statement_gives p ts = word_then (suc room) d words.New fits (λ _ mid. identifier_then room (suc d) deeper (λ x mid. spelled_then (thrown_gives mid) (λ v mid is. sign_then (suc room) d signs.Semicolon fits (λ _ mid. pure_gives (refl, (is, anything_from_false_is_true))))))
 
   caught_gives : (ts : List Symbol) → Gives (caught room inner) (Spells (yields.optional (yields.caught (suc d))) Any) ts
   caught_gives ts = sees_gives signs.LeftParen (closed_name room (suc d) deeper ts) (pure_gives (refl, tt))
@@ -158,17 +155,17 @@ module _ (room d : ℕ) (inner : Nested) (fits : Fits (suc room) d) (h : Stateme
 
   try_statement_gives : (p : Place) (ts : List Symbol) → Gives (try_statement room inner p) (Follows (leaf_at d (Word words.Try) p ∷ []) (yields.statement d) IsStatementBefore) ts
   try_statement_gives p ts = spelled_then (h.statement ts) (λ s mid (iss, _). word_then (suc room) d words.Catch fits (λ _ mid. sign_then (suc room) d signs.LeftBrace fits (λ _ mid. spelled_then (clauses_give mid) (λ cs mid (some, are).
-      sign_then room (suc d) signs.RightBrace deeper (λ _ mid. pure_gives (refl, ((iss, some, are), no_else)))))))
+      sign_then room (suc d) signs.RightBrace deeper (λ _ mid. pure_gives (refl, ((iss, some, are), anything_from_false_is_true)))))))
 
   statement_by_gives : (o : Option Terminal) (ts : List Symbol) → next ts ≡ o → Gives (statement_by room inner o) (Spells (yields.statement d) IsStatementBefore) ts
   statement_by_gives (Some (Identifier x)) ts e = advance_then d (Identifier x) e shallow (λ p mid. statement_from_name_gives (record { name = x; place = p }) mid)
-  statement_by_gives (Some (Mark signs.LeftBrace)) ts e = last_then Block (body_gives ts) (λ b rest is. (refl, (is, no_else)))
-  statement_by_gives (Some (Mark signs.Semicolon)) ts e = advance_then d (Mark signs.Semicolon) e shallow (λ p mid. pure_gives (refl, (tt, no_else)))
+  statement_by_gives (Some (Mark signs.LeftBrace)) ts e = last_then Block (body_gives ts) (λ b rest is. (refl, (is, anything_from_false_is_true)))
+  statement_by_gives (Some (Mark signs.Semicolon)) ts e = advance_then d (Mark signs.Semicolon) e shallow (λ p mid. pure_gives (refl, (tt, anything_from_false_is_true)))
   statement_by_gives (Some (Word words.If)) ts e = advance_then d (Word words.If) e shallow (λ p mid. if_statement_gives p mid)
   statement_by_gives (Some (Word words.While)) ts e = advance_then d (Word words.While) e shallow (λ p mid. while_statement_gives p mid)
-  statement_by_gives (Some (Word words.Return)) ts e = advance_then d (Word words.Return) e shallow (λ p mid. spelled_then (return_value_gives mid) (λ v mid is. sign_then (suc room) d signs.Semicolon fits (λ _ mid. pure_gives (refl, (is, no_else)))))
-  statement_by_gives (Some (Word words.Break)) ts e = advance_then d (Word words.Break) e shallow (λ p mid. sign_then (suc room) d signs.Semicolon fits (λ _ mid. pure_gives (refl, (tt, no_else))))
-  statement_by_gives (Some (Word words.Continue)) ts e = advance_then d (Word words.Continue) e shallow (λ p mid. sign_then (suc room) d signs.Semicolon fits (λ _ mid. pure_gives (refl, (tt, no_else))))
+  statement_by_gives (Some (Word words.Return)) ts e = advance_then d (Word words.Return) e shallow (λ p mid. spelled_then (return_value_gives mid) (λ v mid is. sign_then (suc room) d signs.Semicolon fits (λ _ mid. pure_gives (refl, (is, anything_from_false_is_true)))))
+  statement_by_gives (Some (Word words.Break)) ts e = advance_then d (Word words.Break) e shallow (λ p mid. sign_then (suc room) d signs.Semicolon fits (λ _ mid. pure_gives (refl, (tt, anything_from_false_is_true))))
+  statement_by_gives (Some (Word words.Continue)) ts e = advance_then d (Word words.Continue) e shallow (λ p mid. sign_then (suc room) d signs.Semicolon fits (λ _ mid. pure_gives (refl, (tt, anything_from_false_is_true))))
   statement_by_gives (Some (Word words.Throw)) ts e = advance_then d (Word words.Throw) e shallow (λ p mid. throw_statement_gives p mid)
   statement_by_gives (Some (Word words.Try)) ts e = advance_then d (Word words.Try) e shallow (λ p mid. try_statement_gives p mid)
   statement_by_gives _ ts e = spelled_then (expression_gives ts) (λ x mid is. behind_gives x is mid)
@@ -236,7 +233,7 @@ module _ (room d : ℕ) (inner : Nested) (fits : Fits (suc room) d) (h : Stateme
 pub nested_statements_give : (room d : ℕ) → Fits room d → StatementsGive d (nested_statements room)
 unfolding nested_statements
 nested_statements_give zero d fits = record {
-  statement = λ ts. item_refusal_gives begins_statement TooDeep (possibly (Empty some_place) _ (refl, (tt, no_else))) (statement_opened d);
+  statement = λ ts. item_refusal_gives begins_statement TooDeep (possibly (Empty some_place) _ (refl, (tt, anything_from_false_is_true))) (statement_opened d);
   items = λ ts. starts_gives begins_item (λ comes. begun_gives begins_item TooDeep comes (items_opened d)) (λ _. pure_gives (refl, tt));
 }
 nested_statements_give (suc room) d fits = let h = nested_statements_give room (suc d) (omega arith) in record {

@@ -1,6 +1,7 @@
 -- What stands behind `new` is read as it is written, and with it all expressions.
 use Rattle.std.proofs.Common.{◌≡◌, ℕ, zero, suc, ◌≤◌, ◌<◌, Bool, true, false, cond, List, [], ◌∷◌, ◌++◌, length, Some, refl, sym, ap, subst, ◌∙◌, arith, length-append, inl, inr}
 use Rattle.std.proofs.lemmas.Bool.Decides.{eqb_tells}
+use Rattle.cyc_words.proofs.Numbers.{below_when_not_last}
 use Rattle.cyc_syntax.specs.declared.tokens.Keyword.TheVariants as words
 use Rattle.cyc_syntax.specs.declared.tokens.Sign.TheVariants as signs
 use Rattle.cyc_syntax.specs.Symbols.{Place, Terminal, Identifier, RegionName, Word, Mark, Symbol}
@@ -150,9 +151,6 @@ module _ (room d : ℕ) (fits : Fits (suc room) d) where
 
 -- ---- all expressions
 
-below_if_other : (a b : ℕ) → a < suc b → (a ≡ b → ⊥) → a < b
-below_if_other a b h other = omega arith
-
 binary_read : (e : Expression) → IsReadAll e → (room d : ℕ) → Fits room d → IsExpression 10 e → Reads (nested room).binary e (yields.expression d e) (Stops 10)
 unfolding nested
 binary_read e h zero d fits is = deep_reads begins_expression d (omega arith) (expression_starts d e)
@@ -180,7 +178,7 @@ chain_read e os h parts = record { unary = at_unary; operand = at_operand; expre
     climbing (suc k) below room d fits less limit first some are = elim (eqb_tells below k) [
       | inl same ↦ subst (λ (n : ℕ). Reads (bind (nested (suc room)).unary (climb (nested (suc room)).unary (suc n))) (Binary e os) (yields.expression d (Binary e os)) (Stops (suc n))) same.1
           (chain_reads (nested (suc room)).unary below d (shallow room d fits) e os some (h.operand below (suc room) d fits (omega arith) first) (parts below room d fits are (omega arith)))
-      | inr other ↦ climb_more (nested (suc room)).unary k (climbing k below room d fits (below_if_other below k less other.1) limit first some are)
+      | inr other ↦ climb_more (nested (suc room)).unary k (climbing k below room d fits (below_when_not_last below k less other.1) limit first some are)
     ]
 
     at_operand : (k room d : ℕ) → Fits room d → k ≤ 10 → IsExpression k (Binary e os) → Reads (bind (nested room).unary (climb (nested room).unary k)) (Binary e os) (yields.expression d (Binary e os)) (Stops k)

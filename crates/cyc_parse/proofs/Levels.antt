@@ -6,6 +6,8 @@ use Rattle.std.specs.Prelude.{nat_lt, is_some}
 use Rattle.std.specs.declared.vec.Vec.{Vec}
 use Rattle.std.specs.declared.boxed.Box.{Box}
 use Rattle.std.specs.declared.alloc.Global.{Global as Heap}
+use Rattle.cyc_words.proofs.Booleans.{and_false_not_both}
+use Rattle.cyc_words.proofs.Options.{cond-some_same, cond-some_none}
 use Rattle.cyc_syntax.specs.declared.tree.BinaryOperator.{BinaryOperator}
 use Rattle.cyc_syntax.specs.declared.tree.Expr.{Expr}
 use Rattle.cyc_syntax.specs.declared.tree.Expr.TheVariants as expr
@@ -47,27 +49,14 @@ operator_comes k (Some t) o h = refl
 
 -- the operators of levels of which none comes next
 
-some_level : (b : Bool) (k l : ℕ) → cond b (Some k) None ≡ Some l → k ≡ l
-some_level true k l h = cc
-some_level false k l h = absurd (cc)
-
-not_within : (b : Bool) (k : ℕ) → cond b (Some k) None ≡ None → b ≡ false
-not_within true k h = absurd (cc)
-not_within false k h = refl
-
-one_fails : (b c : Bool) → b && c ≡ false → b ≡ true → c ≡ true → ⊥
-one_fails true true h p q = absurd (cc)
-one_fails true false h p q = absurd (cc)
-one_fails false c h p q = absurd (cc)
-
 operator_beyond : (o : Option BinaryOperator) (below most k : ℕ) → level_within below most o ≡ None → below < k → k ≤ most → of_level k o ≡ None
 operator_beyond None below most k none lt le = refl
 operator_beyond (Some o) below most k none lt le =
-    rw (ne_eqb (level o) k (λ e. one_fails (nat_lt below (level o)) (is_within most (Some o)) (not_within (nat_lt below (level o) && is_within most (Some o)) (level o) none) (lt-ltb below (level o) (omega (arith, e, lt))) (le-leb (level o) most (omega (arith, e, le))))) refl
+    rw (ne_eqb (level o) k (λ e. and_false_not_both (nat_lt below (level o)) (is_within most (Some o)) (cond-some_none (nat_lt below (level o) && is_within most (Some o)) (level o) none) (lt-ltb below (level o) (omega (arith, e, lt))) (le-leb (level o) most (omega (arith, e, le))))) refl
 
 other : (o : Option BinaryOperator) (below most l k : ℕ) → level_within below most o ≡ Some l → (k ≡ l → ⊥) → of_level k o ≡ None
 other None below most l k is apart = refl
-other (Some o) below most l k is apart = rw (ne_eqb (level o) k (λ e. apart (sym e ∙ some_level (nat_lt below (level o) && is_within most (Some o)) (level o) l is))) refl
+other (Some o) below most l k is apart = rw (ne_eqb (level o) k (λ e. apart (sym e ∙ cond-some_same (nat_lt below (level o) && is_within most (Some o)) (level o) l is))) refl
 
 none_beyond : (t : Option Terminal) (below most k : ℕ) → level_at below most t ≡ None → below < k → k ≤ most → operator_at k t ≡ None
 none_beyond (Some (Mark s)) below most k none lt le = operator_beyond (binary_operator s) below most k none lt le
@@ -82,7 +71,7 @@ level_within_range None below most l is = absurd (cc)
 level_within_range (Some o) below most l is = go (nat_lt below (level o)) (is_within most (Some o)) refl refl is
   where
     go : (b c : Bool) → nat_lt below (level o) ≡ b → is_within most (Some o) ≡ c → cond (b && c) (Some (level o)) None ≡ Some l → (below < l) × (l ≤ most)
-    go true true p q e = (omega (arith, ltb-true below (level o) p, some_level true (level o) l e), omega (arith, leb-true (level o) most q, some_level true (level o) l e))
+    go true true p q e = (omega (arith, ltb-true below (level o) p, cond-some_same true (level o) l e), omega (arith, leb-true (level o) most q, cond-some_same true (level o) l e))
     go true false p q e = absurd (cc)
     go false c p q e = absurd (cc)
 

@@ -1,6 +1,8 @@
 -- An operand of operators that is one number or one name: neither arguments nor a postfix nor a tighter operator comes behind it.
 -- And a postfix that is no index.
-use Rattle.std.proofs.Common.{◌≡◌, ℕ, zero, suc, Bool, true, false, ◌||◌, List, [], ◌∷◌, Option, None, Some, is_some, Ok, refl, ap, ◌∙◌}
+use Rattle.std.proofs.Common.{◌≡◌, ℕ, zero, suc, false, ◌||◌, List, [], ◌∷◌, Option, None, Some, is_some, Ok, refl, ap, ◌∙◌}
+use Rattle.std.proofs.lemmas.Bool.{or_parts}
+use Rattle.cyc_words.proofs.Options.{none_from_is_some}
 use Rattle.cyc_syntax.specs.declared.tokens.Sign.TheVariants as signs
 use Rattle.cyc_syntax.specs.Symbols.{Terminal, Place, Symbol, Identifier}
 use Rattle.cyc_syntax.specs.Symbols as terminals
@@ -11,19 +13,10 @@ use Rattle.cyc_parse.specs.inside.Expressions.{Nested, nested, unary, primary, p
 use Rattle.cyc_parse.specs.inside.Steps.{one_field, one_postfix, with_chain, level_at, behind, is_continued, operand}
 use Rattle.cyc_parse.proofs.Levels.{climb_all, climb_ends}
 
-no_either : (b c : Bool) → b || c ≡ false → (b ≡ false) × (c ≡ false)
-no_either false false h = (refl, refl)
-no_either false true h = absurd (cc)
-no_either true c h = absurd (cc)
-
-no_level : (o : Option ℕ) → is_some o ≡ false → o ≡ None
-no_level None h = refl
-no_level (Some k) h = absurd (cc)
-
 no_postfix_seen : (room left : ℕ) (inner : Nested) (ts : List Symbol) → sees signs.LeftBracket ts || sees signs.Arrow ts ≡ false → postfixes room inner left ts ≡ Ok (NoPostfixes, ts)
 unfolding postfixes if_sees
-no_postfix_seen room zero inner ts none = let each = no_either (sees signs.LeftBracket ts) (sees signs.Arrow ts) none in rw (each.0, each.1) refl
-no_postfix_seen room (suc left) inner ts none = let each = no_either (sees signs.LeftBracket ts) (sees signs.Arrow ts) none in rw (each.0, each.1) refl
+no_postfix_seen room zero inner ts none = let each = or_parts (sees signs.LeftBracket ts) (sees signs.Arrow ts) none in rw (each.0, each.1) refl
+no_postfix_seen room (suc left) inner ts none = let each = or_parts (sees signs.LeftBracket ts) (sees signs.Arrow ts) none in rw (each.0, each.1) refl
 
 -- an operand without postfixes
 pub no_chain : (room : ℕ) (e : Expression) (ts : List Symbol) → sees signs.LeftBracket ts || sees signs.Arrow ts ≡ false → with_chain room (nested room) e ts ≡ Ok (e, ts)
@@ -37,19 +30,19 @@ operand_ends room below e ts us first none = rw first (climb_all room below e us
 
 module _ (room below : ℕ) (t : Symbol) (ts : List Symbol) (alone : is_continued below ts ≡ false) where
   no_call : sees signs.LeftParen ts ≡ false
-  no_call = (no_either (sees signs.LeftParen ts) ((sees signs.LeftBracket ts || sees signs.Arrow ts) || is_some (level_at 0 below (next ts))) alone).0
+  no_call = (or_parts (sees signs.LeftParen ts) ((sees signs.LeftBracket ts || sees signs.Arrow ts) || is_some (level_at 0 below (next ts))) alone).0
 
   no_more : (sees signs.LeftBracket ts || sees signs.Arrow ts ≡ false) × (is_some (level_at 0 below (next ts)) ≡ false)
-  no_more = no_either (sees signs.LeftBracket ts || sees signs.Arrow ts) (is_some (level_at 0 below (next ts)))
-      (no_either (sees signs.LeftParen ts) ((sees signs.LeftBracket ts || sees signs.Arrow ts) || is_some (level_at 0 below (next ts))) alone).1
+  no_more = or_parts (sees signs.LeftBracket ts || sees signs.Arrow ts) (is_some (level_at 0 below (next ts)))
+      (or_parts (sees signs.LeftParen ts) ((sees signs.LeftBracket ts || sees signs.Arrow ts) || is_some (level_at 0 below (next ts))) alone).1
 
   number : (n : ℕ) → t.terminal ≡ terminals.Number n → operand room (nested room) below (t ∷ ts) ≡ Ok (Number t.place n, ts)
   unfolding unary primary choose bind
-  number n is = operand_ends room below (Number t.place n) (t ∷ ts) ts (rw is (rw (no_postfix_seen room max_items (nested room) ts no_more.0) refl)) (no_level (level_at 0 below (next ts)) no_more.1)
+  number n is = operand_ends room below (Number t.place n) (t ∷ ts) ts (rw is (rw (no_postfix_seen room max_items (nested room) ts no_more.0) refl)) (none_from_is_some (level_at 0 below (next ts)) no_more.1)
 
   variable : (x : ℕ) → t.terminal ≡ Identifier x → operand room (nested room) below (t ∷ ts) ≡ Ok (Variable (record { name = x; place = t.place }), ts)
   unfolding unary primary choose bind if_sees
-  variable x is = operand_ends room below (Variable (record { name = x; place = t.place })) (t ∷ ts) ts (rw is (rw no_call (rw (no_postfix_seen room max_items (nested room) ts no_more.0) refl))) (no_level (level_at 0 below (next ts)) no_more.1)
+  variable x is = operand_ends room below (Variable (record { name = x; place = t.place })) (t ∷ ts) ts (rw is (rw no_call (rw (no_postfix_seen room max_items (nested room) ts no_more.0) refl))) (none_from_is_some (level_at 0 below (next ts)) no_more.1)
 
 terminal_of : Terminal → Option Terminal → Terminal
 terminal_of t None = t

@@ -1,6 +1,7 @@
 -- What may follow an expression of a level: nothing that goes on with it.
 use Rattle.std.proofs.Common.{◌≡◌, ℕ, ◌≤◌, ◌<◌, Bool, true, false, cond, List, [], ◌∷◌, Option, Some, None, refl, sym, subst, arith}
 use Rattle.std.proofs.lemmas.Bool.{ne_eqb}
+use Rattle.cyc_words.proofs.Numbers.{below_chosen}
 use Rattle.cyc_syntax.specs.declared.tokens.Sign.{Sign}
 use Rattle.cyc_syntax.specs.declared.tokens.Sign.TheVariants as signs
 use Rattle.cyc_syntax.specs.declared.tree.BinaryOperator.{BinaryOperator}
@@ -106,14 +107,9 @@ assign_binds (Mark signs.Assign) h = absurd (omega arith)
 assign_binds (Mark _) h = refl
 assign_binds _ h = refl
 
--- whatever the test on `<` says
-loosely : (k : ℕ) (b : Bool) (n : ℕ) → k < cond b 0 n → k < n
-loosely k true n h = absurd (omega arith)
-loosely k false n h = h
-
 pub no_assign : (ts : List Symbol) → Stops 11 ts → sees signs.Assign ts ≡ false
 no_assign [] stops = refl
-no_assign (t ∷ ts) stops = assign_binds t.terminal (loosely 11 (opens_regions (t ∷ ts)) (binds_terminal t.terminal) stops.loose)
+no_assign (t ∷ ts) stops = assign_binds t.terminal (below_chosen 11 (opens_regions (t ∷ ts)) (binds_terminal t.terminal) stops.loose)
 
 not_of_level : (o : Option BinaryOperator) (j k : ℕ) → j ≤ k → k < operator_level o → of_level j o ≡ None
 not_of_level None j k h l = refl
@@ -133,4 +129,4 @@ operator_above j k _ h l = refl
 
 pub no_operator : (j k : ℕ) (ts : List Symbol) → j ≤ k → Stops k ts → operator_at j (next ts) ≡ None
 no_operator j k [] h stops = refl
-no_operator j k (t ∷ ts) h stops = operator_above j k t.terminal h (loosely k (opens_regions (t ∷ ts)) (binds_terminal t.terminal) stops.loose)
+no_operator j k (t ∷ ts) h stops = operator_above j k t.terminal h (below_chosen k (opens_regions (t ∷ ts)) (binds_terminal t.terminal) stops.loose)

@@ -1,8 +1,9 @@
 -- Where loads and stores find words: each global, each word of a live block, and each slot that is named by its address has an
 -- address of its own, since the slots of the calls under way lie one below the other.
-use Rattle.std.proofs.Common.{◌≡◌, ◌≢◌, ℕ, zero, suc, ◌+◌, ◌-◌, ◌*◌, ◌/◌, ◌<◌, ◌≤◌, Bool, true, false, ◌&&◌, ◌||◌, List, [], ◌∷◌, length, Option, None, Some, set, slice_get, refl, sym, ap, subst, ◌∙◌, arith, inl, inr}
-use Rattle.std.specs.Prelude.{◌==◌, ◌⊎◌, nat_le, nat_lt, if◌then◌else◌}
-use Rattle.std.proofs.lemmas.Bool.{cond-true, cond-false, and_from, and_parts, eq-eqb, eqb-true, ltb-true, leb-true, lt-ltb, le-leb, le-ltb, or_left, or_right}
+use Rattle.std.proofs.Common.{◌≡◌, ◌≢◌, ℕ, zero, suc, ◌+◌, ◌-◌, ◌*◌, ◌/◌, ◌<◌, ◌≤◌, Bool, true, false, ◌&&◌, List, [], ◌∷◌, length, Option, None, Some, set, slice_get, refl, sym, ap, subst, ◌∙◌, arith, inl, inr}
+use Rattle.std.specs.Prelude.{◌==◌, nat_le, nat_lt, if◌then◌else◌}
+use Rattle.std.proofs.lemmas.Bool.{cond-true, cond-false, and_from, and_parts, eq-eqb, eqb-true, ltb-true, leb-true, lt-ltb, le-leb, le-ltb, or_left, or_right, or_cases}
+use Rattle.cyc_words.proofs.Members.{All_at}
 use Rattle.cyc_store.specs.State.{StoreState, word_at, saved}
 use Rattle.cyc_store.specs.declared.range.TheConstants.{STORE_BASE}
 use Rattle.cyc_plain.specs.declared.instruction.Instruction.{Instruction}
@@ -12,7 +13,7 @@ use Rattle.cyc_plain.specs.inside.Program.{Program, routine_at}
 use Rattle.cyc_plain.specs.inside.State.{put, Frame, Configuration}
 use Rattle.cyc_plain.specs.inside.WellFormed.{IsInRange, IsWellFormed}
 use Rattle.cyc_plain.specs.inside.Memory.{slots_base, slots_end, AreBelow, Range, pins, is_pinned, numbered, global_at, slot_at, word_or, word_waiting, put_or, with_waiting, OfGlobals, OfStore, OfSlots, range_of, word_in, memory_at, with_global, with_slot, with_word, with_memory}
-use Rattle.cyc_plain.proofs.Placed.{holds_at, routine_in}
+use Rattle.cyc_plain.proofs.Placed.{routine_in}
 use Rattle.cyc_plain.proofs.Steps.{function_known}
 
 -- ---- words one behind the other
@@ -42,10 +43,6 @@ numbered-none is_asked base a apart = go (numbered is_asked base a) refl
 
 -- ---- slots that are named by their address
 
-pub or_either : (a b : Bool) → (a || b) ≡ true → (a ≡ true) ⊎ (b ≡ true)
-or_either true b is = inl refl
-or_either false b is = inr is
-
 -- an instruction of the code names it
 record IsPinned (code : List Instruction) (slot : ℕ) : Type 0 where
   index : ℕ
@@ -58,7 +55,7 @@ record IsPinned (code : List Instruction) (slot : ℕ) : Type 0 where
 
 pinned_is_pinned : (code : List Instruction) (slot : ℕ) → is_pinned code slot ≡ true → IsPinned code slot
 pinned_is_pinned [] slot pinned = absurd (let e : false ≡ true = pinned in cc)
-pinned_is_pinned (i ∷ code) slot pinned = elim (or_either (pins i slot) (is_pinned code slot) pinned) [
+pinned_is_pinned (i ∷ code) slot pinned = elim (or_cases (pins i slot) (is_pinned code slot) pinned) [
   | inl here ↦ by_first i here
   | inr there ↦
       let p = pinned_is_pinned code slot there in
@@ -91,7 +88,7 @@ pinned-inside program well function slot pinned =
     let known = function_known program (record { function = function; index = p.index }) (instructions.AddressOf p.destination p.first p.count) p.at in
     let routine = routine_in program function well known in
     let range : IsInRange program (routine_at program function) (instructions.AddressOf p.destination p.first p.count) =
-    holds_at (IsInRange program (routine_at program function)) (routine_at program function).code p.index (instructions.AddressOf p.destination p.first p.count) routine.instructions p.at in
+    All_at (IsInRange program (routine_at program function)) (routine_at program function).code p.index (instructions.AddressOf p.destination p.first p.count) routine.instructions p.at in
     omega (arith, p.below, range.2)
 
 -- ---- the calls that wait

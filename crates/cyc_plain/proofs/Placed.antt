@@ -1,8 +1,7 @@
 -- In a run of a well-formed program every place is in its function's code.
 use Rattle.std.proofs.Common.{◌≡◌, ℕ, zero, suc, ◌+◌, ◌-◌, ◌%◌, ◌<◌, Bool, true, false, List, [], ◌∷◌, length, Option, None, Some, slice_get, refl, sym, ap, subst, ◌∙◌, arith, inl, inr}
 use Rattle.std.proofs.lemmas.Bool.{cases_lt}
-use Rattle.std.proofs.lemmas.Option.{get_or_from_slice_get}
-use Rattle.std.specs.Prelude.{All, IsSomeAnd, ◌==◌, if◌then◌else◌, ◌⊎◌}
+use Rattle.std.specs.Prelude.{IsSomeAnd, ◌==◌, if◌then◌else◌, ◌⊎◌}
 use Rattle.std.specs.List.{AllByRecursion}
 use Rattle.cyc_words.specs.Ending.{Uncaught, Full}
 use Rattle.cyc_words.specs.Word.{signed, add_of}
@@ -19,23 +18,14 @@ use Rattle.cyc_plain.specs.inside.Requests.{destination_of}
 use Rattle.cyc_words.specs.Simulation as simulation
 use Rattle.cyc_words.specs.Simulation.{Run}
 use Rattle.cyc_words.proofs.Lists.{slice_get_below}
+use Rattle.cyc_words.proofs.Items.{below_from_slice_get}
+use Rattle.cyc_words.proofs.Members.{All_at}
 use Rattle.cyc_plain.specs.inside.Program.{Routine, Program, no_routine, routine_at}
 use Rattle.cyc_plain.specs.inside.State.{put, Handler, Open, Caught, Activation, Frame, Configuration, State, Running, Ended, Stuck, status_of, place_of}
 use Rattle.cyc_plain.specs.inside.Memory.{Range, OfGlobals, OfStore, OfSlots, range_of, global_at, slot_at, put_or, with_waiting, memory_at, with_global, with_slot, with_word}
 use Rattle.cyc_plain.specs.inside.Step.{Choice, gives, operand_word, returns, loads, saves, loads_byte, saves_byte, advanced, asks, is_intact, tries, closes, lands, throws, finishes, call_in, call_of, asked, performed, executed, instruction_at, step, limit_at, Step, start, machine}
 use Rattle.cyc_plain.specs.inside.WellFormed.{IsInRange, IsRoutine, IsWellFormed, leaves, DividesByZero, AsksAt, AsksForNoWord, AsksInVain, AsksForHandlers}
 use Rattle.cyc_plain.proofs.RunLaws.{limited_either, if_either}
-
--- ---- lists
-
-pub below_of_get : {X : Type 0} (xs : List X) (k : ℕ) (x : X) → slice_get xs k ≡ Some x → k < length xs
-below_of_get [] k x at = absurd (let e : None ≡ Some x = at in cc)
-below_of_get (y ∷ ys) zero x at = omega arith
-below_of_get (y ∷ ys) (suc k) x at = omega (arith, below_of_get ys k x at)
-
--- what holds of all elements holds of one
-pub holds_at : {X : Type 0} (P : X → Type 0) (xs : List X) (k : ℕ) (x : X) → All P xs → slice_get xs k ≡ Some x → P x
-holds_at P xs k x all at = subst P (get_or_from_slice_get xs k x x at) (all k x (below_of_get xs k x at))
 
 -- ---- well-formed programs
 
@@ -60,7 +50,7 @@ goes_behind program r place i routine at stays =
     elim (cases_lt (place + 1) (length r.code)) [
       | inl below ↦ below
       | inr end ↦
-          let inside = below_of_get r.code place i at in
+          let inside = below_from_slice_get r.code place i at in
           let last : length r.code - 1 ≡ place = omega arith in
           let left : leaves i ≡ true = last_is_some r routine.last i (ap (slice_get r.code) last ∙ at) in
           absurd (let e : false ≡ true = sym stays ∙ left in cc)
@@ -225,7 +215,7 @@ module _ (program : Program) (well : IsWellFormed program) (choice : Choice) (c 
   performs (instructions.Enter function) at range = (behind _ at refl, handling, waiting)
 
   executes : (o : Option Instruction) → slice_get here.code c.active.next ≡ o → IsPlaced program (executed program choice c o)
-  executes (Some i) at = performs i at (holds_at (IsInRange program here) here.code c.active.next i routine.instructions at)
+  executes (Some i) at = performs i at (All_at (IsInRange program here) here.code c.active.next i routine.instructions at)
   executes None at = tt
 
 -- each step goes to a place in the code
@@ -326,7 +316,7 @@ fails program choice c (instructions.StoreByte address offset source) at range f
 fails_placed : (program : Program) (choice : Choice) (s : State) → IsWellFormed program → IsPlaced program s → status_of s ≡ simulation.Running → status_of (step program choice s) ≡ simulation.Failed → Stops program s
 fails_placed program choice (Running c) well ((inside, next), handling, waiting) running failed =
     let (i, at) = slice_get_below (routine_at program c.active.function).code c.active.next next in
-    let range = holds_at (IsInRange program (routine_at program c.active.function)) (routine_at program c.active.function).code c.active.next i (routine_in program c.active.function well inside).instructions at in
+    let range = All_at (IsInRange program (routine_at program c.active.function)) (routine_at program c.active.function).code c.active.next i (routine_in program c.active.function well inside).instructions at in
     fails program choice c i at range (subst (λ (o : Option Instruction). status_of (executed program choice c o) ≡ simulation.Failed) at failed)
 fails_placed program choice (Ended ending output input) well placed running failed = absurd (let e : simulation.Ended ending ≡ simulation.Running = running in cc)
 fails_placed program choice (Stuck output input) well placed running failed = absurd (let e : simulation.Failed ≡ simulation.Running = running in cc)

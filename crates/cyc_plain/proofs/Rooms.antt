@@ -3,17 +3,18 @@ use Rattle.std.proofs.Common.{◌≡◌, ℕ, suc, ◌-◌, ◌≤◌, ◌<◌, 
 use Rattle.std.specs.Prelude.{nat_le, ◌&&◌}
 use Rattle.std.proofs.lemmas.Bool.{le-leb, leb-true, and_from, and_parts, false_from_ne_true}
 use Rattle.cyc_words.specs.Ending.{Full}
+use Rattle.cyc_words.proofs.Numbers.{nat_le-one_less}
 use Rattle.cyc_plain.specs.declared.instruction.Instruction.TheVariants as instructions
 use Rattle.cyc_plain.specs.inside.Program.{Program}
 use Rattle.cyc_plain.specs.inside.State.{Configuration, State, Running, Ended, place_of, demand, depth}
 use Rattle.cyc_plain.specs.inside.Step.{Choice, advanced, performed, executed, instruction_at, is_within, limit_of, limited, Step}
-use Rattle.cyc_plain.proofs.RunLaws.{room_same, limited-within, limited-full}
+use Rattle.cyc_plain.proofs.RunLaws.{limited-within, limited-full}
 
 -- what `Enter` comes to is within its limit just where what a call comes to is within the run's
 pub as_called : (program : Program) (pages calls : ℕ) (choice other : Choice) (c : Configuration) (function arguments count result : ℕ)
     → is_within pages (limit_of (Some (instructions.Enter function)) calls) (performed program choice c (instructions.Enter function))
     ≡ is_within pages calls (performed program other c (instructions.Call function arguments count result))
-as_called program pages calls choice other c function arguments count result = ap (λ b. nat_le (demand (Running c)) pages && b) (room_same (length c.frames) calls)
+as_called program pages calls choice other c function arguments count result = ap (λ b. nat_le (demand (Running c)) pages && b) (nat_le-one_less (length c.frames) calls)
 
 module _ (program : Program) (pages calls : ℕ) (c : Configuration) (function : ℕ) (new : State)
     (at : instruction_at program (place_of (Running c)) ≡ Some (instructions.Enter function)) (stepped : Step program pages calls (Running c) new) where

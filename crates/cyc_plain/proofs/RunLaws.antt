@@ -1,7 +1,7 @@
 -- Laws of the plain machine.
-use Rattle.std.proofs.Common.{◌≡◌, ℕ, zero, suc, ◌%◌, ◌≤◌, Bool, true, false, List, [], ◌∷◌, ◌++◌, drop, Option, Some, None, refl, sym, ap, subst, ◌∙◌, arith, inl, inr}
-use Rattle.std.specs.Prelude.{◌==◌, ◌-◌, nat_le, if◌then◌else◌}
-use Rattle.std.proofs.lemmas.Bool.{cases_lt, le-leb, leb-true, and_from, and_parts, false_from_ne_true}
+use Rattle.std.proofs.Common.{◌≡◌, ℕ, zero, suc, ◌%◌, ◌≤◌, Bool, true, false, List, [], ◌∷◌, ◌++◌, drop, Option, Some, None, refl, sym, ap, subst, ◌∙◌, arith}
+use Rattle.std.specs.Prelude.{◌==◌, nat_le, if◌then◌else◌}
+use Rattle.std.proofs.lemmas.Bool.{le-leb, leb-true, and_from, and_parts}
 use Rattle.cyc_words.specs.Ending.{Ending, Uncaught, Full}
 use Rattle.cyc_words.specs.Word.{signed, add_of}
 use Rattle.cyc_words.specs.Bytes.{with_byte, word_of}
@@ -59,16 +59,6 @@ limit_at_most program (Stuck output input) calls = omega arith
 pub limit_free : (i : Instruction) (calls : ℕ) → calls_nothing i ≡ true → limit_of (Some i) calls ≡ calls
 limit_free (instructions.Enter function) calls free = absurd (let e : false ≡ true = free in cc)
 limit_free i calls free = refl
-
--- room for one call more is as much as a call takes
-pub room_same : (n calls : ℕ) → nat_le (suc n) (calls - 1) ≡ nat_le (suc (suc n)) calls
-room_same n calls = elim (cases_lt (suc n) calls) [
-  | inl room ↦ le-leb (suc n) (calls - 1) (omega (arith, room)) ∙ sym (le-leb (suc (suc n)) calls (omega (arith, room)))
-  | inr none ↦ over (suc n) (calls - 1) (λ l. omega (arith, l, none)) ∙ sym (over (suc (suc n)) calls (λ l. omega (arith, l, none)))
-]
-  where
-    over : (a b : ℕ) → (a ≤ b → ⊥) → nat_le a b ≡ false
-    over a b more = false_from_ne_true (nat_le a b) (λ h. more (leb-true a b h))
 
 -- a step within the limits is the step, and any other ends the run
 pub limited-within : (pages calls : ℕ) (old new : State) → is_within pages calls new ≡ true → limited pages calls old new ≡ new

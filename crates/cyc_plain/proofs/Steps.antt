@@ -8,6 +8,7 @@ use Rattle.std.proofs.lemmas.List.Elements.{Contains-append_left, Contains-appen
 use Rattle.std.proofs.lemmas.List.FromFn.{get_or-map-range_with_len, length-map-range_with_len}
 use Rattle.std.specs.List.{range_with_len}
 use Rattle.cyc_words.specs.Ending.{Full}
+use Rattle.cyc_words.proofs.Items.{below_from_slice_get}
 use Rattle.cyc_store.specs.Services as services
 use Rattle.cyc_store.specs.Services.{Call, refusal}
 use Rattle.cyc_plain.specs.declared.instruction.Instruction.{Instruction}
@@ -18,7 +19,6 @@ use Rattle.cyc_plain.specs.inside.Program.{Routine, Program, CodePlace, no_routi
 use Rattle.cyc_plain.specs.inside.State.{Configuration, State, Running, Ended, place_of}
 use Rattle.cyc_plain.specs.inside.Step.{Choice, IsAllowed, IsServed, MayServe, call_in, call_of, served_to, asks, performed, executed, instruction_at, step, is_within, limit_of, limit_at, limited, limited_step, Step}
 use Rattle.cyc_plain.proofs.RunLaws.{limited-within, over_within}
-use Rattle.cyc_plain.proofs.Placed.{below_of_get}
 
 -- Where the instruction is known, and what it does is within the limits, a step does that.
 pub step_performs : (program : Program) (pages calls : ℕ) (c : Configuration) (i : Instruction) (new : State)
@@ -97,4 +97,4 @@ place_known program place i at =
     let known = slice_get-get_or program.functions place.function no_routine (function_known program place i at) in
     let same : 0 + place.function ≡ place.function = omega arith in
     subst (λ (f : ℕ). Contains (places_of program) (record { function = f; index = place.index })) same
-    (in_functions 0 place.function place.index program.functions (routine_at program place.function) known (below_of_get (routine_at program place.function).code place.index i at))
+    (in_functions 0 place.function place.index program.functions (routine_at program place.function) known (below_from_slice_get (routine_at program place.function).code place.index i at))

@@ -24,6 +24,7 @@ use Rattle.cyc_plain.specs.declared.instruction.Instruction.TheVariants as instr
 use Rattle.cyc_plain.specs.inside.Operators.{truth, unary_result, binary_result, has_no_result}
 use Rattle.cyc_plain.specs.inside.Requests.{destination_of}
 use Rattle.cyc_words.specs.Simulation.{Run}
+use Rattle.cyc_words.proofs.Members.{All_at}
 use Rattle.cyc_plain.specs.inside.Program.{Program, CodePlace, no_routine, routine_at}
 use Rattle.cyc_plain.specs.declared.limits.TheConstants.{RECORD_WORDS}
 use Rattle.cyc_plain.specs.inside.State.{Words, AreWords, put, copied, Handler, Open, Caught, Activation, Frame, Configuration, State, Running, Ended, Stuck, place_of, HoldsWords}
@@ -31,7 +32,6 @@ use Rattle.cyc_plain.specs.inside.Memory.{Range, OfGlobals, OfStore, OfSlots, ra
 use Rattle.cyc_plain.specs.inside.Step.{Choice, IsAllowed, IsServed, MayServe, HasAnswerWords, gives, operand_word, returns, loads, saves, loads_byte, saves_byte, advanced, told, asks, is_intact, tries, closes, lands, throws, finishes, call_in, call_of, performed, executed, instruction_at, step, limit_at, start, machine}
 use Rattle.cyc_plain.specs.inside.WellFormed.{IsOfWord, HasWord, HasWords}
 use Rattle.cyc_plain.proofs.RunLaws.{limited_either, if_either}
-use Rattle.cyc_plain.proofs.Placed.{holds_at}
 use Rattle.cyc_plain.proofs.Steps.{function_known}
 
 -- ---- operators
@@ -125,7 +125,7 @@ waiting_words program (f ∷ frames) address word (first, rest) w = go (slot_at 
 
 known_word : (program : Program) (place : CodePlace) (i : Instruction) → HasWords program → instruction_at program place ≡ Some i → HasWord i
 known_word program place i words at =
-    holds_at HasWord (routine_at program place.function).code place.index i (words.functions place.function no_routine (function_known program place i at)) at
+    All_at HasWord (routine_at program place.function).code place.index i (words.functions place.function no_routine (function_known program place i at)) at
 
 module _ (program : Program) (choice : Choice) (allowed : AreWords choice.contents) (c : Configuration) (slots : AreWords c.active.slots) (frames : AreFrames c.frames) (globals : AreWords c.globals) (store : stores.AreWords c.store.memory) (input : AllByRecursion IsWord c.input) where
   given : (destination word : ℕ) → IsWord word → HoldsWords (gives c destination word)

@@ -1,9 +1,9 @@
 -- The places that are said to fill slots may.
-use Rattle.std.proofs.Common.{◌≡◌, ℕ, suc, ◌+◌, ◌<◌, Bool, false, true, List, length, [], Option, None, Some, refl, sym, ap, subst, ◌∙◌, arith, inl, inr}
+use Rattle.std.proofs.Common.{◌≡◌, ℕ, suc, ◌+◌, ◌<◌, Bool, false, true, List, length, [], Option, None, Some, sym, ap, subst, ◌∙◌, arith, inl, inr}
 use Rattle.std.specs.Prelude.{◌==◌, ◌&&◌, not, nat_lt, if◌then◌else◌, bit_and, slice_get, slice_set, replicate}
-use Rattle.std.proofs.lemmas.Bool.{and_parts, or_cases, cases_eq, cases_lt, cases_Bool, ltb-true, lt-ltb, eqb-true, false≢true}
+use Rattle.std.proofs.lemmas.Bool.{and_parts, or_cases, cases_eq, cases_lt, cases_Bool, ltb-true, lt-ltb, eqb-true, false≢true, not-true}
 use Rattle.std.proofs.lemmas.List.{get_or-set_same, get_or-set_other, set_past, length-set, length-replicate}
-use Rattle.cyc_plain.proofs.Placed.{below_of_get}
+use Rattle.cyc_words.proofs.Items.{below_from_slice_get}
 use Rattle.cyc_plain.specs.declared.instruction.Comparison.{Comparison}
 use Rattle.cyc_plain.specs.declared.instruction.Instruction.{Instruction}
 use Rattle.cyc_plain.specs.declared.instruction.Instruction.TheVariants as instructions
@@ -61,7 +61,7 @@ module _ (masks live : List ℕ) (hs : List Home) (code : List Instruction) (cou
   barred_here index target comparison left right i there is = elim (cases_Bool (may_fill masks live hs count (Some i))) [
     | inl fine ↦ fine
     | inr refused ↦
-        let inside : target < length fills = omega (arith, below_of_get code target i there, left_so_far.as_many) in
+        let inside : target < length fills = omega (arith, below_from_slice_get code target i there, left_so_far.as_many) in
         let barred : (nat_lt target (length fills) && not (may_fill masks live hs count (slice_get code target))) ≡ true =
         ap (λ (b : Bool). b && not (may_fill masks live hs count (slice_get code target))) (lt-ltb target (length fills) inside)
         ∙ (ap (λ (o : Option Instruction). not (may_fill masks live hs count o)) there ∙ ap not refused) in
@@ -93,10 +93,6 @@ no_register homes.Memory k none has = absurd (let e : None ≡ Some k = has in c
 no_register (homes.Both register) k none has = absurd (false≢true (sym none))
 no_register (homes.Register register) k none has = absurd (false≢true (sym none))
 
-is_false : (b : Bool) → not b ≡ true → b ≡ false
-is_false true is = absurd (false≢true is)
-is_false false is = refl
-
 module _ (program : Program) (r : Routine) (masks live : List ℕ) (calls clauses barred : ℕ) (sound : IsSound program r masks live calls clauses barred)
     (are : AreMasks masks MOST_CHOSEN) (hs : List Home) (own : HaveOwnRegisters hs) where
   -- a slot of a register that is not live, or has none
@@ -104,7 +100,7 @@ module _ (program : Program) (r : Routine) (masks live : List ℕ) (calls clause
   free index slot a k is has has_a wanted =
       let dead : Bool = bit_and (mask_at live (index + 1)) (mask_at masks slot) == 0 in
       elim (or_cases (not (has_register (home_of hs slot))) (nat_lt 0 (mask_at masks slot) && dead) is) [
-        | inl without ↦ no_register (home_of hs slot) k (is_false (has_register (home_of hs slot)) without) has
+        | inl without ↦ no_register (home_of hs slot) k (not-true (has_register (home_of hs slot)) without) has
         | inr by_table ↦
             let parts = and_parts (nat_lt 0 (mask_at masks slot)) dead by_table in
             let (j, bit) = are.some slot (ltb-true 0 (mask_at masks slot) parts.0) in
@@ -129,4 +125,4 @@ module _ (program : Program) (r : Routine) (masks live : List ℕ) (calls clause
 
   pub fillable : (fills : List Bool) → AreLeft masks live hs r.code (length r.code) fills → AreFillable program r hs fills
   fillable fills left_at_end index target d a k comparison left right i at there written is has has_a wanted =
-      free_of i index d a k (left_at_end.each index target comparison left right i (below_of_get r.code index (instructions.Branch comparison left right target) at) at there is) written has has_a wanted
+      free_of i index d a k (left_at_end.each index target comparison left right i (below_from_slice_get r.code index (instructions.Branch comparison left right target) at) at there is) written has has_a wanted

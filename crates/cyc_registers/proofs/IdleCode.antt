@@ -1,7 +1,7 @@
 -- The places that are said to be idle are.
 use Rattle.std.proofs.Common.{◌≡◌, ◌≢◌, ℕ, zero, suc, ◌+◌, Bool, false, true, List, [], ◌∷◌, ◌++◌, length, Some, length-append, refl, sym, ap, subst, ◌∙◌, arith, inl, inr}
 use Rattle.std.specs.Prelude.{◌==◌, ◌&&◌, not, nat_lt, bit_and, slice_get}
-use Rattle.std.proofs.lemmas.Bool.{and_parts, or_cases, cases_eq, ltb-true, eqb-true, false≢true, not_from_true}
+use Rattle.std.proofs.lemmas.Bool.{and_parts, or_cases, cases_eq, ltb-true, eqb-true, false≢true, not_from_true, not-true}
 use Rattle.cyc_plain.specs.declared.instruction.Comparison.{Comparison}
 use Rattle.cyc_plain.specs.declared.instruction.Comparison.TheVariants as comparisons
 use Rattle.cyc_plain.specs.declared.instruction.Instruction.{Instruction}
@@ -26,10 +26,6 @@ none_idle program r hs index i at is = absurd (false≢true is)
 
 -- ---- by the table
 
-is_false : (b : Bool) → not b ≡ true → b ≡ false
-is_false true is = absurd (false≢true is)
-is_false false is = refl
-
 same_slot : (operand : Operand) (slot : ℕ) → is_slot operand slot ≡ true → operand ≡ operands.Slot slot
 same_slot (operands.Slot number) slot is = ap operands.Slot (eqb-true number slot is)
 same_slot (operands.Word word) slot is = absurd (false≢true is)
@@ -47,7 +43,7 @@ module _ (program : Program) (r : Routine) (masks live : List ℕ) (calls clause
       let first = and_parts (nat_lt 0 (mask_at masks slot)) (without && alone) is in
       let second = and_parts without alone first.1 in
       let (j, has) = are.some slot (ltb-true 0 (mask_at masks slot) first.0) in (
-        is_false (is_kept (home_of hs slot)) second.1,
+        not-true (is_kept (home_of hs slot)) second.1,
         λ wanted.
             apart_bits (mask_at live (index + 1)) (mask_at masks slot) j
             (eqb-true (bit_and (mask_at live (index + 1)) (mask_at masks slot)) 0 second.0) has

@@ -6,6 +6,7 @@ use Rattle.std.proofs.lemmas.List.{get_or-set_same, get_or-set_other}
 use Rattle.std.proofs.lemmas.Option.{same_Some, slice_get-get_or, slice_get_past}
 use denote.Ref.{Bor}
 use Rattle.std.specs.Slice.{IsItemAt}
+use Rattle.cyc_words.proofs.Options.{option_map-cond}
 use Rattle.cyc_types.specs.typing.Scopes.{Exception, Declared, meaning_in}
 use Rattle.cyc_types.specs.typing.Statements.{exception_among, exception_number}
 use Rattle.cyc_scope.specs.inside.Tables.{first_place, first_by, exception_names, first_declared, meaning_by}
@@ -26,17 +27,13 @@ first_known (z ∷ ys) y x i e = by_test (first_known ys y x) (nat_eq z x) e
     by_test h true e = e
     by_test h false e = by_place h (first_place ys x) refl e
 
-counted : (n : ℕ) (t : Bool) → option_map suc (cond t (Some n) None) ≡ cond t (Some (suc n)) None
-counted n true = refl
-counted n false = refl
-
 pub first_new : (ys : List ℕ) (y x : ℕ) → first_place ys x ≡ None → first_place (ys ++ y ∷ []) x ≡ cond (nat_eq y x) (Some (length ys)) None
 first_new [] y x e = refl
 first_new (z ∷ ys) y x e = by_test (first_new ys y x) (nat_eq z x) e
   where
     by_place : (first_place ys x ≡ None → first_place (ys ++ y ∷ []) x ≡ cond (nat_eq y x) (Some (length ys)) None) → (o : Option ℕ) → first_place ys x ≡ o
         → option_map suc o ≡ None → option_map suc (first_place (ys ++ y ∷ []) x) ≡ cond (nat_eq y x) (Some (suc (length ys))) None
-    by_place h None f e = ap (option_map suc) (h f) ∙ counted (length ys) (nat_eq y x)
+    by_place h None f e = ap (option_map suc) (h f) ∙ option_map-cond (length ys) (nat_eq y x)
     by_place h (Some j) f e = cc
 
     by_test : (first_place ys x ≡ None → first_place (ys ++ y ∷ []) x ≡ cond (nat_eq y x) (Some (length ys)) None) → (t : Bool)

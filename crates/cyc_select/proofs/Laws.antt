@@ -1,5 +1,5 @@
 -- The labelled machine is lawful: what was printed stays printed, and a run that has ended stays as it is.
-use Rattle.std.proofs.Common.{◌≡◌, ℕ, ◌+◌, Bool, true, false, List, [], ◌∷◌, ◌++◌, drop, Option, Some, None, slice_get, refl, sym, ap, subst, ◌∙◌, inl, inr}
+use Rattle.std.proofs.Common.{◌≡◌, ℕ, ◌+◌, Bool, true, false, [], ◌∷◌, Option, Some, None, slice_get, refl, sym, ap, subst, ◌∙◌, inl, inr}
 use Rattle.cyc_words.specs.Ending.{Ending}
 use Rattle.cyc_words.specs.Seen.{showing, ComesTo}
 use Rattle.cyc_words.proofs.PrefixLemmas.{IsPrefix-refl, IsPrefix-append}
@@ -13,15 +13,12 @@ use Rattle.cyc_machine.specs.declared.phase.Phase.{Phase}
 use Rattle.cyc_machine.specs.declared.phase.Phase.TheVariants as phases
 use Rattle.cyc_words.specs.Simulation as simulation
 use Rattle.cyc_words.specs.inside.Following.{IsLawful}
+use Rattle.cyc_words.proofs.Lists.{read_before_drop}
 use Rattle.cyc_select.specs.declared.code.Line.{Line}
 use Rattle.cyc_select.specs.declared.code.Line.TheVariants as lines
 use Rattle.cyc_select.specs.inside.Labelled.{Labelled, is_ordinary}
 use Rattle.cyc_select.specs.inside.Machine as labelled
 use Rattle.cyc_select.specs.inside.Machine.{Configuration, State, Running, Stopped, world_of, settled, closed, Performs, PerformsOrdinary, Executes, ExecutesAt, Step, machine, seen_of, status_of}
-
-one_read_is_front : (input : List ℕ) → (read : List ℕ) × (input ≡ read ++ drop 1 input)
-one_read_is_front [] = ([], refl)
-one_read_is_front (b ∷ input) = (b ∷ [], refl)
 
 abbrev Grows : Configuration → State → Type 0
 Grows c new = ComesTo (showing c.output c.input) (seen_of new)
@@ -37,7 +34,7 @@ settled_seen w line (phases.Over end) = closed_seen w (ending_of end)
 
 told_grows : (w : World) (event : Event) (s : machines.State) → ComesTo (showing w.output w.input) (showing (told w event s).output (told w event s).input)
 told_grows w Ran s = ComesTo-refl (showing w.output w.input)
-told_grows w WantsByte s = (IsPrefix-refl w.output, one_read_is_front w.input)
+told_grows w WantsByte s = (IsPrefix-refl w.output, read_before_drop 1 w.input)
 told_grows w (Puts byte) s = (IsPrefix-append w.output (byte ∷ []), ([], refl))
 told_grows w (Ended end) s = ComesTo-refl (showing w.output w.input)
 told_grows w NoMemory s = ComesTo-refl (showing w.output w.input)

@@ -5,6 +5,8 @@ use Rattle.std.proofs.lemmas.Bool.{eq-eqb, or_left, or_right, cond_both, false�
 use Rattle.cyc_words.specs.Ending.{Uncaught}
 use Rattle.cyc_words.specs.Word.{signed, add_of}
 use Rattle.cyc_words.specs.Bytes.{with_byte, word_of}
+use Rattle.cyc_words.proofs.Numbers.{eqb_next}
+use Rattle.cyc_words.proofs.Items.{below_from_slice_get}
 use Rattle.cyc_store.specs.State.{StoreState, lexical_count}
 use Rattle.cyc_store.specs.Services as services
 use Rattle.cyc_store.specs.Services.{Call, Refusal, refusal, answer}
@@ -20,7 +22,6 @@ use Rattle.cyc_plain.specs.inside.Program.{Program, routine_at}
 use Rattle.cyc_plain.specs.inside.State.{Words, put, copied, Handler, Open, Caught, Activation, Frame, Configuration, State, Running, Ended, Stuck}
 use Rattle.cyc_plain.specs.inside.Memory.{Range, OfGlobals, OfStore, OfSlots, range_of, is_pinned, global_at, slot_at, put_or, with_waiting, memory_at, with_global, with_slot, with_word, with_memory}
 use Rattle.cyc_plain.specs.inside.Step.{served_to, with_slots, Choice, gives, operand_word, returns, loads, saves, loads_byte, saves_byte, advanced, asks, is_intact, tries, closes, lands, throws, finishes, call_in, performed, start}
-use Rattle.cyc_plain.proofs.Placed.{below_of_get}
 use Rattle.cyc_plain.proofs.RunLaws.{if_either}
 use Rattle.cyc_plain.proofs.MemoryLaws.{numbered-from}
 use Rattle.cyc_plain.proofs.SlotLaws.{put-other}
@@ -33,9 +34,6 @@ use Rattle.cyc_simplify.specs.inside.Table.{IsReplaced}
 use Rattle.cyc_simplify.proofs.Memory.{memory_other, memory_there, unnamed_left, IsAlike, memory_alike}
 use Rattle.cyc_simplify.proofs.Truth.{IsLeft, IsUntouched, fact_free, kept_true, suited_true, kept_suited, AreTrueAlone, true_alone, true_behind_call, suited_if}
 use Rattle.cyc_simplify.proofs.Behind.{put_left, put_itself, copied_left, told_left, moved_made, itself_word, computed_made, loaded_made, shown_true}
-
-next_led : (index : ℕ) → (suc index == index + 1) ≡ true
-next_led index = eq-eqb (suc index) (index + 1) (omega arith)
 
 module _ (program simplified : Program) (replaced : (function : ℕ) → IsReplaced program (routine_at program function) (routine_at simplified function)) where
   -- what is known at a place of a function
@@ -76,7 +74,7 @@ module _ (program simplified : Program) (replaced : (function : ℕ) → IsRepla
   -- ---- stores
 
   suited_at : (function index : ℕ) (i : Instruction) → At (routine_at simplified function) index i → are_suited (pins_in function) (facts_in function index) ≡ true
-  suited_at function index i at = (replaced function).is_table.suited index (below_of_get (routine_at simplified function).code index i at)
+  suited_at function index i at = (replaced function).is_table.suited index (below_from_slice_get (routine_at simplified function).code index i at)
 
   free_unnamed : (function slot : ℕ) → is_free (pins_in function) slot ≡ true → is_pinned (routine_at program function).code slot ≡ false
   free_unnamed function slot free = (replaced function).pins.right slot free
@@ -316,7 +314,7 @@ module _ (program simplified : Program) (replaced : (function : ℕ) → IsRepla
     here_at i = At (routine_at simplified c.active.function) c.active.next i
 
     abbrev led : (suc c.active.next == c.active.next + 1) ≡ true
-    led = next_led c.active.next
+    led = eqb_next c.active.next
 
     -- a slot gets a word
     gets : (i : Instruction) → here_at i → (d : Configuration) (destination word : ℕ) → IsAlike c d → d.active.slots ≡ put words destination word

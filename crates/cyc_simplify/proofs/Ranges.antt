@@ -1,9 +1,10 @@
 -- Which slots of a function have their address taken is found.
-use Rattle.std.proofs.Common.{◌≡◌, ℕ, zero, suc, ◌+◌, ◌<◌, ◌≤◌, Bool, true, false, ◌||◌, List, [], ◌∷◌, ◌++◌, drop, length, Some, None, slice_get, refl, sym, ap, subst, ◌∙◌, arith, inl, inr}
+use Rattle.std.proofs.Common.{◌≡◌, ℕ, zero, suc, ◌+◌, Bool, true, false, ◌||◌, List, [], ◌∷◌, ◌++◌, drop, length, Some, None, slice_get, refl, sym, ap, subst, ◌∙◌, arith, inl, inr}
 use Rattle.std.specs.Prelude.{◌⊎◌, not, slice_index_or, replicate}
-use Rattle.std.proofs.lemmas.Bool.{cases_lt, or_cases, false≢true, not-true, both_ways}
+use Rattle.std.proofs.lemmas.Bool.{cases_lt, or_cases, false≢true, not-true, both_ways, false_from_ne_true}
 use Rattle.std.proofs.lemmas.List.{length-append}
 use Rattle.std.proofs.lemmas.Option.{none-some}
+use Rattle.cyc_words.proofs.Items.{slice_index_or_before, slice_index_or_last, slice_index_or_beyond, slice_index_or_replicate_same}
 use Rattle.cyc_plain.specs.declared.instruction.Instruction.{Instruction}
 use Rattle.cyc_plain.specs.declared.instruction.Instruction.TheVariants as instructions
 use Rattle.cyc_plain.specs.inside.Memory.{pins, is_pinned}
@@ -89,63 +90,40 @@ are_ranges code ranges are slot is = elim (are slot is) [
 pub no_pins : (ranges : List Written) → AreFirstPins ranges 0 []
 no_pins ranges = record { as_many = refl; each = λ slot below. absurd (omega arith) }
 
-pin_before : (pinned : List Bool) (b : Bool) (slot : ℕ) → slot < length pinned → slice_index_or (pinned ++ b ∷ []) slot true ≡ slice_index_or pinned slot true
-pin_before [] b slot below = absurd (omega arith)
-pin_before (x ∷ pinned) b zero below = refl
-pin_before (x ∷ pinned) b (suc slot) below = pin_before pinned b slot (omega arith)
-
-pin_last : (pinned : List Bool) (b : Bool) → slice_index_or (pinned ++ b ∷ []) (length pinned) true ≡ b
-pin_last [] b = refl
-pin_last (x ∷ pinned) b = pin_last pinned b
-
 pub more_pins : (ranges : List Written) (count : ℕ) (pinned : List Bool) (b : Bool) → AreFirstPins ranges count pinned → b ≡ is_within ranges count
     → AreFirstPins ranges (count + 1) (pinned ++ b ∷ [])
 more_pins ranges count pinned b are is = record {
   as_many = omega (arith, length-append pinned (b ∷ []), are.as_many);
   each = λ slot below. elim (cases_lt slot count) [
-    | inl first ↦ pin_before pinned b slot (omega (arith, first, are.as_many)) ∙ are.each slot first
+    | inl first ↦ slice_index_or_before pinned b true slot (omega (arith, first, are.as_many)) ∙ are.each slot first
     | inr not_first ↦
         let same : slot ≡ length pinned = omega (arith, below, not_first, are.as_many) in
         let last : slice_index_or (pinned ++ b ∷ []) slot true ≡ b =
-        subst (λ (k : ℕ). slice_index_or (pinned ++ b ∷ []) k true ≡ b) (sym same) (pin_last pinned b) in
+        subst (λ (k : ℕ). slice_index_or (pinned ++ b ∷ []) k true ≡ b) (sym same) (slice_index_or_last pinned b true) in
         let there : b ≡ is_within ranges slot = subst (λ (k : ℕ). b ≡ is_within ranges k) (sym (same ∙ are.as_many)) is in
         last ∙ there
   ];
 }
 
-beyond_is_pinned : (pinned : List Bool) (slot : ℕ) → length pinned ≤ slot → slice_index_or pinned slot true ≡ true
-beyond_is_pinned [] slot above = refl
-beyond_is_pinned (b ∷ pinned) zero above = absurd (omega arith)
-beyond_is_pinned (b ∷ pinned) (suc slot) above = beyond_is_pinned pinned slot (omega arith)
-
-not_pinned : (b : Bool) → (b ≡ true → ⊥) → b ≡ false
-not_pinned true never = absurd (never refl)
-not_pinned false never = refl
-
 pub are_pins : (r : Routine) (ranges : List Written) (pinned : List Bool) → AreRanges r.code ranges → AreFirstPins ranges r.slots pinned → ArePins r pinned
 are_pins r ranges pinned are first = record {
   as_many = first.as_many;
-  right = λ slot free. not_pinned (is_pinned r.code slot) (λ is. not_free slot free (is_pinned_there slot is));
+  right = λ slot free. false_from_ne_true (is_pinned r.code slot) (λ is. not_free slot free (is_pinned_there slot is));
 }
   where
     is_pinned_there : (slot : ℕ) → is_pinned r.code slot ≡ true → slice_index_or pinned slot true ≡ true
     is_pinned_there slot is = elim (cases_lt slot r.slots) [
       | inl below ↦ first.each slot below ∙ are slot is
-      | inr above ↦ beyond_is_pinned pinned slot (omega (arith, above, first.as_many))
+      | inr above ↦ slice_index_or_beyond pinned slot (omega (arith, above, first.as_many))
     ]
 
     not_free : (slot : ℕ) → is_free pinned slot ≡ true → slice_index_or pinned slot true ≡ true → ⊥
     not_free slot free is = both_ways (slice_index_or pinned slot true) (not-true (slice_index_or pinned slot true) free) is
-
-all_true : (count slot : ℕ) → slice_index_or (replicate count true) slot true ≡ true
-all_true zero slot = refl
-all_true (suc count) zero = refl
-all_true (suc count) (suc slot) = all_true count slot
 
 pub all_pinned : (r : Routine) (pinned : List Bool) → pinned ≡ replicate r.slots true → length pinned ≡ r.slots → ArePins r pinned
 all_pinned r pinned are as_many = record {
   as_many = as_many;
   right = λ slot free.
       absurd (both_ways (slice_index_or pinned slot true) (not-true (slice_index_or pinned slot true) free)
-      (subst (λ (bs : List Bool). slice_index_or bs slot true ≡ true) (sym are) (all_true r.slots slot)));
+      (subst (λ (bs : List Bool). slice_index_or bs slot true ≡ true) (sym are) (slice_index_or_replicate_same r.slots true slot)));
 }

@@ -1,8 +1,11 @@
 -- Where facts are true, what stands for an instruction does the same.
 use Rattle.std.proofs.Common.{◌≡◌, ℕ, Bool, true, false, ◌&&◌, List, [], ◌∷◌, Option, Some, None, refl, sym, ap, subst, ◌∙◌, arith}
-use Rattle.std.specs.Prelude.{◌==◌, not, ℤ, nat_le, nat_lt, int_lt, int_le, if◌then◌else◌, unwrap_or}
-use Rattle.std.proofs.lemmas.Bool.{and_parts, eqb-true, cond_both, not-true, not_from_false, false_from_ne_true}
+use Rattle.std.specs.Prelude.{◌==◌, not, nat_lt, if◌then◌else◌, unwrap_or}
+use Rattle.std.proofs.lemmas.Bool.{and_parts, eqb-true, cond_both, not-true}
 use Rattle.cyc_words.specs.Word.{signed}
+use Rattle.cyc_words.proofs.Booleans.{not_not}
+use Rattle.cyc_words.proofs.Numbers.{nat_le-not_lt, nat_lt-not_le, not_eqb_other}
+use Rattle.cyc_words.proofs.Integers.{int_lt-not_le, int_le-not_lt, int_le-same, int_le-below, int_lt-not_same}
 use Rattle.cyc_plain.specs.declared.instruction.Operand.{Operand}
 use Rattle.cyc_plain.specs.declared.instruction.Operand.TheVariants as operands
 use Rattle.cyc_plain.specs.declared.instruction.UnaryOperator.{UnaryOperator}
@@ -20,54 +23,26 @@ use Rattle.cyc_simplify.proofs.Truth.{same_operator, same_comparison, same_opera
 
 -- ---- comparisons
 
-negated_order : (x y : ℤ) → int_le y x ≡ not (int_lt x y)
-negated_order x y = grind arith
-
-negated_other : (x y : ℤ) → int_lt y x ≡ not (int_le x y)
-negated_other x y = grind arith
-
-not_twice : (b : Bool) → b ≡ not (not b)
-not_twice true = refl
-not_twice false = refl
-
-below_or_not : (a b : ℕ) → nat_le b a ≡ not (nat_lt a b)
-below_or_not a b = grind arith
-
-nat_not_below : (a b : ℕ) → nat_lt a b ≡ not (nat_le b a)
-nat_not_below a b = grind arith
-
 -- where a comparison does not hold its negation does, and the other way round
 pub negated_compares : (comparison : Comparison) (a b : ℕ) → compares (negated comparison) a b ≡ not (compares comparison a b)
 negated_compares comparisons.Equal a b = refl
-negated_compares comparisons.NotEqual a b = not_twice (a == b)
-negated_compares comparisons.Less a b = negated_order (signed a) (signed b)
-negated_compares comparisons.LessOrEqual a b = negated_other (signed a) (signed b)
-negated_compares comparisons.Greater a b = negated_order (signed b) (signed a)
-negated_compares comparisons.GreaterOrEqual a b = negated_other (signed b) (signed a)
-negated_compares comparisons.LessUnsigned a b = below_or_not a b
-negated_compares comparisons.GreaterOrEqualUnsigned a b = nat_not_below a b
-
-order_same : (x y : ℤ) → x ≡ y → int_le x y ≡ true
-order_same x y same = grind (arith, same)
-
-order_below : (x y : ℤ) → int_lt x y ≡ true → int_le x y ≡ true
-order_below x y below = grind (arith, below)
-
-order_apart : (x y : ℤ) → int_lt x y ≡ true → x ≡ y → ⊥
-order_apart x y below same = grind (arith, below, same)
-
-words_not_equal : (a b : ℕ) → (a ≡ b → ⊥) → not (a == b) ≡ true
-words_not_equal a b apart = not_from_false (a == b) (false_from_ne_true (a == b) (λ e. apart (eqb-true a b e)))
+negated_compares comparisons.NotEqual a b = sym (not_not (a == b))
+negated_compares comparisons.Less a b = int_le-not_lt (signed b) (signed a)
+negated_compares comparisons.LessOrEqual a b = int_lt-not_le (signed a) (signed b)
+negated_compares comparisons.Greater a b = int_le-not_lt (signed a) (signed b)
+negated_compares comparisons.GreaterOrEqual a b = int_lt-not_le (signed b) (signed a)
+negated_compares comparisons.LessUnsigned a b = nat_le-not_lt a b
+negated_compares comparisons.GreaterOrEqualUnsigned a b = nat_lt-not_le a b
 
 pub implied : (known asked : Comparison) (a b : ℕ) → implies known asked ≡ true → compares known a b ≡ true → compares asked a b ≡ true
-implied comparisons.Equal comparisons.LessOrEqual a b is holds = order_same (signed a) (signed b) (ap signed (eqb-true a b holds))
-implied comparisons.Equal comparisons.GreaterOrEqual a b is holds = order_same (signed b) (signed a) (ap signed (sym (eqb-true a b holds)))
+implied comparisons.Equal comparisons.LessOrEqual a b is holds = int_le-same (signed a) (signed b) (ap signed (eqb-true a b holds))
+implied comparisons.Equal comparisons.GreaterOrEqual a b is holds = int_le-same (signed b) (signed a) (ap signed (sym (eqb-true a b holds)))
 implied comparisons.Equal comparisons.GreaterOrEqualUnsigned a b is holds =
     let same : a ≡ b = eqb-true a b holds in grind (arith, same)
-implied comparisons.Less comparisons.NotEqual a b is holds = words_not_equal a b (λ same. order_apart (signed a) (signed b) holds (ap signed same))
-implied comparisons.Less comparisons.LessOrEqual a b is holds = order_below (signed a) (signed b) holds
-implied comparisons.Greater comparisons.NotEqual a b is holds = words_not_equal a b (λ same. order_apart (signed b) (signed a) holds (ap signed (sym same)))
-implied comparisons.Greater comparisons.GreaterOrEqual a b is holds = order_below (signed b) (signed a) holds
+implied comparisons.Less comparisons.NotEqual a b is holds = not_eqb_other a b (λ same. int_lt-not_same (signed a) (signed b) holds (ap signed same))
+implied comparisons.Less comparisons.LessOrEqual a b is holds = int_le-below (signed a) (signed b) holds
+implied comparisons.Greater comparisons.NotEqual a b is holds = not_eqb_other a b (λ same. int_lt-not_same (signed b) (signed a) holds (ap signed (sym same)))
+implied comparisons.Greater comparisons.GreaterOrEqual a b is holds = int_le-below (signed b) (signed a) holds
 implied comparisons.LessUnsigned comparisons.NotEqual a b is holds = grind (arith, holds)
 implied known asked a b is holds = ap (λ (c : Comparison). compares c a b) (sym (same_comparison known asked is)) ∙ holds
 

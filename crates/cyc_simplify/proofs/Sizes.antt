@@ -1,12 +1,14 @@
 -- A simplified program is well formed, its numbers are words, and it is not larger.
-use Rattle.std.proofs.Common.{◌≡◌, ℕ, suc, ◌-◌, ◌^◌, ◌<◌, ◌≤◌, Bool, true, false, ◌&&◌, List, [], ◌∷◌, length, get_or, Option, Some, None, slice_get, refl, sym, ap, subst, ◌∙◌, arith, inl, inr}
+use Rattle.std.proofs.Common.{◌≡◌, ℕ, ◌-◌, ◌^◌, ◌<◌, ◌≤◌, Bool, true, false, ◌&&◌, List, [], ◌∷◌, length, Option, Some, None, slice_get, refl, sym, ap, subst, ◌∙◌, arith, inl, inr}
 use Rattle.std.specs.Prelude.{All, IsSomeAnd, sum_by, not, nat_lt, slice_index_or, unwrap_or}
 use Rattle.std.proofs.lemmas.Bool.{and_parts, cases_lt, cond_both, ltb-true, false≢true}
 use Rattle.std.proofs.lemmas.List.{get_or_past}
-use Rattle.std.proofs.lemmas.List.Sums.{sum_by-cons}
 use Rattle.std.proofs.lemmas.Option.{slice_get-get_or, get_or_from_slice_get}
 use Rattle.cyc_words.specs.Word.{IsWord}
 use Rattle.cyc_words.proofs.Lists.{slice_get_below}
+use Rattle.cyc_words.proofs.Members.{All_by_number, All_at}
+use Rattle.cyc_words.proofs.Sums.{sum_by-at_most_each}
+use Rattle.cyc_words.proofs.Items.{below_from_slice_get}
 use Rattle.cyc_plain.specs.declared.instruction.Instruction.{Instruction}
 use Rattle.cyc_plain.specs.declared.instruction.Instruction.TheVariants as instructions
 use Rattle.cyc_plain.specs.declared.instruction.Operand.{Operand}
@@ -21,7 +23,6 @@ use Rattle.cyc_plain.specs.inside.Requests.{first_operand, second_operand, reque
 use Rattle.cyc_plain.specs.inside.Program.{Routine, Program, no_routine, routine_at, operator_size, instruction_size, size}
 use Rattle.cyc_plain.specs.inside.WellFormed.{HasSlots, IsOperand, IsCallInRange, IsRequestInRange, IsInRange, IsRoutine, IsWellFormed, is_return, leaves, IsOfWord, IsArgumentOfWord, HasWord, HasWords, IsPlain}
 use Rattle.cyc_plain.proofs.WordLaws.{IsWord-unary_result, IsWord-binary_result}
-use Rattle.cyc_plain.proofs.Placed.{below_of_get, holds_at}
 use Rattle.cyc_plain.specs.inside.Uses.{At, is_slot}
 use Rattle.cyc_simplify.specs.declared.fact.Fact.{Fact}
 use Rattle.cyc_simplify.specs.declared.fact.Fact.TheVariants as facts_are
@@ -30,23 +31,6 @@ use Rattle.cyc_simplify.specs.inside.Replacement.{is_cheap, instead, simplified_
 use Rattle.cyc_simplify.specs.inside.Simplified.{IsLike, IsSimplified}
 use Rattle.cyc_simplify.specs.inside.Table.{IsReplaced, AreReplaced}
 use Rattle.cyc_simplify.proofs.Runs.{each_replaced, follows}
-
--- ---- lists
-
-all_by_index : {X : Type 0} (P : X → Type 0) (xs : List X) → ((k : ℕ) (x : X) → slice_get xs k ≡ Some x → P x) → All P xs
-all_by_index P xs each = λ k d below. each k (get_or xs k d) (slice_get-get_or xs k d below)
-
--- a sum of no larger numbers
-sum_at_most : {X : Type 0} (f : X → ℕ) (xs ys : List X) → length ys ≡ length xs
-    → ((k : ℕ) (x : X) → slice_get xs k ≡ Some x → (y : X) × (slice_get ys k ≡ Some y) × (f y ≤ f x)) → sum_by f ys ≤ sum_by f xs
-sum_at_most f [] [] long each = omega arith
-sum_at_most f [] (y ∷ ys) long each = absurd (omega (arith, long))
-sum_at_most f (x ∷ xs) [] long each = absurd (omega (arith, long))
-sum_at_most f (x ∷ xs) (y ∷ ys) long each =
-    let (other, at, less) = each 0 x refl in
-    let same : f y ≡ f other = ap f (let e : Some y ≡ Some other = at in cc) in
-    let rest = sum_at_most f xs ys (omega (arith, long)) (λ k z found. each (suc k) z found) in
-    omega (arith, sum_by-cons f x xs, sum_by-cons f y ys, less, same, rest)
 
 -- ---- operands
 
@@ -353,7 +337,7 @@ module _ (program simplified : Program) (are : AreReplaced program simplified) (
   put_at : (index : ℕ) (j : Instruction) → At s index j → IsPut index j
   put_at index j at =
       let long = replaced.as_many in
-      let within = below_of_get s.code index j at in
+      let within = below_from_slice_get s.code index j at in
       let (i, there) = slice_get_below r.code index (omega (arith, within, long)) in
       record {
         instruction = i;
@@ -364,9 +348,9 @@ module _ (program simplified : Program) (are : AreReplaced program simplified) (
 
   -- what holds of each that is put in holds of all
   all_put : (P Q : Instruction → Type 0) → ((facts : List Fact) → are_suited replaced.pinned facts ≡ true → (i : Instruction) → P i → Q (simplified_instruction facts i)) → All P r.code → All Q s.code
-  all_put P Q each all = all_by_index Q s.code (λ index j at.
+  all_put P Q each all = All_by_number Q s.code (λ index j at.
       let put = put_at index j at in
-      subst Q (sym put.is) (each (replaced.table index) put.all put.instruction (holds_at P r.code index put.instruction all put.at)))
+      subst Q (sym put.is) (each (replaced.table index) put.all put.instruction (All_at P r.code index put.instruction all put.at)))
 
   below_slots : (slot : ℕ) → slot < r.slots → slot < s.slots
   below_slots slot is = let e = replaced.slots in omega (arith, is, e)
@@ -519,7 +503,7 @@ module _ (program simplified : Program) (are : AreReplaced program simplified) (
   words_of all = all_put HasWord HasWord (λ facts suited i has. has_word replaced.pinned facts suited i has) all
 
   smaller : size s ≤ size r
-  smaller = sum_at_most instruction_size r.code s.code replaced.as_many (λ k i at.
+  smaller = sum_by-at_most_each instruction_size r.code s.code replaced.as_many (λ k i at.
       (simplified_instruction (replaced.table k) i, replaced.each k i at, not_larger (replaced.table k) i))
 
   is_like : IsLike r s
@@ -541,8 +525,8 @@ module _ (program simplified : Program) (are : AreReplaced program simplified) w
 
   -- what holds of each function, put in, holds of all
   all_functions : (P Q : Routine → Type 0) → ((r s : Routine) → IsReplaced program r s → P r → Q s) → All P program.functions → All Q simplified.functions
-  all_functions P Q each all = all_by_index Q simplified.functions (λ k s at.
-      let within : k < length program.functions = (let b = below_of_get simplified.functions k s at in let l = are.as_many in omega (arith, b, l)) in
+  all_functions P Q each all = All_by_number Q simplified.functions (λ k s at.
+      let within : k < length program.functions = (let b = below_from_slice_get simplified.functions k s at in let l = are.as_many in omega (arith, b, l)) in
       subst Q (here_at simplified.functions k s at) (each (routine_at program k) (routine_at simplified k) (are.each k within) (all k no_routine within)))
 
   well_formed : IsWellFormed program → IsWellFormed simplified
@@ -563,8 +547,8 @@ module _ (program simplified : Program) (are : AreReplaced program simplified) w
   }
 
   all_smaller : sum_by size simplified.functions ≤ sum_by size program.functions
-  all_smaller = sum_at_most size program.functions simplified.functions are.as_many (λ k r at.
-      let within = below_of_get program.functions k r at in
+  all_smaller = sum_by-at_most_each size program.functions simplified.functions are.as_many (λ k r at.
+      let within = below_from_slice_get program.functions k r at in
       let below_other : k < length simplified.functions = (let l = are.as_many in omega (arith, within, l)) in (
         routine_at simplified k,
         slice_get-get_or simplified.functions k no_routine below_other,

@@ -3,6 +3,8 @@ use Rattle.std.proofs.Common.{◌≡◌, ℕ, zero, suc, ◌+◌, ◌<◌, Bool,
 use Rattle.std.specs.Prelude.{◌==◌, not, nat_lt, if◌then◌else◌}
 use Rattle.std.proofs.lemmas.Bool.{and_parts, and_from, or_cases, eqb-true, false≢true, cond_both, cond-true}
 use Rattle.cyc_words.proofs.Lists.{slice_get_below}
+use Rattle.cyc_words.proofs.Numbers.{suc_plus_one}
+use Rattle.cyc_words.proofs.Items.{below_from_slice_get}
 use Rattle.cyc_plain.specs.declared.instruction.Instruction.{Instruction}
 use Rattle.cyc_plain.specs.declared.instruction.Instruction.TheVariants as instructions
 use Rattle.cyc_plain.specs.declared.instruction.Operand.{Operand}
@@ -14,7 +16,6 @@ use Rattle.cyc_plain.specs.declared.instruction.Request.TheVariants as requests
 use Rattle.cyc_plain.specs.inside.Operators.{compares}
 use Rattle.cyc_plain.specs.inside.Program.{Routine, Program}
 use Rattle.cyc_plain.specs.inside.Step.{operand_word}
-use Rattle.cyc_plain.proofs.Placed.{below_of_get}
 use Rattle.cyc_plain.specs.inside.Uses.{At, is_slot, leads}
 use Rattle.cyc_simplify.specs.declared.fact.Fact.{Fact}
 use Rattle.cyc_simplify.specs.declared.fact.Fact.TheVariants as facts_are
@@ -195,7 +196,7 @@ module _ (program : Program) (r s : Routine) (pinned : List Bool) (entry : ℕ �
 
   stands_for : (index : ℕ) (j : Instruction) → At s index j → StandsFor index j
   stands_for index j at =
-      let below : index < length r.code = omega (arith, below_of_get s.code index j at, as_many) in
+      let below : index < length r.code = omega (arith, below_from_slice_get s.code index j at, as_many) in
       let (i, there) = slice_get_below r.code index below in
       let same : j ≡ simplified_instruction (table index) i =
       let e : Some j ≡ Some (simplified_instruction (table index) i) = sym at ∙ each index i there in cc in
@@ -205,9 +206,6 @@ module _ (program : Program) (r s : Routine) (pinned : List Bool) (entry : ℕ �
         is = same;
         well = subst (λ (x : Instruction). is_checked_at program pinned entry (table index) x index ≡ true) (sym same) (checked index i there);
       }
-
-  next_index : (index : ℕ) → suc index ≡ index + 1
-  next_index index = omega arith
 
   -- the table at the next place
   next_table : (index : ℕ) (j : Instruction) → StandsFor index j → table (suc index) ≡ entered_or (entry (suc index)) (facts_behind program pinned (table index) j index (index + 1))
@@ -222,7 +220,7 @@ module _ (program : Program) (r s : Routine) (pinned : List Bool) (entry : ℕ �
       let stands = stands_for index j at in
       let well = and_parts (is_entry_suited pinned (entry (index + 1))) (leads_well program pinned entry (table index) j index) stands.well in
       let suited_entry : is_entry_suited pinned (entry (suc index)) ≡ true =
-      subst (λ (n : ℕ). is_entry_suited pinned (entry n) ≡ true) (sym (next_index index)) well.0 in
+      subst (λ (n : ℕ). is_entry_suited pinned (entry n) ≡ true) (sym (suc_plus_one index)) well.0 in
       subst (λ (l : List Fact). are_suited pinned l ≡ true) (sym (next_table index j stands))
       (go (entry (suc index)) (facts_behind program pinned (table index) j index (index + 1)) suited_entry
       (behind_suited pinned program (table index) j index (index + 1) (table_suited index (omega (arith, below)))))
@@ -248,7 +246,7 @@ module _ (program : Program) (r s : Routine) (pinned : List Bool) (entry : ℕ �
   went_on scene index j stands facts may holds behind =
       subst (AreTrueIn scene) (sym (next_table index j stands))
       (go (entry (suc index)) (facts_behind program pinned (table index) j index (index + 1))
-      (subst (λ (n : ℕ). may_go_on (entry n) facts None ≡ true) (sym (next_index index)) may) behind)
+      (subst (λ (n : ℕ). may_go_on (entry n) facts None ≡ true) (sym (suc_plus_one index)) may) behind)
     where
       go : (o : Option (List Fact)) (others : List Fact) → may_go_on o facts None ≡ true → AreTrueIn scene others → AreTrueIn scene (entered_or o others)
       go (Some asked) others may behind = asked_true scene facts None holds tt asked may
@@ -264,7 +262,7 @@ module _ (program : Program) (r s : Routine) (pinned : List Bool) (entry : ℕ �
     behind_true : (j : Instruction) → AreTrueIn scene (kept (written program j) (touched pinned j) (table index)) → IsTrueIfAny scene (made pinned j index next) → (suc index == next) ≡ true
         → AreTrueIn scene (facts_behind program pinned (table index) j index (index + 1))
     behind_true j keeps makes led =
-        let same : next ≡ index + 1 = sym (eqb-true (suc index) next led) ∙ next_index index in
+        let same : next ≡ index + 1 = sym (eqb-true (suc index) next led) ∙ suc_plus_one index in
         remembered_true scene (kept (written program j) (touched pinned j) (table index)) (made pinned j index (index + 1)) keeps
         (subst (λ (n : ℕ). IsTrueIfAny scene (made pinned j index n)) same makes)
 

@@ -3,11 +3,11 @@ use Rattle.std.proofs.Common.{◌≡◌, ℕ, zero, suc, ◌+◌, ◌<◌, ◌�
 use Rattle.std.specs.Prelude.{◌==◌, slice_index_or}
 use Rattle.std.proofs.lemmas.Bool.{cases_lt, and_parts, and_from, eqb-true}
 use Rattle.std.proofs.lemmas.List.{length-append, length-map}
+use Rattle.cyc_words.proofs.Items.{below_from_slice_get}
 use Rattle.cyc_plain.specs.declared.instruction.Instruction.{Instruction}
 use Rattle.cyc_plain.specs.declared.instruction.Instruction.TheVariants as instructions
 use Rattle.cyc_plain.specs.declared.program.Function.{Function}
 use Rattle.cyc_plain.specs.inside.Program.{Routine, Program, no_routine, routine_of, routine_at, program_of}
-use Rattle.cyc_plain.proofs.Placed.{below_of_get}
 use Rattle.cyc_plain.specs.inside.Uses.{At}
 use Rattle.cyc_simplify.specs.declared.entry.Entry.{Entry}
 use Rattle.cyc_simplify.specs.declared.fact.Fact.{Fact}
@@ -121,8 +121,8 @@ module _ (program : Program) (r : Routine) (pinned : List Bool) (entries : List 
 
   pub walked_replaced : (code : List Instruction) → ArePins r pinned → IsWalked program r pinned entries code → IsReplaced program r (with_code r code)
   walked_replaced code pins (facts, are) =
-      replaced program r (with_code r code) pinned (entry_in entries) (λ index i at. are.checked index i at (below_of_get r.code index i at)) are.as_many
-      (λ index i at. are.each index i at (below_of_get r.code index i at)) pins refl refl refl refl refl
+      replaced program r (with_code r code) pinned (entry_in entries) (λ index i at. are.checked index i at (below_from_slice_get r.code index i at)) are.as_many
+      (λ index i at. are.each index i at (below_from_slice_get r.code index i at)) pins refl refl refl refl refl
 
 -- the same, of what the code makes of it
 pub stepped : (program : Program) (r : Routine) (pinned : List Bool) (entries : List Entry) (count : ℕ) (code : List Instruction) (facts next : List Fact) (i : Instruction)

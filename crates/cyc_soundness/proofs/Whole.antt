@@ -2,6 +2,10 @@
 use Rattle.std.proofs.Common.{◌≡◌, ◌≢◌, inl, inr, ℕ, ◌≤◌, zero, suc, Bool, true, false, List, [], ◌∷◌, length, map, Option, Some, None, slice_get, refl, sym, ap, subst, ◌∙◌, arith}
 use Rattle.std.specs.Prelude.{if◌then◌else◌, ◌==◌, Contains}
 use Rattle.std.proofs.lemmas.Bool.{eq-eqb, eqb-true, not-true}
+use Rattle.std.proofs.lemmas.Option.{same_Some}
+use Rattle.cyc_words.proofs.Lists.{same_length_mapped}
+use Rattle.cyc_words.proofs.Members.{Contains-empty}
+use Rattle.cyc_words.proofs.Items.{slice_get-map_from_turned}
 use Rattle.cyc_syntax.specs.declared.tree.PointerKind.{PointerKind}
 use Rattle.cyc_syntax.specs.declared.tree.PointerKind.TheVariants as marks
 use Rattle.cyc_types.specs.declared.region.Region.{Region}
@@ -27,7 +31,6 @@ use Rattle.cyc_meaning.specs.Places.{step_given_place}
 use Rattle.cyc_meaning.specs.Step.{called, step, stepped, step_given}
 use Rattle.cyc_meaning.specs.Run.{start, steps, run}
 use Rattle.cyc_meaning.proofs.Nested.{nests_step, nests_start}
-use Rattle.cyc_soundness.proofs.types.RegionLemmas.{contains_none}
 use Rattle.cyc_soundness.specs.inside.Lives.{Life, RunTy, RunValue, at, heap_life, lives_of, as_heap}
 use Rattle.cyc_soundness.specs.inside.Lives as lives
 use Rattle.cyc_soundness.specs.inside.Worlds.{Nobody, thing_of, ClaimsPart, IsKeyless, ObjectType, Typing, Outlasts, heap as for_ever, global_type, HasType, IsResult, AreOperands, IsObject, IsTyped, Thing, Holder, At, Claims, AreOwned, Settled, Gone, Away}
@@ -35,14 +38,13 @@ use Rattle.cyc_soundness.specs.inside.Frames.{InScope, Instance, read, read_valu
 use Rattle.cyc_soundness.specs.inside.Classes.{IsDeclarable, InFunctions, InGlobals, InFields, InStructs, IsInClass}
 use Rattle.cyc_soundness.specs.inside.Stacks.{IsAccepted, operands_in, Comes, AreGiven, Val, PlaceOf, regions_at_call, IsStack, IsFocus, IsWell}
 use Rattle.cyc_soundness.specs.Sound.{IsSound}
-use Rattle.cyc_soundness.proofs.states.Numbers.{some_same}
 use Rattle.cyc_soundness.proofs.types.TypeLemmas.{kind_meant}
 use Rattle.cyc_soundness.proofs.states.StackLemmas.{AreAccepted, none_among}
 use Rattle.cyc_soundness.proofs.states.Cells.{running}
 use Rattle.cyc_soundness.proofs.steps.Objects.{begin_array, repeat_on, write_on}
 use Rattle.cyc_soundness.proofs.steps.Swapping.{swapped_on, swapping_on}
 use Rattle.cyc_soundness.proofs.steps.Places.{locate, place_given}
-use Rattle.cyc_soundness.proofs.steps.Evaluation.{of_map, evaluate}
+use Rattle.cyc_soundness.proofs.steps.Evaluation.{evaluate}
 use Rattle.cyc_soundness.proofs.steps.Supply.{given, declares_full}
 use Rattle.cyc_soundness.proofs.steps.Execution.{execute}
 use Rattle.cyc_soundness.proofs.steps.Calls.{call, enter, bind, catch}
@@ -188,28 +190,24 @@ content_of None = None
 global_owned : (own : Thing → Holder) (h : Holder) (v : GlobalVariable) → IsWellTypedGlobal v → (i : ℕ) (u : RunTy) (c : Cell) (z : values.Value) → slice_get (global_of v).cells i ≡ Some u → slice_get (global_object v).cells i ≡ Some c → c.content ≡ Some z
     → Claims own h u z
 global_owned own h v has zero u c z found at' content =
-    let type_is : at as_heap v.of_type ≡ u = some_same (at as_heap v.of_type) u found in
-    let value_is : constant_value v.value ≡ z = some_same (constant_value v.value) z (ap content_of at' ∙ content) in
+    let type_is : at as_heap v.of_type ≡ u = same_Some (at as_heap v.of_type) u found in
+    let value_is : constant_value v.value ≡ z = same_Some (constant_value v.value) z (ap content_of at' ∙ content) in
     subst (λ t. Claims own h t z) type_is (subst (λ y. Claims own h (at as_heap v.of_type) y) value_is (value_claims own h v has))
 global_owned own h v has (suc i) u c z found at' content = absurd (let k : None ≡ Some u = found in cc)
 
 globals_owned : (g : Typing) (vs : List GlobalVariable) → AreWellTypedGlobals vs → (n : ℕ) (t : ObjectType) (x : Object) → slice_get (map global_of vs) n ≡ Some t → slice_get (map global_object vs) n ≡ Some x → (object : ℕ) → AreOwned g object t x.cells
 globals_owned g [] have n t x found stands object i u c z kept cell at' content = absurd (let k : None ≡ Some t = found in cc)
 globals_owned g (v ∷ vs) (has, have) zero t x found stands object i u c z kept cell at' content =
-    let type_is : global_of v ≡ t = some_same (global_of v) t found in
-    let object_is : global_object v ≡ x = some_same (global_object v) x stands in
+    let type_is : global_of v ≡ t = same_Some (global_of v) t found in
+    let object_is : global_object v ≡ x = same_Some (global_object v) x stands in
     global_owned g.own (At object i) v has i u c z (ap (λ (y : ObjectType). slice_get y.cells i) type_is ∙ cell) (ap (λ (y : Object). slice_get y.cells i) object_is ∙ at') content
 globals_owned g (v ∷ vs) (has, have) (suc n) t x found stands object i u c z kept cell at' content = globals_owned g vs have n t x found stands object i u c z kept cell at' content
-
-mapped_length : {A B C : Type 0} (f : A → B) (h : A → C) (xs : List A) → length (map f xs) ≡ length (map h xs)
-mapped_length f h [] = refl
-mapped_length f h (x ∷ xs) = ap suc (mapped_length f h xs)
 
 globals_each : (g : Typing) (vs : List GlobalVariable) → AreWellTypedGlobals vs → InGlobals vs → (n : ℕ) (t : ObjectType) → slice_get (map global_of vs) n ≡ Some t
     → (x : Object) × (filled : ℕ) × (slice_get (map global_object vs) n ≡ Some x) × (slice_get (ones vs) n ≡ Some filled) × IsObject g filled t x
 globals_each g [] have kept n t found = absurd (let z : None ≡ Some t = found in cc)
 globals_each g (v ∷ vs) (has, have) (known, kept) zero t found =
-    let t_is : global_of v ≡ t = some_same (global_of v) t found in
+    let t_is : global_of v ≡ t = same_Some (global_of v) t found in
     (global_object v, 1, refl, refl, subst (λ z. IsObject g 1 z (global_object v)) t_is (global_is g v has))
 globals_each g (v ∷ vs) (has, have) (known, kept) (suc n) t found = globals_each g vs have kept n t found
 
@@ -217,24 +215,24 @@ all_globals : (vs : List GlobalVariable) → InGlobals vs → (n : ℕ) (t : Ty)
     → (slice_get (map global_of vs) n ≡ Some (global_type (at as_heap t))) × (slice_get (ones vs) n ≡ Some 1) × IsDeclarable 0 t
 all_globals [] kept n t found = absurd (let z : None ≡ Some t = found in cc)
 all_globals (v ∷ vs) (one, kept) zero t found =
-    let same : v.of_type ≡ t = some_same v.of_type t found in
+    let same : v.of_type ≡ t = same_Some v.of_type t found in
     (ap (λ u. Some (global_type (at as_heap u))) same, refl, subst (λ u. IsDeclarable 0 u) same one)
 all_globals (v ∷ vs) (one, kept) (suc n) t found = all_globals vs kept n t found
 
 all_fields : (n : ℕ) (ts : List Ty) → InFields n ts → (field : ℕ) (t : Ty) → slice_get ts field ≡ Some t → IsDeclarable n t
 all_fields n [] kept field t found = absurd (let z : None ≡ Some t = found in cc)
-all_fields n (u ∷ ts) (one, usual, kept) zero t found = subst (λ z. IsDeclarable n z) (some_same u t found) one
+all_fields n (u ∷ ts) (one, usual, kept) zero t found = subst (λ z. IsDeclarable n z) (same_Some u t found) one
 all_fields n (u ∷ ts) (one, usual, kept) (suc field) t found = all_fields n ts kept field t found
 
 -- none is a key
 all_usual : (n : ℕ) (ts : List Ty) → InFields n ts → (field : ℕ) (t : Ty) → slice_get ts field ≡ Some t → is_key t ≡ false
 all_usual n [] kept field t found = absurd (let z : None ≡ Some t = found in cc)
-all_usual n (u ∷ ts) (one, usual, kept) zero t found = subst (λ z. is_key z ≡ false) (some_same u t found) usual
+all_usual n (u ∷ ts) (one, usual, kept) zero t found = subst (λ z. is_key z ≡ false) (same_Some u t found) usual
 all_usual n (u ∷ ts) (one, usual, kept) (suc field) t found = all_usual n ts kept field t found
 
 all_structs : (ss : List StructType) → InStructs ss → (n : ℕ) (s : StructType) → slice_get ss n ≡ Some s → InFields s.parameters s.fields
 all_structs [] kept n s found = absurd (let z : None ≡ Some s = found in cc)
-all_structs (r ∷ ss) (one, kept) zero s found = subst (λ (z : StructType). InFields z.parameters z.fields) (some_same r s found) one
+all_structs (r ∷ ss) (one, kept) zero s found = subst (λ (z : StructType). InFields z.parameters z.fields) (same_Some r s found) one
 all_structs (r ∷ ss) (one, kept) (suc n) s found = all_structs ss kept n s found
 
 counted_cells : (ls : List Life) (s : StructType) → length ls ≡ s.parameters → cells_of ls s ≡ Some (map (at (lives_among ls)) s.fields)
@@ -250,12 +248,12 @@ cells_counted ls s ts is = go (length ls == s.parameters) refl is
 -- where there are no constraints, nothing is given of unique pointers
 plain_given : (h : Function) (a : Region) → h.constraints ≡ [] → IsGiven (regions_at_call h) a regions.Unique → ⊥
 plain_given h a none (inl (heap, plain)) = plain refl
-plain_given h a none (inr (inl written)) = contains_none (a, regions.Unique) (subst (λ ps. Contains ps (a, regions.Unique)) none written)
+plain_given h a none (inr (inl written)) = absurd (Contains-empty (a, regions.Unique) (subst (λ ps. Contains ps (a, regions.Unique)) none written))
 plain_given h a none (inr (inr old)) = old
 
 first_given : (h : Function) (b : Region) → h.constraints ≡ [] → IsGiven (regions_at_call h) regions.Unique b → ⊥
 first_given h b none (inl (heap, plain)) = let e : regions.Unique ≡ regions.Heap = heap in absurd (cc)
-first_given h b none (inr (inl written)) = contains_none (regions.Unique, b) (subst (λ ps. Contains ps (regions.Unique, b)) none written)
+first_given h b none (inr (inl written)) = absurd (Contains-empty (regions.Unique, b) (subst (λ ps. Contains ps (regions.Unique, b)) none written))
 first_given h b none (inr (inr old)) = old
 
 -- at the start all region variables stand for the heap
@@ -275,7 +273,7 @@ stand_first c plain first = record { there = λ r has. there r; agrees = agrees;
 
 well_start : (p : Program) (input : List ℕ) → AreAccepted p → IsWellTypedProgram p → IsInClass p → IsWell p (start p input)
 well_start p input accepted well (in_functions, in_globals, in_structs) =
-    let (h, found, same) = of_map signature_of p.functions p.main (signature_of_ints []) well.main in
+    let (h, found, same) = slice_get-map_from_turned signature_of p.functions p.main (signature_of_ints []) well.main in
     let (end, ok) = accepted p.main h found in
     let none : h.parameters ≡ [] = ap (λ (s : Signature). s.parameters) same in
     let unmixed : h.constraints ≡ [] = ap (λ (s : Signature). s.constraints) same in
@@ -285,8 +283,8 @@ well_start p input accepted well (in_functions, in_globals, in_structs) =
     let bs : List InScope = Instance (λ n. heap_life) (λ n. true) ∷ [] in
     let x : Exits = record { loop = None; result = h.result; gives = read_value bs (result_type h.result); locks = []; relied = [] } in
     let objects : IsTyped g w.regions w.objects = record {
-      count = mapped_length global_object global_of p.globals;
-      counts = mapped_length global_object (λ (v : GlobalVariable). 1) p.globals;
+      count = same_length_mapped global_object global_of p.globals;
+      counts = same_length_mapped global_object (λ (v : GlobalVariable). 1) p.globals;
       each = globals_each g p.globals well.globals in_globals;
       heap = refl;
       kept = λ n is. none_among is;

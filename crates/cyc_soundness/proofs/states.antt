@@ -1,5 +1,4 @@
 -- the typing of states: how it grows, and how things change hands
-pub mod Numbers
 pub mod WorldLemmas
 pub mod Hands
 pub mod StackLemmas

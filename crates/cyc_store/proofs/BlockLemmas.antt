@@ -4,11 +4,12 @@ use Rattle.std.specs.Prelude.{is_some, if◌then◌else◌}
 use Rattle.std.proofs.lemmas.Bool.{cases_eq}
 use Rattle.cyc_words.proofs.Booleans.{some_there}
 use Rattle.cyc_words.proofs.Numbers.{when_equal}
+use Rattle.cyc_words.proofs.Options.{none_or_some, never_none_and_some}
 use Rattle.cyc_store.specs.State.{lookup, without, changed, Block, address_of, Uniques, Home, handle_of, StoreState, homes, covers, block_in, block_at, with_block, room}
 use Rattle.cyc_store.specs.Services.{Allocate, CloseDynamic, Free, Refusal, BadHandle, BadSize, Refused, Done, Allocated, block_of, made, is_full, full_at, is_size, refusal, IsPlaced, IsApart, ServesBy, Serves}
 use Rattle.cyc_store.specs.Soundness.{IsSound}
 use Rattle.cyc_store.specs.declared.range.TheConstants.{UNIQUE}
-use Rattle.cyc_store.proofs.LookupLemmas.{when_other, cases_option, not_both, lookup-key, lookup-append_new, lookup-changed_same, lookup-without}
+use Rattle.cyc_store.proofs.LookupLemmas.{when_other, lookup-key, lookup-append_new, lookup-changed_same, lookup-without}
 use Rattle.cyc_store.proofs.HolderLemmas.{covers_first}
 use Rattle.cyc_store.proofs.ServiceLemmas.{made-unique, made-in, then-none}
 
@@ -31,14 +32,14 @@ homes-made s h b = elim (cases_eq h UNIQUE) [
 -- no live block of a region has the address of a new one
 pub address-fresh_in : (s : StoreState) (h : ℕ) (r : Home) (b : Block) → IsSound s → lookup handle_of (homes s) h ≡ Some r → IsPlaced s.pages b → IsApart (homes s) b
     → lookup address_of r.blocks b.address ≡ None
-address-fresh_in s h r b sound there placed apart = elim (cases_option (lookup address_of r.blocks b.address)) [
+address-fresh_in s h r b sound there placed apart = elim (none_or_some (lookup address_of r.blocks b.address)) [
   | inl none ↦ none
   | inr old ↦
       let at : block_at (homes s) h b.address ≡ Some old.0 = ap (λ o. block_in o b.address) there ∙ old.1 in
       let inside : covers old.0 b.address ≡ true =
       subst (λ n. covers old.0 n ≡ true) (lookup-key address_of r.blocks b.address old.0 old.1)
       (covers_first old.0 (sound.regions.placed h b.address old.0 at).some) in
-      absurd (not_both (apart b.address (covers_first b placed.some)) (sound.regions.apart h b.address b.address old.0 at inside))
+      absurd (never_none_and_some (apart b.address (covers_first b placed.some)) (sound.regions.apart h b.address b.address old.0 at inside))
 ]
 
 made-there : (s : StoreState) (h : ℕ) (r : Home) (b : Block) → IsSound s → lookup handle_of (homes s) h ≡ Some r → IsPlaced s.pages b → IsApart (homes s) b

@@ -6,6 +6,7 @@ use Rattle.cyc_words.specs.Word.{IsWord}
 use Rattle.cyc_words.specs.Demand.{greatest_class, class_of, blocks_in_page, demand_of}
 use Rattle.cyc_words.proofs.Booleans.{some_there}
 use Rattle.cyc_words.proofs.Numbers.{none_below, one_less, when_equal}
+use Rattle.cyc_words.proofs.Options.{never_none_and_some}
 use Rattle.cyc_store.specs.State.{lookup, without, Memory, AreWords, Block, address_of, Sort, Heap, Lexical, Dynamic, Uniques, Home, handle_of, StoreState, homes, sizes_in, start, word_at, has_saved, saved, demand, live_in, raised, opened, down_to, made_in, made_unique, room}
 use Rattle.cyc_store.specs.Services.{Call, OpenLexical, CloseTo, OpenDynamic, CloseDynamic, Allocate, Free, Refusal, BadHandle, BadSize, NotABlock, Refused, Choice, block_of, served, answer, any_choice, is_full, full_at, is_dynamic, names_dynamic, is_size, refusal, IsPlaced, IsApart, IsFresh, IsAllowed}
 use Rattle.cyc_store.specs.Soundness.{IsSound}
@@ -16,7 +17,7 @@ use Rattle.cyc_store.specs.Ordered.{IsOrdered, HasChoice, Answers}
 use Rattle.cyc_store.specs.Ledger.{store_of}
 use Rattle.cyc_store.specs.inside.Kept.{numbers_from}
 use Rattle.cyc_store.specs.declared.range.TheConstants.{HEAP, UNIQUE, PAGE_WORDS, MOST_BLOCK_WORDS, MOST_PAGES}
-use Rattle.cyc_store.proofs.LookupLemmas.{when_other, not_both, cases_option, lookup-there, lookup-key, lookup-without_other, IsPart, IsPart-without}
+use Rattle.cyc_store.proofs.LookupLemmas.{when_other, lookup-there, lookup-key, lookup-without_other, IsPart, IsPart-without}
 use Rattle.cyc_store.proofs.HolderLemmas.{IsPart-down_to}
 use Rattle.cyc_store.proofs.CountLemmas.{class_of-bound, blocks-some}
 use Rattle.cyc_store.proofs.BlockLemmas.{address-fresh_in}
@@ -80,10 +81,10 @@ module _ (s : StoreState) (o : IsOrdered s) where
 
   unique-named : (h : ℕ) → lookup handle_of (homes s) h ≡ None → h ≡ UNIQUE → ⊥
   unique-named h none same =
-      not_both none (when_equal UNIQUE h (Some (record { handle = UNIQUE; sort = Uniques; blocks = s.unique })) (lookup handle_of s.regions h) (sym same))
+      never_none_and_some none (when_equal UNIQUE h (Some (record { handle = UNIQUE; sort = Uniques; blocks = s.unique })) (lookup handle_of s.regions h) (sym same))
 
   not_unique : (h : ℕ) (r : Home) → lookup handle_of s.regions h ≡ Some r → h ≡ UNIQUE → ⊥
-  not_unique h r named same = not_both (subst (λ n. lookup handle_of s.regions n ≡ None) (sym same) sound.regions.handles.0) named
+  not_unique h r named same = never_none_and_some (subst (λ n. lookup handle_of s.regions n ≡ None) (sym same) sound.regions.handles.0) named
 
   -- ---- opening
 

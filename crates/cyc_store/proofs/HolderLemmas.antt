@@ -3,10 +3,11 @@ use Rattle.std.proofs.Common.{◌≡◌, ℕ, zero, suc, ◌+◌, ◌*◌, ◌<�
 use Rattle.std.specs.Prelude.{◌⊎◌, nat_le, nat_lt}
 use Rattle.std.proofs.lemmas.Bool.{cases_eq, cases_Bool, cond-true, cond-false, le-leb, lt-ltb, and_from}
 use Rattle.cyc_words.proofs.Numbers.{when_equal}
+use Rattle.cyc_words.proofs.Options.{never_none_and_some, same_from_some}
 use Rattle.cyc_store.specs.State.{lookup, without, changed, AreDistinct, Block, address_of, Sort, Home, handle_of, empty_home, Holder, covers, holder_in, or_else, holder, block_in, block_at, with_block, is_lexical, down_to}
 use Rattle.cyc_store.specs.Services.{IsPlaced, IsApart}
 use Rattle.cyc_store.specs.Soundness.{AreSound}
-use Rattle.cyc_store.proofs.LookupLemmas.{when_other, not_both, same_some, IsPart, is_empty, is_left, is_kept, lookup-here, lookup-there, lookup-none, lookup-key, lookup-append_cases, AreDistinct-append, lookup-part_none, lookup-part, AreDistinct-part, IsPart-without, lookup-without, lookup-changed_same, lookup-changed_other, AreDistinct-changed}
+use Rattle.cyc_store.proofs.LookupLemmas.{when_other, IsPart, is_empty, is_left, is_kept, lookup-here, lookup-there, lookup-none, lookup-key, lookup-append_cases, AreDistinct-append, lookup-part_none, lookup-part, AreDistinct-part, IsPart-without, lookup-without, lookup-changed_same, lookup-changed_other, AreDistinct-changed}
 
 -- ---- covering
 
@@ -42,7 +43,7 @@ module _ (h : ℕ) (x : ℕ) where
   pub holder_in-handle : (bs : List Block) (k : Holder) → holder_in h bs x ≡ Some k → h ≡ k.handle
   holder_in-handle [] k found = absurd (let e : None ≡ Some k = found in cc)
   holder_in-handle (b ∷ bs) k found = elim (cases_Bool (covers b x)) [
-    | inl inside ↦ ap (λ (z : Holder). z.handle) (same_some (sym (in-here b bs inside) ∙ found))
+    | inl inside ↦ ap (λ (z : Holder). z.handle) (same_from_some (sym (in-here b bs inside) ∙ found))
     | inr not ↦ holder_in-handle bs k (sym (in-there b bs not) ∙ found)
   ]
 
@@ -56,7 +57,7 @@ module _ (h : ℕ) (x : ℕ) where
   holder_in-last : (bs : List Block) (b : Block) → holder_in h bs x ≡ None → covers b x ≡ true → holder_in h (bs ++ b ∷ []) x ≡ Some (record { handle = h; block = b })
   holder_in-last [] b none inside = in-here b [] inside
   holder_in-last (a ∷ bs) b none inside = elim (cases_Bool (covers a x)) [
-    | inl here ↦ absurd (not_both none (in-here a bs here))
+    | inl here ↦ absurd (never_none_and_some none (in-here a bs here))
     | inr away ↦ in-there a (bs ++ b ∷ []) away ∙ holder_in-last bs b (sym (in-there a bs away) ∙ none) inside
   ]
 
@@ -65,7 +66,7 @@ module _ (h : ℕ) (x : ℕ) where
   holder_in-without [] f k found other = found
   holder_in-without (b ∷ bs) f k found other = elim (cases_Bool (covers b x)) [
     | inl inside ↦
-        let is : record { handle = h; block = b } ≡ k = same_some (sym (in-here b bs inside) ∙ found) in
+        let is : record { handle = h; block = b } ≡ k = same_from_some (sym (in-here b bs inside) ∙ found) in
         let away : (b.address ≡ f → ⊥) = λ e. other (sym (ap (λ (z : Holder). z.block.address) is) ∙ e) in
         ap (λ l. holder_in h l x) (when_other b.address f (without address_of bs f) (b ∷ without address_of bs f) away)
         ∙ (in-here b (without address_of bs f) inside ∙ ap (λ z. Some z) is)
@@ -82,7 +83,7 @@ module _ (h : ℕ) (x : ℕ) where
   holder_in-without_none : (bs : List Block) (f : ℕ) → holder_in h bs x ≡ None → holder_in h (without address_of bs f) x ≡ None
   holder_in-without_none [] f none = none
   holder_in-without_none (b ∷ bs) f none = elim (cases_Bool (covers b x)) [
-    | inl inside ↦ absurd (not_both none (in-here b bs inside))
+    | inl inside ↦ absurd (never_none_and_some none (in-here b bs inside))
     | inr not ↦
         let rest : holder_in h (without address_of bs f) x ≡ None = holder_in-without_none bs f (sym (in-there b bs not) ∙ none) in
         elim (cases_eq b.address f) [
@@ -135,7 +136,7 @@ AreSound-part {pages} {qs} {rs} part sound = record {
   handles = AreDistinct-part handle_of part sound.handles;
   apart = λ h f x b at inside.
       holder-part part sound.handles x (record { handle = h; block = b }) (sound.apart h f x b (whole h f b at) inside)
-      (λ none. not_both (ap (λ o. block_in o f) none) at);
+      (λ none. never_none_and_some (ap (λ o. block_in o f) none) at);
   placed = λ h f b at. sound.placed h f b (whole h f b at);
 }
   where
@@ -216,7 +217,7 @@ AreSound-made {pages} rs h r b sound there placed apart = record {
     | inl old ↦
         let is : holder rs x ≡ Some (record { handle = g; block = c }) = sound.apart g f x c old inside in
         elim (cases_Bool (covers b x)) [
-          | inl both ↦ absurd (not_both (apart x both) is)
+          | inl both ↦ absurd (never_none_and_some (apart x both) is)
           | inr not ↦ holder-uncovered b x rs h not ∙ is
         ]
     | inr new ↦
@@ -271,7 +272,7 @@ AreSound-freed {pages} h sort bs rs gone distinct sound = record {
             ap (λ o. block_in o f) (lookup-here handle_of (record { handle = h; sort = sort; blocks = bs }) rs g same)
                 ∙ lookup-part address_of (IsPart-without address_of bs gone) distinct f b found,
             λ _ is.
-                not_both (subst (λ n. lookup address_of (without address_of bs gone) n ≡ None) (sym is ∙ lookup-key address_of (without address_of bs gone) f b found) (lookup-without address_of bs gone)) found,
+                never_none_and_some (subst (λ n. lookup address_of (without address_of bs gone) n ≡ None) (sym is ∙ lookup-key address_of (without address_of bs gone) f b found) (lookup-without address_of bs gone)) found,
           )
       | inr other ↦ (
         ap (λ o. block_in o f) (lookup-there handle_of (record { handle = h; sort = sort; blocks = bs }) rs g other)

@@ -1,11 +1,12 @@
 -- Which unique block begins at an address, by what a table of pages says.
-use Rattle.std.proofs.Common.{◌≡◌, ◌≢◌, ℕ, ◌+◌, ◌*◌, ◌/◌, ◌%◌, ◌^◌, ◌<◌, ◌≤◌, Bool, true, false, List, length, Option, None, Some, refl, sym, ap, subst, ◌∙◌, inl, inr, lit<, arith}
+use Rattle.std.proofs.Common.{◌≡◌, ◌≢◌, ℕ, ◌+◌, ◌*◌, ◌/◌, ◌%◌, ◌^◌, ◌<◌, ◌≤◌, Bool, true, false, List, length, None, Some, sym, ap, subst, ◌∙◌, inl, inr, lit<, arith}
 use Rattle.std.specs.Prelude.{◌⊎◌, is_some, slice_index_or}
 use Rattle.std.proofs.Math.Nat.{mod-lt, mul-div_cancel}
 use Rattle.std.proofs.lemmas.List.{get_or_default}
 use Rattle.std.proofs.lemmas.Nat.{pow_pos}
 use Rattle.cyc_words.specs.Demand.{greatest_class}
 use Rattle.cyc_words.proofs.Booleans.{some_there}
+use Rattle.cyc_words.proofs.Options.{none_from_is_some, none_or_some}
 use Rattle.cyc_store.specs.State.{lookup, address_of, handle_of, StoreState}
 use Rattle.cyc_store.specs.Ledger.{Blocks, store_of}
 use Rattle.cyc_store.specs.Slots.{place_of, IsSlot, IsLiveSlot}
@@ -16,15 +17,11 @@ use Rattle.cyc_store.specs.declared.row.Role.TheVariants as role
 use Rattle.cyc_store.specs.declared.row.Row.{Row}
 use Rattle.cyc_store.specs.declared.row.ClassSlots.{ClassSlots}
 use Rattle.cyc_store.specs.declared.range.TheConstants.{PAGE_WORDS, UNIQUE}
-use Rattle.cyc_store.proofs.LookupLemmas.{cases_option, lookup-key}
+use Rattle.cyc_store.proofs.LookupLemmas.{lookup-key}
 use Rattle.cyc_store.proofs.LiveWords.{slot-fits, slots-owner, unique-role, word-split}
 use Rattle.cyc_store.proofs.SlotServices.{same-words, freed-is}
 use Rattle.cyc_store.proofs.SlotTables.{slot-page, slot-offset}
 use Rattle.cyc_store.proofs.TableLemmas.{row_at-read}
-
-none-there : {A : Type 0} (o : Option A) → is_some o ≡ false → o ≡ None
-none-there None e = refl
-none-there (Some x) e = absurd (let f : true ≡ false = e in cc)
 
 module _ (t : PageTable) (lexicals : List ℕ) (classes : List ClassSlots) (b : Blocks) (k : IsKept t lexicals classes b) (address : ℕ) where
   abbrev s : StoreState
@@ -35,7 +32,7 @@ module _ (t : PageTable) (lexicals : List ℕ) (classes : List ClassSlots) (b : 
 
   -- none does where no slot does
   none-unless : ((class word : ℕ) → IsSlot k.layout.pages.owner k.layout.class class word → address ≡ place_of word → ⊥) → IsNone
-  none-unless never = elim (cases_option (lookup address_of b.unique address)) [
+  none-unless never = elim (none_or_some (lookup address_of b.unique address)) [
     | inl none ↦ none
     | inr (x, there) ↦
         let live : IsLiveSlot k.layout.pages.owner k.layout.class x = k.laid.slots.live address x there in
@@ -110,7 +107,7 @@ module _ (t : PageTable) (lexicals : List ℕ) (classes : List ClassSlots) (b : 
               ∙ ap (λ n. is_some (lookup address_of b.unique n)) (ap place_of place-is ∙ sym at))))
 
           pub block-dead : mark ≡ false → IsNone
-          block-dead dead = none-there (lookup address_of b.unique address) (sym mark-is ∙ dead)
+          block-dead dead = none_from_is_some (lookup address_of b.unique address) (sym mark-is ∙ dead)
 
           slot : IsSlot k.layout.pages.owner k.layout.class class word
           slot = record {

@@ -2,8 +2,9 @@
 use Rattle.std.proofs.Common.{◌≡◌, ◌≢◌, ℕ, suc, ◌+◌, ◌*◌, ◌/◌, ◌%◌, ◌<◌, ◌≤◌, true, false, List, [], ◌∷◌, length, Option, None, Some, refl, sym, ap, subst, ◌∙◌, inl, inr, arith}
 use Rattle.std.specs.Prelude.{◌⊎◌, if◌then◌else◌, is_some, slice_index, slice_index_or}
 use Rattle.std.specs.List.{AllByRecursion}
-use Rattle.std.proofs.lemmas.Bool.{cases_eq, cases_lt}
+use Rattle.std.proofs.lemmas.Bool.{cases_eq}
 use Rattle.cyc_words.proofs.Numbers.{when_equal}
+use Rattle.cyc_words.proofs.Options.{none_or_some, same_from_some}
 use Rattle.cyc_store.specs.State.{lookup, without, AreDistinct, Sort, Heap, Lexical, Dynamic, Uniques, Home, handle_of, is_lexical, StoreState}
 use Rattle.cyc_store.specs.Services.{CloseDynamic, Done, is_dynamic, names_dynamic, Serves}
 use Rattle.cyc_store.specs.Ledger.{Blocks, store_of}
@@ -16,7 +17,7 @@ use Rattle.cyc_store.specs.declared.row.Role.TheVariants as role
 use Rattle.cyc_store.specs.declared.row.Row.{Row}
 use Rattle.cyc_store.specs.declared.row.ClassSlots.{ClassSlots}
 use Rattle.cyc_store.specs.declared.range.TheConstants.{PAGE_WORDS, UNIQUE}
-use Rattle.cyc_store.proofs.LookupLemmas.{when_other, cases_option, same_some, lookup-here, lookup-there, lookup-key, IsPart-without}
+use Rattle.cyc_store.proofs.LookupLemmas.{when_other, lookup-here, lookup-there, lookup-key, IsPart-without}
 use Rattle.cyc_store.proofs.ServiceLemmas.{closed-sound}
 use Rattle.cyc_store.proofs.Responses.{serves-close}
 use Rattle.cyc_store.proofs.TableLemmas.{row_at-read}
@@ -35,7 +36,7 @@ pub lexical-without : (rs : List Home) (h : ℕ) (r : Home) → AreDistinct hand
 lexical-without [] h r distinct there not = refl
 lexical-without (q ∷ rs) h r distinct there not = elim (cases_eq q.handle h) [
   | inl same ↦
-      let is : q ≡ r = same_some (sym (lookup-here handle_of q rs h same) ∙ there) in
+      let is : q ≡ r = same_from_some (sym (lookup-here handle_of q rs h same) ∙ there) in
       let none : lookup handle_of rs h ≡ None = subst (λ n. lookup handle_of rs n ≡ None) same distinct.0 in
       ap lexical_handles (when_equal q.handle h (without handle_of rs h) (q ∷ without handle_of rs h) same ∙ without-none rs h none)
       ∙ sym (ap (λ l. if l then q.handle ∷ lexical_handles rs else lexical_handles rs) (ap (λ (x : Home). is_lexical x.sort) is ∙ not))
@@ -59,7 +60,7 @@ role-dynamic None (Some h) class e = elim (cases_eq h UNIQUE) [
 
 named-sort : (o : Option Home) (sort : Sort) → sort_of o ≡ Some sort → (r : Home) × (o ≡ Some r) × (r.sort ≡ sort)
 named-sort None sort e = absurd (let k : None ≡ Some sort = e in cc)
-named-sort (Some r) sort e = (r, refl, same_some e)
+named-sort (Some r) sort e = (r, refl, same_from_some e)
 
 not-dynamic : (sort : Sort) → (sort ≡ Dynamic → ⊥) → is_dynamic sort ≡ false
 not-dynamic Heap other = refl
@@ -94,7 +95,7 @@ module _ (t : PageTable) (lexicals : List ℕ) (classes : List ClassSlots) (b : 
       (region.root, sym (lookup-key handle_of b.regions h r found) ∙ region.handle, k.tied.drawn region.root r.handle region.owned)
 
   pub even-none : (h : ℕ) → h % 2 ≡ 0 → lookup handle_of b.regions h ≡ None
-  even-none h even = elim (cases_option (lookup handle_of b.regions h)) [
+  even-none h even = elim (none_or_some (lookup handle_of b.regions h)) [
     | inl none ↦ none
     | inr (r, found) ↦ let (page, is, below) = handle-page h r found in absurd (odd h page even is)
   ]
@@ -103,7 +104,7 @@ module _ (t : PageTable) (lexicals : List ℕ) (classes : List ClassSlots) (b : 
       odd h p even is = omega (arith, even, is)
 
   pub past-none : (h : ℕ) → length t.rows.items ≤ h / 2 → lookup handle_of b.regions h ≡ None
-  past-none h past = elim (cases_option (lookup handle_of b.regions h)) [
+  past-none h past = elim (none_or_some (lookup handle_of b.regions h)) [
     | inl none ↦ none
     | inr (r, found) ↦ let (page, is, below) = handle-page h r found in absurd (within h page (length t.rows.items) is below past)
   ]
@@ -118,7 +119,7 @@ module _ (t : PageTable) (lexicals : List ℕ) (classes : List ClassSlots) (b : 
         (sym (k.tied.rows page).plays ∙ (ap (λ (x : Row). x.role) (row_at-read t.rows.items page first there read) ∙ is)))
 
     pub others-none : (first.role ≡ role.Dynamic → ⊥) → names_dynamic (lookup handle_of b.regions (handle_of_page page)) ≡ false
-    others-none never = elim (cases_option (lookup handle_of b.regions (handle_of_page page))) [
+    others-none never = elim (none_or_some (lookup handle_of b.regions (handle_of_page page))) [
       | inl none ↦ ap names_dynamic none
       | inr (r, found) ↦ ap names_dynamic found ∙ not-dynamic r.sort (λ sort. never (ap (λ (x : Row). x.role) (sym (row_at-read t.rows.items page first there read))
           ∙ ((k.tied.rows page).plays ∙ (ap (λ o. role_of (sort_of o) (k.layout.pages.owner page) (k.layout.class page)) found ∙ ap role_of_sort sort))))
@@ -131,7 +132,7 @@ module _ (t : PageTable) (lexicals : List ℕ) (classes : List ClassSlots) (b : 
 
     -- a page that is no region's first one
     pub other-none : (first.role ≡ role.Heap → ⊥) → (first.role ≡ role.Lexical → ⊥) → (first.role ≡ role.Dynamic → ⊥) → lookup handle_of b.regions (handle_of_page page) ≡ None
-    other-none heap lexical dynamic = elim (cases_option (lookup handle_of b.regions (handle_of_page page))) [
+    other-none heap lexical dynamic = elim (none_or_some (lookup handle_of b.regions (handle_of_page page))) [
       | inl none ↦ none
       | inr (r, found) ↦ absurd (by r.sort (played (Some r) found))
     ]
@@ -144,7 +145,7 @@ module _ (t : PageTable) (lexicals : List ℕ) (classes : List ClassSlots) (b : 
 
     -- a page with the role of a first one
     pub root-named : (first.role ≡ role.Heap) ⊎ ((first.role ≡ role.Lexical) ⊎ (first.role ≡ role.Dynamic)) → is_some (lookup handle_of b.regions (handle_of_page page)) ≡ true
-    root-named is = elim (cases_option (lookup handle_of b.regions (handle_of_page page))) [
+    root-named is = elim (none_or_some (lookup handle_of b.regions (handle_of_page page))) [
       | inl none ↦ absurd (by none is)
       | inr (r, found) ↦ ap is_some found
     ]
@@ -156,16 +157,6 @@ module _ (t : PageTable) (lexicals : List ℕ) (classes : List ClassSlots) (b : 
         by none (inl e) = other none Heap e
         by none (inr (inl e)) = other none Lexical e
         by none (inr (inr e)) = other none Dynamic e
-
-pub odd-handle : (h : ℕ) → (h % 2 ≡ 0 → ⊥) → h ≡ 2 * (h / 2) + 1
-odd-handle h odd = by (cases_lt 0 (h % 2))
-  where
-    by : (0 < h % 2) ⊎ (h % 2 ≤ 0) → h ≡ 2 * (h / 2) + 1
-    by (inl some) = omega (arith, some)
-    by (inr none) = absurd (odd (zero (h % 2) none))
-      where
-        zero : (n : ℕ) → n ≤ 0 → n ≡ 0
-        zero n e = omega (arith, e)
 
 -- ---- a dynamic region
 

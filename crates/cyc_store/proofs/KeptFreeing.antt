@@ -1,12 +1,10 @@
 -- A store on a table of pages stays one where a unique block is freed.
-use Rattle.std.proofs.Common.{◌≡◌, ℕ, suc, ◌+◌, ◌*◌, ◌^◌, ◌<◌, ◌≤◌, false, List, [], ◌∷◌, length, Some, refl, sym, ap, subst, ◌∙◌, inl, inr, arith, length-set}
+use Rattle.std.proofs.Common.{◌≡◌, ℕ, ◌+◌, ◌*◌, ◌^◌, ◌<◌, ◌≤◌, false, List, [], ◌∷◌, length, Some, refl, sym, ap, subst, ◌∙◌, arith, length-set}
 use Rattle.std.specs.Prelude.{◌==◌, if◌then◌else◌, is_some, slice_index, slice_index_or, set}
 use Rattle.std.specs.List.{AllByRecursion}
-use Rattle.std.proofs.Math.Nat.{pow-le-pow_right, pow-suc}
-use Rattle.std.proofs.lemmas.Bool.{cases_lt}
-use Rattle.std.proofs.lemmas.Nat.{pow_pos}
 use Rattle.cyc_words.specs.Demand.{greatest_class}
-use Rattle.cyc_words.proofs.Numbers.{when_equal}
+use Rattle.cyc_words.proofs.Numbers.{when_equal, same_from_powers}
+use Rattle.cyc_words.proofs.Options.{never_none_and_some, same_from_some}
 use Rattle.cyc_store.specs.State.{lookup, without, Memory, put, AreWords, Block, address_of, Holder, StoreState, homes, holder}
 use Rattle.cyc_store.specs.Services.{Free, Done, Serves}
 use Rattle.cyc_store.specs.Soundness.{IsSound}
@@ -18,7 +16,7 @@ use Rattle.cyc_store.specs.declared.change.Change.TheVariants.{Freed}
 use Rattle.cyc_store.specs.declared.row.PageTable.{PageTable}
 use Rattle.cyc_store.specs.declared.row.ClassSlots.{ClassSlots}
 use Rattle.cyc_store.specs.declared.range.TheConstants.{PAGE_WORDS, UNIQUE}
-use Rattle.cyc_store.proofs.LookupLemmas.{when_other, not_both, same_some, lookup-without, lookup-without_other}
+use Rattle.cyc_store.proofs.LookupLemmas.{when_other, lookup-without, lookup-without_other}
 use Rattle.cyc_store.proofs.Responses.{serves-free, sound-free}
 use Rattle.cyc_store.proofs.SlotLemmas.{holder-unique, slot-live}
 use Rattle.cyc_store.proofs.SlotServices.{with_dead, same-words, first-in, freed-laid}
@@ -26,23 +24,6 @@ use Rattle.cyc_store.proofs.SlotTables.{read-set, marked-table, stock-words}
 use Rattle.cyc_store.proofs.TieSlots.{with_marks, with_slots, slot-tied}
 use Rattle.cyc_store.proofs.WordLemmas.{memory-set, words-put}
 use Rattle.cyc_store.proofs.KeptSlots.{class-there, stock-is, slot-there, mark-there, words-few, link-word}
-
--- one power of two has one exponent
-powers-one : (m n : ℕ) → 2 ^ m ≡ 2 ^ n → m ≡ n
-powers-one m n e = elim (cases_lt m n) [
-  | inl less ↦ absurd (apart m n less e)
-  | inr more ↦ elim (cases_lt n m) [
-    | inl less ↦ absurd (apart n m less (sym e))
-    | inr same ↦ omega (arith, more, same)
-  ]
-]
-  where
-    apart : (m n : ℕ) → m < n → 2 ^ m ≡ 2 ^ n → ⊥
-    apart m n less same =
-        let most : 2 ^ suc m ≤ 2 ^ n = pow-le-pow_right (omega arith) (omega (arith, less)) in
-        let next : 2 ^ suc m ≡ 2 ^ m * 2 = pow-suc 2 m in
-        let some : 0 < 2 ^ m = pow_pos m in
-        omega (arith, most, next, some, same)
 
 module _ (t : PageTable) (lexicals : List ℕ) (classes : List ClassSlots) (b : Blocks) (k : IsKept t lexicals classes b) (word class : ℕ)
     (there : lookup address_of b.unique (536870912 + 4 * word) ≡ Some (record { address = 536870912 + 4 * word; size = 2 ^ class })) where
@@ -56,7 +37,7 @@ module _ (t : PageTable) (lexicals : List ℕ) (classes : List ClassSlots) (b : 
   live = k.laid.slots.live (place_of word) (slot_block class word) there
 
   slot : IsSlot k.layout.pages.owner k.layout.class class word
-  slot = subst (λ c. IsSlot k.layout.pages.owner k.layout.class c word) (powers-one live.class class (sym (ap (λ (x : Block). x.size) live.is)))
+  slot = subst (λ c. IsSlot k.layout.pages.owner k.layout.class c word) (same_from_powers live.class class (sym (ap (λ (x : Block). x.size) live.is)))
       (subst (IsSlot k.layout.pages.owner k.layout.class live.class) (same-words live.word word (sym (ap address_of live.is))) live.slot)
 
   pub empty-class : class ≤ greatest_class
@@ -85,7 +66,7 @@ module _ (t : PageTable) (lexicals : List ℕ) (classes : List ClassSlots) (b : 
   dead-away : (c : ℕ) (xs : List ℕ) → AllByRecursion (IsDeadSlot b.unique k.layout.pages.owner k.layout.class c) xs → AllByRecursion (λ x. written x ≡ slice_index t.words.items x) xs
   dead-away c [] all = tt
   dead-away c (x ∷ xs) all = (
-    when_other x word slots.dead (slice_index t.words.items x) (λ e. not_both all.0.none (ap (λ n. lookup address_of b.unique (place_of n)) e ∙ there)),
+    when_other x word slots.dead (slice_index t.words.items x) (λ e. never_none_and_some all.0.none (ap (λ n. lookup address_of b.unique (place_of n)) e ∙ there)),
     dead-away c xs all.1,
   )
 
@@ -114,8 +95,8 @@ module _ (t : PageTable) (lexicals : List ℕ) (classes : List ClassSlots) (b : 
       gone : holder (homes s) (place_of word) ≡ Some h → ⊥
       gone held =
           let is : h ≡ record { handle = UNIQUE; block = slot_block class word } =
-          sym (same_some (sym (slot-live s k.layout k.laid class word (place_of word) (slot_block class word) slot (first-in class word) there) ∙ held)) in
-          not_both (lookup-without address_of b.unique (place_of word))
+          sym (same_from_some (sym (slot-live s k.layout k.laid class word (place_of word) (slot_block class word) slot (first-in class word) there) ∙ held)) in
+          never_none_and_some (lookup-without address_of b.unique (place_of word))
           (subst (λ (y : Holder). lookup address_of (without address_of b.unique (place_of word)) y.block.address ≡ Some y.block) is
           (holder-unique (record s { unique = without address_of b.unique (place_of word) }) x h without-sound new (ap (λ (y : Holder). y.handle) is)))
 

@@ -5,12 +5,13 @@ use Rattle.std.proofs.lemmas.Bool.{cases_eq, cond-true, le-leb, eq-eqb}
 use Rattle.std.proofs.lemmas.List.{get_or_default}
 use Rattle.cyc_words.proofs.Booleans.{some_there}
 use Rattle.cyc_words.proofs.Numbers.{when_equal}
+use Rattle.cyc_words.proofs.Options.{none_or_some}
 use Rattle.cyc_store.specs.State.{StoreState, homes, Holder, holder, word_in, word_at}
 use Rattle.cyc_store.specs.Ledger.{Blocks, memory_of, store_of}
 use Rattle.cyc_store.specs.inside.Kept.{IsKept}
 use Rattle.cyc_store.specs.declared.row.PageTable.{PageTable}
 use Rattle.cyc_store.specs.declared.row.ClassSlots.{ClassSlots}
-use Rattle.cyc_store.proofs.LookupLemmas.{when_other, cases_option}
+use Rattle.cyc_store.proofs.LookupLemmas.{when_other}
 use Rattle.cyc_store.proofs.PageLemmas.{covers_bounds, holder-laid}
 
 -- ---- words at addresses
@@ -48,7 +49,7 @@ module _ (t : PageTable) (lexicals : List ℕ) (classes : List ClassSlots) (b : 
   s = store_of t.most t.words.items b
 
   outside : (x : ℕ) → ((h : Holder) → holder (homes s) x ≡ Some h → (536870912 ≤ x) → (x < 536870912 + 4 * length t.words.items) → ⊥) → holder (homes s) x ≡ None
-  outside x never = elim (cases_option (holder (homes s) x)) [
+  outside x never = elim (none_or_some (holder (homes s) x)) [
     | inl none ↦ none
     | inr (h, held) ↦
         let (old, also) = holder-laid k.layout.pages (homes s) x h k.laid.paged.laid held in
@@ -113,7 +114,7 @@ load-live s x n place live = ap is_some (live-word s x (place-even x n place) (a
 -- what is read at a word that is live
 pub load-word : (pages : ℕ) (words : List ℕ) (b : Blocks) (x n r : ℕ) → x ≡ 536870912 + 4 * n → n < length words → is_some (word_at (store_of pages words b) x) ≡ true
     → r ≡ slice_index_or words n r → Some r ≡ word_at (store_of pages words b) x
-load-word pages words b x n r place inside live read = elim (cases_option (holder (homes (store_of pages words b)) x)) [
+load-word pages words b x n r place inside live read = elim (none_or_some (holder (homes (store_of pages words b)) x)) [
   | inl none ↦ absurd (none-live (word_at (store_of pages words b) x) (dead-word (store_of pages words b) x none) live)
   | inr (h, held) ↦ sym (live-word (store_of pages words b) x (place-even x n place) (ap is_some held)
       ∙ ap (λ w. Some w) (memory-word words x (place-even x n place) (low x n place) ∙ (ap (slice_index words) (quarter x n place) ∙ (get_or_default words n 0 r inside ∙ sym read))))

@@ -4,6 +4,7 @@ use Rattle.std.specs.Prelude.{◌==◌, if◌then◌else◌, slice_index, slice_
 use Rattle.std.specs.List.{AllByRecursion}
 use Rattle.std.proofs.lemmas.Bool.{cases_eq}
 use Rattle.cyc_words.specs.Demand.{region_pages, demand_of}
+use Rattle.cyc_words.proofs.Options.{never_none_and_some, same_from_some}
 use Rattle.cyc_store.specs.State.{lookup, Block, address_of, Home, handle_of, StoreState, homes, sizes_of, sizes_in, demand, made_in}
 use Rattle.cyc_store.specs.Services.{Allocate, Allocated, Refused, Full, refusal, IsPlaced, IsApart, Serves}
 use Rattle.cyc_store.specs.Ledger.{Blocks, store_of, plain_store, blocks_of}
@@ -15,7 +16,7 @@ use Rattle.cyc_store.specs.declared.row.PageTable.{PageTable}
 use Rattle.cyc_store.specs.declared.row.Row.{Row}
 use Rattle.cyc_store.specs.declared.row.ClassSlots.{ClassSlots}
 use Rattle.cyc_store.specs.declared.range.TheConstants.{PAGE_WORDS, UNIQUE, MOST_BLOCK_WORDS}
-use Rattle.cyc_store.proofs.LookupLemmas.{when_other, not_both, same_some, lookup-here, lookup-there, lookup-key}
+use Rattle.cyc_store.proofs.LookupLemmas.{when_other, lookup-here, lookup-there, lookup-key}
 use Rattle.cyc_store.proofs.BlockLemmas.{address-fresh_in}
 use Rattle.cyc_store.proofs.LiveWords.{odd-apart}
 use Rattle.cyc_store.proofs.PageServices.{pages-mark, stays-placed, drawn-placed, demand-stays, demand-grows, full-without}
@@ -32,7 +33,7 @@ region-few : (rs : List Home) (h : ℕ) (r : Home) (classes : List ℕ) → look
 region-few [] h r classes there = absurd (let e : None ≡ Some r = there in cc)
 region-few (q ∷ rs) h r classes there = elim (cases_eq q.handle h) [
   | inl same ↦
-      let is : q ≡ r = same_some (sym (lookup-here handle_of q rs h same) ∙ there) in
+      let is : q ≡ r = same_from_some (sym (lookup-here handle_of q rs h same) ∙ there) in
       subst (λ (x : Home). region_pages (sizes_of x.blocks) ≤ demand_of (sizes_in (q ∷ rs)) classes) is (first (region_pages (sizes_of q.blocks)) (demand_of (sizes_in rs) classes))
   | inr other ↦ later (region_pages (sizes_of r.blocks)) (region_pages (sizes_of q.blocks)) (demand_of (sizes_in rs) classes)
       (region-few rs h r classes (sym (lookup-there handle_of q rs h other) ∙ there))
@@ -325,7 +326,7 @@ module _ (t : PageTable) (lexicals : List ℕ) (classes : List ClassSlots) (b : 
               (draws-serves n least most is-past u page draws room c (noted ∙ ap (λ (x : Block). blocks_of (made_in (plain_store b) h x)) taken-is))
 
           apart-root : root ≡ page → ⊥
-          apart-root e = not_both (drawn-none t lexicals classes b k u page draws room)
+          apart-root e = never_none_and_some (drawn-none t lexicals classes b k u page draws room)
               (ap k.layout.pages.owner (sym e ∙ sym root-is) ∙ rooted.owned)
 
           pub after-kept : (c : Blocks) → c ≡ blocks_of (made_in (plain_store b) h taken_block) → (v : PageTable) → v.most ≡ u.most → v.words.items ≡ u.words.items

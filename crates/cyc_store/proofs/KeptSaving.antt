@@ -3,6 +3,7 @@ use Rattle.std.proofs.Common.{◌≡◌, ℕ, ◌+◌, ◌*◌, ◌^◌, ◌<◌
 use Rattle.std.specs.Prelude.{◌==◌, if◌then◌else◌, is_some, slice_index, slice_index_or, set}
 use Rattle.std.specs.List.{AllByRecursion}
 use Rattle.cyc_words.proofs.Booleans.{some_there}
+use Rattle.cyc_words.proofs.Options.{never_none_and_some}
 use Rattle.cyc_store.specs.State.{Memory, put, StoreState, homes, holder, word_at, has_saved, saved}
 use Rattle.cyc_store.specs.Ledger.{Blocks, memory_of, store_of}
 use Rattle.cyc_store.specs.Slots.{place_of, IsDeadSlot, IsLaidOut}
@@ -10,7 +11,7 @@ use Rattle.cyc_store.specs.inside.Kept.{IsTied, IsKept, table_of, no_slots}
 use Rattle.cyc_store.specs.declared.row.PageTable.{PageTable}
 use Rattle.cyc_store.specs.declared.row.ClassSlots.{ClassSlots}
 use Rattle.cyc_store.specs.declared.range.TheConstants.{PAGE_WORDS}
-use Rattle.cyc_store.proofs.LookupLemmas.{when_other, not_both}
+use Rattle.cyc_store.proofs.LookupLemmas.{when_other}
 use Rattle.cyc_store.proofs.SlotLemmas.{slot-apart}
 use Rattle.cyc_store.proofs.SlotServices.{first-in, paged-unique}
 use Rattle.cyc_store.proofs.SlotTables.{read-set, read-table, stock-words}
@@ -38,7 +39,7 @@ module _ (t : PageTable) (lexicals : List ℕ) (classes : List ClassSlots) (b : 
   word-live : holder (homes s) (place_of word) ≡ None → ⊥
   word-live none =
       let (old, found) = some_there (word_at s address) live in
-      not_both (dead-word s address (ap (holder (homes s)) at ∙ none)) found
+      never_none_and_some (dead-word s address (ap (holder (homes s)) at ∙ none)) found
 
   dead-away : (c : ℕ) (xs : List ℕ) → AllByRecursion (IsDeadSlot b.unique k.layout.pages.owner k.layout.class c) xs → AllByRecursion (λ x. written x ≡ slice_index t.words.items x) xs
   dead-away c [] all = tt

@@ -110,9 +110,6 @@ regions-few (r ∷ rs) classes =
     let rest : length rs ≤ demand_of (sizes_in rs) classes = regions-few rs classes in
     omega (arith, one, rest)
 
-pub not-true : false ≡ true → ⊥
-not-true e = cc
-
 -- ---- nothing changes
 
 same-table : (t u : PageTable) → IsSame t u → table_of u ≡ table_of t

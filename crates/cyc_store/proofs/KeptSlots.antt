@@ -6,6 +6,7 @@ use Rattle.std.proofs.lemmas.Bool.{cases_eq}
 use Rattle.std.proofs.lemmas.Nat.{pow_pos}
 use Rattle.cyc_words.specs.Demand.{greatest_class, class_of, blocks_in_page}
 use Rattle.cyc_words.proofs.Numbers.{when_equal}
+use Rattle.cyc_words.proofs.Lists.{not_empty}
 use Rattle.cyc_store.specs.State.{Block, address_of, StoreState, demand, live_in, made_unique}
 use Rattle.cyc_store.specs.Soundness.{IsSound}
 use Rattle.cyc_store.specs.Ledger.{Blocks, store_of, plain_store, blocks_of, after}
@@ -173,18 +174,12 @@ module _ (t : PageTable) (lexicals : List ℕ) (classes : List ClassSlots) (b : 
       more : (n d p : ℕ) → n < p → n + d ≡ p → 0 < d
       more n d p has count = omega (arith, has, count)
 
-  some-more : (w : ℕ) (rest xs : List ℕ) → xs ≡ w ∷ rest → 0 < length xs
-  some-more w rest xs is = more (length rest) (length xs) (ap length is)
-    where
-      more : (n m : ℕ) → m ≡ suc n → 0 < m
-      more n m e = omega (arith, e)
-
   pub slot-dead : (slots.dead ≡ NONE → ⊥) → HasSlot s class
-  slot-dead some = let linked = linked-first some in dead-has (some-more slots.dead linked.rest dead linked.first)
+  slot-dead some = let linked = linked-first some in dead-has (not_empty slots.dead linked.rest dead linked.first)
 
   pub slot-left : (slots.left ≡ 0 → ⊥) → HasSlot s class
   slot-left other = elim (cases_eq slots.dead NONE) [
-    | inl none ↦ let fresh = fresh-first none (positive slots.left other) in dead-has (some-more slots.fresh fresh.rest dead fresh.first)
+    | inl none ↦ let fresh = fresh-first none (positive slots.left other) in dead-has (not_empty slots.fresh fresh.rest dead fresh.first)
     | inr some ↦ slot-dead some
   ]
     where
@@ -236,7 +231,7 @@ module _ (t : PageTable) (lexicals : List ℕ) (classes : List ClassSlots) (b : 
       where
         by : (xs : List ℕ) → dead ≡ xs → xs ≡ []
         by [] is = refl
-        by (w ∷ xs) is = absurd (none (dead-has (some-more w xs dead is)))
+        by (w ∷ xs) is = absurd (none (dead-has (not_empty w xs dead is)))
 
     pub stock-full : length t.rows.items ≤ t.free → t.most ≤ length t.rows.items → IsSpent s
     stock-full past most = all (length k.layout.free) (demand s) t.most (ap length (kept-full t lexicals classes b k past most)) k.laid.paged.count

@@ -2,13 +2,14 @@
 use Rattle.std.proofs.Common.{◌≡◌, ℕ, zero, suc, ◌+◌, ◌*◌, ◌/◌, ◌≤◌, true, false, List, [], ◌∷◌, ◌++◌, length, None, Some, refl, sym, ap, subst, ◌∙◌, inl, inr, arith}
 use Rattle.std.specs.Prelude.{◌⊎◌}
 use Rattle.std.proofs.lemmas.Bool.{cases_Bool, cond-true, cond-false}
-use Rattle.cyc_words.proofs.Numbers.{zero_least, when_equal}
+use Rattle.cyc_words.proofs.Numbers.{zero_least, when_equal, suc_not_below_zero, le_from_suc}
+use Rattle.cyc_words.proofs.Options.{never_none_and_some}
 use Rattle.cyc_store.specs.State.{lookup, without, AreDistinct, Home, handle_of, is_lexical, lexical_count, down_to}
 use Rattle.cyc_store.specs.Ledger.{Blocks, Stored, held_of, Unwinds}
 use Rattle.cyc_store.specs.inside.Kept.{handle_of_page, lexical_handles, IsKept}
 use Rattle.cyc_store.specs.declared.row.PageTable.{PageTable}
 use Rattle.cyc_store.specs.declared.row.ClassSlots.{ClassSlots}
-use Rattle.cyc_store.proofs.LookupLemmas.{when_other, not_both, lookup-here, lookup-there}
+use Rattle.cyc_store.proofs.LookupLemmas.{when_other, lookup-here, lookup-there}
 use Rattle.cyc_store.proofs.PagedClosing.{without-none}
 use Rattle.cyc_store.proofs.KeptServices.{lexical-length}
 use Rattle.cyc_store.proofs.KeptClosing.{handle-page}
@@ -25,12 +26,6 @@ pub step-by : (m : ℕ) (r : Home) (rs : List Home) → is_lexical r.sort ≡ fa
 step-by zero r rs not = cond-false (is_lexical r.sort) (down_to zero rs) (r ∷ down_to zero rs) not
 step-by (suc m) r rs not = cond-false (is_lexical r.sort) (r ∷ down_to m rs) (r ∷ down_to (suc m) rs) not
 
-none-below : (n : ℕ) → suc n ≤ 0 → ⊥
-none-below n e = omega (arith, e)
-
-less-below : (m n : ℕ) → suc m ≤ suc n → m ≤ n
-less-below m n e = omega (arith, e)
-
 -- a lower mark after a higher one
 pub down_to-lower : (m n : ℕ) (rs : List Home) → m ≤ n → down_to m (down_to n rs) ≡ down_to m rs
 down_to-lower zero zero [] few = refl
@@ -44,9 +39,9 @@ down_to-lower m n (r ∷ rs) few = by m n few (cases_Bool (is_lexical r.sort)) (
     by m n few (inr not) rest = ap (down_to m) (step-by n r rs not) ∙ (step-by m r (down_to n rs) not ∙ (ap (λ l. r ∷ l) (rest m n few) ∙ sym (step-by m r rs not)))
     by zero zero few (inl is) rest = ap (down_to zero) (step-out r rs is) ∙ (rest zero zero few ∙ sym (step-out r rs is))
     by zero (suc n) few (inl is) rest = ap (down_to zero) (step-in n r rs is) ∙ (step-out r (down_to n rs) is ∙ (rest zero n (zero_least n) ∙ sym (step-out r rs is)))
-    by (suc m) zero few (inl is) rest = absurd (none-below m few)
+    by (suc m) zero few (inl is) rest = absurd (suc_not_below_zero m few)
     by (suc m) (suc n) few (inl is) rest = ap (down_to (suc m)) (step-in n r rs is)
-        ∙ (step-in m r (down_to n rs) is ∙ (ap (λ l. r ∷ l) (rest m n (less-below m n few)) ∙ sym (step-in m r rs is)))
+        ∙ (step-in m r (down_to n rs) is ∙ (ap (λ l. r ∷ l) (rest m n (le_from_suc m n few)) ∙ sym (step-in m r rs is)))
 
 -- a mark that is not below the number of lexical regions
 pub down_to-all : (m : ℕ) (rs : List Home) → lexical_count rs ≤ m → down_to m rs ≡ rs
@@ -56,9 +51,9 @@ down_to-all m (r ∷ rs) few = by m few (cases_Bool (is_lexical r.sort)) (λ k a
   where
     by : (m : ℕ) → lexical_count (r ∷ rs) ≤ m → (is_lexical r.sort ≡ true) ⊎ (is_lexical r.sort ≡ false) → ((k : ℕ) → lexical_count rs ≤ k → down_to k rs ≡ rs) → down_to m (r ∷ rs) ≡ r ∷ rs
     by m few (inr not) rest = step-by m r rs not ∙ ap (λ l. r ∷ l) (rest m (subst (λ n. n ≤ m) (cond-false (is_lexical r.sort) (suc (lexical_count rs)) (lexical_count rs) not) few))
-    by zero few (inl is) rest = absurd (none-below (lexical_count rs) (subst (λ n. n ≤ 0) (cond-true (is_lexical r.sort) (suc (lexical_count rs)) (lexical_count rs) is) few))
+    by zero few (inl is) rest = absurd (suc_not_below_zero (lexical_count rs) (subst (λ n. n ≤ 0) (cond-true (is_lexical r.sort) (suc (lexical_count rs)) (lexical_count rs) is) few))
     by (suc m) few (inl is) rest = step-in m r rs is
-        ∙ ap (λ l. r ∷ l) (rest m (less-below (lexical_count rs) m (subst (λ n. n ≤ suc m) (cond-true (is_lexical r.sort) (suc (lexical_count rs)) (lexical_count rs) is) few)))
+        ∙ ap (λ l. r ∷ l) (rest m (le_from_suc (lexical_count rs) m (subst (λ n. n ≤ suc m) (cond-true (is_lexical r.sort) (suc (lexical_count rs)) (lexical_count rs) is) few)))
 
 -- ---- the newest lexical region
 
@@ -87,7 +82,7 @@ newest-is (r ∷ rs) left h distinct is = by left is (cases_Bool (is_lexical r.s
   where
     -- the others of a list that has the region further behind
     behind : (xs : List ℕ) → IsNewest rs xs h → (r.handle ≡ h → ⊥)
-    behind xs rest e = not_both (subst (λ n. lookup handle_of rs n ≡ None) e distinct.0) rest.named
+    behind xs rest e = never_none_and_some (subst (λ n. lookup handle_of rs n ≡ None) e distinct.0) rest.named
 
     by : (xs : List ℕ) → lexical_handles (r ∷ rs) ≡ xs ++ h ∷ [] → (is_lexical r.sort ≡ true) ⊎ (is_lexical r.sort ≡ false)
         → ((ys : List ℕ) → lexical_handles rs ≡ ys ++ h ∷ [] → IsNewest rs ys h) → IsNewest (r ∷ rs) xs h

@@ -6,6 +6,7 @@ use Rattle.std.proofs.lemmas.Bool.{cases_eq, cases_lt}
 use Rattle.std.proofs.lemmas.Nat.{pow_pos}
 use Rattle.cyc_words.specs.Demand.{greatest_class, blocks_in_page}
 use Rattle.cyc_words.proofs.Numbers.{when_equal}
+use Rattle.cyc_words.proofs.Options.{none_or_some, never_none_and_some, same_from_some}
 use Rattle.cyc_store.specs.State.{lookup, address_of, Sort, Heap, Lexical, Dynamic, Uniques, Home, handle_of, StoreState, homes, covers, holder}
 use Rattle.cyc_store.specs.Ledger.{Blocks, store_of}
 use Rattle.cyc_store.specs.Slots.{place_of, Layout, slot_block, IsSlot, IsLaidOut}
@@ -14,7 +15,7 @@ use Rattle.cyc_store.specs.declared.row.Role.{Role}
 use Rattle.cyc_store.specs.declared.row.Role.TheVariants as role
 use Rattle.cyc_store.specs.declared.row.ClassSlots.{ClassSlots}
 use Rattle.cyc_store.specs.declared.range.TheConstants.{STORE_BASE, PAGE_WORDS, UNIQUE}
-use Rattle.cyc_store.proofs.LookupLemmas.{when_other, cases_option, not_both, same_some, lookup-key}
+use Rattle.cyc_store.proofs.LookupLemmas.{when_other, lookup-key}
 use Rattle.cyc_store.proofs.HolderLemmas.{covers_from}
 use Rattle.cyc_store.proofs.SlotLemmas.{slot-apart, slot-live, filled-live, past-dead}
 
@@ -106,13 +107,13 @@ module _ (t : Table) (lexicals : List ℕ) (classes : ℕ → ClassSlots) (b : B
       ∙ (ap (λ o. role_of_owner o (l.class page)) owned ∙ when_equal UNIQUE UNIQUE (role.Slots (l.class page)) role.Rest refl))
     where
       rootless : lookup handle_of b.regions (handle_of_page page) ≡ None
-      rootless = elim (cases_option (lookup handle_of b.regions (handle_of_page page))) [
+      rootless = elim (none_or_some (lookup handle_of b.regions (handle_of_page page))) [
         | inl none ↦ none
         | inr (r, there) ↦
             let rooted : IsRooted t.row l.pages r = tied.roots (handle_of_page page) r there in
             let same : r.handle ≡ handle_of_page page = lookup-key handle_of b.regions (handle_of_page page) r there in
             let root : rooted.root ≡ page = halves rooted.root page (sym rooted.handle ∙ same) in
-            absurd (odd-apart page (sym same ∙ same_some (sym rooted.owned ∙ (ap l.pages.owner root ∙ owned))))
+            absurd (odd-apart page (sym same ∙ same_from_some (sym rooted.owned ∙ (ap l.pages.owner root ∙ owned))))
       ]
         where
           halves : (m n : ℕ) → 2 * m + 1 ≡ 2 * n + 1 → m ≡ n
@@ -161,7 +162,7 @@ module _ (t : Table) (lexicals : List ℕ) (classes : ℕ → ClassSlots) (b : B
 
         by : l.pages.owner page ≡ Some UNIQUE → l.class page ≡ class
             → is_some (holder (homes s) (place_of (PAGE_WORDS * page + offset))) ≡ t.live (PAGE_WORDS * page + offset)
-        by owned same = elim (cases_option (lookup address_of b.unique (place_of (PAGE_WORDS * page + offset / 2 ^ class * 2 ^ class)))) [
+        by owned same = elim (none_or_some (lookup address_of b.unique (place_of (PAGE_WORDS * page + offset / 2 ^ class * 2 ^ class)))) [
           | inl none ↦ ap is_some (slot-apart s l laid class (PAGE_WORDS * page + offset / 2 ^ class * 2 ^ class) slot none (place_of (PAGE_WORDS * page + offset)) inside)
               ∙ sym (mark ∙ ap is_some none)
           | inr (c, there) ↦ ap is_some (slot-live s l laid class (PAGE_WORDS * page + offset / 2 ^ class * 2 ^ class) (place_of (PAGE_WORDS * page + offset)) c slot inside there)
@@ -201,10 +202,10 @@ module _ (t : Table) (lexicals : List ℕ) (classes : ℕ → ClassSlots) (b : B
             ∙ sym (tied.unmarked page offset other small)
 
         by : (o : Option ℕ) → l.pages.owner page ≡ o → is_some (holder (homes s) (place_of (PAGE_WORDS * page + offset))) ≡ t.live (PAGE_WORDS * page + offset)
-        by None owned = apart (λ e. not_both owned e)
+        by None owned = apart (λ e. never_none_and_some owned e)
         by (Some h) owned = elim (cases_eq h UNIQUE) [
           | inl same ↦ live-slots (l.class page) (unique-role page (owned ∙ ap (λ n. Some n) same))
-          | inr other ↦ apart (λ e. other (same_some (sym owned ∙ e)))
+          | inr other ↦ apart (λ e. other (same_from_some (sym owned ∙ e)))
         ]
 
 -- a word is at its place in its page

@@ -1,22 +1,13 @@
 -- Lists that are looked up by number: what is found after an element was added at the end, changed, or taken out.
-use Rattle.std.proofs.Common.{◌≡◌, ℕ, List, [], ◌∷◌, ◌++◌, Option, None, Some, refl, sym, ap, subst, ◌∙◌, inl, inr}
+use Rattle.std.proofs.Common.{◌≡◌, ℕ, List, [], ◌∷◌, ◌++◌, None, Some, refl, sym, ap, subst, ◌∙◌, inl, inr}
 use Rattle.std.specs.Prelude.{◌==◌, ◌⊎◌, if◌then◌else◌}
 use Rattle.std.proofs.lemmas.Bool.{cases_eq, cond-true, cond-false, eq-eqb, ne_eqb}
 use Rattle.cyc_words.proofs.Numbers.{when_equal}
+use Rattle.cyc_words.proofs.Options.{never_none_and_some, same_from_some}
 use Rattle.cyc_store.specs.State.{lookup, without, changed, AreDistinct}
 
 pub when_other : {A : Type 0} (m n : ℕ) (x y : A) → (m ≡ n → ⊥) → (if m == n then x else y) ≡ y
 when_other m n x y other = cond-false (m == n) x y (ne_eqb m n other)
-
-pub cases_option : {A : Type 0} (o : Option A) → (o ≡ None) ⊎ ((x : A) × (o ≡ Some x))
-cases_option None = inl refl
-cases_option (Some x) = inr (x, refl)
-
-pub not_both : {A : Type 0} {o : Option A} {x : A} → o ≡ None → o ≡ Some x → ⊥
-not_both {A} {o} {x} none some = let e : None ≡ Some x = sym none ∙ some in cc
-
-pub same_some : {A : Type 0} {x y : A} → Some x ≡ Some y → x ≡ y
-same_some {A} {x} {y} e = cc
 
 -- a list with some of its elements left out
 pub data IsPart {A : Type 0} : List A → List A → Type 0 where
@@ -38,12 +29,12 @@ module _ {A : Type 0} (key : A → ℕ) where
   lookup-none x xs n none = (other, sym (lookup-there x xs n other) ∙ none)
     where
       other : key x ≡ n → ⊥
-      other same = not_both none (lookup-here x xs n same)
+      other same = never_none_and_some none (lookup-here x xs n same)
 
   pub lookup-key : (xs : List A) (n : ℕ) (x : A) → lookup key xs n ≡ Some x → key x ≡ n
   lookup-key [] n x found = absurd (let e : None ≡ Some x = found in cc)
   lookup-key (a ∷ xs) n x found = elim (cases_eq (key a) n) [
-    | inl same ↦ ap key (same_some (sym found ∙ lookup-here a xs n same)) ∙ same
+    | inl same ↦ ap key (same_from_some (sym found ∙ lookup-here a xs n same)) ∙ same
     | inr other ↦ lookup-key xs n x (sym (lookup-there a xs n other) ∙ found)
   ]
 
@@ -65,8 +56,8 @@ module _ {A : Type 0} (key : A → ℕ) where
   -- what is found was there before, or is the new one
   pub lookup-append_cases : (xs : List A) (y : A) (n : ℕ) (x : A) → lookup key (xs ++ y ∷ []) n ≡ Some x → (lookup key xs n ≡ Some x) ⊎ (x ≡ y)
   lookup-append_cases [] y n x found = elim (cases_eq (key y) n) [
-    | inl same ↦ inr (same_some (sym found ∙ lookup-here y [] n same))
-    | inr other ↦ absurd (not_both (lookup-there y [] n other) found)
+    | inl same ↦ inr (same_from_some (sym found ∙ lookup-here y [] n same))
+    | inr other ↦ absurd (never_none_and_some (lookup-there y [] n other) found)
   ]
   lookup-append_cases (a ∷ xs) y n x found = elim (cases_eq (key a) n) [
     | inl same ↦ inl (lookup-here a xs n same ∙ (sym (lookup-here a (xs ++ y ∷ []) n same) ∙ found))
@@ -114,7 +105,7 @@ module _ {A : Type 0} (key : A → ℕ) where
   lookup-part is_empty distinct n y found = found
   lookup-part (is_left {x} {xs} {ys} part) distinct n y found =
       let there : lookup key ys n ≡ Some y = lookup-part part distinct.1 n y found in
-      lookup-there x ys n (λ same. not_both (subst (λ m. lookup key ys m ≡ None) same distinct.0) there) ∙ there
+      lookup-there x ys n (λ same. never_none_and_some (subst (λ m. lookup key ys m ≡ None) same distinct.0) there) ∙ there
   lookup-part (is_kept {x} {xs} {ys} part) distinct n y found = elim (cases_eq (key x) n) [
     | inl same ↦ lookup-here x ys n same ∙ (sym (lookup-here x xs n same) ∙ found)
     | inr other ↦ lookup-there x ys n other ∙ lookup-part part distinct.1 n y (sym (lookup-there x xs n other) ∙ found)
@@ -173,7 +164,7 @@ module _ {A : Type 0} (key : A → ℕ) where
       | inl same ↦
           ap (λ l. lookup key l n) (changed-here a xs n same)
           ∙ (lookup-here (change a) xs n (keeps a ∙ same)
-          ∙ ap (λ z. Some (change z)) (same_some (sym (lookup-here a xs n same) ∙ found)))
+          ∙ ap (λ z. Some (change z)) (same_from_some (sym (lookup-here a xs n same) ∙ found)))
       | inr other ↦
           ap (λ l. lookup key l n) (changed-there a xs n other)
           ∙ (lookup-there a (changed key change xs n) n other

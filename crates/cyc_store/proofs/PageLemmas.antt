@@ -4,11 +4,12 @@ use Rattle.std.specs.Prelude.{nat_le, nat_lt, if◌then◌else◌}
 use Rattle.std.proofs.Math.Nat.{add-mul-mod_self_left}
 use Rattle.std.proofs.lemmas.Bool.{cases_eq, cases_Bool, and_parts, leb-true, ltb-true}
 use Rattle.cyc_words.specs.Demand.{page_words, pages_from}
-use Rattle.cyc_words.proofs.Numbers.{when_equal}
+use Rattle.cyc_words.proofs.Numbers.{when_equal, words_regrouped}
+use Rattle.cyc_words.proofs.Options.{none_or_some, never_none_and_some, same_from_some}
 use Rattle.cyc_store.specs.State.{lookup, changed, put, Block, Sort, Home, handle_of, empty_home, Holder, covers, holder_in, holder, with_block}
 use Rattle.cyc_store.specs.Services.{IsPlaced, IsApart}
 use Rattle.cyc_store.specs.declared.range.TheConstants.{STORE_BASE, PAGE_WORDS}
-use Rattle.cyc_store.proofs.LookupLemmas.{when_other, cases_option, not_both, same_some, IsPart, is_empty, is_left, is_kept, lookup-none}
+use Rattle.cyc_store.proofs.LookupLemmas.{when_other, IsPart, is_empty, is_left, is_kept, lookup-none}
 use Rattle.cyc_store.proofs.HolderLemmas.{in-here, in-there, or_else-cases}
 use Rattle.cyc_store.specs.Pages.{page_start, LiesIn, Pages, AreFilled, IsLaid, AreLaidIn, AreLaid, filled_to, drawn, owner_without, given_back, Mark, next_mark, mark_from}
 
@@ -34,7 +35,7 @@ holder_in-laid : (pages : Pages) (h : ℕ) (bs : List Block) (x : ℕ) (k : Hold
 holder_in-laid pages h [] x k laid found = absurd (let e : None ≡ Some k = found in cc)
 holder_in-laid pages h (b ∷ bs) x k laid found = elim (cases_Bool (covers b x)) [
   | inl inside ↦
-      let is : record { handle = h; block = b } ≡ k = same_some (sym (in-here h x b bs inside) ∙ found) in
+      let is : record { handle = h; block = b } ≡ k = same_from_some (sym (in-here h x b bs inside) ∙ found) in
       subst (λ (z : Holder). IsLaid pages z.handle z.block × (covers z.block x ≡ true)) is (laid.0, inside)
   | inr not ↦ holder_in-laid pages h bs x k laid.1 (sym (in-there h x b bs not) ∙ found)
 ]
@@ -50,7 +51,7 @@ holder-laid pages (r ∷ rs) x k laid found = elim (or_else-cases (holder_in r.h
 -- a block past the fill mark of its page is apart from all that are laid
 pub laid-apart : (pages : Pages) (rs : List Home) (page : ℕ) (b : Block) → AreLaid pages rs → AreFilled pages
     → LiesIn page (pages.filled page) PAGE_WORDS b → IsApart rs b
-laid-apart pages rs page b laid full new x inside = elim (cases_option (holder rs x)) [
+laid-apart pages rs page b laid full new x inside = elim (none_or_some (holder rs x)) [
   | inl none ↦ none
   | inr held ↦
       let (old, also) = holder-laid pages rs x held.0 laid held.1 in
@@ -71,9 +72,6 @@ laid-apart pages rs page b laid full new x inside = elim (cases_option (holder r
 
 -- ---- a block in a page lies in the store's range
 
-regroup : (base a w : ℕ) → base + 4 * a + 4 * w ≡ base + 4 * (a + w)
-regroup base a w = omega arith
-
 above_base : (base a w x : ℕ) → x ≡ base + 4 * a + 4 * w → base ≤ x
 above_base base a w x is = omega arith
 
@@ -83,7 +81,7 @@ below_end base p w n count x is inside below = omega arith
 pub lies-placed : (count page low high : ℕ) (b : Block) → page < count → high ≤ PAGE_WORDS → LiesIn page low high b → IsPlaced count b
 lies-placed count page low high b below most new = record {
   aligned =
-      ap (λ n. n % 4) (new.at ∙ regroup STORE_BASE (PAGE_WORDS * page) new.word)
+      ap (λ n. n % 4) (new.at ∙ words_regrouped STORE_BASE (PAGE_WORDS * page) new.word)
       ∙ add-mul-mod_self_left STORE_BASE 4 (PAGE_WORDS * page + new.word);
   low = above_base STORE_BASE (PAGE_WORDS * page) new.word b.address new.at;
   high = below_end STORE_BASE page new.word b.size count b.address new.at (at_most (new.word + b.size) high PAGE_WORDS new.before most) below;
@@ -140,7 +138,7 @@ drawn-stays pages page handle free h b laid = record {
 }
   where
     other : laid.page ≡ page → ⊥
-    other same = not_both free (subst (λ p. pages.owner p ≡ Some h) same laid.owned)
+    other same = never_none_and_some free (subst (λ p. pages.owner p ≡ Some h) same laid.owned)
 
 -- another region's pages are given back
 pub given-stays : (pages : Pages) (gone h : ℕ) → (h ≡ gone → ⊥) → (b : Block) → IsLaid pages h b → IsLaid (given_back pages gone) h b

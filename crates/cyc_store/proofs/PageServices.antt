@@ -5,11 +5,12 @@ use Rattle.std.specs.Prelude.{nat_le}
 use Rattle.std.proofs.lemmas.List.{map-append}
 use Rattle.std.proofs.lemmas.Bool.{cases_eq, cond-true, cond-false, le-leb, lt-leb}
 use Rattle.cyc_words.specs.Demand.{region_pages, demand_of}
-use Rattle.cyc_words.proofs.Numbers.{when_equal}
+use Rattle.cyc_words.proofs.Numbers.{when_equal, balance_in_front, balance_turned, balance_same, balance_one_more}
+use Rattle.cyc_words.proofs.Options.{same_from_some}
 use Rattle.cyc_store.specs.State.{lookup, changed, put, Block, Home, handle_of, StoreState, homes, sizes_of, sizes_in, demand, with_block, made_in}
 use Rattle.cyc_store.specs.Services.{IsPlaced, IsApart}
 use Rattle.cyc_store.specs.declared.range.TheConstants.{PAGE_WORDS}
-use Rattle.cyc_store.proofs.LookupLemmas.{when_other, same_some, lookup-here, lookup-there}
+use Rattle.cyc_store.proofs.LookupLemmas.{when_other, lookup-here, lookup-there}
 use Rattle.cyc_store.specs.Pages.{page_start, LiesIn, Pages, drawn, Mark, next_mark, mark_from, mark_of, HasNewest, IsPaged}
 use Rattle.cyc_store.proofs.PageLemmas.{laid-apart, lies-placed, laid-drawn, mark-pages, mark-append}
 
@@ -18,31 +19,25 @@ use Rattle.cyc_store.proofs.PageLemmas.{laid-apart, lies-placed, laid-drawn, mar
 sizes-last : (bs : List Block) (b : Block) → sizes_of (bs ++ b ∷ []) ≡ sizes_of bs ++ b.size ∷ []
 sizes-last bs b = map-append (λ (c : Block). c.size) bs (b ∷ [])
 
-turned_between : (a b d x : ℕ) → x ≡ b → (x + d) + a ≡ (a + d) + b
-turned_between a b d x is = omega (arith, is)
-
-equal_behind : (q x y a b : ℕ) → x + a ≡ y + b → (q + x) + a ≡ (q + y) + b
-equal_behind q x y a b e = omega (arith, e)
-
 demand-changed : (rs : List Home) (h : ℕ) (r : Home) (b : Block) (classes : List ℕ) → lookup handle_of rs h ≡ Some r
     → demand_of (sizes_in (changed handle_of (with_block b) rs h)) classes + region_pages (sizes_of r.blocks)
     ≡ demand_of (sizes_in rs) classes + region_pages (sizes_of r.blocks ++ b.size ∷ [])
 demand-changed [] h r b classes there = absurd (let e : None ≡ Some r = there in cc)
 demand-changed (q ∷ rs) h r b classes there = elim (cases_eq q.handle h) [
   | inl same ↦
-      let is : q ≡ r = same_some (sym (lookup-here handle_of q rs h same) ∙ there) in
+      let is : q ≡ r = same_from_some (sym (lookup-here handle_of q rs h same) ∙ there) in
       ap (λ l. demand_of (sizes_in l) classes + region_pages (sizes_of r.blocks))
       (when_equal q.handle h (with_block b q ∷ rs) (q ∷ changed handle_of (with_block b) rs h) same)
       ∙ subst
       (λ (p : Home). demand_of (sizes_in (with_block b q ∷ rs)) classes + region_pages (sizes_of p.blocks)
       ≡ demand_of (sizes_in (q ∷ rs)) classes + region_pages (sizes_of p.blocks ++ b.size ∷ []))
       is
-      (turned_between (region_pages (sizes_of q.blocks)) (region_pages (sizes_of q.blocks ++ b.size ∷ [])) (demand_of (sizes_in rs) classes)
+      (balance_turned (region_pages (sizes_of q.blocks)) (region_pages (sizes_of q.blocks ++ b.size ∷ [])) (demand_of (sizes_in rs) classes)
       (region_pages (sizes_of (q.blocks ++ b ∷ []))) (ap region_pages (sizes-last q.blocks b)))
   | inr other ↦
       ap (λ l. demand_of (sizes_in l) classes + region_pages (sizes_of r.blocks))
       (when_other q.handle h (with_block b q ∷ rs) (q ∷ changed handle_of (with_block b) rs h) other)
-      ∙ equal_behind (region_pages (sizes_of q.blocks)) (demand_of (sizes_in (changed handle_of (with_block b) rs h)) classes) (demand_of (sizes_in rs) classes)
+      ∙ balance_in_front (region_pages (sizes_of q.blocks)) (demand_of (sizes_in (changed handle_of (with_block b) rs h)) classes) (demand_of (sizes_in rs) classes)
       (region_pages (sizes_of r.blocks)) (region_pages (sizes_of r.blocks ++ b.size ∷ []))
       (demand-changed rs h r b classes (sym (lookup-there handle_of q rs h other) ∙ there))
 ]
@@ -71,23 +66,17 @@ module _ (m : Mark) (size : ℕ) where
 -- ---- one block more
 
 module _ (s : StoreState) (pages : Pages) (free : List ℕ) (paged : IsPaged s pages free) (h : ℕ) (r : Home) (named : lookup handle_of s.regions h ≡ Some r) where
-  same-demand : (x y a b : ℕ) → x + a ≡ y + b → b ≡ a → x ≡ y
-  same-demand x y a b e is = omega (arith, e, is)
-
-  more-demand : (x y a b : ℕ) → x + a ≡ y + b → b ≡ suc a → x ≡ suc y
-  more-demand x y a b e is = omega (arith, e, is)
-
   -- where the newest page has room, the demand stays
   pub demand-stays : (b : Block) → (mark_of r).filled + b.size ≤ PAGE_WORDS → demand (made_in s h b) ≡ demand s
   demand-stays b room =
-      same-demand (demand (made_in s h b)) (demand s) (region_pages (sizes_of r.blocks)) (region_pages (sizes_of r.blocks ++ b.size ∷ []))
+      balance_same (demand (made_in s h b)) (demand s) (region_pages (sizes_of r.blocks)) (region_pages (sizes_of r.blocks ++ b.size ∷ []))
       (demand-changed s.regions h r b s.classes named)
       (pages-next r b.size ∙ (ap (λ (m : Mark). m.pages) (mark-stays (mark_of r) b.size room) ∙ sym (pages-mark r)))
 
   -- where it has none, the demand is one page more
   pub demand-grows : (b : Block) → PAGE_WORDS < (mark_of r).filled + b.size → demand (made_in s h b) ≡ suc (demand s)
   demand-grows b past =
-      more-demand (demand (made_in s h b)) (demand s) (region_pages (sizes_of r.blocks)) (region_pages (sizes_of r.blocks ++ b.size ∷ []))
+      balance_one_more (demand (made_in s h b)) (demand s) (region_pages (sizes_of r.blocks)) (region_pages (sizes_of r.blocks ++ b.size ∷ []))
       (demand-changed s.regions h r b s.classes named)
       (pages-next r b.size ∙ (ap (λ (m : Mark). m.pages) (mark-goes (mark_of r) b.size past) ∙ ap suc (sym (pages-mark r))))
 

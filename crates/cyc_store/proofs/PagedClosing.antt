@@ -4,11 +4,13 @@ use Rattle.std.specs.List.{AllByRecursion}
 use Rattle.std.proofs.lemmas.Bool.{cases_eq}
 use Rattle.cyc_words.specs.Demand.{region_pages, demand_of}
 use Rattle.cyc_words.specs.Distinct.{IsDistinct}
-use Rattle.cyc_words.proofs.Numbers.{when_equal}
+use Rattle.cyc_words.proofs.Numbers.{when_equal, plus_comm, plus_in_front}
+use Rattle.cyc_words.proofs.Lists.{all_append}
+use Rattle.cyc_words.proofs.Options.{same_from_some, never_none_and_some}
 use Rattle.cyc_store.specs.State.{lookup, without, AreDistinct, Uniques, Home, handle_of, StoreState, sizes_of, sizes_in, demand}
 use Rattle.cyc_store.specs.Soundness.{IsSound}
 use Rattle.cyc_store.specs.declared.range.TheConstants.{UNIQUE}
-use Rattle.cyc_store.proofs.LookupLemmas.{when_other, same_some, not_both, is_kept, lookup-here, lookup-there, lookup-none, lookup-key, lookup-part, lookup-without, IsPart-without}
+use Rattle.cyc_store.proofs.LookupLemmas.{when_other, is_kept, lookup-here, lookup-there, lookup-none, lookup-key, lookup-part, lookup-without, IsPart-without}
 use Rattle.cyc_store.specs.Pages.{Pages, owner_without, given_back, HasChain, IsFree, IsPaged}
 use Rattle.cyc_store.proofs.PageLemmas.{laid-part, laid-closed}
 use Rattle.cyc_store.proofs.PageServices.{pages-mark}
@@ -18,7 +20,7 @@ use Rattle.cyc_store.proofs.PageServices.{pages-mark}
 pub owner-kept : (gone g : ℕ) (o : Option ℕ) → owner_without gone o ≡ Some g → o ≡ Some g
 owner-kept gone g None e = e
 owner-kept gone g (Some n) e = elim (cases_eq n gone) [
-  | inl same ↦ absurd (not_both (when_equal n gone None (Some n) same) e)
+  | inl same ↦ absurd (never_none_and_some (when_equal n gone None (Some n) same) e)
   | inr other ↦ sym (when_other n gone None (Some n) other) ∙ e
 ]
 
@@ -60,17 +62,13 @@ chain-free count pages gone below (p ∷ chain) free owned all =
 pub owned-apart : (count : ℕ) (pages : Pages) (p g : ℕ) → pages.owner p ≡ Some g → (free : List ℕ) → AllByRecursion (IsFree count pages) free
     → AllByRecursion (λ (y : ℕ). p ≢ y) free
 owned-apart count pages p g owned [] all = tt
-owned-apart count pages p g owned (y ∷ free) all = (λ e. not_both all.0.owner (ap pages.owner (sym e) ∙ owned), owned-apart count pages p g owned free all.1)
-
-unlike-append : (x : ℕ) (xs ys : List ℕ) → AllByRecursion (λ (y : ℕ). x ≢ y) xs → AllByRecursion (λ (y : ℕ). x ≢ y) ys → AllByRecursion (λ (y : ℕ). x ≢ y) (xs ++ ys)
-unlike-append x [] ys first second = second
-unlike-append x (y ∷ xs) ys first second = (first.0, unlike-append x xs ys first.1 second)
+owned-apart count pages p g owned (y ∷ free) all = (λ e. never_none_and_some all.0.owner (ap pages.owner (sym e) ∙ owned), owned-apart count pages p g owned free all.1)
 
 chain-apart : (count : ℕ) (pages : Pages) (g : ℕ) (chain free : List ℕ) → AllByRecursion (λ (p : ℕ). pages.owner p ≡ Some g) chain
     → AllByRecursion (IsFree count pages) free → IsDistinct chain → IsDistinct free → IsDistinct (chain ++ free)
 chain-apart count pages g [] free owned all first second = second
 chain-apart count pages g (p ∷ chain) free owned all first second =
-    (unlike-append p chain free first.0 (owned-apart count pages p g owned.0 free all), chain-apart count pages g chain free owned.1 all first.1 second)
+    (all_append (λ (y : ℕ). p ≢ y) chain free first.0 (owned-apart count pages p g owned.0 free all), chain-apart count pages g chain free owned.1 all first.1 second)
 
 -- ---- demand without a region
 
@@ -80,27 +78,21 @@ without-none (r ∷ rs) h none =
     let (other, rest) = lookup-none handle_of r rs h none in
     when_other r.handle h (without handle_of rs h) (r ∷ without handle_of rs h) other ∙ ap (λ l. r ∷ l) (without-none rs h rest)
 
-turned : (d r : ℕ) → d + r ≡ r + d
-turned d r = omega arith
-
-sum_behind : (q x y r : ℕ) → x + r ≡ y → (q + x) + r ≡ q + y
-sum_behind q x y r e = omega (arith, e)
-
 demand-without : (rs : List Home) (h : ℕ) (r : Home) (classes : List ℕ) → AreDistinct handle_of rs → lookup handle_of rs h ≡ Some r
     → demand_of (sizes_in (without handle_of rs h)) classes + region_pages (sizes_of r.blocks) ≡ demand_of (sizes_in rs) classes
 demand-without [] h r classes distinct there = absurd (let e : None ≡ Some r = there in cc)
 demand-without (q ∷ rs) h r classes distinct there = elim (cases_eq q.handle h) [
   | inl same ↦
-      let is : q ≡ r = same_some (sym (lookup-here handle_of q rs h same) ∙ there) in
+      let is : q ≡ r = same_from_some (sym (lookup-here handle_of q rs h same) ∙ there) in
       let none : lookup handle_of rs h ≡ None = subst (λ n. lookup handle_of rs n ≡ None) same distinct.0 in
       ap (λ l. demand_of (sizes_in l) classes + region_pages (sizes_of r.blocks))
       (when_equal q.handle h (without handle_of rs h) (q ∷ without handle_of rs h) same ∙ without-none rs h none)
       ∙ (ap (λ (p : Home). demand_of (sizes_in rs) classes + region_pages (sizes_of p.blocks)) (sym is)
-      ∙ turned (demand_of (sizes_in rs) classes) (region_pages (sizes_of q.blocks)))
+      ∙ plus_comm (demand_of (sizes_in rs) classes) (region_pages (sizes_of q.blocks)))
   | inr other ↦
       ap (λ l. demand_of (sizes_in l) classes + region_pages (sizes_of r.blocks))
       (when_other q.handle h (without handle_of rs h) (q ∷ without handle_of rs h) other)
-      ∙ sum_behind (region_pages (sizes_of q.blocks)) (demand_of (sizes_in (without handle_of rs h)) classes) (demand_of (sizes_in rs) classes) (region_pages (sizes_of r.blocks))
+      ∙ plus_in_front (region_pages (sizes_of q.blocks)) (demand_of (sizes_in (without handle_of rs h)) classes) (demand_of (sizes_in rs) classes) (region_pages (sizes_of r.blocks))
       (demand-without rs h r classes distinct.1 (sym (lookup-there handle_of q rs h other) ∙ there))
 ]
 
@@ -124,7 +116,7 @@ paged-closed s pages free h r sound paged named ordinary chain = record {
       (demand-without s.regions h r s.classes sound.regions.handles.1 named) paged.count;
   chains = λ g q found.
       let old : lookup handle_of s.regions g ≡ Some q = lookup-part handle_of (IsPart-without handle_of s.regions h) sound.regions.handles.1 g q found in
-      let other : (g ≡ h → ⊥) = λ e. not_both (lookup-without handle_of s.regions h) (subst (λ n. lookup handle_of (without handle_of s.regions h) n ≡ Some q) e found) in
+      let other : (g ≡ h → ⊥) = λ e. never_none_and_some (lookup-without handle_of s.regions h) (subst (λ n. lookup handle_of (without handle_of s.regions h) n ≡ Some q) e found) in
       chain-stays pages h q (λ e. other (sym (lookup-key handle_of s.regions g q old) ∙ e)) (paged.chains g q old);
 }
   where

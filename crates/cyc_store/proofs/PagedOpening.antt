@@ -2,7 +2,7 @@
 use Rattle.std.proofs.Common.{◌≡◌, ℕ, suc, ◌+◌, ◌<◌, List, [], ◌∷◌, ◌++◌, length, Some, refl, sym, subst, ◌∙◌, inl, inr, arith}
 use Rattle.std.proofs.lemmas.Bool.{cases_eq}
 use Rattle.cyc_words.specs.Demand.{region_pages, demand_of, total}
-use Rattle.cyc_words.proofs.Numbers.{zero_least, when_equal}
+use Rattle.cyc_words.proofs.Numbers.{zero_least, when_equal, one_plus, plus_suc_behind}
 use Rattle.cyc_store.specs.State.{Sort, Home, handle_of, empty_home, StoreState, homes, sizes_of, sizes_in, demand, opened}
 use Rattle.cyc_store.specs.declared.range.TheConstants.{PAGE_WORDS}
 use Rattle.cyc_store.proofs.LookupLemmas.{when_other, lookup-append_cases}
@@ -10,17 +10,11 @@ use Rattle.cyc_store.specs.Pages.{Pages, drawn, HasChain, IsPaged}
 use Rattle.cyc_store.proofs.PageLemmas.{laid-opened}
 use Rattle.cyc_store.proofs.PagedRegions.{frees-rest, still-filled, still-chained}
 
-empty-more : (n : ℕ) → 1 + n ≡ suc n
-empty-more n = omega arith
-
-more-behind : (q x y : ℕ) → x ≡ suc y → q + x ≡ suc (q + y)
-more-behind q x y e = omega (arith, e)
-
 pub demand-more : (rs : List Home) (h : ℕ) (sort : Sort) (classes : List ℕ)
     → demand_of (sizes_in (rs ++ empty_home h sort ∷ [])) classes ≡ suc (demand_of (sizes_in rs) classes)
-demand-more [] h sort classes = empty-more (total classes)
+demand-more [] h sort classes = one_plus (total classes)
 demand-more (r ∷ rs) h sort classes =
-    more-behind (region_pages (sizes_of r.blocks)) (demand_of (sizes_in (rs ++ empty_home h sort ∷ [])) classes) (demand_of (sizes_in rs) classes) (demand-more rs h sort classes)
+    plus_suc_behind (region_pages (sizes_of r.blocks)) (demand_of (sizes_in (rs ++ empty_home h sort ∷ [])) classes) (demand_of (sizes_in rs) classes) (demand-more rs h sort classes)
 
 pub paged-opened : (s : StoreState) (pages : Pages) (page : ℕ) (free : List ℕ) (h : ℕ) (sort : Sort) → IsPaged s pages (page ∷ free)
     → IsPaged (opened s h sort) (drawn pages page h) free

@@ -3,9 +3,10 @@ use Rattle.std.proofs.Common.{◌≡◌, ◌≢◌, ℕ, suc, ◌+◌, ◌*◌, 
 use Rattle.std.specs.List.{AllByRecursion}
 use Rattle.std.proofs.lemmas.Bool.{cases_eq}
 use Rattle.cyc_words.proofs.Numbers.{zero_least, at_most_itself, when_equal}
+use Rattle.cyc_words.proofs.Options.{same_from_some, never_none_and_some}
 use Rattle.cyc_store.specs.State.{lookup, changed, Block, Uniques, Home, handle_of, StoreState, homes, demand, with_block, made_in}
 use Rattle.cyc_store.specs.declared.range.TheConstants.{PAGE_WORDS, UNIQUE}
-use Rattle.cyc_store.proofs.LookupLemmas.{when_other, same_some, not_both, lookup-key, lookup-changed_same, lookup-changed_other}
+use Rattle.cyc_store.proofs.LookupLemmas.{when_other, lookup-key, lookup-changed_same, lookup-changed_other}
 use Rattle.cyc_store.specs.Pages.{page_start, Pages, AreFilled, AreLaid, filled_to, drawn, Mark, mark_of, HasNewest, HasChain, IsFree, IsPaged}
 use Rattle.cyc_store.proofs.PageLemmas.{laid-made, laid-drawn}
 use Rattle.cyc_store.proofs.PageServices.{mark-made, mark-stays, mark-goes, demand-stays, demand-grows}
@@ -51,7 +52,7 @@ chain-filled pages page words h q owned other chain = record {
     owned = chain.newest.owned;
     mark =
         when_other chain.newest.page page words (pages.filled chain.newest.page)
-        (λ e. other (same_some (sym chain.newest.owned ∙ (ap pages.owner e ∙ owned))))
+        (λ e. other (same_from_some (sym chain.newest.owned ∙ (ap pages.owner e ∙ owned))))
         ∙ chain.newest.mark;
   };
   older = chain.older;
@@ -69,7 +70,7 @@ chains-made pages rs h page words r b named owned new others g q found = elim (c
   | inl same ↦
       let now : lookup handle_of (changed handle_of (with_block b) rs h) h ≡ Some (with_block b r) =
       lookup-changed_same handle_of (with_block b) (λ z. refl) rs h r named in
-      let made : with_block b r ≡ q = same_some (sym now ∙ (ap (λ n. lookup handle_of (changed handle_of (with_block b) rs h) n) (sym same) ∙ found)) in
+      let made : with_block b r ≡ q = same_from_some (sym now ∙ (ap (λ n. lookup handle_of (changed handle_of (with_block b) rs h) n) (sym same) ∙ found)) in
       subst (HasChain (filled_to pages page words)) made new
   | inr other ↦
       let old : lookup handle_of rs g ≡ Some q = sym (lookup-changed_other handle_of (with_block b) (λ z. refl) rs h g other) ∙ found in
@@ -85,19 +86,19 @@ still-newest pages page h free q newest = record {
 }
   where
     other : newest.page ≡ page → ⊥
-    other e = not_both free (ap pages.owner (sym e) ∙ newest.owned)
+    other e = never_none_and_some free (ap pages.owner (sym e) ∙ newest.owned)
 
 pub owned-drawn : (pages : Pages) (page h g : ℕ) → pages.owner page ≡ None → (older : List ℕ) → AllByRecursion (λ (p : ℕ). pages.owner p ≡ Some g) older
     → AllByRecursion (λ (p : ℕ). (drawn pages page h).owner p ≡ Some g) older
 owned-drawn pages page h g free [] all = tt
 owned-drawn pages page h g free (p ∷ older) all =
-    (when_other p page (Some h) (pages.owner p) (λ e. not_both free (ap pages.owner (sym e) ∙ all.0)) ∙ all.0, owned-drawn pages page h g free older all.1)
+    (when_other p page (Some h) (pages.owner p) (λ e. never_none_and_some free (ap pages.owner (sym e) ∙ all.0)) ∙ all.0, owned-drawn pages page h g free older all.1)
 
 -- a free page is in no chain
 pub free-apart : (pages : Pages) (page g : ℕ) → pages.owner page ≡ None → (older : List ℕ) → AllByRecursion (λ (p : ℕ). pages.owner p ≡ Some g) older
     → AllByRecursion (λ (p : ℕ). page ≢ p) older
 free-apart pages page g free [] all = tt
-free-apart pages page g free (p ∷ older) all = (λ e. not_both free (ap pages.owner e ∙ all.0), free-apart pages page g free older all.1)
+free-apart pages page g free (p ∷ older) all = (λ e. never_none_and_some free (ap pages.owner e ∙ all.0), free-apart pages page g free older all.1)
 
 abbrev pub still-chained : (pages : Pages) (page h : ℕ) → pages.owner page ≡ None → (q : Home) → HasChain pages q → HasChain (drawn pages page h) q
 still-chained pages page h free q chain = record {

@@ -2,7 +2,7 @@
 use Rattle.std.proofs.Common.{◌≡◌, ◌≢◌, ℕ, zero, suc, ◌+◌, ◌<◌, ◌≤◌, List, [], ◌∷◌, length, None, Some, refl, ap, ◌∙◌, arith}
 use Rattle.std.specs.List.{AllByRecursion}
 use Rattle.cyc_words.specs.Distinct.{IsDistinct}
-use Rattle.cyc_words.proofs.Numbers.{below_next}
+use Rattle.cyc_words.proofs.Numbers.{below_next, below_suc, below_is_not_same, le_suc_moved, below_total}
 use Rattle.cyc_store.specs.State.{Memory, Sort, Heap, StoreState, start, demand, opened}
 use Rattle.cyc_store.specs.inside.Kept.{numbers_from}
 use Rattle.cyc_store.specs.declared.range.TheConstants.{HEAP, PAGE_WORDS}
@@ -17,26 +17,14 @@ all_free = record { owner = λ (page : ℕ). None; filled = λ (page : ℕ). 0 }
 abbrev bare : (count : ℕ) → Memory → StoreState
 bare count memory = record (start count memory) { regions = [] }
 
-more : (first count total : ℕ) → first + suc count ≤ total → suc first + count ≤ total
-more first count total e = omega (arith, e)
-
-first_below_total : (first count total : ℕ) → first + suc count ≤ total → first < total
-first_below_total first count total e = omega (arith, e)
-
 are-free : (total first count : ℕ) → first + count ≤ total → AllByRecursion (IsFree total all_free) (numbers_from first count)
 are-free total first zero fits = tt
 are-free total first (suc count) fits =
-    (record { owner = refl; below = first_below_total first count total fits }, are-free total (suc first) count (more first count total fits))
-
-not_below : (x y : ℕ) → x < y → x ≡ y → ⊥
-not_below x y less same = omega (arith, less, same)
-
-next : (x y : ℕ) → x < y → x < suc y
-next x y less = omega (arith, less)
+    (record { owner = refl; below = below_total first count total fits }, are-free total (suc first) count (le_suc_moved first count total fits))
 
 unlike_above : (x first count : ℕ) → x < first → AllByRecursion (λ (y : ℕ). x ≢ y) (numbers_from first count)
 unlike_above x first zero less = tt
-unlike_above x first (suc count) less = (not_below x first less, unlike_above x (suc first) count (next x first less))
+unlike_above x first (suc count) less = (below_is_not_same x first less, unlike_above x (suc first) count (below_suc x first less))
 
 pub are-distinct : (first count : ℕ) → IsDistinct (numbers_from first count)
 are-distinct first zero = tt

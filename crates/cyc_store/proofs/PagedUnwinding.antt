@@ -3,10 +3,11 @@ use Rattle.std.proofs.Common.{◌≡◌, ℕ, zero, suc, ◌<◌, ◌≤◌, Lis
 use Rattle.std.specs.Prelude.{◌⊎◌}
 use Rattle.std.proofs.lemmas.Bool.{cases_eq}
 use Rattle.cyc_words.proofs.Numbers.{none_below, one_less, when_equal}
+use Rattle.cyc_words.proofs.Options.{never_none_and_some}
 use Rattle.cyc_store.specs.State.{lookup, without, AreDistinct, Home, handle_of, StoreState, down_to}
 use Rattle.cyc_store.specs.Soundness.{IsSound}
 use Rattle.cyc_store.specs.declared.range.TheConstants.{UNIQUE}
-use Rattle.cyc_store.proofs.LookupLemmas.{when_other, not_both, IsPart, is_empty, is_left, is_kept, lookup-here, lookup-there, IsPart-without}
+use Rattle.cyc_store.proofs.LookupLemmas.{when_other, IsPart, is_empty, is_left, is_kept, lookup-here, lookup-there, IsPart-without}
 use Rattle.cyc_store.proofs.HolderLemmas.{IsPart-down_to}
 use Rattle.cyc_store.proofs.ServiceLemmas.{closed-sound}
 use Rattle.cyc_store.specs.Pages.{given_back}
@@ -46,7 +47,7 @@ part-step (is_left {x = r} {xs = qs} {ys = rs} part) distinct = inr (record {
 part-step (is_kept {x = r} {xs = qs} {ys = rs} part) distinct = elim (part-step part distinct.1) [
   | inl same ↦ inl (ap (λ l. r ∷ l) same)
   | inr out ↦
-      let other : (r.handle ≡ out.region.handle → ⊥) = λ e. not_both (subst (λ h. lookup handle_of rs h ≡ None) e distinct.0) out.there in
+      let other : (r.handle ≡ out.region.handle → ⊥) = λ e. never_none_and_some (subst (λ h. lookup handle_of rs h ≡ None) e distinct.0) out.there in
       inr (record {
         region = out.region;
         there = lookup-there handle_of r rs out.region.handle other ∙ out.there;
@@ -65,7 +66,7 @@ pages-part zero s qs bound sound laid part = elim (part-step part sound.regions.
 pages-part (suc left) s qs bound sound laid part = elim (part-step part sound.regions.handles.1) [
   | inl same ↦ subst (λ l. ArePages (record s { regions = l })) (sym same) laid
   | inr out ↦
-      let ordinary : (out.region.handle ≡ UNIQUE → ⊥) = λ e. not_both (subst (λ h. lookup handle_of s.regions h ≡ None) (sym e) sound.regions.handles.0) out.there in
+      let ordinary : (out.region.handle ≡ UNIQUE → ⊥) = λ e. never_none_and_some (subst (λ h. lookup handle_of s.regions h ≡ None) (sym e) sound.regions.handles.0) out.there in
       pages-part left (record s { regions = without handle_of s.regions out.region.handle }) qs
       (one_less (length (without handle_of s.regions out.region.handle)) (length s.regions) left (shorter_without s.regions out.region.handle out.region out.there) bound)
       (closed-sound s (without handle_of s.regions out.region.handle) s.memory sound (IsPart-without handle_of s.regions out.region.handle) sound.words)

@@ -1,14 +1,16 @@
 -- A store that is laid out stays so where a region is opened, a block is made in one, and one is closed.
-use Rattle.std.proofs.Common.{◌≡◌, ◌≢◌, ℕ, suc, ◌+◌, ◌*◌, ◌<◌, ◌≤◌, true, List, [], ◌∷◌, ◌++◌, length, Option, None, Some, refl, sym, ap, subst, ◌∙◌, inl, inr, arith}
+use Rattle.std.proofs.Common.{◌≡◌, ◌≢◌, ℕ, ◌+◌, ◌*◌, ◌<◌, ◌≤◌, true, List, [], ◌∷◌, ◌++◌, length, Option, None, Some, refl, sym, ap, subst, ◌∙◌, inl, inr, arith}
 use Rattle.std.specs.Prelude.{◌⊎◌}
 use Rattle.std.specs.List.{AllByRecursion}
 use Rattle.std.proofs.lemmas.Bool.{cases_eq, cases_lt}
 use Rattle.cyc_words.specs.Distinct.{IsDistinct}
 use Rattle.cyc_words.proofs.Numbers.{when_equal}
+use Rattle.cyc_words.proofs.Lists.{length-insert}
+use Rattle.cyc_words.proofs.Options.{never_none_and_some, same_from_some}
 use Rattle.cyc_store.specs.State.{lookup, without, changed, Memory, Block, address_of, Sort, Home, handle_of, empty_home, StoreState, covers, block_in, block_at, demand, opened, with_block, made_in}
 use Rattle.cyc_store.specs.Soundness.{IsSound}
 use Rattle.cyc_store.specs.declared.range.TheConstants.{STORE_BASE, PAGE_WORDS, UNIQUE}
-use Rattle.cyc_store.proofs.LookupLemmas.{when_other, not_both, same_some, lookup-key, lookup-append, lookup-append_new, lookup-changed_same, lookup-changed_other, lookup-without_other}
+use Rattle.cyc_store.proofs.LookupLemmas.{when_other, lookup-key, lookup-append, lookup-append_new, lookup-changed_same, lookup-changed_other, lookup-without_other}
 use Rattle.cyc_store.proofs.HolderLemmas.{covers_from}
 use Rattle.cyc_store.specs.Pages.{Pages, filled_to, drawn, owner_without, given_back, mark_of, HasChain, IsFree, IsPaged}
 use Rattle.cyc_store.proofs.PagedRegions.{block_in_page, paged-stays, paged-draws}
@@ -58,20 +60,20 @@ slots-drawn : (unique : List Block) (classes : List ℕ) (l : Layout) (page h : 
 slots-drawn unique classes l page h free none ordinary slots = slots-moved unique classes l (drawn l.pages page h) free slots
     (λ p owned. when_other p page (Some h) (l.pages.owner p) (other p owned) ∙ owned)
     (λ p owned. elim (cases_eq p page) [
-      | inl here ↦ absurd (ordinary (same_some (sym (when_equal p page (Some h) (l.pages.owner p) here) ∙ owned)))
+      | inl here ↦ absurd (ordinary (same_from_some (sym (when_equal p page (Some h) (l.pages.owner p) here) ∙ owned)))
       | inr away ↦ sym (when_other p page (Some h) (l.pages.owner p) away) ∙ owned
     ])
     (λ p owned. when_other p page 0 (l.pages.filled p) (other p owned) ∙ slots.whole p owned)
   where
     other : (p : ℕ) → l.pages.owner p ≡ Some UNIQUE → p ≡ page → ⊥
-    other p owned e = not_both none (ap l.pages.owner (sym e) ∙ owned)
+    other p owned e = never_none_and_some none (ap l.pages.owner (sym e) ∙ owned)
 
 -- a page of a region is filled further
 slots-filled : (unique : List Block) (classes : List ℕ) (l : Layout) (page h words : ℕ) → l.pages.owner page ≡ Some h → (h ≡ UNIQUE → ⊥)
     → AreSlots unique classes l → AreSlots unique classes (record l { pages = filled_to l.pages page words })
 slots-filled unique classes l page h words owner ordinary slots = slots-moved unique classes l (filled_to l.pages page words) l.free slots
     (λ p owned. owned) (λ p owned. owned)
-    (λ p owned. when_other p page words (l.pages.filled p) (λ e. ordinary (same_some (sym owner ∙ (ap l.pages.owner (sym e) ∙ owned)))) ∙ slots.whole p owned)
+    (λ p owned. when_other p page words (l.pages.filled p) (λ e. ordinary (same_from_some (sym owner ∙ (ap l.pages.owner (sym e) ∙ owned)))) ∙ slots.whole p owned)
 
 -- ---- opening
 
@@ -166,7 +168,7 @@ module _ (s : StoreState) (l : Layout) (laid : IsLaidOut s l) (h : ℕ) (r : Hom
         | inl old ↦ covered-changed s.regions h r named (block_in_page chain.newest.page (mark_of r).filled size) g (place_of (PAGE_WORDS * p + word))
             (laid.covered p word g owned other (subst (λ n. word < n) (sym (ap l.pages.filled here ∙ chain.newest.mark)) old))
         | inr past ↦
-            let same : g ≡ h = same_some (sym owned ∙ (ap l.pages.owner here ∙ owner)) in
+            let same : g ≡ h = same_from_some (sym owned ∙ (ap l.pages.owner here ∙ owner)) in
             subst (λ n. IsCovered (changed handle_of (with_block (block_in_page chain.newest.page (mark_of r).filled size)) s.regions h) n (place_of (PAGE_WORDS * p + word))) (sym same)
             (covered-new s.regions h r named (block_in_page chain.newest.page (mark_of r).filled size) (place_of (PAGE_WORDS * p + word)) fresh
             (subst (λ n. covers (block_in_page chain.newest.page (mark_of r).filled size) (place_of (PAGE_WORDS * n + word)) ≡ true) (sym here)
@@ -185,7 +187,7 @@ module _ (s : StoreState) (l : Layout) (laid : IsLaidOut s l) (h : ℕ) (r : Hom
         (paged-draws s l.pages h r named ordinary size some page rest paged past room);
     covered = λ p word g owned other below. elim (cases_eq p page) [
       | inl here ↦
-          let same : g ≡ h = same_some (sym owned ∙ when_equal p page (Some h) (l.pages.owner p) here) in
+          let same : g ≡ h = same_from_some (sym owned ∙ when_equal p page (Some h) (l.pages.owner p) here) in
           subst (λ n. IsCovered (changed handle_of (with_block (block_in_page page 0 size)) s.regions h) n (place_of (PAGE_WORDS * p + word))) (sym same)
           (covered-new s.regions h r named (block_in_page page 0 size) (place_of (PAGE_WORDS * p + word)) fresh
           (subst (λ n. covers (block_in_page page 0 size) (place_of (PAGE_WORDS * n + word)) ≡ true) (sym here)
@@ -230,10 +232,6 @@ pub distinct-moved : (xs ys : List ℕ) → IsDistinct (xs ++ ys) → IsDistinct
 distinct-moved [] ys distinct = distinct
 distinct-moved (x ∷ xs) ys distinct = distinct-moved xs (x ∷ ys) (distinct-insert x xs ys distinct.0 distinct.1)
 
-length-insert : (x : ℕ) (xs ys : List ℕ) → length (xs ++ x ∷ ys) ≡ suc (length (xs ++ ys))
-length-insert x [] ys = refl
-length-insert x (y ∷ xs) ys = ap suc (length-insert x xs ys)
-
 length-moved : (xs ys : List ℕ) → length (moved xs ys) ≡ length (xs ++ ys)
 length-moved [] ys = refl
 length-moved (x ∷ xs) ys = length-moved xs (x ∷ ys) ∙ length-insert x xs ys
@@ -276,7 +274,7 @@ closed-laid s l h r memory laid named ordinary chain sound = record {
 }
   where
     gone : (p : ℕ) → (given_back l.pages h).owner p ≡ Some h → ⊥
-    gone p owned = not_both (owner-gone (l.pages.owner p) (owner-kept h h (l.pages.owner p) owned)) owned
+    gone p owned = never_none_and_some (owner-gone (l.pages.owner p) (owner-kept h h (l.pages.owner p) owned)) owned
       where
         owner-gone : (o : Option ℕ) → o ≡ Some h → owner_without h o ≡ None
         owner-gone o is = ap (owner_without h) is ∙ when_equal h h None (Some h) refl

@@ -7,12 +7,13 @@ use Rattle.cyc_words.specs.Word.{IsWord}
 use Rattle.cyc_words.specs.Demand.{class_of, blocks_in_page, pages_for, demand_of, greatest_class}
 use Rattle.cyc_words.proofs.Booleans.{some_there}
 use Rattle.cyc_words.proofs.Numbers.{at_most_itself, when_equal}
+use Rattle.cyc_words.proofs.Options.{none_or_some, never_none_and_some, same_from_some}
 use Rattle.cyc_store.specs.State.{lookup, without, changed, Memory, put, AreWords, Block, address_of, Sort, Heap, Lexical, Dynamic, Uniques, Home, handle_of, empty_home, StoreState, homes, start, covers, Holder, holder, block_in, block_at, word_in, word_at, has_saved, saved, sizes_of, sizes_in, demand, live_in, opened, lexical_count, down_to, with_block, made_in, made_unique, room}
 use Rattle.cyc_store.specs.Services.{Call, OpenLexical, CloseTo, OpenDynamic, CloseDynamic, Allocate, Free, Refusal, BadMark, BadHandle, BadSize, NotABlock, Full, Answer, Refused, Choice, block_of, made, served, answer, any_choice, is_full, full_at, names_dynamic, is_size, refusal, IsPlaced, IsApart, IsAllowed, ServesBy, Serves}
 use Rattle.cyc_store.specs.Soundness.{AreSound, IsSound}
 use Rattle.cyc_store.specs.Run.{Exchange, Service, Load, Save, Exchanges, Run}
 use Rattle.cyc_store.specs.declared.range.TheConstants.{HEAP, UNIQUE}
-use Rattle.cyc_store.proofs.LookupLemmas.{when_other, cases_option, not_both, same_some, IsPart, is_kept, IsPart-without, AreDistinct-append, AreDistinct-part, lookup-key}
+use Rattle.cyc_store.proofs.LookupLemmas.{when_other, IsPart, is_kept, IsPart-without, AreDistinct-append, AreDistinct-part, lookup-key}
 use Rattle.cyc_store.proofs.HolderLemmas.{covers_from, covers_first, AreSound-part, IsPart-down_to, AreSound-opened, AreSound-made, AreSound-freed}
 use Rattle.cyc_store.proofs.CountLemmas.{blocks-some, class_of-bound, raised-same, raised-other, raised-length, raised-more, live_in-append_same, AreEnough-made, AreEnough-part, demand-part, sizes-opened}
 
@@ -134,7 +135,7 @@ closed-sound s rs memory sound part words = record {
 
 -- no live unique block has the address of a new one
 address-fresh : (s : StoreState) (b : Block) → IsSound s → IsPlaced s.pages b → IsApart (homes s) b → lookup address_of s.unique b.address ≡ None
-address-fresh s b sound placed apart = elim (cases_option (lookup address_of s.unique b.address)) [
+address-fresh s b sound placed apart = elim (none_or_some (lookup address_of s.unique b.address)) [
   | inl none ↦ none
   | inr old ↦
       let at : block_at (homes s) UNIQUE b.address ≡ Some old.0 =
@@ -142,7 +143,7 @@ address-fresh s b sound placed apart = elim (cases_option (lookup address_of s.u
       let inside : covers old.0 b.address ≡ true =
       subst (λ n. covers old.0 n ≡ true) (lookup-key address_of s.unique b.address old.0 old.1)
       (covers_first old.0 (sound.regions.placed UNIQUE b.address old.0 at).some) in
-      absurd (not_both (apart b.address (covers_first b placed.some)) (sound.regions.apart UNIQUE b.address b.address old.0 at inside))
+      absurd (never_none_and_some (apart b.address (covers_first b placed.some)) (sound.regions.apart UNIQUE b.address b.address old.0 at inside))
 ]
 
 unique-sound : (s : StoreState) (b : Block) (memory : Memory) → IsSound s → IsPlaced s.pages b → IsApart (homes s) b → AreWords memory
@@ -356,11 +357,11 @@ past s call e = ltb-true s.pages (demand (served s call (any_choice s))) e
 
 only-why : (b : Bool) (why : Refusal) → (why ≡ Full → ⊥) → (if b then None else Some why) ≡ Some Full → ⊥
 only-why true why other e = let k : None ≡ Some Full = e in cc
-only-why false why other e = other (same_some e)
+only-why false why other e = other (same_from_some e)
 
 then-full : (b : Bool) (o : Option Refusal) (why : Refusal) → (why ≡ Full → ⊥) → (if b then o else Some why) ≡ Some Full → o ≡ Some Full
 then-full true o why other e = e
-then-full false o why other e = absurd (other (same_some e))
+then-full false o why other e = absurd (other (same_from_some e))
 
 -- a store is full only where the demand would come to more than its pages
 pub full-past : (s : StoreState) (call : Call) → refusal s call ≡ Some Full → s.pages < demand (served s call (any_choice s))
@@ -393,7 +394,7 @@ pub one_block : (s : StoreState) → IsSound s → (g h first other x : ℕ) (b 
     → covers b x ≡ true → covers c x ≡ true → (g ≡ h) × (b ≡ c)
 one_block s sound g h first other x b c at there inside also =
     let e : record { handle = g; block = b } ≡ record { handle = h; block = c } =
-    same_some (sym (sound.regions.apart g first x b at inside) ∙ sound.regions.apart h other x c there also) in
+    same_from_some (sym (sound.regions.apart g first x b at inside) ∙ sound.regions.apart h other x c there also) in
     (ap (λ (k : Holder). k.handle) e, ap (λ (k : Holder). k.block) e)
 
 -- each word of a live block is there
@@ -459,7 +460,7 @@ saved-same s x w old found =
           when_equal (x % 4) 0 (word_in (holder (homes s) x) (put s.memory x w) x) None aligned
           ∙ (word_in-some (holder (homes s) x) s.memory (put s.memory x w) x old (sym (when_equal (x % 4) 0 (word_in (holder (homes s) x) s.memory x) None aligned) ∙ found)
           ∙ ap (λ n. Some n) (when_equal x x w (s.memory x) refl))
-      | inr askew ↦ absurd (not_both (when_other (x % 4) 0 (word_in (holder (homes s) x) s.memory x) None askew) found)
+      | inr askew ↦ absurd (never_none_and_some (when_other (x % 4) 0 (word_in (holder (homes s) x) s.memory x) None askew) found)
     ]
 
 has_saved-other : (s : StoreState) (x w y : ℕ) (o : Option ℕ) → (y ≡ x → ⊥) → word_at (has_saved s x w o) y ≡ word_at s y

@@ -6,8 +6,9 @@ use Rattle.std.proofs.lemmas.Bool.{cases_eq, cases_lt}
 use Rattle.std.proofs.lemmas.List.{set-get_or}
 use Rattle.cyc_words.specs.Demand.{greatest_class, class_of, blocks_in_page, pages_for, total, demand_of}
 use Rattle.cyc_words.proofs.Numbers.{when_equal}
+use Rattle.cyc_words.proofs.Options.{same_from_some}
 use Rattle.cyc_store.specs.State.{lookup, without, AreDistinct, Block, address_of, live_in, raised}
-use Rattle.cyc_store.proofs.LookupLemmas.{when_other, same_some, lookup-here, lookup-there, lookup-none}
+use Rattle.cyc_store.proofs.LookupLemmas.{when_other, lookup-here, lookup-there, lookup-none}
 use Rattle.cyc_store.proofs.CountLemmas.{blocks-some, live-here, live-there}
 
 -- the class of a power of two is its exponent
@@ -96,7 +97,7 @@ pub live_in-without_same : (c : ℕ) (bs : List Block) (a : ℕ) (b : Block) →
 live_in-without_same c [] a b distinct there is = absurd (let e : None ≡ Some b = there in cc)
 live_in-without_same c (x ∷ bs) a b distinct there is = elim (cases_eq x.address a) [
   | inl same ↦
-      let found : x ≡ b = same_some (sym (lookup-here address_of x bs a same) ∙ there) in
+      let found : x ≡ b = same_from_some (sym (lookup-here address_of x bs a same) ∙ there) in
       let none : lookup address_of bs a ≡ None = subst (λ n. lookup address_of bs n ≡ None) same distinct.0 in
       ap (λ l. suc (live_in c l)) (when_equal x.address a (without address_of bs a) (x ∷ without address_of bs a) same ∙ without-missing bs a none)
       ∙ sym (live-here c x bs (ap (λ (y : Block). class_of y.size) found ∙ is))
@@ -114,7 +115,7 @@ pub live_in-without_other : (c : ℕ) (bs : List Block) (a : ℕ) (b : Block) �
 live_in-without_other c [] a b distinct there is = absurd (let e : None ≡ Some b = there in cc)
 live_in-without_other c (x ∷ bs) a b distinct there is = elim (cases_eq x.address a) [
   | inl same ↦
-      let found : x ≡ b = same_some (sym (lookup-here address_of x bs a same) ∙ there) in
+      let found : x ≡ b = same_from_some (sym (lookup-here address_of x bs a same) ∙ there) in
       let none : lookup address_of bs a ≡ None = subst (λ n. lookup address_of bs n ≡ None) same distinct.0 in
       ap (live_in c) (when_equal x.address a (without address_of bs a) (x ∷ without address_of bs a) same ∙ without-missing bs a none)
       ∙ sym (live-there c x bs (λ e. is (sym (ap (λ (y : Block). class_of y.size) found) ∙ e)))

@@ -1,35 +1,20 @@
 -- Slots of unique blocks are apart, and which words of a store that is laid out are live.
-use Rattle.std.proofs.Common.{◌≡◌, ℕ, suc, ◌+◌, ◌*◌, ◌^◌, ◌<◌, ◌≤◌, true, List, [], ◌∷◌, Option, None, Some, refl, sym, ap, subst, ◌∙◌, inl, inr, arith}
-use Rattle.std.proofs.Math.Nat.{mul-le-mul_right, suc-mul}
-use Rattle.std.proofs.lemmas.Bool.{cases_Bool, cases_lt}
+use Rattle.std.proofs.Common.{◌≡◌, ℕ, ◌+◌, ◌*◌, ◌^◌, ◌<◌, ◌≤◌, true, List, [], ◌∷◌, Option, None, Some, refl, sym, ap, subst, ◌∙◌, inl, inr, arith}
+use Rattle.std.proofs.lemmas.Bool.{cases_Bool}
 use Rattle.std.proofs.lemmas.Nat.{pow_pos}
+use Rattle.cyc_words.proofs.Numbers.{multiples_same}
+use Rattle.cyc_words.proofs.Options.{none_or_some, never_none_and_some, same_from_some}
 use Rattle.cyc_store.specs.State.{lookup, AreDistinct, Block, address_of, Uniques, handle_of, StoreState, homes, covers, Holder, holder_in, holder, block_in}
 use Rattle.cyc_store.specs.Services.{IsApart}
 use Rattle.cyc_store.specs.Soundness.{IsSound}
 use Rattle.cyc_store.specs.declared.range.TheConstants.{STORE_BASE, PAGE_WORDS, UNIQUE}
-use Rattle.cyc_store.proofs.LookupLemmas.{cases_option, not_both, same_some, lookup-here, lookup-there, lookup-key}
+use Rattle.cyc_store.proofs.LookupLemmas.{lookup-here, lookup-there, lookup-key}
 use Rattle.cyc_store.proofs.HolderLemmas.{covers_from, or_else-cases, in-here, in-there, holder-named}
 use Rattle.cyc_store.specs.Pages.{IsLaid}
 use Rattle.cyc_store.proofs.PageLemmas.{covers_bounds, holder-laid}
 use Rattle.cyc_store.specs.Slots.{place_of, Layout, slot_block, IsSlot, IsLiveSlot, IsCovered, IsLaidOut}
 
 -- ---- arithmetic of slots
-
-multiples-less : (m n z : ℕ) → m < n → n * z < m * z + z → ⊥
-multiples-less m n z less low =
-    let most : suc m * z ≤ n * z = mul-le-mul_right z (omega (arith, less)) in
-    let next : suc m * z ≡ m * z + z = suc-mul m z in
-    omega (arith, most, next, low)
-
--- multiples that overlap are one
-pub multiples-one : (m n z : ℕ) → m * z < n * z + z → n * z < m * z + z → m ≡ n
-multiples-one m n z low high = elim (cases_lt m n) [
-  | inl less ↦ absurd (multiples-less m n z less high)
-  | inr more ↦ elim (cases_lt n m) [
-    | inl less ↦ absurd (multiples-less n m z less low)
-    | inr same ↦ omega (arith, more, same)
-  ]
-]
 
 page-one : (base p q a b m n v w x : ℕ) → v ≡ 1024 * p + a → w ≡ 1024 * q + b → base + 4 * v ≤ x → x < base + 4 * v + 4 * m
     → base + 4 * w ≤ x → x < base + 4 * w + 4 * n → a + m ≤ 1024 → b + n ≤ 1024 → p ≡ q
@@ -55,7 +40,7 @@ module _ (owner : ℕ → Option ℕ) (class_at : ℕ → ℕ) where
       let classes : c ≡ d = sym one.same ∙ (ap class_at pages ∙ other.same) in
       let sizes : 2 ^ c ≡ 2 ^ d = ap (λ n. 2 ^ n) classes in
       let moved : other.number * 2 ^ d ≡ other.number * 2 ^ c = ap (λ z. other.number * z) (sym sizes) in
-      let numbers : one.number ≡ other.number = multiples-one one.number other.number (2 ^ c)
+      let numbers : one.number ≡ other.number = multiples_same one.number other.number (2 ^ c)
       (subst (λ z. one.number * 2 ^ c < z + 2 ^ c) moved
       (offset-below STORE_BASE one.page other.page (one.number * 2 ^ c) (other.number * 2 ^ d) (2 ^ c) (2 ^ d) v w x pages one.at other.at low also_high sizes))
       (subst (λ z. z < one.number * 2 ^ c + 2 ^ c) moved
@@ -71,11 +56,11 @@ pub holder_in-lookup : (h : ℕ) (bs : List Block) (x : ℕ) (k : Holder) → Ar
 holder_in-lookup h [] x k distinct found = absurd (let e : None ≡ Some k = found in cc)
 holder_in-lookup h (b ∷ bs) x k distinct found = elim (cases_Bool (covers b x)) [
   | inl inside ↦
-      let is : record { handle = h; block = b } ≡ k = same_some (sym (in-here h x b bs inside) ∙ found) in
+      let is : record { handle = h; block = b } ≡ k = same_from_some (sym (in-here h x b bs inside) ∙ found) in
       subst (λ (z : Holder). lookup address_of (b ∷ bs) z.block.address ≡ Some z.block) is (lookup-here address_of b bs b.address refl)
   | inr not ↦
       let rest : lookup address_of bs k.block.address ≡ Some k.block = holder_in-lookup h bs x k distinct.1 (sym (in-there h x b bs not) ∙ found) in
-      lookup-there address_of b bs k.block.address (λ e. not_both (subst (λ n. lookup address_of bs n ≡ None) e distinct.0) rest) ∙ rest
+      lookup-there address_of b bs k.block.address (λ e. never_none_and_some (subst (λ n. lookup address_of bs n ≡ None) e distinct.0) rest) ∙ rest
 ]
 
 pub holder-unique : (s : StoreState) (x : ℕ) (k : Holder) → IsSound s → holder (homes s) x ≡ Some k → k.handle ≡ UNIQUE
@@ -100,7 +85,7 @@ module _ (s : StoreState) (l : Layout) (laid : IsLaidOut s l) where
       let place : k.block.address ≡ STORE_BASE + 4 * (1024 * old.page) + 4 * old.lies.word = old.lies.at in
       let pages : slot.page ≡ old.page = page-same STORE_BASE slot.page old.page (slot.number * 2 ^ c) old.lies.word (2 ^ c) k.block.size w k.block.address x
       slot.at place low high also_low also_high slot.fits (omega (arith, bound, most)) in
-      let unique : k.handle ≡ UNIQUE = same_some (sym old.owned ∙ (sym (ap l.pages.owner pages) ∙ slot.owned)) in
+      let unique : k.handle ≡ UNIQUE = same_from_some (sym old.owned ∙ (sym (ap l.pages.owner pages) ∙ slot.owned)) in
       let there : lookup address_of s.unique k.block.address ≡ Some k.block = holder-unique s x k laid.sound found unique in
       let live : IsLiveSlot l.pages.owner l.class k.block = laid.slots.live k.block.address k.block there in
       let (classes, words) = slots-one l.pages.owner l.class live.class c live.word w x live.slot slot (subst (λ b. covers b x ≡ true) live.is also) inside in
@@ -113,7 +98,7 @@ module _ (s : StoreState) (l : Layout) (laid : IsLaidOut s l) where
 
   -- no block is in a slot where none begins
   pub slot-apart : (c w : ℕ) → IsSlot l.pages.owner l.class c w → lookup address_of s.unique (place_of w) ≡ None → IsApart (homes s) (slot_block c w)
-  slot-apart c w slot none x inside = elim (cases_option (holder (homes s) x)) [
+  slot-apart c w slot none x inside = elim (none_or_some (holder (homes s) x)) [
     | inl nothing ↦ nothing
     | inr held ↦
         let is : held.0.block ≡ slot_block c w = slot-holder c w x held.0 slot inside held.1 in
@@ -130,8 +115,8 @@ module _ (s : StoreState) (l : Layout) (laid : IsLaidOut s l) where
           let place : place_of w ≡ STORE_BASE + 4 * (1024 * old.page) + 4 * old.lies.word = ap address_of (sym is) ∙ old.lies.at in
           let size : k.block.size ≡ 2 ^ c = ap (λ (b : Block). b.size) is in
           let pages : slot.page ≡ old.page = begins STORE_BASE slot.page old.page (slot.number * 2 ^ c) old.lies.word (2 ^ c) k.block.size w slot.at place slot.fits (omega (arith, bound, most)) size (pow_pos c) in
-          let unique : k.handle ≡ UNIQUE = same_some (sym old.owned ∙ (sym (ap l.pages.owner pages) ∙ slot.owned)) in
-          not_both (subst (λ n. lookup address_of s.unique n ≡ None) (sym (ap address_of is)) none) (holder-unique s x k laid.sound found unique)
+          let unique : k.handle ≡ UNIQUE = same_from_some (sym old.owned ∙ (sym (ap l.pages.owner pages) ∙ slot.owned)) in
+          never_none_and_some (subst (λ n. lookup address_of s.unique n ≡ None) (sym (ap address_of is)) none) (holder-unique s x k laid.sound found unique)
         where
           begins : (base p q a b m n v : ℕ) → v ≡ 1024 * p + a → base + 4 * v ≡ base + 4 * (1024 * q) + 4 * b → a + m ≤ 1024 → b + n ≤ 1024 → n ≡ m → 0 < m → p ≡ q
           begins base p q a b m n v v_is place fits also_fits same some = omega (arith, v_is, place, fits, also_fits, same, some)
@@ -172,7 +157,7 @@ module _ (s : StoreState) (l : Layout) (laid : IsLaidOut s l) where
   -- and what is not below it, or is of a page that is free, is not
   pub past-dead : (page word : ℕ) → word < PAGE_WORDS → ((handle : ℕ) → l.pages.owner page ≡ Some handle → l.pages.filled page ≤ word)
       → holder (homes s) (place_of (PAGE_WORDS * page + word)) ≡ None
-  past-dead page word small past = elim (cases_option (holder (homes s) (place_of (PAGE_WORDS * page + word)))) [
+  past-dead page word small past = elim (none_or_some (holder (homes s) (place_of (PAGE_WORDS * page + word)))) [
     | inl none ↦ none
     | inr held ↦
         let (old, also) = holder-laid l.pages (homes s) (place_of (PAGE_WORDS * page + word)) held.0 laid.paged.laid held.1 in

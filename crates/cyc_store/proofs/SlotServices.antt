@@ -7,11 +7,12 @@ use Rattle.std.proofs.lemmas.Nat.{pow_pos}
 use Rattle.cyc_words.specs.Demand.{greatest_class, class_of, demand_of}
 use Rattle.cyc_words.specs.Distinct.{IsDistinct}
 use Rattle.cyc_words.proofs.Numbers.{when_equal}
+use Rattle.cyc_words.proofs.Options.{never_none_and_some}
 use Rattle.cyc_store.specs.State.{lookup, without, Memory, Block, address_of, StoreState, homes, covers, sizes_in, demand, live_in, raised, made_unique}
 use Rattle.cyc_store.specs.Services.{IsPlaced, IsApart}
 use Rattle.cyc_store.specs.Soundness.{IsSound}
 use Rattle.cyc_store.specs.declared.range.TheConstants.{STORE_BASE, PAGE_WORDS, UNIQUE}
-use Rattle.cyc_store.proofs.LookupLemmas.{when_other, not_both, lookup-append_cases, lookup-append_none, lookup-key, lookup-part, lookup-part_none, lookup-without, IsPart, is_empty, is_left, is_kept, IsPart-without}
+use Rattle.cyc_store.proofs.LookupLemmas.{when_other, lookup-append_cases, lookup-append_none, lookup-key, lookup-part, lookup-part_none, lookup-without, IsPart, is_empty, is_left, is_kept, IsPart-without}
 use Rattle.cyc_store.proofs.HolderLemmas.{covers_from}
 use Rattle.cyc_store.proofs.CountLemmas.{live_in-append_same, live_in-append_other}
 use Rattle.cyc_store.specs.Pages.{Pages, LiesIn, AreLaidIn, IsPaged}
@@ -254,7 +255,7 @@ module _ (s : StoreState) (l : Layout) (laid : IsLaidOut s l) (c w : ℕ) (bound
 
       fresh : (words : List ℕ) → AllByRecursion (IsDeadSlot s.unique l.pages.owner l.class c) words → AllByRecursion (λ v. w ≢ v) words
       fresh [] all = tt
-      fresh (v ∷ words) all = (λ e. not_both all.0.none (subst (λ n. lookup address_of s.unique (place_of n) ≡ Some b) e there), fresh words all.1)
+      fresh (v ∷ words) all = (λ e. never_none_and_some all.0.none (subst (λ n. lookup address_of s.unique (place_of n) ≡ Some b) e there), fresh words all.1)
 
   pub freed-laid : (memory : Memory) → IsSound (record s { unique = without address_of s.unique (place_of w); memory = memory })
       → IsLaidOut (record s { unique = without address_of s.unique (place_of w); memory = memory }) (with_dead l c (w ∷ l.dead c))

@@ -8,10 +8,11 @@ use Rattle.std.proofs.lemmas.Nat.{pow_pos}
 use Rattle.cyc_words.specs.Demand.{page_words, greatest_class, blocks_in_page, pages_for}
 use Rattle.cyc_words.specs.Distinct.{IsDistinct}
 use Rattle.cyc_words.proofs.Numbers.{zero_least, when_equal}
+use Rattle.cyc_words.proofs.Options.{none_or_some, never_none_and_some, same_from_some}
 use Rattle.cyc_store.specs.State.{lookup, put, address_of, Home, handle_of, StoreState, homes, sizes_in, demand, live_in}
 use Rattle.cyc_store.specs.Soundness.{IsSound}
 use Rattle.cyc_store.specs.declared.range.TheConstants.{PAGE_WORDS, UNIQUE}
-use Rattle.cyc_store.proofs.LookupLemmas.{when_other, cases_option, not_both, same_some, lookup-key}
+use Rattle.cyc_store.proofs.LookupLemmas.{when_other, lookup-key}
 use Rattle.cyc_store.specs.Pages.{Pages, filled_to, drawn, HasChain, IsPaged}
 use Rattle.cyc_store.proofs.PageLemmas.{laid-drawn, filled-stays, stays-all}
 use Rattle.cyc_store.proofs.PagedRegions.{frees-stay, frees-rest, still-filled, chain-filled, still-chained}
@@ -113,7 +114,7 @@ module _ (s : StoreState) (l : Layout) (laid : IsLaidOut s l) (page : ℕ) (rest
 
       sym_ne : (h : ℕ) (r : Home) → lookup handle_of s.regions h ≡ Some r → r.handle ≡ UNIQUE → ⊥
       sym_ne h r named e =
-          not_both (subst (λ n. lookup handle_of s.regions n ≡ None) (sym e ∙ lookup-key handle_of s.regions h r named) laid.sound.regions.handles.0) named
+          never_none_and_some (subst (λ n. lookup handle_of s.regions n ≡ None) (sym e ∙ lookup-key handle_of s.regions h r named) laid.sound.regions.handles.0) named
 
       refilled : (r : Home) → (r.handle ≡ UNIQUE → ⊥) → HasChain (drawn l.pages page UNIQUE) r → HasChain (stocked_pages l.pages page) r
       refilled r ordinary chain = chain-filled (drawn l.pages page UNIQUE) page PAGE_WORDS UNIQUE r
@@ -121,13 +122,13 @@ module _ (s : StoreState) (l : Layout) (laid : IsLaidOut s l) (page : ℕ) (rest
 
   -- no live block is in the page
   pub page-empty : (w u : ℕ) → w ≡ PAGE_WORDS * page + u → u < PAGE_WORDS → lookup address_of s.unique (place_of w) ≡ None
-  page-empty w u is small = elim (cases_option (lookup address_of s.unique (place_of w))) [
+  page-empty w u is small = elim (none_or_some (lookup address_of s.unique (place_of w))) [
     | inl nothing ↦ nothing
     | inr (b, there) ↦
         let live : IsLiveSlot l.pages.owner l.class b = laid.slots.live (place_of w) b there in
         let words : live.word ≡ w = same-words live.word w (sym (ap address_of live.is) ∙ lookup-key address_of s.unique (place_of w) b there) in
         let pages : live.slot.page ≡ page = begins live.slot.page page (live.slot.number * 2 ^ live.class) u live.word w (2 ^ live.class) live.slot.at is words live.slot.fits (pow_pos live.class) small in
-        absurd (not_both paged.unowned.0.owner (ap l.pages.owner (sym pages) ∙ live.slot.owned))
+        absurd (never_none_and_some paged.unowned.0.owner (ap l.pages.owner (sym pages) ∙ live.slot.owned))
   ]
     where
       begins : (p q a u v w z : ℕ) → v ≡ 1024 * p + a → w ≡ 1024 * q + u → v ≡ w → a + z ≤ 1024 → 0 < z → u < 1024 → p ≡ q
@@ -147,7 +148,7 @@ module _ (s : StoreState) (l : Layout) (laid : IsLaidOut s l) (page : ℕ) (rest
   }
     where
       other : slot.page ≡ page → ⊥
-      other e = not_both paged.unowned.0.owner (ap l.pages.owner (sym e) ∙ slot.owned)
+      other e = never_none_and_some paged.unowned.0.owner (ap l.pages.owner (sym e) ∙ slot.owned)
 
   new-slots : (number count : ℕ) → number + count ≡ blocks_in_page c
       → AllByRecursion (IsDeadSlot s.unique (stocked l page rest c).pages.owner (stocked l page rest c).class c) (slots_from (2 ^ c) (PAGE_WORDS * page + number * 2 ^ c) count)
@@ -254,7 +255,7 @@ module _ (s : StoreState) (l : Layout) (laid : IsLaidOut s l) (page : ℕ) (rest
     sound = stock-sound;
     paged = stock-paged;
     covered = λ p word h owned ordinary below. elim (cases_eq p page) [
-      | inl here ↦ absurd (ordinary (sym (same_some (sym (when_equal p page (Some UNIQUE) (l.pages.owner p) here) ∙ owned))))
+      | inl here ↦ absurd (ordinary (sym (same_from_some (sym (when_equal p page (Some UNIQUE) (l.pages.owner p) here) ∙ owned))))
       | inr other ↦ laid.covered p word h (sym (when_other p page (Some UNIQUE) (l.pages.owner p) other) ∙ owned) ordinary
           (subst (λ n. word < n) (when_other p page PAGE_WORDS ((drawn l.pages page UNIQUE).filled p) other ∙ when_other p page 0 (l.pages.filled p) other) below)
     ];

@@ -6,13 +6,14 @@ use Rattle.std.proofs.lemmas.Bool.{cases_eq}
 use Rattle.std.proofs.lemmas.Nat.{pow_pos}
 use mathlib.Core.Path.{fun_ext}
 use Rattle.cyc_words.proofs.Numbers.{when_equal}
+use Rattle.cyc_words.proofs.Members.{all_append_left}
 use Rattle.cyc_store.specs.Slots.{IsSlot, slots_from}
 use Rattle.cyc_store.specs.Table.{row_at, marked_between}
 use Rattle.cyc_store.specs.inside.Kept.{IsStocked, table_of}
 use Rattle.cyc_store.specs.declared.row.PageTable.{PageTable}
 use Rattle.cyc_store.specs.declared.row.ClassSlots.{ClassSlots}
 use Rattle.cyc_store.proofs.LookupLemmas.{when_other}
-use Rattle.cyc_store.proofs.TieLemmas.{all-left, chain-also}
+use Rattle.cyc_store.proofs.TieLemmas.{chain-also}
 use Rattle.cyc_store.proofs.TieSlots.{with_marks}
 
 -- what is read of a list where one element is another
@@ -48,7 +49,7 @@ stock-words word also slots class dead same old = record {
   chain = old.chain;
   all = old.all;
   linked = chain-also word also slots.dead old.chain
-      (all-left (λ x. also x ≡ word x) old.chain (slots_from (2 ^ class) slots.fresh slots.left) (subst (AllByRecursion (λ x. also x ≡ word x)) old.all same)) old.linked;
+      (all_append_left (λ x. also x ≡ word x) old.chain (slots_from (2 ^ class) slots.fresh slots.left) (subst (AllByRecursion (λ x. also x ≡ word x)) old.all same)) old.linked;
 }
 
 -- where a slot stands, by its first word

@@ -3,6 +3,7 @@ use Rattle.std.proofs.Common.{◌≡◌, ℕ, zero, suc, ◌+◌, ◌-◌, ◌<�
 use Rattle.std.specs.Prelude.{◌⊎◌, ◌&&◌, nat_le, nat_lt, slice_index_or, set}
 use Rattle.std.proofs.lemmas.Bool.{cases_eq, cases_lt, and_right, cond-true, cond-false, le-leb, lt-leb, le-ltb, lt-ltb}
 use Rattle.std.proofs.lemmas.List.{get_or_default}
+use Rattle.cyc_words.proofs.Numbers.{cases_within}
 use Rattle.cyc_store.specs.declared.row.Row.{Row}
 use Rattle.cyc_store.specs.declared.row.TheConstants.{NONE}
 use Rattle.cyc_store.specs.Table.{free_row, row_at, given_rows, given_free, AreThere, marked_between}
@@ -36,15 +37,6 @@ row_at-read rows page r inside is = get_or_default rows page (free_row NONE) r i
 
 -- ---- marks from one on
 
-pub cases_between : (first count word : ℕ) → ((first ≤ word) × (word < first + count)) ⊎ ((word < first) ⊎ (first + count ≤ word))
-cases_between first count word = elim (cases_lt word first) [
-  | inl below ↦ inr (inl below)
-  | inr low ↦ elim (cases_lt word (first + count)) [
-    | inl high ↦ inl (low, high)
-    | inr past ↦ inr (inr past)
-  ]
-]
-
 pub marked-in : (old : ℕ → Bool) (first count : ℕ) (mark : Bool) (word : ℕ) → first ≤ word → word < first + count → marked_between old first count mark word ≡ mark
 marked-in old first count mark word low high =
     cond-true (nat_le first word && nat_lt word (first + count)) mark (old word) (ap (λ (a : Bool). a && nat_lt word (first + count)) (le-leb first word low) ∙ lt-ltb word (first + count) high)
@@ -63,7 +55,7 @@ mark-more marks old first n mark there so_far word = elim (cases_eq word (first 
       ap (λ k. slice_index_or (set marks (first + n) mark) k false) here ∙ (get_or-set_same marks (first + n) mark false there
       ∙ sym (marked-in old first (n + 1) mark word (omega (arith, here)) (omega (arith, here))))
   | inr other ↦
-      get_or-set_other marks (first + n) word mark false other ∙ (so_far word ∙ elim (cases_between first n word) [
+      get_or-set_other marks (first + n) word mark false other ∙ (so_far word ∙ elim (cases_within first n word) [
         | inl (low, high) ↦ marked-in old first n mark word low high ∙ sym (marked-in old first (n + 1) mark word low (omega (arith, high)))
         | inr out ↦ marked-out old first n mark word out ∙ sym (marked-out old first (n + 1) mark word (further other out))
       ])

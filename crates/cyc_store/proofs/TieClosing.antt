@@ -6,6 +6,8 @@ use Rattle.std.proofs.lemmas.Bool.{cases_eq}
 use Rattle.cyc_words.specs.Distinct.{IsDistinct}
 use Rattle.cyc_words.proofs.Lists.{all_append}
 use Rattle.cyc_words.proofs.Numbers.{when_equal}
+use Rattle.cyc_words.proofs.Options.{none_or_some, never_none_and_some, same_from_some}
+use Rattle.cyc_words.proofs.Members.{all_append_left}
 use Rattle.cyc_store.specs.State.{lookup, without, Home, handle_of}
 use Rattle.cyc_store.specs.Ledger.{Blocks}
 use Rattle.cyc_store.specs.Pages.{owner_without, given_back}
@@ -17,10 +19,10 @@ use Rattle.cyc_store.specs.declared.row.Row.{Row}
 use Rattle.cyc_store.specs.declared.row.TheConstants.{NONE}
 use Rattle.cyc_store.specs.declared.row.ClassSlots.{ClassSlots}
 use Rattle.cyc_store.specs.declared.range.TheConstants.{UNIQUE}
-use Rattle.cyc_store.proofs.LookupLemmas.{when_other, cases_option, not_both, same_some, lookup-key, lookup-without, lookup-without_other}
+use Rattle.cyc_store.proofs.LookupLemmas.{when_other, lookup-key, lookup-without, lookup-without_other}
 use Rattle.cyc_store.proofs.PagedClosing.{owner-kept, owner-stays, chain-stays}
 use Rattle.cyc_store.proofs.RegionServices.{moved, all-moved}
-use Rattle.cyc_store.proofs.TieLemmas.{chain-also, all-left}
+use Rattle.cyc_store.proofs.TieLemmas.{chain-also}
 
 -- ---- lists
 
@@ -135,7 +137,7 @@ module _ (t : Table) (lexicals : List ℕ) (classes : ℕ → ClassSlots) (b : B
   chain-below = all-from (λ x. x < t.count) chain (λ p inside. tied.drawn p h (one-all (λ (x : ℕ). l.pages.owner x ≡ Some h) chain p chain-owned inside))
 
   pub given-apart : (p : ℕ) → IsOneOf chain p → AllByRecursion (λ x. p ≢ x) tied.given
-  given-apart p inside = all-left (λ x. p ≢ x) tied.given (numbers_from t.count (t.most - t.count))
+  given-apart p inside = all_append_left (λ x. p ≢ x) tied.given (numbers_from t.count (t.most - t.count))
       (subst (AllByRecursion (λ x. p ≢ x)) tied.free (apart p (one-all (λ (x : ℕ). l.pages.owner x ≡ Some h) chain p chain-owned inside)))
 
   owner-same : (o : Option ℕ) → (o ≡ Some h → ⊥) → owner_without h o ≡ o
@@ -152,13 +154,13 @@ module _ (t : Table) (lexicals : List ℕ) (classes : ℕ → ClassSlots) (b : B
   rootless : (p : ℕ) → l.pages.owner p ≡ Some h → lookup handle_of (without handle_of b.regions h) (handle_of_page p) ≡ None
   rootless p owned = elim (cases_eq (handle_of_page p) h) [
     | inl same ↦ ap (lookup handle_of (without handle_of b.regions h)) same ∙ lookup-without handle_of b.regions h
-    | inr other ↦ lookup-without_other handle_of b.regions h (handle_of_page p) other ∙ elim (cases_option (lookup handle_of b.regions (handle_of_page p))) [
+    | inr other ↦ lookup-without_other handle_of b.regions h (handle_of_page p) other ∙ elim (none_or_some (lookup handle_of b.regions (handle_of_page p))) [
       | inl none ↦ none
       | inr (q, found) ↦
           let old : IsRooted t.row l.pages q = tied.roots (handle_of_page p) q found in
           let is : q.handle ≡ handle_of_page p = lookup-key handle_of b.regions (handle_of_page p) q found in
           let root : old.root ≡ p = halves old.root p (sym old.handle ∙ is) in
-          absurd (other (sym is ∙ same_some (sym old.owned ∙ (ap l.pages.owner root ∙ owned))))
+          absurd (other (sym is ∙ same_from_some (sym old.owned ∙ (ap l.pages.owner root ∙ owned))))
     ]
   ]
 
@@ -191,7 +193,7 @@ module _ (t : Table) (lexicals : List ℕ) (classes : ℕ → ClassSlots) (b : B
     }
       where
         not-ours : (p : ℕ) → l.pages.owner p ≡ Some q.handle → l.pages.owner p ≡ Some h → ⊥
-        not-ours p owned is = other (same_some (sym owned ∙ is))
+        not-ours p owned is = other (same_from_some (sym owned ∙ is))
 
         same-next : (xs : List ℕ) → AllByRecursion (λ (p : ℕ). l.pages.owner p ≡ Some q.handle) xs → AllByRecursion (λ x. (row x).next ≡ (t.row x).next) xs
         same-next [] all = tt
@@ -227,7 +229,7 @@ module _ (t : Table) (lexicals : List ℕ) (classes : ℕ → ClassSlots) (b : B
       homes = λ p g owned other.
           let old : l.pages.owner p ≡ Some g = owner-kept h g (l.pages.owner p) owned in
           let (q, found) = tied.homes p g old other in
-          (q, lookup-without_other handle_of b.regions h g (λ e. not_both (owner-gone (l.pages.owner p) (old ∙ ap (λ n. Some n) e)) owned) ∙ found);
+          (q, lookup-without_other handle_of b.regions h g (λ e. never_none_and_some (owner-gone (l.pages.owner p) (old ∙ ap (λ n. Some n) e)) owned) ∙ found);
       roots = λ g q found. by g q found (cases_eq g h);
       newest = lexical;
       stock = tied.stock;
@@ -239,7 +241,7 @@ module _ (t : Table) (lexicals : List ℕ) (classes : ℕ → ClassSlots) (b : B
         not-one xs p away inside = one-all (λ x. p ≡ x → ⊥) xs p away inside refl
 
         by : (g : ℕ) (q : Home) → lookup handle_of (without handle_of b.regions h) g ≡ Some q → (g ≡ h) ⊎ (g ≡ h → ⊥) → IsRooted row (given_back l.pages h) q
-        by g q found (inl same) = absurd (not_both (lookup-without handle_of b.regions h) (ap (lookup handle_of (without handle_of b.regions h)) (sym same) ∙ found))
+        by g q found (inl same) = absurd (never_none_and_some (lookup-without handle_of b.regions h) (ap (lookup handle_of (without handle_of b.regions h)) (sym same) ∙ found))
         by g q found (inr other) =
             let old : lookup handle_of b.regions g ≡ Some q = sym (lookup-without_other handle_of b.regions h g other) ∙ found in
             kept-rooted q (λ e. other (sym (lookup-key handle_of b.regions g q old) ∙ e)) (tied.roots g q old)

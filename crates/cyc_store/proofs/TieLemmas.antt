@@ -27,10 +27,6 @@ pub all-away : (row : ℕ → Row) (page : ℕ) (r : Row) (xs : List ℕ) → Al
 all-away row page r [] away = tt
 all-away row page r (x ∷ xs) away = (ap (λ (y : Row). y.next) (when_other x page r (row x) (λ e. away.0 (sym e))), all-away row page r xs away.1)
 
-pub all-left : (P : ℕ → Type 0) (xs ys : List ℕ) → AllByRecursion P (xs ++ ys) → AllByRecursion P xs
-all-left P [] ys all = tt
-all-left P (x ∷ xs) ys all = (all.0, all-left P xs ys all.1)
-
 -- ---- a page is taken
 
 module _ (t : Table) (lexicals : List ℕ) (classes : ℕ → ClassSlots) (b : Blocks) (l : Layout) (tied : IsTied t lexicals classes b l) where

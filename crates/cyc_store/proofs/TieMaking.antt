@@ -4,6 +4,7 @@ use Rattle.std.specs.Prelude.{if◌then◌else◌}
 use Rattle.std.specs.List.{AllByRecursion}
 use Rattle.std.proofs.lemmas.Bool.{cases_eq}
 use Rattle.cyc_words.proofs.Numbers.{when_equal}
+use Rattle.cyc_words.proofs.Options.{same_from_some}
 use Rattle.cyc_store.specs.State.{lookup, changed, Block, Home, handle_of, is_lexical, with_block, made_in}
 use Rattle.cyc_store.specs.Ledger.{Blocks, plain_store, blocks_of}
 use Rattle.cyc_store.specs.Pages.{Pages, filled_to, drawn, Mark, mark_of, HasChain}
@@ -14,7 +15,7 @@ use Rattle.cyc_store.specs.declared.row.Row.{Row}
 use Rattle.cyc_store.specs.declared.row.TheConstants.{NONE}
 use Rattle.cyc_store.specs.declared.row.ClassSlots.{ClassSlots}
 use Rattle.cyc_store.specs.declared.range.TheConstants.{PAGE_WORDS, UNIQUE}
-use Rattle.cyc_store.proofs.LookupLemmas.{when_other, same_some, lookup-key, lookup-changed_same, lookup-changed_other}
+use Rattle.cyc_store.proofs.LookupLemmas.{when_other, lookup-key, lookup-changed_same, lookup-changed_other}
 use Rattle.cyc_store.proofs.PageServices.{mark-made, mark-stays, mark-goes}
 use Rattle.cyc_store.proofs.PagedRegions.{block_in_page, chain-filled, owned-drawn, free-apart}
 use Rattle.cyc_store.proofs.TieLemmas.{chain-also, all-away}
@@ -166,7 +167,7 @@ module _ (t : Table) (lexicals : List ℕ) (classes : ℕ → ClassSlots) (b : B
       homes = λ p g owned other. let (q, found) = tied.homes p g owned other in home-changed b.regions h r named block g q found;
       roots = λ g q found. elim (cases_eq g h) [
         | inl same ↦ subst (IsRooted now.row (filled_to l.pages page mark))
-            (same_some (sym (lookup-changed_same handle_of (with_block block) (λ z. refl) b.regions h r named) ∙ (ap (lookup handle_of (changed handle_of (with_block block) b.regions h)) (sym same) ∙ found)))
+            (same_from_some (sym (lookup-changed_same handle_of (with_block block) (λ z. refl) b.regions h r named) ∙ (ap (lookup handle_of (changed handle_of (with_block block) b.regions h)) (sym same) ∙ found)))
             stays-rooted
         | inr other ↦
             let old : lookup handle_of b.regions g ≡ Some q = sym (lookup-changed_other handle_of (with_block block) (λ z. refl) b.regions h g other) ∙ found in
@@ -294,7 +295,7 @@ module _ (t : Table) (lexicals : List ℕ) (classes : ℕ → ClassSlots) (b : B
       let first : IsRooted half.row (drawn l.pages page h) q = rooted-drawn t.row l.pages page h (next_row size rooted.chain.newest.page) q none other old in
       let same : (whole.row first.root ≡ half.row first.root) =
       when_other first.root rooted.root (longer_row (half.row rooted.root) page) (half.row first.root)
-      (λ e. other (same_some (sym first.owned ∙ (ap (drawn l.pages page h).owner e
+      (λ e. other (same_from_some (sym first.owned ∙ (ap (drawn l.pages page h).owner e
       ∙ (when_other rooted.root page (Some h) (l.pages.owner rooted.root) root-away ∙ (rooted.owned ∙ ap (λ n. Some n) handle-is)))))) in
       record {
         root = first.root;
@@ -338,7 +339,7 @@ module _ (t : Table) (lexicals : List ℕ) (classes : ℕ → ClassSlots) (b : B
     within = tied.within;
     homes = λ p g owned other. elim (cases_eq p page) [
       | inl here ↦
-          let same : h ≡ g = same_some (sym (when_equal p page (Some h) (l.pages.owner p) here) ∙ owned) in
+          let same : h ≡ g = same_from_some (sym (when_equal p page (Some h) (l.pages.owner p) here) ∙ owned) in
           home-changed b.regions h r named drawn_block g r (ap (lookup handle_of b.regions) (sym same) ∙ named)
       | inr away_from ↦
           let (q, found) = tied.homes p g (sym (when_other p page (Some h) (l.pages.owner p) away_from) ∙ owned) other in
@@ -346,7 +347,7 @@ module _ (t : Table) (lexicals : List ℕ) (classes : ℕ → ClassSlots) (b : B
     ];
     roots = λ g q found. elim (cases_eq g h) [
       | inl same ↦ subst (IsRooted whole.row pages)
-          (same_some (sym (lookup-changed_same handle_of (with_block drawn_block) (λ z. refl) b.regions h r named)
+          (same_from_some (sym (lookup-changed_same handle_of (with_block drawn_block) (λ z. refl) b.regions h r named)
           ∙ (ap (lookup handle_of (changed handle_of (with_block drawn_block) b.regions h)) (sym same) ∙ found)))
           draws-rooted
       | inr other ↦
@@ -360,7 +361,7 @@ module _ (t : Table) (lexicals : List ℕ) (classes : ℕ → ClassSlots) (b : B
   }
     where
       unique-away : (p : ℕ) → pages.owner p ≡ Some UNIQUE → p ≡ page → ⊥
-      unique-away p owned here = ordinary (same_some (sym (when_equal p page (Some h) (l.pages.owner p) here) ∙ owned))
+      unique-away p owned here = ordinary (same_from_some (sym (when_equal p page (Some h) (l.pages.owner p) here) ∙ owned))
 
       no-sort : sort_of (lookup handle_of b.regions (handle_of_page page)) ≡ None
       no-sort = ap sort_of (fresh-handle t lexicals classes b l tied page none away there)

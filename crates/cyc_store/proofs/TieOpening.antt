@@ -4,6 +4,8 @@ use Rattle.std.specs.Prelude.{◌==◌, if◌then◌else◌}
 use Rattle.std.specs.List.{AllByRecursion}
 use Rattle.std.proofs.lemmas.Bool.{cases_eq}
 use Rattle.cyc_words.proofs.Numbers.{when_equal}
+use Rattle.cyc_words.proofs.Options.{none_or_some, never_none_and_some, same_from_some}
+use Rattle.cyc_words.proofs.Members.{all_append_left}
 use Rattle.cyc_store.specs.State.{lookup, Sort, Heap, Lexical, Dynamic, Uniques, Home, handle_of, empty_home, is_lexical, opened}
 use Rattle.cyc_store.specs.Ledger.{Blocks, plain_store, blocks_of}
 use Rattle.cyc_store.specs.Pages.{Pages, drawn}
@@ -13,10 +15,10 @@ use Rattle.cyc_store.specs.declared.row.Row.{Row}
 use Rattle.cyc_store.specs.declared.row.TheConstants.{NONE}
 use Rattle.cyc_store.specs.declared.row.ClassSlots.{ClassSlots}
 use Rattle.cyc_store.specs.declared.range.TheConstants.{UNIQUE}
-use Rattle.cyc_store.proofs.LookupLemmas.{when_other, cases_option, not_both, same_some, lookup-key, lookup-append, lookup-append_cases, lookup-append_new, lookup-append_other}
+use Rattle.cyc_store.proofs.LookupLemmas.{when_other, lookup-key, lookup-append, lookup-append_cases, lookup-append_new, lookup-append_other}
 use Rattle.cyc_store.proofs.PagedRegions.{still-chained}
 use Rattle.cyc_store.proofs.LiveWords.{odd-apart}
-use Rattle.cyc_store.proofs.TieLemmas.{chain-also, all-away, all-left}
+use Rattle.cyc_store.proofs.TieLemmas.{chain-also, all-away}
 
 -- the first row of a region with one page, in which nothing is
 abbrev pub first_row : (sort : Sort) → (page : ℕ) → Row
@@ -51,11 +53,11 @@ handle_of_one_page m n e = omega (arith, e)
 
 -- a page whose owner is another keeps its row
 pub owner-away : (pages : Pages) (page p h : ℕ) → pages.owner page ≡ None → pages.owner p ≡ Some h → p ≡ page → ⊥
-owner-away pages page p h none owned e = not_both none (ap pages.owner (sym e) ∙ owned)
+owner-away pages page p h none owned e = never_none_and_some none (ap pages.owner (sym e) ∙ owned)
 
 pub owned-away : (pages : Pages) (page h : ℕ) → pages.owner page ≡ None → (xs : List ℕ) → AllByRecursion (λ (p : ℕ). pages.owner p ≡ Some h) xs → AllByRecursion (λ x. page ≢ x) xs
 owned-away pages page h none [] all = tt
-owned-away pages page h none (x ∷ xs) all = (λ e. not_both none (ap pages.owner e ∙ all.0), owned-away pages page h none xs all.1)
+owned-away pages page h none (x ∷ xs) all = (λ e. never_none_and_some none (ap pages.owner e ∙ all.0), owned-away pages page h none xs all.1)
 
 -- a region stays where another page is drawn
 pub rooted-drawn : (row : ℕ → Row) (pages : Pages) (page h : ℕ) (new : Row) (r : Home) → pages.owner page ≡ None → (r.handle ≡ h → ⊥) → IsRooted row pages r
@@ -72,7 +74,7 @@ rooted-drawn row pages page h new r none other rooted = record {
       (owned-away pages page r.handle none (rooted.chain.newest.page ∷ rooted.chain.older) (rooted.chain.newest.owned, rooted.chain.owned)))
       rooted.linked;
   complete = λ p owned. elim (cases_eq p page) [
-    | inl here ↦ absurd (other (sym (same_some (sym (when_equal p page (Some h) (pages.owner p) here) ∙ owned))))
+    | inl here ↦ absurd (other (sym (same_from_some (sym (when_equal p page (Some h) (pages.owner p) here) ∙ owned))))
     | inr there ↦ rooted.complete p (sym (when_other p page (Some h) (pages.owner p) there) ∙ owned)
   ];
 }
@@ -84,7 +86,7 @@ module _ (t : Table) (lexicals : List ℕ) (classes : ℕ → ClassSlots) (b : B
     (away : AllByRecursion (λ x. page ≢ x) l.free) (there : page < t.count) where
   -- no region has the page's handle
   pub fresh-handle : lookup handle_of b.regions (handle_of_page page) ≡ None
-  fresh-handle = elim (cases_option (lookup handle_of b.regions (handle_of_page page))) [
+  fresh-handle = elim (none_or_some (lookup handle_of b.regions (handle_of_page page))) [
     | inl nothing ↦ nothing
     | inr (r, found) ↦
         let rooted : IsRooted t.row l.pages r = tied.roots (handle_of_page page) r found in
@@ -92,7 +94,7 @@ module _ (t : Table) (lexicals : List ℕ) (classes : ℕ → ClassSlots) (b : B
   ]
 
   given-away : AllByRecursion (λ x. page ≢ x) tied.given
-  given-away = all-left (λ x. page ≢ x) tied.given (numbers_from t.count (t.most - t.count)) (subst (AllByRecursion (λ x. page ≢ x)) tied.free away)
+  given-away = all_append_left (λ x. page ≢ x) tied.given (numbers_from t.count (t.most - t.count)) (subst (AllByRecursion (λ x. page ≢ x)) tied.free away)
 
   pub free-linked : (r : Row) → IsChain (λ p. ((with_row t page r).row p).next) t.free tied.given
   free-linked r = chain-also (λ p. (t.row p).next) (λ p. ((with_row t page r).row p).next) t.free tied.given (all-away t.row page r tied.given given-away) tied.linked
@@ -118,7 +120,7 @@ module _ (t : Table) (lexicals : List ℕ) (classes : ℕ → ClassSlots) (b : B
     within = tied.within;
     homes = λ p g owned ordinary. elim (cases_eq p page) [
       | inl here ↦
-          let same : g ≡ handle_of_page page = same_some (sym owned ∙ when_equal p page (Some (handle_of_page page)) (l.pages.owner p) here) in
+          let same : g ≡ handle_of_page page = same_from_some (sym owned ∙ when_equal p page (Some (handle_of_page page)) (l.pages.owner p) here) in
           (empty_home (handle_of_page page) sort, ap (lookup handle_of (b.regions ++ empty_home (handle_of_page page) sort ∷ [])) same ∙ found-new)
       | inr other ↦
           let (r, found) = tied.homes p g (sym (when_other p page (Some (handle_of_page page)) (l.pages.owner p) other) ∙ owned) ordinary in
@@ -126,7 +128,7 @@ module _ (t : Table) (lexicals : List ℕ) (classes : ℕ → ClassSlots) (b : B
     ];
     roots = λ g r found. elim (lookup-append_cases handle_of b.regions (empty_home (handle_of_page page) sort) g r found) [
       | inl old ↦ rooted-drawn t.row l.pages page (handle_of_page page) (first_row sort page) r none
-          (λ e. not_both fresh-handle (subst (λ n. lookup handle_of b.regions n ≡ Some r) (sym (lookup-key handle_of b.regions g r old) ∙ e) old))
+          (λ e. never_none_and_some fresh-handle (subst (λ n. lookup handle_of b.regions n ≡ Some r) (sym (lookup-key handle_of b.regions g r old) ∙ e) old))
           (tied.roots g r old)
       | inr new ↦ subst (IsRooted (with_row t page (first_row sort page)).row (drawn l.pages page (handle_of_page page))) (sym new) new-rooted
     ];
@@ -140,7 +142,7 @@ module _ (t : Table) (lexicals : List ℕ) (classes : ℕ → ClassSlots) (b : B
   }
     where
       unique-away : (p : ℕ) → (drawn l.pages page (handle_of_page page)).owner p ≡ Some UNIQUE → p ≡ page → ⊥
-      unique-away p owned here = odd-apart page (same_some (sym (when_equal p page (Some (handle_of_page page)) (l.pages.owner p) here) ∙ owned))
+      unique-away p owned here = odd-apart page (same_from_some (sym (when_equal p page (Some (handle_of_page page)) (l.pages.owner p) here) ∙ owned))
 
       found-new : lookup handle_of (b.regions ++ empty_home (handle_of_page page) sort ∷ []) (handle_of_page page) ≡ Some (empty_home (handle_of_page page) sort)
       found-new = lookup-append_new handle_of b.regions (empty_home (handle_of_page page) sort) (handle_of_page page) fresh-handle refl
@@ -194,6 +196,6 @@ module _ (t : Table) (lexicals : List ℕ) (classes : ℕ → ClassSlots) (b : B
           | inl here ↦ inl here
           | inr other ↦
               let (r, found) = tied.homes p (handle_of_page page) (sym (when_other p page (Some (handle_of_page page)) (l.pages.owner p) other) ∙ owned) (odd-apart page) in
-              absurd (not_both fresh-handle found)
+              absurd (never_none_and_some fresh-handle found)
         ];
       }

@@ -7,7 +7,8 @@ use Rattle.std.proofs.lemmas.Bool.{cases_eq}
 use Rattle.std.proofs.Math.Nat.{div-mul-le_self, lt-div-mul-add}
 use Rattle.std.proofs.lemmas.Nat.{pow_pos}
 use Rattle.cyc_words.specs.Demand.{greatest_class, blocks_in_page}
-use Rattle.cyc_words.proofs.Numbers.{when_equal}
+use Rattle.cyc_words.proofs.Numbers.{when_equal, multiples_same, cases_within}
+use Rattle.cyc_words.proofs.Options.{never_none_and_some, same_from_some}
 use Rattle.cyc_store.specs.State.{lookup, Block, address_of, Home, handle_of}
 use Rattle.cyc_store.specs.Ledger.{Blocks}
 use Rattle.cyc_store.specs.Pages.{drawn}
@@ -19,12 +20,11 @@ use Rattle.cyc_store.specs.declared.row.Row.{Row}
 use Rattle.cyc_store.specs.declared.row.TheConstants.{NONE}
 use Rattle.cyc_store.specs.declared.row.ClassSlots.{ClassSlots}
 use Rattle.cyc_store.specs.declared.range.TheConstants.{PAGE_WORDS, UNIQUE}
-use Rattle.cyc_store.proofs.LookupLemmas.{when_other, not_both, same_some, lookup-key}
+use Rattle.cyc_store.proofs.LookupLemmas.{when_other, lookup-key}
 use Rattle.cyc_store.proofs.PagedRegions.{chain-filled}
-use Rattle.cyc_store.proofs.SlotLemmas.{multiples-one}
 use Rattle.cyc_store.proofs.SlotServices.{with_dead, same-words}
 use Rattle.cyc_store.proofs.SlotStock.{stocked}
-use Rattle.cyc_store.proofs.TableLemmas.{cases_between, marked-in, marked-out}
+use Rattle.cyc_store.proofs.TableLemmas.{marked-in, marked-out}
 use Rattle.cyc_store.proofs.TieOpening.{with_row, owner-away, fresh-handle, free-linked, rooted-drawn}
 
 -- ---- what changes in a table
@@ -66,7 +66,7 @@ module _ (t : Table) (lexicals : List ℕ) (classes : ℕ → ClassSlots) (b : B
       let (above, below) = bounds p slot.page n (slot.number * 2 ^ class) (2 ^ class) word slot.at pages low high in
       let least : n / 2 ^ class * 2 ^ class ≤ n = div-mul-le_self n (2 ^ class) in
       let most : n < n / 2 ^ class * 2 ^ class + 2 ^ class = lt-div-mul-add {a = n} {b = 2 ^ class} (pow_pos class) in
-      let numbers : n / 2 ^ class ≡ slot.number = multiples-one (n / 2 ^ class) slot.number (2 ^ class)
+      let numbers : n / 2 ^ class ≡ slot.number = multiples_same (n / 2 ^ class) slot.number (2 ^ class)
       (first (n / 2 ^ class * 2 ^ class) n (slot.number * 2 ^ class + 2 ^ class) least below) (first (slot.number * 2 ^ class) n (n / 2 ^ class * 2 ^ class + 2 ^ class) above most) in
       ap (λ c. PAGE_WORDS * p + n / 2 ^ c * 2 ^ c) (ap l.class pages ∙ slot.same)
       ∙ (ap (λ q. PAGE_WORDS * q + n / 2 ^ class * 2 ^ class) pages ∙ (ap (λ m. PAGE_WORDS * slot.page + m * 2 ^ class) numbers ∙ sym slot.at))
@@ -119,7 +119,7 @@ module _ (t : Table) (lexicals : List ℕ) (classes : ℕ → ClassSlots) (b : B
           subst (λ s. IsStocked words s other (if other == class then dead else l.dead other)) (sym (when_other other class slots (classes other) away))
           (subst (IsStocked words (classes other) other) (sym (when_other other class dead (l.dead other) away)) (old other away bound (tied.stock other bound)))
     ];
-    marked = λ p n owned few. elim (cases_between word (2 ^ class) (PAGE_WORDS * p + n)) [
+    marked = λ p n owned few. elim (cases_within word (2 ^ class) (PAGE_WORDS * p + n)) [
       | inl (low, high) ↦
           marked-in t.live word (2 ^ class) mark (PAGE_WORDS * p + n) low high
           ∙ sym (ap (λ w. is_some (lookup address_of unique (place_of w))) (first-of p n few low high) ∙ here)
@@ -128,7 +128,7 @@ module _ (t : Table) (lexicals : List ℕ) (classes : ℕ → ClassSlots) (b : B
           ∙ (tied.marked p n owned few
           ∙ sym (ap is_some (elsewhere (place_of (PAGE_WORDS * p + n / 2 ^ l.class p * 2 ^ l.class p)) (λ e. not-out p n few (same-words (PAGE_WORDS * p + n / 2 ^ l.class p * 2 ^ l.class p) word e) out))))
     ];
-    unmarked = λ p n other few. elim (cases_between word (2 ^ class) (PAGE_WORDS * p + n)) [
+    unmarked = λ p n other few. elim (cases_within word (2 ^ class) (PAGE_WORDS * p + n)) [
       | inl (low, high) ↦ absurd (other (ap l.pages.owner (slot-page p n few low high) ∙ slot.owned))
       | inr out ↦ marked-out t.live word (2 ^ class) mark (PAGE_WORDS * p + n) out ∙ tied.unmarked p n other few
     ];
@@ -185,11 +185,11 @@ module _ (t : Table) (lexicals : List ℕ) (classes : ℕ → ClassSlots) (b : B
     linked = free-linked t lexicals classes b l tied page none away there (slots_row class);
     within = tied.within;
     homes = λ p g owned other. elim (cases_eq p page) [
-      | inl here ↦ absurd (other (sym (same_some (sym (when_equal p page (Some UNIQUE) (l.pages.owner p) here) ∙ owned))))
+      | inl here ↦ absurd (other (sym (same_from_some (sym (when_equal p page (Some UNIQUE) (l.pages.owner p) here) ∙ owned))))
       | inr apart ↦ tied.homes p g (sym (when_other p page (Some UNIQUE) (l.pages.owner p) apart) ∙ owned) other
     ];
     roots = λ g q found.
-        let ordinary : (q.handle ≡ UNIQUE → ⊥) = λ e. not_both distinct (subst (λ n. lookup handle_of b.regions n ≡ Some q) (sym (lookup-key handle_of b.regions g q found) ∙ e) found) in
+        let ordinary : (q.handle ≡ UNIQUE → ⊥) = λ e. never_none_and_some distinct (subst (λ n. lookup handle_of b.regions n ≡ Some q) (sym (lookup-key handle_of b.regions g q found) ∙ e) found) in
         refilled q ordinary (rooted-drawn t.row l.pages page UNIQUE (slots_row class) q none ordinary (tied.roots g q found));
     newest = tied.newest;
     stock = λ other bound. elim (cases_eq other class) [
@@ -205,7 +205,7 @@ module _ (t : Table) (lexicals : List ℕ) (classes : ℕ → ClassSlots) (b : B
       | inl here ↦
           let least : n / 2 ^ now.class p * 2 ^ now.class p ≤ n = div-mul-le_self n (2 ^ now.class p) in
           ap (λ q. t.live (PAGE_WORDS * q + n)) here
-          ∙ (tied.unmarked page n (λ e. not_both none e) few
+          ∙ (tied.unmarked page n (λ e. never_none_and_some none e) few
           ∙ sym (ap is_some (empty (PAGE_WORDS * p + n / 2 ^ now.class p * 2 ^ now.class p) (n / 2 ^ now.class p * 2 ^ now.class p) (ap (λ q. PAGE_WORDS * q + n / 2 ^ now.class p * 2 ^ now.class p) here)
           (small (n / 2 ^ now.class p * 2 ^ now.class p) n least few))))
       | inr other ↦

@@ -1,5 +1,6 @@
 -- Cuts of a text into its longest pieces: there is one at most, and a cut grows at its end.
-use Rattle.std.proofs.Common.{◌≡◌, ◌≢◌, ℕ, ◌⊎◌, inl, inr, ⊎_elim, List, [], ◌∷◌, ◌++◌, length, refl, sym, ap, subst, ◌∙◌, append_assoc, append-nil, arith}
+use Rattle.std.proofs.Common.{◌≡◌, ◌≢◌, ℕ, ◌⊎◌, inl, inr, ⊎_elim, List, [], ◌∷◌, ◌++◌, refl, sym, ap, subst, ◌∙◌, append_assoc, append-nil, arith}
+use Rattle.cyc_words.proofs.Lists.{same_fronts}
 use Rattle.cyc_syntax.specs.Tokens.{Token}
 use Rattle.cyc_syntax.specs.Spelling.{Piece, OpenComment, Spells}
 use Rattle.cyc_syntax.specs.TokenRule.{IsRead, Part, IsCut, bytes_of, part_tokens, tokens_of, HasTokens}
@@ -9,24 +10,13 @@ use Rattle.cyc_syntax.proofs.PieceLemmas.{piece_starts, one_piece}
 pub piece_nonempty : (m : Piece) → Spells m [] → ⊥
 piece_nonempty m spelled = piece_starts m [] spelled
 
--- two fronts of one list that are equally long are equal
-pub same_front : {X : Type 0} (a b x y : List X) → length a ≡ length b → a ++ x ≡ b ++ y → (a ≡ b) × (x ≡ y)
-same_front [] [] x y len e = (refl, e)
-same_front [] (c ∷ b) x y len e = absurd (omega arith)
-same_front (c ∷ a) [] x y len e = absurd (omega arith)
-same_front (c ∷ a) (d ∷ b) x y len e =
-    let head : c ≡ d = cc in
-    let tail : a ++ x ≡ b ++ y = cc in
-    let rest = same_front a b x y (omega arith) tail in
-    ((λ i. head i ∷ rest.0 i), rest.1)
-
 -- two pieces read at one place are the same piece, of the same bytes
 pub one_part : (p q : Part) (after other : List ℕ) → p.bytes ++ after ≡ q.bytes ++ other
     → IsRead p.piece p.bytes after → IsRead q.piece q.bytes other → (p ≡ q) × (after ≡ other)
 one_part p q after other e read also =
     let within = read.longest q.piece q.bytes other e also.spelled in
     let without = also.longest p.piece p.bytes after (sym e) read.spelled in
-    let bytes = same_front p.bytes q.bytes after other (omega arith) e in
+    let bytes = same_fronts p.bytes q.bytes after other (omega arith) e in
     let piece = one_piece p.piece q.piece q.bytes (subst (Spells p.piece) bytes.0 read.spelled) also.spelled in
     ((λ i. record { piece = piece i; bytes = bytes.0 i }), bytes.1)
 

@@ -1,45 +1,30 @@
 -- The index of names: what is found through keys stays right as texts are added.
-use Rattle.std.proofs.Common.{Vec, Global, ⊎_elim, ◌≡◌, ℕ, ◌+◌, ◌<◌, Bool, true, false, not, ◌||◌, cond, if◌then◌else◌, Option, Some, None, List, [], ◌∷◌, ◌++◌, length, get_or, slice_get, is_some, refl, sym, ap, subst, ◌∙◌, arith, IfSome}
-use Rattle.std.specs.Bool.{nat_eq}
+use Rattle.std.proofs.Common.{Vec, Global, ⊎_elim, ◌≡◌, ℕ, ◌<◌, Bool, true, false, ◌||◌, cond, if◌then◌else◌, Option, Some, None, List, [], ◌∷◌, ◌++◌, length, get_or, slice_get, is_some, refl, sym, ap, subst, ◌∙◌, arith, IfSome}
 use Rattle.std.specs.Ordering.{is_eq, nat_cmp}
-use Rattle.std.specs.Cmp.{unsigned_tied, eq_by_cmp_equiv}
+use Rattle.std.specs.Cmp.{eq_by_cmp_equiv}
 use Rattle.std.specs.Cmp.Lexicographic.{slice_cmp, nat_list_cmp_total}
 use Rattle.std.specs.BTreeMap.{BTreeMap}
 use Rattle.std.specs.BTreeMap as tree
 use Rattle.std.specs.Map.{lookup, IsKeyTest, AreApart, KeepsOthers}
 use Rattle.std.proofs.lemmas.Map.Text.{is_eq-slice_cmp}
-use Rattle.std.specs.List.{list_any, position_or_len}
 use Rattle.std.specs.Str.{bytes_eq}
-use Rattle.std.proofs.lemmas.Bool.{true≢false, cases_Bool, cond-true, cond-false, or_left, or_right, or_parts}
-use Rattle.std.proofs.lemmas.Bool.Decides.{nat_tests}
+use Rattle.std.proofs.lemmas.Bool.{true≢false, cases_Bool, cond-true, cond-false, or_left, or_right}
 use Rattle.std.proofs.lemmas.Option.{same_Some}
-use Rattle.std.proofs.lemmas.List.Recursion.{or_push}
 use Rattle.std.proofs.lemmas.List.{get_or_append_left, get_or_push, length_push}
-use Rattle.std.proofs.Math.Numerals.{one-add}
 use Rattle.std.proofs.lemmas.Slice.Eq.{bytes_eq-Decides}
+use Rattle.cyc_words.proofs.Numbers.{same_from_nat_cmp, nat_cmp-itself}
+use Rattle.cyc_words.proofs.Options.{anything_from_none_is_some, none_from_is_some, some_from_is_some, IfSome-below_more}
+use Rattle.cyc_words.proofs.Searches.{any-push, position-none, bytes_eq-apart_turned, position-append, position_push, bytes_eq-itself}
 use Rattle.cyc_syntax.specs.Names.{is_among, number_of}
 use Rattle.cyc_syntax.specs.inside.NameIndex.{key_of, first_in, other_in, number_if, found_at, IsIndexOf}
-use Rattle.cyc_syntax.proofs.NameLemmas.{position-append, position_push, same_text, slice_get-number_of}
-
--- where no element passes, the first place that passes is behind them all
-pub behind_all : {X : Type 0} (p : X → Bool) (xs : List X) → list_any p xs ≡ false → position_or_len p xs ≡ length xs
-behind_all p [] none = refl
-behind_all p (x ∷ xs) none =
-    ap (λ b. cond (not b) (1 + position_or_len p xs) 0) (or_parts _ _ none).0 ∙ ap (λ n. 1 + n) (behind_all p xs (or_parts _ _ none).1) ∙ one-add (length xs)
-
--- an element more
-any_push : {X : Type 0} (p : X → Bool) (xs : List X) (x : X) → list_any p (xs ++ x ∷ []) ≡ list_any p xs || p x
-any_push p = or_push (list_any p) p refl (λ x xs. refl)
-
-no_text : (number : ℕ) → None ≡ Some number → (P : Type 0) → P
-no_text number e P = cc
+use Rattle.cyc_syntax.proofs.NameLemmas.{slice_get-number_of}
 
 is_among-new : (texts : List (List ℕ)) (text : List ℕ) → is_among text (texts ++ text ∷ []) ≡ true
-is_among-new texts text = any_push (bytes_eq text) texts text ∙ or_right _ _ (same_text text)
+is_among-new texts text = any-push (bytes_eq text) texts text ∙ or_right _ _ (bytes_eq-itself text)
 
 -- a text that is new has the next number
 pub number_of-new : (texts : List (List ℕ)) (text : List ℕ) → is_among text texts ≡ false → number_of (texts ++ text ∷ []) text ≡ length texts
-number_of-new texts text new = position_push (bytes_eq text) texts text new (same_text text) ∙ behind_all (bytes_eq text) texts new
+number_of-new texts text new = position_push (bytes_eq text) texts text new (bytes_eq-itself text) ∙ position-none (bytes_eq text) texts new
 
 -- and the number gives it back
 pub slice_get-new : (texts : List (List ℕ)) (text : List ℕ) → is_among text texts ≡ false → slice_get (texts ++ text ∷ []) (length texts) ≡ Some text
@@ -55,24 +40,13 @@ number_if-other : (texts : List (List ℕ)) (text other : List ℕ) → bytes_eq
 number_if-other texts text other apart =
     ⊎_elim
     (λ there.
-    cond-true _ _ _ (any_push (bytes_eq other) texts text ∙ or_left _ _ there)
+    cond-true _ _ _ (any-push (bytes_eq other) texts text ∙ or_left _ _ there)
     ∙ ap (λ n. Some n) (position-append (bytes_eq other) texts (text ∷ []) there)
     ∙ sym (cond-true _ _ _ there))
     (λ none.
-    cond-false _ _ _ (any_push (bytes_eq other) texts text ∙ ap (λ b. b || bytes_eq other text) none ∙ apart)
+    cond-false _ _ _ (any-push (bytes_eq other) texts text ∙ ap (λ b. b || bytes_eq other text) none ∙ apart)
     ∙ sym (cond-false _ _ _ none))
     (cases_Bool (is_among other texts))
-
--- which of two texts is which
-apart_turned : (a b : List ℕ) → bytes_eq a b ≡ false → bytes_eq b a ≡ false
-apart_turned a b apart =
-    ⊎_elim
-    (λ same. absurd (true≢false (sym (bytes_eq-same b a same) ∙ apart)))
-    (λ not_same. not_same)
-    (cases_Bool (bytes_eq b a))
-  where
-    bytes_eq-same : (x y : List ℕ) → bytes_eq x y ≡ true → bytes_eq y x ≡ true
-    bytes_eq-same x y same = (bytes_eq-Decides y x).1 (sym ((bytes_eq-Decides x y).0 same))
 
 -- a text more at the end changes nothing of what is found before it
 found_at-push : (texts : List (List ℕ)) (new : List ℕ) (first other : Option ℕ) (text : List ℕ) → IfSome first (λ n. n < length texts)
@@ -89,22 +63,11 @@ empty_index first other no_key no_other = record {
   found = λ text. rw (no_key (key_of text)) refl;
 }
 
--- what is below the number of texts is below it with one more
-below_push : (texts : List (List ℕ)) (text : List ℕ) (first : Option ℕ) → IfSome first (λ n. n < length texts) → IfSome first (λ n. n < length (texts ++ text ∷ []))
-below_push texts text None below = tt
-below_push texts text (Some n) below = omega (arith, length_push texts text)
-
-same_key : (a b : ℕ) → is_eq (nat_cmp a b) ≡ true → a ≡ b
-same_key a b same = let tied : nat_eq a b ≡ true = sym (unsigned_tied a b) ∙ same in grind (arith, nat_tests)
-
-key_itself : (a : ℕ) → is_eq (nat_cmp a a) ≡ true
-key_itself a = let tied : nat_eq a a ≡ true = grind (arith, nat_tests) in unsigned_tied a a ∙ tied
-
 -- texts with two keys are two
 apart_by_keys : (text t : List ℕ) → is_eq (nat_cmp (key_of text) (key_of t)) ≡ false → bytes_eq t text ≡ false
 apart_by_keys text t differs =
     ⊎_elim
-    (λ same. absurd (true≢false (sym (key_itself (key_of text)) ∙ ap (λ x. is_eq (nat_cmp (key_of text) (key_of x))) (sym ((bytes_eq-Decides t text).0 same)) ∙ differs)))
+    (λ same. absurd (true≢false (sym (nat_cmp-itself (key_of text)) ∙ ap (λ x. is_eq (nat_cmp (key_of text) (key_of x))) (sym ((bytes_eq-Decides t text).0 same)) ∙ differs)))
     (λ apart. apart)
     (cases_Bool (bytes_eq t text))
 
@@ -125,19 +88,19 @@ module _ (texts : List (List ℕ)) (text : List ℕ) (first : ℕ → Option ℕ
       within key =
           ⊎_elim
           (λ same. rw (on key same) (omega (arith, length_push texts text)))
-          (λ differs. rw (off key differs) (below_push texts text (first key) (index.within key)))
+          (λ differs. rw (off key differs) (IfSome-below_more texts text (first key) (index.within key)))
           (cases_Bool (is_eq (nat_cmp (key_of text) key)))
 
       apart : (t : List ℕ) → firsts (key_of t) ≡ None → other t ≡ None
       apart t missing =
           ⊎_elim
-          (λ same. no_text (length texts) (sym missing ∙ on (key_of t) same) (other t ≡ None))
+          (λ same. anything_from_none_is_some (length texts) (sym missing ∙ on (key_of t) same) (other t ≡ None))
           (λ differs. index.apart t (sym (off (key_of t) differs) ∙ missing))
           (cases_Bool (is_eq (nat_cmp (key_of text) (key_of t))))
 
       -- under the new key nothing was found
       unknown : (t : List ℕ) → is_eq (nat_cmp (key_of text) (key_of t)) ≡ true → first (key_of t) ≡ None
-      unknown t same = ap first (sym (same_key _ _ same)) ∙ none
+      unknown t same = ap first (sym (same_from_nat_cmp _ _ same)) ∙ none
 
       at_new : (t : List ℕ) → is_eq (nat_cmp (key_of text) (key_of t)) ≡ true
           → found_at (texts ++ text ∷ []) (firsts (key_of t)) (other t) t ≡ cond (bytes_eq text t) (Some (length texts)) None
@@ -151,7 +114,7 @@ module _ (texts : List (List ℕ)) (text : List ℕ) (first : ℕ → Option ℕ
           ⊎_elim
           (λ is. subst (λ x. number_if (texts ++ text ∷ []) x ≡ Some (length texts)) ((bytes_eq-Decides text t).0 is) (number_if-new texts text new) ∙ sym (cond-true _ _ _ is))
           (λ is_not.
-          number_if-other texts text t (apart_turned text t is_not)
+          number_if-other texts text t (bytes_eq-apart_turned text t is_not)
           ∙ sym (index.found t)
           ∙ ap (λ o. found_at texts o (other t) t) (unknown t same)
           ∙ sym (cond-false _ _ _ is_not))
@@ -174,7 +137,7 @@ module _ (texts : List (List ℕ)) (text : List ℕ) (first : ℕ → Option ℕ
   other_added others number taken added = record { within = within; apart = apart; found = found }
     where
       within : (key : ℕ) → IfSome (first key) (λ n. n < length (texts ++ text ∷ []))
-      within key = below_push texts text (first key) (index.within key)
+      within key = IfSome-below_more texts text (first key) (index.within key)
 
       off : (t : List ℕ) → bytes_eq text t ≡ false → others t ≡ other t
       off t is_not = added t ∙ cond-false _ _ _ is_not
@@ -182,7 +145,7 @@ module _ (texts : List (List ℕ)) (text : List ℕ) (first : ℕ → Option ℕ
       apart : (t : List ℕ) → first (key_of t) ≡ None → others t ≡ None
       apart t missing =
           ⊎_elim
-          (λ is. no_text number (sym missing ∙ ap (λ x. first (key_of x)) (sym ((bytes_eq-Decides text t).0 is)) ∙ taken) (others t ≡ None))
+          (λ is. anything_from_none_is_some number (sym missing ∙ ap (λ x. first (key_of x)) (sym ((bytes_eq-Decides text t).0 is)) ∙ taken) (others t ≡ None))
           (λ is_not. off t is_not ∙ index.apart t missing)
           (cases_Bool (bytes_eq text t))
 
@@ -190,7 +153,7 @@ module _ (texts : List (List ℕ)) (text : List ℕ) (first : ℕ → Option ℕ
       is_other : bytes_eq (get_or texts number []) text ≡ false
       is_other =
           ⊎_elim
-          (λ is. no_text number
+          (λ is. anything_from_none_is_some number
           (sym (cond-false _ _ _ new) ∙ sym (index.found text) ∙ ap (λ o. found_at texts o (other text) text) taken ∙ cond-true _ _ _ is)
           (bytes_eq (get_or texts number []) text ≡ false))
           (λ is_not. is_not)
@@ -202,7 +165,7 @@ module _ (texts : List (List ℕ)) (text : List ℕ) (first : ℕ → Option ℕ
           ∙ ap (λ o. found_at texts o (others text) text) taken
           ∙ cond-false _ _ _ is_other
           ∙ added text
-          ∙ cond-true _ _ _ (same_text text)
+          ∙ cond-true _ _ _ (bytes_eq-itself text)
           ∙ sym (number_if-new texts text new)
 
       found : (t : List ℕ) → found_at (texts ++ text ∷ []) (first (key_of t)) (others t) t ≡ number_if (texts ++ text ∷ []) t
@@ -213,7 +176,7 @@ module _ (texts : List (List ℕ)) (text : List ℕ) (first : ℕ → Option ℕ
           found_at-push texts text (first (key_of t)) (others t) t (index.within (key_of t))
           ∙ ap (λ o. found_at texts (first (key_of t)) o t) (off t is_not)
           ∙ index.found t
-          ∙ sym (number_if-other texts text t (apart_turned text t is_not)))
+          ∙ sym (number_if-other texts text t (bytes_eq-apart_turned text t is_not)))
           (cases_Bool (bytes_eq text t))
 
 -- the keys once one is added
@@ -240,15 +203,7 @@ others_after m n v number updates t =
     off k is_not here =
         is_eq-slice_cmp t k.items
         ∙ ap (bytes_eq t) (sym ((bytes_eq-Decides v.items k.items).0 (sym (is_eq-slice_cmp v.items k.items) ∙ here)))
-        ∙ apart_turned v.items t is_not
-
-some_value : (o : Option ℕ) → is_some o ≡ true → (n : ℕ) × (o ≡ Some n)
-some_value None there = absurd (true≢false (sym there))
-some_value (Some n) there = (n, refl)
-
-none_value : (o : Option ℕ) → is_some o ≡ false → o ≡ None
-none_value None missing = refl
-none_value (Some n) missing = absurd (true≢false missing)
+        ∙ bytes_eq-apart_turned v.items t is_not
 
 -- a text more, where its key is new, or where it is among the others
 module _ (texts : List (List ℕ)) (text : List ℕ) (firsts : BTreeMap ℕ ℕ) (others : BTreeMap (Vec ℕ Global) ℕ)
@@ -258,7 +213,7 @@ module _ (texts : List (List ℕ)) (text : List ℕ) (firsts : BTreeMap ℕ ℕ)
       → IsIndexOf (texts ++ text ∷ []) (first_in after) (other_in others)
   by_first after missing updates =
       first_added texts text (first_in firsts) (other_in others) index new (first_in after)
-      (ap (first_in firsts) (sym is_key) ∙ none_value (first_in firsts key) missing)
+      (ap (first_in firsts) (sym is_key) ∙ none_from_is_some (first_in firsts key) missing)
       (λ k. firsts_after firsts after key number updates k
       ∙ ap (λ x. cond (is_eq (nat_cmp x k)) (Some number) (first_in firsts k)) is_key
       ∙ ap (λ n. cond (is_eq (nat_cmp (key_of text) k)) (Some n) (first_in firsts k)) is_number)
@@ -267,7 +222,7 @@ module _ (texts : List (List ℕ)) (text : List ℕ) (firsts : BTreeMap ℕ ℕ)
       → tree.Updates (λ x y. slice_cmp nat_cmp x.items y.items) others after owned (Some number)
       → IsIndexOf (texts ++ text ∷ []) (first_in firsts) (other_in after)
   by_other after owned is there updates =
-      let taken = some_value (first_in firsts key) there in
+      let taken = some_from_is_some (first_in firsts key) there in
       other_added texts text (first_in firsts) (other_in others) index new (other_in after) taken.0
       (ap (first_in firsts) (sym is_key) ∙ taken.1)
       (λ t. others_after others after owned number updates t
@@ -279,13 +234,13 @@ pub has_number : (texts : List (List ℕ)) (text : List ℕ) (number : ℕ) → 
 has_number texts text number has =
     ⊎_elim
     (λ there. (there, same_Some _ _ (has ∙ cond-true _ _ _ there)))
-    (λ new. no_text number (sym (cond-false _ _ _ new) ∙ sym has) _)
+    (λ new. anything_from_none_is_some number (sym (cond-false _ _ _ new) ∙ sym has) _)
     (cases_Bool (is_among text texts))
 
 -- what has none is not there
 pub has_no_number : (texts : List (List ℕ)) (text : List ℕ) → None ≡ number_if texts text → is_among text texts ≡ false
 has_no_number texts text has_none =
     ⊎_elim
-    (λ there. no_text (number_of texts text) (has_none ∙ cond-true _ _ _ there) _)
+    (λ there. anything_from_none_is_some (number_of texts text) (has_none ∙ cond-true _ _ _ there) _)
     (λ new. new)
     (cases_Bool (is_among text texts))

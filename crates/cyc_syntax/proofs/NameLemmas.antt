@@ -1,48 +1,17 @@
 -- The numbers of names: a text that is met keeps its number, and the number gives the text back.
-use Rattle.std.proofs.Common.{zero, get_or, fold, ⊎_elim, ◌≡◌, ◌≢◌, ℕ, suc, ◌+◌, ◌<◌, Bool, true, false, not, ◌||◌, cond, Some, List, [], ◌∷◌, ◌++◌, length, slice_get, refl, sym, ap, subst, ◌∙◌, arith}
-use Rattle.std.specs.List.{list_any, position_or_len}
+use Rattle.std.proofs.Common.{zero, get_or, fold, ⊎_elim, ◌≡◌, ◌≢◌, ℕ, suc, ◌<◌, true, false, Some, List, [], ◌∷◌, ◌++◌, length, slice_get, sym, ap, subst, ◌∙◌, arith}
 use Rattle.std.specs.Str.{bytes_eq}
 use Rattle.std.proofs.lemmas.Bool.{true≢false, cases_Bool, cond-true, cond-false, cases_lt, or_left, or_right, or_cases, or_parts}
 use Rattle.std.proofs.lemmas.Option.{same_Some}
 use Rattle.std.proofs.lemmas.List.{get_or_append_left, get_or_push, length_push}
-use Rattle.std.proofs.Math.Numerals.{one-add}
 use Rattle.std.proofs.lemmas.Slice.Eq.{bytes_eq-Decides}
+use Rattle.cyc_words.proofs.Searches.{position-found, position-append, bytes_eq-itself}
 use Rattle.cyc_syntax.specs.Names.{is_among, with_text, distinct_texts, number_of, AreDistinct}
-
--- what stands at the first place that passes
-at-position : {X : Type 0} (p : X → Bool) (xs : List X) → list_any p xs ≡ true → (x : X) × (slice_get xs (position_or_len p xs) ≡ Some x) × (p x ≡ true)
-at-position p [] any = absurd (true≢false (sym any))
-at-position p (x ∷ xs) any =
-    ⊎_elim
-    (λ passes. (x, ap (λ b. slice_get (x ∷ xs) (cond (not b) (1 + position_or_len p xs) 0)) passes, passes))
-    (λ fails.
-    let found = at-position p xs (ap (λ b. b || list_any p xs) (sym fails) ∙ any) in
-    (found.0, ap (λ b. slice_get (x ∷ xs) (cond (not b) (1 + position_or_len p xs) 0)) fails ∙ rw one-add found.1, found.2))
-    (cases_Bool (p x))
-
--- none passes, so one more at the end that passes is the first
-pub position_push : {X : Type 0} (p : X → Bool) (xs : List X) (x : X) → list_any p xs ≡ false → p x ≡ true
-    → position_or_len p (xs ++ x ∷ []) ≡ position_or_len p xs
-position_push p [] x none passes = ap (λ b. cond (not b) 1 0) passes
-position_push p (y ∷ xs) x none passes =
-    ap (λ n. cond (not (p y)) (1 + n) 0) (position_push p xs x (or_parts _ _ none).1 passes)
-
--- a first place stays, whatever is added
-pub position-append : {X : Type 0} (p : X → Bool) (xs ys : List X) → list_any p xs ≡ true → position_or_len p (xs ++ ys) ≡ position_or_len p xs
-position-append p [] ys any = absurd (true≢false (sym any))
-position-append p (x ∷ xs) ys any =
-    ⊎_elim
-    (λ passes. ap (λ b. cond (not b) (1 + position_or_len p (xs ++ ys)) 0) passes ∙ sym (ap (λ b. cond (not b) (1 + position_or_len p xs) 0) passes))
-    (λ fails. ap (λ n. cond (not (p x)) (1 + n) 0) (position-append p xs ys (ap (λ b. b || list_any p xs) (sym fails) ∙ any)))
-    (cases_Bool (p x))
-
-pub same_text : (text : List ℕ) → bytes_eq text text ≡ true
-same_text text = (bytes_eq-Decides text text).1 refl
 
 -- a text that is there has a number, and the number gives it back
 pub slice_get-number_of : (texts : List (List ℕ)) (text : List ℕ) → is_among text texts ≡ true → slice_get texts (number_of texts text) ≡ Some text
 slice_get-number_of texts text among =
-    let found = at-position (bytes_eq text) texts among in
+    let found = position-found (bytes_eq text) texts among in
     found.1 ∙ ap (λ x. Some x) (sym ((bytes_eq-Decides text found.0).0 found.2))
 
 -- a text that was met is there
@@ -51,7 +20,7 @@ is_among-with_text texts text =
     ⊎_elim (λ there. ap (is_among text) (cond-true _ _ _ there) ∙ there) (λ new. ap (is_among text) (cond-false _ _ _ new) ∙ last texts) (cases_Bool (is_among text texts))
   where
     last : (xs : List (List ℕ)) → is_among text (xs ++ text ∷ []) ≡ true
-    last [] = or_left _ _ (same_text text)
+    last [] = or_left _ _ (bytes_eq-itself text)
     last (x ∷ xs) = or_right _ _ (last xs)
 
 -- a text that is there stays, with its number, whatever is met

@@ -1,7 +1,7 @@
 -- Lines and columns, one byte further.
-use Rattle.std.proofs.Common.{◌≡◌, ℕ, ◌+◌, ◌-◌, ◌<◌, false, not, cond, eqb, List, [], ◌∷◌, ◌++◌, length, get_or, take, sym, ap, ◌∙◌, arith}
+use Rattle.std.proofs.Common.{◌≡◌, ℕ, ◌+◌, ◌-◌, false, not, cond, eqb, List, [], ◌∷◌, ◌++◌, length, sym, ap, ◌∙◌, arith}
 use Rattle.std.specs.List.{suffix_len, prefix_len, count_by}
-use Rattle.std.proofs.lemmas.List.{length-drop, reverse-append, take_more, append_assoc}
+use Rattle.std.proofs.lemmas.List.{length-drop, reverse-append}
 use Rattle.std.proofs.lemmas.List.Sums.{suffix_len-le-length, sum_by_push}
 use Rattle.cyc_words.specs.declared.span.Span.{Span}
 use Rattle.cyc_syntax.specs.inside.Place.{IsBehind}
@@ -51,8 +51,3 @@ behind_other place next front b other line column behind = record {
   line = line ∙ behind.line ∙ sym (line_behind-other front b other);
   column = column ∙ ap (λ n. n + 1) behind.column ∙ sym (column_behind-other front b other);
 }
-
--- one byte more of the bytes
-pub front_more : (front bytes : List ℕ) (i : ℕ) → i < length bytes → (front ++ take i bytes) ++ get_or bytes i 0 ∷ [] ≡ front ++ take (i + 1) bytes
-front_more front bytes i within =
-    append_assoc front (take i bytes) (get_or bytes i 0 ∷ []) ∙ ap (λ l. front ++ l) (sym (take_more bytes i 0 within))

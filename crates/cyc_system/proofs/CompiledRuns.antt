@@ -2,8 +2,7 @@
 use Rattle.std.proofs.Common.{◌≡◌, ℕ, refl, suc, zero, ◌+◌, ◌-◌, ◌*◌, ◌≤◌, ◌<◌, List, [], Bool, false, Option, Some, None, Result, Ok, Err, sym, ap, subst, ◌∙◌, arith, inl, inr}
 use Rattle.std.specs.Prelude.{MatchBool}
 use Rattle.std.specs.List.{AllByRecursion}
-use Rattle.cyc_words.proofs.DeviceLemmas.{Appends-nil}
-use Rattle.std.specs.Io.KnownBytes.{Keeps}
+use Rattle.cyc_words.proofs.DeviceLemmas.{Appends-nil, Keeps-some}
 use Rattle.cyc_elf.specs.declared.fault.ElfFault.{ElfFault}
 use Rattle.cyc_elf.specs.Image.{ImageContents}
 use Rattle.cyc_elf.specs.Reading.{reading}
@@ -56,12 +55,6 @@ told_rest None new input rest is leaves = absurd (let e : None ≡ Some input = 
 told_rest (Some told) None input rest is leaves = absurd leaves
 told_rest (Some told) (Some left) input rest is leaves = ap (λ (l : List ℕ). Some l) leaves
 
--- or all of them, where it was not used
-told_kept : (told new : Option (List ℕ)) (input : List ℕ) → told ≡ Some input → Keeps told new → new ≡ Some input
-told_kept None new input is keeps = absurd (let e : None ≡ Some input = is in cc)
-told_kept (Some told) None input is keeps = absurd keeps
-told_kept (Some told) (Some left) input is keeps = ap (λ (l : List ℕ). Some l) keeps ∙ is
-
 -- ---- against the program
 
 module _ (p : Program) (image : ImageContents) (limits : Bounds) (store : StoreState) (input : List ℕ) (alike : AreAlike p image limits store input) (grows : Bool) (budget : ℕ) (old new : Devices) where
@@ -76,7 +69,7 @@ module _ (p : Program) (image : ImageContents) (limits : Bounds) (store : StoreS
         output = [];
         rest = input;
         written = Appends-nil old.written new.written silent;
-        left = told_kept old.remaining new.remaining input tells unread;
+        left = Keeps-some old.remaining new.remaining input tells unread;
         steps = steps;
         seen = seen;
         answers = tt;

@@ -4,7 +4,10 @@ use Rattle.std.proofs.Common.{◌≡◌, ℕ, zero, suc, ◌+◌, ◌<◌, ◌�
 use Rattle.std.specs.Prelude.{unwrap_or, slice_get, MatchBool, length, IfSome}
 use Rattle.std.specs.Io.KnownBytes.{Keeps, Appends, Consumes, IsAtEnd}
 use Rattle.std.proofs.lemmas.List.{length-append}
-use Rattle.cyc_words.proofs.DeviceLemmas.{Keeps-refl, Appends-nil, Appends-append, Consumes-nil, Consumes-append}
+use Rattle.std.proofs.KnownBytes.{Appends-kept, Consumes-kept}
+use Rattle.cyc_words.proofs.DeviceLemmas.{Keeps-refl, Appends-nil, Appends-append, Consumes-append}
+use Rattle.cyc_words.proofs.Booleans.{MatchBool-false}
+use Rattle.cyc_words.proofs.Lists.{length_in_two}
 use Rattle.cyc_machine.specs.declared.event.End.{End}
 use Rattle.cyc_machine.specs.declared.event.Event.{Event}
 use Rattle.cyc_machine.specs.declared.event.Event.TheVariants.{Ran, WantsByte, Puts, Ended, NoMemory}
@@ -72,12 +75,6 @@ pub record Progress (start : List ℕ → World) (old now : Devices) (count : �
 
 -- Devices that were not used.
 
-appends_kept : (a b c : Option (List ℕ)) (xs : List ℕ) → Appends a b xs → Keeps b c → Appends a c xs
-appends_kept a b c xs h k = subst (Appends a c) (append-nil xs) (Appends-append a b c xs [] h (Appends-nil b c k))
-
-consumes_kept : (a b c : Option (List ℕ)) (xs : List ℕ) → Consumes a b xs → Keeps b c → Consumes a c xs
-consumes_kept a b c xs h k = subst (Consumes a c) (append-nil xs) (Consumes-append a b c xs [] h (Consumes-nil b c k))
-
 leaves_kept : (a b c : Option (List ℕ)) (xs : List ℕ) → Leaves a b xs → Keeps b c → Leaves a c xs
 leaves_kept None b c xs h k = tt
 leaves_kept (Some told) None c xs h k = absurd h
@@ -102,7 +99,7 @@ quiet : (start : List ℕ → World) (old now new : Devices) (count : ℕ) (x x'
 quiet start old now new count x x' peaks machine machine' event s more p step is on kept appends ends reads writes leaves = record {
   read = p.read;
   output = p.output ++ more;
-  consumed = consumes_kept old.remaining now.remaining new.remaining p.read p.consumed kept;
+  consumed = Consumes-kept old.remaining now.remaining new.remaining p.read p.consumed kept;
   printed = Appends-append old.written now.written new.written p.output more p.printed appends;
   reads = reads ∙ p.reads;
   writes = writes ∙ (ap (λ n. n + length more) p.writes ∙ sym (length-append p.output more));
@@ -134,7 +131,7 @@ wanting start old now new count x x' peaks machine machine' s byte read p step i
   read = read;
   output = p.output;
   consumed = consumed;
-  printed = appends_kept old.written now.written new.written p.output p.printed kept;
+  printed = Appends-kept old.written now.written new.written p.output p.printed kept;
   reads = reads;
   writes = writes ∙ p.writes;
   at_end = at_end;
@@ -164,12 +161,12 @@ asked_turn : (start : List ℕ → World) (old now new : Devices) (count : ℕ) 
 asked_turn start old now new count x true peaks machine machine' s byte was p step is (none, kept) silent =
     subst (λ b. Progress start old new (count + 1) (after_byte x b) (counted_at peaks machine') machine') (sym none)
     (wanting start old now new count x (after_byte x None) peaks machine machine' s None p.read p step (is ∙ ap (given s) none) silent
-    (consumes_kept old.remaining now.remaining new.remaining p.read p.consumed kept)
+    (Consumes-kept old.remaining now.remaining new.remaining p.read p.consumed kept)
     (λ end. leaves_kept old.remaining now.remaining new.remaining [] (p.at_end was) kept) p.reads refl
     (λ rest ended. none_left_to_read start count peaks machine p.output p.read rest (ended refl) (p.runs rest (λ e. ended refl))))
 asked_turn start old now new count x false peaks machine machine' s None was p step is (ends, kept) silent =
     wanting start old now new count x (after_byte x None) peaks machine machine' s None p.read p step is silent
-    (consumes_kept old.remaining now.remaining new.remaining p.read p.consumed kept)
+    (Consumes-kept old.remaining now.remaining new.remaining p.read p.consumed kept)
     (λ end. end_seen old.remaining now.remaining new.remaining p.read p.consumed ends kept) p.reads refl
     (λ rest ended. none_left_to_read start count peaks machine p.output p.read rest (ended refl) (p.runs rest (λ e. ended refl)))
 asked_turn start old now new count x false peaks machine machine' s (Some byte) was p step is consumes silent =
@@ -256,12 +253,8 @@ executes_kept start old now new count w x (kept, silent) = record {
   told = x.told;
   counted = x.counted;
   unread = leaves_kept old.remaining now.remaining new.remaining w.input x.unread kept;
-  written = appends_kept old.written now.written new.written w.output x.written silent;
+  written = Appends-kept old.written now.written new.written w.output x.written silent;
 }
-
--- what was read, and what is left
-all_read : (taken : ℕ) (read rest : List ℕ) → taken ≡ length read → taken + length rest ≡ length (read ++ rest)
-all_read taken read rest reads = ap (λ n. n + length rest) reads ∙ sym (length-append read rest)
 
 -- what is reported of a machine that stops so
 abbrev pub reported : Stop → (count : ℕ) → Exchanged → (peaks : Option Peaks) → State → Report
@@ -291,7 +284,7 @@ spends start old now count budget x peaks machine p is =
       few = omega (arith, is);
       stops = (ap end_in p.running, is);
       stands = (refl, refl);
-      read = all_read x.read p.read (rest_of old.remaining now.remaining) p.reads;
+      read = length_in_two x.read p.read (rest_of old.remaining now.remaining) p.reads;
       printed = p.writes;
       peaks = (way_of start old now count x peaks machine p).1;
     } in
@@ -313,12 +306,12 @@ stops_at start old now new count budget x x' peaks machine machine' end p few (s
         told = told_all old.remaining now.remaining p.read p.consumed;
         counted = way.0;
         unread = leaves_kept old.remaining now.remaining new.remaining rest (left_over old.remaining now.remaining p.read p.consumed) kept;
-        written = appends_kept old.written now.written new.written p.output p.printed silent;
+        written = Appends-kept old.written now.written new.written p.output p.printed silent;
       };
       few = few;
       stops = ap end_in (Step-phase machine (Ended end) machine' step);
       stands = (refl, refl);
-      read = all_read x.read p.read rest p.reads;
+      read = length_in_two x.read p.read rest p.reads;
       printed = p.writes;
       peaks = way.1;
     } in
@@ -350,17 +343,12 @@ fails_turn grows start old now new count budget x x' peaks machine machine' Memo
     let here : World = record { machine = machine; output = p.output; input = rest_of old.remaining now.remaining } in
     (count, here, executes_kept start old now new count here (executes_of start old now count x peaks machine p) rests, below, ap end_in p.running, wants)
 
--- a loaded image is run
-loaded : (inside : Bool) (refused runs : Type 0) → (inside ≡ true → ⊥) → runs → MatchBool inside refused runs
-loaded true refused runs not_so go = absurd (not_so refl)
-loaded false refused runs not_so go = go
-
 answers_run : (grows : Bool) (store : StoreState) (read : Result ImageContents ElfFault) (image : ImageContents) (limits : Bounds) (budget : ℕ) (machine : State) (old new : Devices) (result : Result Report RunFault)
     → read ≡ Ok image → (has_outside image ≡ true → ⊥) → machine ≡ start_state image limits store
     → Runs grows (λ input. record { machine = machine; output = []; input = input }) budget old new result → Answers grows store read limits budget old new result
 answers_run grows store read image limits budget machine old new result is inside begins runs =
     subst (λ r. Answers grows store r limits budget old new result) (sym is)
-    (loaded (has_outside image) (Refuses (Load load.Outside) old new result) (Starts grows (start_world image limits store) budget old new result) inside
+    (MatchBool-false (has_outside image) (Refuses (Load load.Outside) old new result) (Starts grows (start_world image limits store) budget old new result) inside
     (inr (subst (λ m. Runs grows (λ input. record { machine = m; output = []; input = input }) budget old new result) begins runs)))
 
 -- the machine has no place for an image
@@ -394,10 +382,6 @@ anew_memory grows read limits budget devices =
     )
 
 -- An image is loaded, or it is not.
-
-pub seen_within : (outside : Bool) → (outside ≡ true → ⊥) → outside ≡ false
-seen_within true refused = absurd (refused refl)
-seen_within false refused = refl
 
 pub loads_running : (read : Result ImageContents ElfFault) (limits : Bounds) (store : StoreState) (machine : State) → Loads read limits store machine → machine.phase ≡ Running
 loads_running (Err f) limits store machine loads = absurd loads

@@ -8,6 +8,7 @@ use Rattle.cyc_words.specs.Simulation.{Machine, NeverFails}
 use Rattle.cyc_words.specs.inside.Following.{IsUnderWay, IsOver, Follows}
 use Rattle.cyc_words.proofs.Prices.{sum_by-flat_map}
 use Rattle.cyc_words.proofs.Simulation.{in_a_row, follows-never_fails}
+use Rattle.cyc_words.proofs.Lists.{flat_map-alone}
 use Rattle.cyc_store.specs.State.{StoreState, IsNew}
 use Rattle.cyc_store.specs.declared.range.TheConstants.{MOST_PAGES}
 use Rattle.cyc_syntax.specs.Sums.{sum_of}
@@ -177,10 +178,6 @@ simplified_places function (r ∷ rs) (s ∷ ss) long like =
     places_with : ℕ → List CodePlace
     places_with n = map (λ (i : ℕ). record { function = function; index = i }) (range_with_len 0 n)
 
-each_alone : {X : Type 0} (xs : List X) → flat_map (λ (x : X). x ∷ []) xs ≡ xs
-each_alone [] = refl
-each_alone (x ∷ xs) = ap (λ (ys : List _). x ∷ ys) (each_alone xs)
-
 pub simplified_is : (p : Program) (given made : PlainProgram) → given.main < length given.functions → IsProgramOf p given → IsSimplified given made → IsProgramOf p made
 simplified_is p given made main is by = record {
   functions = functions_made simplified.IsLike simplified_like p.functions given.functions made.functions by.as_many by.each is.functions;
@@ -198,5 +195,5 @@ simplified_is p given made main is by = record {
 
     cheap : (price : CodePlace → ℕ) → sum_by (λ (place : CodePlace). sum_by price (place ∷ [])) (places_of given) ≤ sum_by price (places_of made)
     cheap price =
-        let same = each_alone (places_of given) ∙ simplified_places 0 given.functions made.functions by.as_many by.each in
+        let same = flat_map-alone (places_of given) ∙ simplified_places 0 given.functions made.functions by.as_many by.each in
         omega (arith, sum_by-flat_map price (λ (place : CodePlace). place ∷ []) (places_of given), ap (sum_by price) same)

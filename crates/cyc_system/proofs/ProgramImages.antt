@@ -4,7 +4,7 @@ use Rattle.std.specs.Prelude.{slice_index, replicate, unwrap_or, All, AllPairs, 
 use Rattle.std.specs.List.{range_with_len, AllByRecursion, list_any}
 use Rattle.std.specs.Option.{option_or}
 use Rattle.std.proofs.lemmas.Bool.{le-leb, lt-ltb, lt-leb, le-ltb, cases_lt}
-use Rattle.std.proofs.lemmas.List.{get_or-append_right, get_or_append_left, get_or_past, length-map, length-replicate, get_or-replicate}
+use Rattle.std.proofs.lemmas.List.{get_or-append_right, get_or_past, length-map, length-replicate}
 use Rattle.std.proofs.lemmas.List.FromFn.{fill_by_all}
 use Rattle.std.proofs.lemmas.List.Elements.{All-cons, All-nil, All-append}
 use Rattle.std.proofs.lemmas.List.Kept.{AllPairs-cons}
@@ -13,6 +13,7 @@ use Rattle.std.proofs.lemmas.Simd.{map-map}
 use Rattle.cyc_words.specs.Word.{IsWord}
 use Rattle.cyc_words.specs.Bytes.{bytes_of_word, word_of_bytes}
 use Rattle.cyc_words.proofs.BytesLemmas.{word_of_bytes-bytes_of_word}
+use Rattle.cyc_words.proofs.Items.{slice_index_zeros_behind}
 use Rattle.cyc_elf.specs.Image.{SegmentContents, padded, AreApart, IsSegment, IsWellFormed}
 use Rattle.cyc_elf.specs.Note.{AreLimits}
 use Rattle.cyc_elf.specs.Layout.{header_of, headers_of, note_header, note_headers, note_count, bytes_end, bytes_start, note_start, FitsFields}
@@ -155,15 +156,6 @@ data_word (g ∷ globals) k fit =
       | inr past ↦ ap (λ (w : Option ℕ). unwrap_or (option_or w None) 0) (word_past data_base READ_AND_WRITE whole (data_base + 4 * k) (omega (arith, past))) ∙ sym (get_or_past whole k 0 past)
     ]
 
-zeros_behind : (globals : List ℕ) (count k : ℕ) → k < length globals + count → slice_index (globals ++ replicate count 0) k ≡ slice_index globals k
-zeros_behind globals count k within = elim (cases_lt k (length globals)) [
-  | inl below ↦ get_or_append_left globals (replicate count 0) 0 k below
-  | inr past ↦
-      get_or-append_right globals (replicate count 0) (length globals) k 0 refl past
-      ∙ get_or-replicate count (k - length globals) 0 0 (omega arith)
-      ∙ sym (get_or_past globals k 0 past)
-]
-
 -- ---- limits
 
 pub limits_allowed : (limits : ℕ × ℕ) → AreLimits limits → AreAllowed limits.0 limits.1
@@ -245,7 +237,7 @@ module _ (words globals : List ℕ) (note : Option (ℕ × ℕ)) (some : 0 < len
       ∙ sym (fill_by_all (λ k. unwrap_or (image_word segments (data_base + 4 * k)) 0) (globals ++ replicate (count - length globals) 0) count 0
       (length-append globals (replicate (count - length globals) 0) ∙ (let e : length globals + length (replicate (count - length globals) 0) ≡ count = omega (arith, length-replicate {A = ℕ} (count - length globals) 0, enough) in e))
       (λ k below.
-      zeros_behind globals (count - length globals) k (omega (arith, below, enough))
+      slice_index_zeros_behind globals (count - length globals) k (omega (arith, below, enough))
       ∙ sym (ap (λ (w : Option ℕ). unwrap_or (option_or w (image_word (data_segments globals) (data_base + 4 * k))) 0) (word_past text_base READ_AND_EXECUTE words (data_base + 4 * k) (omega (arith, inside)))
       ∙ data_word globals k fit_globals)))
 

@@ -1,9 +1,9 @@
 -- The tests of `Closure` decide the outlives relation.
-use Rattle.std.proofs.Common.{◌≡◌, ◌≢◌, ◌⊎◌, inl, inr, Bool, true, not, ◌&&◌, ◌||◌, List, [], ◌∷◌, refl, sym, ◌∙◌, subst, arith}
+use Rattle.std.proofs.Common.{◌≡◌, ◌≢◌, ◌⊎◌, inl, inr, true, not, ◌&&◌, ◌||◌, List, [], ◌∷◌, refl, sym, ◌∙◌, subst}
 use Rattle.std.specs.Prelude.{Contains}
-use Rattle.std.specs.List.{list_any, list_all}
 use Rattle.std.proofs.lemmas.Bool.{or_cases, or_left, or_right, and_parts, and_from, true≢false, false_from_ne_true, not-true, not_from_false}
-use Rattle.std.proofs.lemmas.List.Elements.{Contains-push, Contains-push_cases, Contains-append_left, Contains-append_right, Contains-append_cases}
+use Rattle.cyc_words.proofs.Members.{Contains-head, Contains-tail, Contains-empty, Contains-cons_cases}
+use Rattle.cyc_words.proofs.Searches.{any-true, any-from, all-true}
 use Rattle.cyc_types.specs.declared.region.Region.{Region}
 use Rattle.cyc_types.specs.declared.region.Region.TheVariants.{Heap, Unique}
 use Rattle.cyc_types.specs.declared.scope.Scope.{Scope}
@@ -11,48 +11,6 @@ use Rattle.cyc_types.specs.Types.{region_eq}
 use Rattle.cyc_types.specs.Outlives.{RegionContext, live_regions, is_outlived_by_live, IsLiveAtOpening, IsGiven, OutlivesIn, itself, given, through, names_no_unique}
 use Rattle.cyc_types.specs.Closure.{above, above_one_of, leads, is_outliving, names_no_unique_scope}
 use Rattle.cyc_types.proofs.RegionLemmas.{region_eq-refl, region_eq-true}
-
--- ---- lists
-
-pub Contains-head : {X : Type 0} (x : X) (xs : List X) → Contains (x ∷ xs) x
-Contains-head x xs = Contains-append_left (x ∷ []) xs x (Contains-push [] x)
-
-pub Contains-tail : {X : Type 0} (x : X) (xs : List X) (y : X) → Contains xs y → Contains (x ∷ xs) y
-Contains-tail x xs y h = Contains-append_right (x ∷ []) xs y h
-
-pub Contains-empty : {X : Type 0} (y : X) → Contains [] y → ⊥
-Contains-empty y h = omega (arith, h.1)
-
-pub Contains-cons_cases : {X : Type 0} (x : X) (xs : List X) (y : X) → Contains (x ∷ xs) y → (x ≡ y) ⊎ Contains xs y
-Contains-cons_cases x xs y h =
-    elim (Contains-append_cases (x ∷ []) xs y h) [
-      | inl k ↦ elim (Contains-push_cases [] x y k) [ inl none ↦ absurd (Contains-empty y none) | inr e ↦ inl e ]
-      | inr k ↦ inr k
-    ]
-
-pub any-true : {X : Type 0} (f : X → Bool) (xs : List X) → list_any f xs ≡ true → (x : X) × Contains xs x × (f x ≡ true)
-any-true f [] h = cc
-any-true f (x ∷ xs) h =
-    elim (or_cases (f x) (list_any f xs) h) [
-      | inl e ↦ (x, Contains-head x xs, e)
-      | inr e ↦ let r = any-true f xs e in (r.0, Contains-tail x xs r.0 r.1, r.2)
-    ]
-
-pub any-from : {X : Type 0} (f : X → Bool) (xs : List X) (x : X) → Contains xs x → f x ≡ true → list_any f xs ≡ true
-any-from f [] x h e = absurd (Contains-empty x h)
-any-from f (y ∷ ys) x h e =
-    elim (Contains-cons_cases y ys x h) [
-      | inl s ↦ or_left (f y) (list_any f ys) (subst (λ z. f z ≡ true) (sym s) e)
-      | inr k ↦ or_right (f y) (list_any f ys) (any-from f ys x k e)
-    ]
-
-pub all-true : {X : Type 0} (f : X → Bool) (xs : List X) (x : X) → list_all f xs ≡ true → Contains xs x → f x ≡ true
-all-true f [] x h k = absurd (Contains-empty x k)
-all-true f (y ∷ ys) x h k =
-    elim (Contains-cons_cases y ys x k) [
-      | inl s ↦ subst (λ z. f z ≡ true) s ((and_parts (f y) (list_all f ys) h).0)
-      | inr m ↦ all-true f ys x ((and_parts (f y) (list_all f ys) h).1) m
-    ]
 
 -- ---- regions
 

@@ -1,10 +1,11 @@
 -- The table of region names finds what a name stands for, as names come and go.
 use Rattle.std.specs.List.{list_any}
-use Rattle.std.proofs.Common.{◌≡◌, ℕ, ◌+◌, ◌<◌, Bool, true, false, cond, not, nat_eq, ◌&&◌, List, [], ◌∷◌, ◌++◌, length, map, reverse, take, get_or, Option, Some, refl, sym, ap, ◌∙◌}
+use Rattle.std.proofs.Common.{◌≡◌, ℕ, ◌+◌, ◌<◌, Bool, false, cond, not, nat_eq, ◌&&◌, List, [], ◌∷◌, ◌++◌, length, map, reverse, take, get_or, Option, Some, refl, sym, ap, ◌∙◌}
 use Rattle.std.proofs.lemmas.List.{reverse-append, take_more}
 use Rattle.std.proofs.lemmas.List.Sorted.{IsPermutation-reverse, list_any-IsPermutation}
 use Rattle.std.proofs.lemmas.Bool.{eq-eqb}
 use Rattle.cyc_words.proofs.Lists.{get_or_within}
+use Rattle.cyc_words.proofs.Booleans.{not_and_itself}
 use Rattle.cyc_types.specs.declared.region.Region.{Region}
 use Rattle.cyc_types.specs.declared.names.Binding.{Binding}
 use Rattle.cyc_types.specs.typing.Scopes.{region_among}
@@ -25,10 +26,6 @@ name_more bs i d lt =
     ∙ ap (λ cs. region_numbers (map (λ (b : Binding). record { name = b.name; region = b.region }) cs)) (reverse-append (take i bs) (get_or bs i d ∷ []))
 
 -- ---- sets of names
-
-not_and_itself : (b : Bool) → (not b && b) ≡ false
-not_and_itself true = refl
-not_and_itself false = refl
 
 -- a table without its names has none
 pub none_left : (table : List Bool) (names : List ℕ) (left : List Bool) (x : ℕ) → get_or table x false ≡ list_any (nat_eq x) (reverse names)

@@ -1,10 +1,11 @@
 -- What is live and what leads where, found by where regions opened.
 use Rattle.std.proofs.Common.{◌≡◌, ◌⊎◌, inl, inr, ℕ, zero, suc, ◌+◌, ◌<◌, ◌≤◌, Bool, true, false, ◌&&◌, ◌||◌, not, List, [], ◌∷◌, ◌++◌, reverse, length, take, refl, ap, sym, ◌∙◌, subst, arith}
 use Rattle.std.specs.List.{list_any}
-use Rattle.std.proofs.lemmas.Bool.{or_cases, or_left, or_right, and_parts, and_from, true≢false, false_from_ne_true, cases_lt}
+use Rattle.std.proofs.lemmas.Bool.{or_cases, or_left, or_right, and_parts, and_from, false_from_ne_true, cases_lt, true_from_ne_false}
 use Rattle.std.proofs.lemmas.List.{get_or-take, get_or_append_left, length-take-le, take-append-le, take_all, length-append, get_or_push}
 use Rattle.std.proofs.lemmas.List.Folds.{list_any_at}
-use Rattle.cyc_words.proofs.Booleans.{same_tests}
+use Rattle.cyc_words.proofs.Booleans.{same_tests, never_true_and_false}
+use Rattle.cyc_words.proofs.Searches.{any-true, any-from}
 use Rattle.cyc_types.specs.declared.region.Region.{Region}
 use Rattle.cyc_types.specs.declared.region.Region.TheVariants.{Heap, Unique}
 use Rattle.cyc_types.specs.declared.scope.Kind.TheVariants.{Block}
@@ -14,16 +15,9 @@ use Rattle.cyc_types.specs.Outlives.{live_regions, is_outlived_by_live}
 use Rattle.cyc_types.specs.Closure.{above, above_one_of, leads}
 use Rattle.cyc_types.specs.inside.Openings.{opening_of, scope_at, live_before, IsOrderly, IsInOrder}
 use Rattle.cyc_types.proofs.RegionLemmas.{region_eq-true}
-use Rattle.cyc_types.proofs.ClosureLemmas.{any-true, any-from, above-refl, leads-refl, leads-cases, newest-parts}
+use Rattle.cyc_types.proofs.ClosureLemmas.{above-refl, leads-refl, leads-cases, newest-parts}
 use Rattle.cyc_types.proofs.SearchLemmas.{live_among, reverse-take_more, leads-found}
 use Rattle.cyc_types.proofs.TableLemmas.{eq_true_at}
-
-pub never : (b : Bool) → b ≡ true → b ≡ false → ⊥
-never b t f = true≢false (sym t ∙ f)
-
-true_from_ne_false : (b : Bool) → (b ≡ false → ⊥) → b ≡ true
-true_from_ne_false true n = refl
-true_from_ne_false false n = absurd (n refl)
 
 abbrev default : Scope
 default = record { region = Heap; kind = Block }
@@ -53,7 +47,7 @@ not-above : (w : List (Region × Region)) (rs : List Region) (a : Region) → ((
 not-above w rs a alone apart h =
     let r = any-true (λ r. not (region_eq r Unique) && above w a r) rs h in
     let e : a ≡ r.0 = region_eq-true a r.0 (sym (alone r.0) ∙ (and_parts (not (region_eq r.0 Unique)) (above w a r.0) r.2).1) in
-    never (is_region_among a rs) (any-from (λ y. region_eq y a) rs r.0 r.1 (eq_true_at r.0 a (sym e))) apart
+    never_true_and_false (any-from (λ y. region_eq y a) rs r.0 r.1 (eq_true_at r.0 a (sym e))) apart
 
 -- whether one of these leads somewhere, or it is among what it leads to: the one list or the other is gone through
 pub above-among : (w : List (Region × Region)) (rs below : List Region) (a : Region) →
@@ -112,18 +106,16 @@ module _ (w : List (Region × Region)) (live : List Region) (openings : List ℕ
       is_region_among r (live_before live scopes count) ≡ false
   live-missed count r le never_live missed = false_from_ne_true (is_region_among r (live_before live scopes count)) (λ t.
       elim (or_cases (is_region_among r live) (list_any (λ (s : Scope). region_eq s.region r) (take count scopes)) (sym (among-before live scopes count r) ∙ t)) [
-        | inl l ↦ never (is_region_among r live) l never_live
+        | inl l ↦ never_true_and_false l never_live
         | inr o ↦
             let p = any-place (λ (s : Scope). region_eq s.region r) count scopes o in
             let same : (scope_at scopes p.0).region ≡ r = region_eq-true (scope_at scopes p.0).region r p.3 in
             elim (order.each p.0 (omega (arith, p.1, le))).found [
-              | inl m ↦ never (is_region_among r live) (subst (λ z. is_region_among z live ≡ true) same m) never_live
+              | inl m ↦ never_true_and_false (subst (λ z. is_region_among z live ≡ true) same m) never_live
               | inr f ↦
                   let g : (opening_of openings r ≤ p.0) × ((scope_at scopes (opening_of openings r)).region ≡ r) =
                   subst (λ z. (opening_of openings z ≤ p.0) × ((scope_at scopes (opening_of openings z)).region ≡ z)) same f in
-                  never (region_eq (scope_at scopes (opening_of openings r)).region r)
-                  (eq_true_at (scope_at scopes (opening_of openings r)).region r g.1)
-                  (missed (omega (arith, p.1, g.0)))
+                  never_true_and_false (eq_true_at (scope_at scopes (opening_of openings r)).region r g.1) (missed (omega (arith, p.1, g.0)))
             ]
       ])
 
@@ -133,7 +125,7 @@ module _ (w : List (Region × Region)) (live : List Region) (openings : List ℕ
   live-tested count r le never_live lt = same_tests (region_eq (scope_at scopes (opening_of openings r)).region r) (is_region_among r (live_before live scopes count))
       (λ h. live-at live scopes count (opening_of openings r) r lt (omega (arith, le, order.within)) h)
       (λ h. true_from_ne_false (region_eq (scope_at scopes (opening_of openings r)).region r)
-      (λ f. never (is_region_among r (live_before live scopes count)) h (live-missed count r le never_live (λ l. f))))
+      (λ f. never_true_and_false h (live-missed count r le never_live (λ l. f))))
 
   -- what leads somewhere does so by the pairs alone, or by one scope
   by-one-scope : (k : ℕ) (a b : Region) → k ≤ n → leads w live (reverse (take k scopes)) a b ≡ true →
@@ -164,11 +156,9 @@ module _ (w : List (Region × Region)) (live : List Region) (openings : List ℕ
   its-own i lt k =
       let o = order.each i lt in
       elim o.found [
-        | inl m ↦ absurd (never (is_region_among (scope_at scopes i).region (live_before live scopes i))
-            (live-from_start live scopes i (scope_at scopes i).region m) (o.fresh k))
+        | inl m ↦ absurd (never_true_and_false (live-from_start live scopes i (scope_at scopes i).region m) (o.fresh k))
         | inr f ↦ elim (cases_lt (opening_of openings (scope_at scopes i).region) i) [
-          | inl less ↦ absurd (never (is_region_among (scope_at scopes i).region (live_before live scopes i))
-              (live-at live scopes i (opening_of openings (scope_at scopes i).region) (scope_at scopes i).region less (omega (arith, lt, order.within))
+          | inl less ↦ absurd (never_true_and_false (live-at live scopes i (opening_of openings (scope_at scopes i).region) (scope_at scopes i).region less (omega (arith, lt, order.within))
               (eq_true_at (scope_at scopes (opening_of openings (scope_at scopes i).region)).region (scope_at scopes i).region f.1)) (o.fresh k))
           | inr more ↦ omega (arith, f.0, more)
         ]
@@ -196,12 +186,11 @@ module _ (w : List (Region × Region)) (live : List Region) (openings : List ℕ
   leads-nowhere a b apart none = false_from_ne_true (leads w live (reverse scopes) a b) (λ t.
       elim (by-one-scope w live openings scopes (length scopes) order (length scopes) a b (omega arith)
       (subst (λ z. leads w live (reverse z) a b ≡ true) (sym (take_all (length scopes) scopes (omega arith))) t)) [
-        | inl x ↦ never (above w a b) x apart
+        | inl x ↦ never_true_and_false x apart
         | inr p ↦
             let at : opening_of openings b ≡ p.0 =
             subst (λ z. opening_of openings z ≡ p.0) p.3 (its-own w live openings scopes (length scopes) order p.0 p.1 p.2) in
-            never (above_one_of w (live_before live scopes p.0) a) p.4
-            (subst (λ z. above_one_of w (live_before live scopes z) a ≡ false) at
+            never_true_and_false p.4 (subst (λ z. above_one_of w (live_before live scopes z) a ≡ false) at
             (none (subst (λ z. z < length scopes) (sym at) p.1)
             (subst (λ z. (scope_at scopes z).region ≡ b) (sym at) p.3)
             (subst (λ z. is_outlived_by_live (scope_at scopes z).kind ≡ true) (sym at) p.2)))
@@ -217,7 +206,7 @@ module _ (w : List (Region × Region)) (live : List Region) (openings : List ℕ
       (λ lt same k apart. same_tests (above_one_of w (live_before live scopes (opening_of openings b)) a) (leads w live (reverse scopes) a b)
       (leads-there a b lt same k)
       (λ h. true_from_ne_false (above_one_of w (live_before live scopes (opening_of openings b)) a)
-      (λ f. never (leads w live (reverse scopes) a b) h (leads-nowhere a b apart (λ x y z. f)))))
+      (λ f. never_true_and_false h (leads-nowhere a b apart (λ x y z. f)))))
 
   pub leads-by_no_place : (a b : Region) (place : ℕ) → place ≡ opening_of openings b → above w a b ≡ false →
       (place < length scopes → (scope_at scopes place).region ≡ b → is_outlived_by_live (scope_at scopes place).kind ≡ true → ⊥) →
@@ -283,8 +272,7 @@ module _ (w : List (Region × Region)) (live : List Region) where
     each = λ i lt.
         let b = o.each i lt in
         let other : region_eq region (scope_at scopes i).region ≡ false =
-        false_from_ne_true (region_eq region (scope_at scopes i).region) (λ t. never (is_region_among region (live_before live scopes (length scopes)))
-        (live-at live scopes (length scopes) i region (omega (arith, lt, o.within)) (omega arith)
+        false_from_ne_true (region_eq region (scope_at scopes i).region) (λ t. never_true_and_false (live-at live scopes (length scopes) i region (omega (arith, lt, o.within)) (omega arith)
         (eq_true_at (scope_at scopes i).region region (sym (region_eq-true region (scope_at scopes i).region t)))) apart) in
         let same : opening_of openings (scope_at scopes i).region ≡ opening_of noted (scope_at scopes i).region = sym (others (scope_at scopes i).region other) in
         record {
@@ -347,8 +335,8 @@ module _ (w : List (Region × Region)) (live : List Region) where
                     )
               ]
         ])
-        (λ k. absurd (never (is_outlived_by_live s.kind) k not_outlived))
-        (λ k. absurd (never (is_outlived_by_live s.kind) k not_outlived))
+        (λ k. absurd (never_true_and_false k not_outlived))
+        (λ k. absurd (never_true_and_false k not_outlived))
 
     -- a region that is not
     pub in_order-new : opening_of openings s.region ≡ length scopes →

@@ -1,29 +1,20 @@
 -- The search over the scopes, from the oldest to the newest.
-use Rattle.std.proofs.Common.{◌≡◌, ℕ, ◌+◌, ◌-◌, ◌<◌, Bool, true, false, ◌&&◌, ◌||◌, not, List, [], ◌∷◌, ◌++◌, map, reverse, length, get_or, take, drop, refl, ap, sym, ◌∙◌, subst, arith, ◌↔◌, Option, Some}
+use Rattle.std.proofs.Common.{◌≡◌, ℕ, ◌+◌, ◌<◌, Bool, true, false, ◌&&◌, ◌||◌, not, List, [], ◌∷◌, ◌++◌, map, reverse, length, get_or, take, drop, refl, ap, sym, ◌∙◌, subst, arith, ◌↔◌, Option, Some}
 use Rattle.std.specs.Prelude.{IsTrue}
 use Rattle.std.specs.Option.{ForSome}
 use Rattle.std.specs.List.{list_any}
 use Rattle.std.proofs.lemmas.Bool.{or_left, or_right}
-use Rattle.std.proofs.lemmas.List.{take_more, reverse-append, take-append-drop, length-reverse, length-drop, drop_at}
+use Rattle.std.proofs.lemmas.List.{take_more, reverse-append, take-append-drop, length-reverse}
 use Rattle.std.proofs.lemmas.List.Folds.{list_any-append}
+use Rattle.cyc_words.proofs.Searches.{any-map, any-reverse}
+use Rattle.cyc_words.proofs.Booleans.{or_comm}
 use Rattle.cyc_types.specs.declared.region.Region.{Region}
 use Rattle.cyc_types.specs.declared.region.Region.TheVariants.{Unique}
 use Rattle.cyc_types.specs.declared.scope.Scope.{Scope}
 use Rattle.cyc_types.specs.Types.{region_eq, is_region_among}
 use Rattle.cyc_types.specs.Outlives.{RegionContext, OutlivesIn, live_regions, is_outlived_by_live}
 use Rattle.cyc_types.specs.Closure.{above, above_one_of, above_one_opened, leads, is_outliving, is_above_known, HasNoUnique}
-use Rattle.cyc_types.proofs.TableLemmas.{or_comm, or_false}
 use Rattle.cyc_types.proofs.ClosureLemmas.{newest-from, outliving-sound, outliving-complete}
-
-any-map : {X Y : Type 0} (f : Y → Bool) (g : X → Y) (xs : List X) → list_any f (map g xs) ≡ list_any (λ x. f (g x)) xs
-any-map f g [] = refl
-any-map f g (x ∷ xs) = ap (λ z. f (g x) || z) (any-map f g xs)
-
-any-reverse : {X : Type 0} (f : X → Bool) (xs : List X) → list_any f (reverse xs) ≡ list_any f xs
-any-reverse f [] = refl
-any-reverse f (x ∷ xs) =
-    ap (list_any f) (reverse-append (x ∷ []) xs) ∙ list_any-append f (reverse xs) (x ∷ []) ∙ or_comm (list_any f (reverse xs)) (f x || false)
-    ∙ ap (λ z. z || list_any f (reverse xs)) (or_false (f x)) ∙ ap (λ z. f x || z) (any-reverse f xs)
 
 -- what is live is what was live before and the regions of the scopes
 pub live-split : (w : List (Region × Region)) (live : List Region) (scopes : List Scope) (a : Region) →
@@ -153,14 +144,6 @@ module _ (w : List (Region × Region)) (live : List Region) (scopes : List Scope
 
 pub as_many : (scopes : List Scope) → length scopes ≡ length (reverse scopes)
 as_many scopes = sym (length-reverse scopes)
-
--- the first so many of a list are, in the order newest first, what is left without the newest
-pub oldest_kept : {X : Type 0} (xs : List X) (n : ℕ) → reverse (take n xs) ≡ drop (length (reverse xs) - n) (reverse xs)
-oldest_kept xs n =
-    let newer : length (reverse (drop n xs)) ≡ length (reverse xs) - n =
-    length-reverse (drop n xs) ∙ length-drop n xs ∙ ap (λ (k : ℕ). k - n) (sym (length-reverse xs)) in
-    sym (ap (drop (length (reverse xs) - n)) (ap reverse (sym (take-append-drop n xs)) ∙ reverse-append (take n xs) (drop n xs))
-    ∙ drop_at (reverse (drop n xs)) (reverse (take n xs)) (length (reverse xs) - n) newer)
 
 -- the test decides the relation
 pub outliving_iff : (c : RegionContext) (a b : Region) (r : Bool) → HasNoUnique c → r ≡ is_outliving c a b → IsTrue r ↔ OutlivesIn c a b

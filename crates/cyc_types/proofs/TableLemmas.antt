@@ -1,22 +1,13 @@
 -- The table of constraints: what its loops keep, and that it is closed at their end.
-use Rattle.std.proofs.Common.{◌≡◌, inl, inr, ℕ, zero, suc, ◌+◌, ◌<◌, Bool, true, false, ◌&&◌, ◌||◌, List, [], ◌∷◌, ◌++◌, length, get_or, set, take, refl, ap, sym, ◌∙◌, subst, arith, add-one}
+use Rattle.std.proofs.Common.{◌≡◌, inl, inr, ℕ, zero, suc, ◌+◌, ◌<◌, true, false, ◌&&◌, ◌||◌, List, [], ◌∷◌, ◌++◌, length, get_or, set, take, refl, ap, sym, ◌∙◌, subst, arith, add-one}
 use Rattle.std.proofs.lemmas.Bool.{or_left, or_right, true≢false, false_from_ne_true, cases_Bool}
 use Rattle.std.proofs.lemmas.List.{take_more, map-append}
+use Rattle.cyc_words.proofs.Booleans.{or_false_right}
 use Rattle.cyc_types.specs.declared.region.Region.{Region}
 use Rattle.cyc_types.specs.declared.constraints.Constraint.{Constraint}
 use Rattle.cyc_types.specs.Types.{region_eq, is_region_among}
 use Rattle.cyc_types.specs.Closure.{entry_leads, table_leads, has_entry, written_in}
 use Rattle.cyc_types.proofs.RegionLemmas.{region_eq-refl, region_eq-true}
-
-pub or_false : (b : Bool) → (b || false) ≡ b
-or_false true = refl
-or_false false = refl
-
-pub or_comm : (a b : Bool) → (a || b) ≡ (b || a)
-or_comm true true = refl
-or_comm true false = refl
-or_comm false true = refl
-or_comm false false = refl
 
 -- ---- the entry of a region
 
@@ -49,7 +40,7 @@ open-leads (c ∷ cs) h a b =
     elim (cases_Bool (region_eq c.longer a)) [
       | inl e ↦
           let same : c.longer ≡ a = region_eq-true c.longer a e in
-          table_leads-here c cs a b same ∙ ap (λ xs. region_eq c.longer b || is_region_among b xs) h.0 ∙ or_false (region_eq c.longer b)
+          table_leads-here c cs a b same ∙ ap (λ xs. region_eq c.longer b || is_region_among b xs) h.0 ∙ or_false_right (region_eq c.longer b)
           ∙ ap (λ z. region_eq z b) same
       | inr n ↦ rw n (open-leads cs h.1 a b)
     ]
@@ -167,7 +158,7 @@ stepped-leads via below old new s has a b =
       | inr n ↦
           let apart : region_eq a via ≡ false = eq_false_at a via (λ e. true≢false (sym has ∙ (ap (has_entry old) (sym e) ∙ n))) in
           no_entry new a b (has_entry-stepped via below old new a s ∙ n)
-          ∙ sym (or_false (region_eq a b))
+          ∙ sym (or_false_right (region_eq a b))
           ∙ ap (λ z. z || false) (sym (no_entry old a b n))
           ∙ ap (λ z. table_leads old a b || (z && is_region_among b below)) (sym (no_entry old a via n ∙ apart))
     ]

@@ -132,7 +132,7 @@ impl Outlives {
     }
 
     /// Closes all open scopes but this number of the oldest.
-    #[tactic(auto, using(crate::proofs::SearchLemmas::oldest_kept))]
+    #[tactic(auto, using(cyc_words::proofs::Lists::reverse_take))]
     pub fn close(&mut self, count: usize)
         ensures { self.new ≡ record self.old { opened = drop (length self.old.opened - count) self.old.opened } }
     {

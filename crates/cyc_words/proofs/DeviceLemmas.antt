@@ -3,7 +3,7 @@ use Rattle.std.proofs.Common.{◌≡◌, ◌<◌, ℕ, suc, get_or, drop, drop-c
 use Rattle.std.proofs.lemmas.List.{take-append-drop}
 use Rattle.std.proofs.lemmas.List.Concat.{flat_map-append}
 use Rattle.std.specs.Prelude.{flat_map}
-use Rattle.std.specs.Io.KnownBytes.{Consumes, Appends, Keeps}
+use Rattle.std.specs.Io.KnownBytes.{Consumes, Appends, Keeps, ReadConsumes}
 use Rattle.cyc_words.proofs.PrefixLemmas.{IsPrefix-nil, IsPrefix-append, IsPrefix-append_both, IsPrefix-trans}
 use Rattle.cyc_words.specs.Device.{AppendsPrefix, TakesText}
 
@@ -70,3 +70,14 @@ TakesText_part_exit {X} f a b c parts i d r below err taken then =
     ∙ sym (flat_map-append f (take i parts) (drop i parts)) ∙ ap (flat_map f) (take-append-drop i parts) in
     let P : List ℕ → Type 0 = λ t. TakesText a t r c in
     subst P split (TakesText_exit a b c (flat_map f (take i parts)) (f (get_or parts i d)) (flat_map f (drop (suc i) parts)) r err taken then)
+
+pub Keeps-some : (told new : Option (List ℕ)) (input : List ℕ) → told ≡ Some input → Keeps told new → new ≡ Some input
+Keeps-some None new input is keeps = absurd (let e : None ≡ Some input = is in cc)
+Keeps-some (Some told) None input is keeps = absurd keeps
+Keeps-some (Some told) (Some left) input is keeps = ap (λ (l : List ℕ). Some l) keeps ∙ is
+
+pub ReadConsumes-kept : {E : Type 0} (a b c : Option (List ℕ)) (r : Result ℕ E) (bytes : List ℕ) → Keeps a b → ReadConsumes b c r bytes → ReadConsumes a c r bytes
+ReadConsumes-kept None b c (Ok n) bytes k h = (tt, h.1)
+ReadConsumes-kept None b c (Err e) bytes k h = tt
+ReadConsumes-kept (Some xs) None c r bytes k h = absurd k
+ReadConsumes-kept (Some xs) (Some ys) c r bytes k h = subst (λ (zs : List ℕ). ReadConsumes (Some zs) c r bytes) k h

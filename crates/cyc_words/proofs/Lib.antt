@@ -11,6 +11,13 @@ pub mod Decisions
 pub mod Booleans
 pub mod Lists
 pub mod Numbers
+pub mod Integers
+pub mod Options
+pub mod Items
+pub mod Members
+pub mod Searches
+pub mod Ranges
+pub mod Sums
 -- machines that do what others do
 pub mod Simulation
 pub mod Matching

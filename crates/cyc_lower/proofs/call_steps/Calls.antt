@@ -22,6 +22,7 @@ use Rattle.cyc_plain.specs.inside.Step as plain_step
 use Rattle.cyc_plain.proofs.RunLaws.{limited-full}
 use Rattle.cyc_plain.specs.inside.Straight.{At}
 use Rattle.cyc_words.proofs.Matching.{way_after}
+use Rattle.cyc_words.proofs.Numbers.{bit_and_255}
 use Rattle.cyc_meaning.specs.Values.{Value, Int, Operand as Kinded, kind_of, is_kind, words_of_kind}
 use Rattle.cyc_meaning.specs.FrameCount.{words_of_all}
 use Rattle.cyc_meaning.specs.State.{World, Environment, no_locals, with_local, variable, made, opened, region_at, Entry, Rest, Caller, calls_in, demand, status_of, Focus, Given, Proceeding, Calling, Entering, Binding, State, Running, Ended}
@@ -34,7 +35,7 @@ use Rattle.cyc_lower.proofs.relation.code.Stands.{ItemsAt}
 use Rattle.cyc_lower.specs.inside.Slots.{starts_of, slot_of, global_types}
 use Rattle.cyc_lower.proofs.slots.Slots.{slot-parameter, words-parameter, slot_types-many, words-append, kind-parameter}
 use Rattle.cyc_lower.proofs.slots.Widths.{kind_of_result, result_kind, same_kind, type_words, words_in, HasRoom, kind_in}
-use Rattle.cyc_lower.proofs.value_steps.ValueWords.{of_kind, int_is, low_byte_of}
+use Rattle.cyc_lower.proofs.value_steps.ValueWords.{of_kind, int_is}
 use Rattle.cyc_objects.specs.inside.Tables.{with_row, with_handle}
 use Rattle.cyc_objects.specs.inside.Words.{Is}
 use Rattle.cyc_objects.specs.inside.Related.{scopes}
@@ -107,7 +108,7 @@ module _ (source : Program) (pages calls : ℕ) where
       let last : Configuration = advanced (with_slots first (put c.active.slots d (bit_and x 255))) in
       let shared_next : SharedAt source pages calls k e next first = shared_printed a x k e w c shared is in
       let done : Related source pages calls (Given (record { kind = kinds.Int; value = Int (a % 256) })) k e next last =
-      landed_word source pages calls (a % 256) (bit_and x 255) d k e next first (c.active.next + 1 + 1) (low_byte_of x ∙ ap (λ y. y % 256) is) shared_next facts holds refl lands in
+      landed_word source pages calls (a % 256) (bit_and x 255) d k e next first (c.active.next + 1 + 1) (bit_and_255 x ∙ ap (λ y. y % 256) is) shared_next facts holds refl lands in
       by_two_known source pages calls first refl shared (shared_within source pages calls k e next first shared_next)
       (way_after (above source pages calls) (below source pages calls) (matching source pages calls) s after (plain.Running first)
       (steps_to source pages calls s after (plain.Running last) refl done) (IsPrefix-append w.output (a % 256 ∷ []), ([], refl)) refl (shared_seen shared_next))

@@ -1,6 +1,7 @@
 -- Expressions stand where the code of a function is.
 use Rattle.std.proofs.Common.{◌≡◌, ℕ, suc, ◌+◌, List, [], ◌∷◌, ◌++◌, length, Option, refl, sym, ap, subst, ◌∙◌, arith, length-append}
 use Rattle.std.specs.Prelude.{unwrap_or, ◌==◌}
+use Rattle.cyc_words.proofs.Lists.{slice_get_below}
 use Rattle.cyc_meaning.specs.Operators.{null_exception}
 use Rattle.cyc_types.specs.declared.typed.Callee.TheVariants as callees
 use Rattle.cyc_types.specs.Types.{Ty, words_of}
@@ -17,7 +18,6 @@ use Rattle.cyc_plain.proofs.Straight.{has_front, has_back}
 use Rattle.cyc_store.specs.declared.range.TheConstants.{HEAP, UNIQUE}
 use Rattle.cyc_meaning.specs.Values.{kind_of, is_thin, words_of_kind}
 use Rattle.cyc_meaning.specs.FrameCount.{operand_words}
-use Rattle.cyc_objects.proofs.NumberLemmas.{slice_get-there}
 use Rattle.cyc_lower.specs.inside.Slots.{counted, Types, starts_of, slot_of, global_of}
 use Rattle.cyc_lower.specs.inside.ValueCode.{converts_there, passed_words, operand_or, code_unless, code_unless_slot, next_slot, check_code, conversion_code, operator_code, truth_code, low_byte, test_code, is_in, copy_code, behind_left, pointer_code, pointer_instructions, address_code, count_code, span_of, loaded_code, kinds_passed, reached_code, followed_code, span_in, global_code, kind_behind, kind_passed, address_of_global, masks}
 use Rattle.cyc_lower.specs.inside.ObjectCode.{begun_code, filled_code, ended_code, elements_code, object_code, free_code, saved_code}
@@ -39,7 +39,7 @@ module _ (code : List Instruction) (b : Numbering) where
     expression_stands types raised NullPointer d t p q numbered end (here, none) = (here, end)
     expression_stands types raised HeapRegion d t p q numbered end (here, none) = (here, end)
     expression_stands types raised (Counter l) d t p q few end (here, none) =
-        let (slot, there) = slice_get-there types.counters l few in
+        let (slot, there) = slice_get_below types.counters l few in
         (slot, there, subst (λ (s : Option ℕ). At code p (instructions.Move d (operands.Slot (unwrap_or s 0)))) there here, end)
     expression_stands types raised (Copy l ty) d t p q numbered end has = load_stands code b types raised l (kind_of ty) (words_of ty) d p q numbered end has
     expression_stands types raised (Move w n ty) d t p q numbered end has = load_stands code b types raised (Local w n) (kind_of ty) (words_of ty) d p q numbered end has

@@ -3,10 +3,10 @@ use Rattle.std.proofs.Common.{◌≡◌, ◌≢◌, ℕ, suc, ◌+◌, ◌≤◌
 use Rattle.std.specs.List.{AllByRecursion}
 use Rattle.cyc_words.specs.Distinct.{IsDistinct}
 use Rattle.std.specs.Prelude.{Contains, ◌==◌, ◌%◌, ◌^◌, not, if◌then◌else◌}
-use Rattle.std.proofs.lemmas.Bool.{eq-eqb, eqb-true, false_from_ne_true}
 use Rattle.std.proofs.lemmas.Option.{same_Some}
 use Rattle.cyc_words.specs.Word.{IsWord as IsNumber, signed}
 use Rattle.cyc_words.specs.Ending.{Uncaught}
+use Rattle.cyc_words.proofs.Numbers.{eqb_turned}
 use Rattle.cyc_types.specs.declared.typed.Kind.TheVariants as kinds
 use Rattle.cyc_types.specs.TypedTrees.{Expression, Statement, Items, Clauses, NoClauses, Default, Case, Program}
 use Rattle.cyc_types.specs.TypedTrees as typed
@@ -474,18 +474,10 @@ module _ (source : Program) (pages calls : ℕ) where
         ),
       )
 
-  -- how its number compares with that of a clause
-  eqb-symmetric : (a b : ℕ) → (a == b) ≡ (b == a)
-  eqb-symmetric a b = by (b == a) refl
-    where
-      by : (same : Bool) → (b == a) ≡ same → (a == b) ≡ same
-      by true equal = eq-eqb a b (sym (eqb-true b a equal))
-      by false other = false_from_ne_true (a == b) (λ equal. let f : true ≡ false = sym (eq-eqb b a (sym (eqb-true a b equal))) ∙ other in cc)
-
   told : (slots : Words) (t tag caught : ℕ) → IsNumber caught → slots t ≡ tag → compares comparisons.NotEqual (slots t) (caught % 2 ^ 32) ≡ not (caught == tag)
   told slots t tag caught small tag_is =
       let own : caught % 2 ^ 32 ≡ caught = omega (arith, small) in
-      ap (λ n. not (n == (caught % 2 ^ 32))) tag_is ∙ ap (λ n. not (tag == n)) own ∙ ap not (eqb-symmetric tag caught)
+      ap (λ n. not (n == (caught % 2 ^ 32))) tag_is ∙ ap (λ n. not (tag == n)) own ∙ ap not (eqb_turned caught tag)
 
   pub catching : (tag value : ℕ) (handler : Clauses) (k : List Entry) (e : Environment) (w : World) (c : Configuration) → IsStep source pages calls (Catching tag value handler) k e w c
   catching tag value NoClauses k e w c well (shared, facts, (exits, out, q, here, over, stack, word, tag_is, value_is)) =

@@ -1,11 +1,12 @@
 -- The steps that make objects: the store is asked for a block, and then each cell is written.
-use Rattle.std.proofs.Common.{◌≡◌, ℕ, zero, suc, ◌+◌, ◌*◌, ◌≤◌, ◌<◌, max, Bool, true, false, List, [], ◌∷◌, ◌++◌, length, reverse, None, Some, slice_get, refl, sym, ap, subst, ◌∙◌, inl, inr, arith, length-append, append_assoc, append-nil}
+use Rattle.std.proofs.Common.{◌≡◌, ℕ, suc, ◌+◌, ◌*◌, ◌≤◌, ◌<◌, Bool, true, false, List, [], ◌∷◌, ◌++◌, length, reverse, None, Some, slice_get, refl, sym, ap, subst, ◌∙◌, inl, inr, arith, length-append, append_assoc, append-nil}
 use Rattle.std.proofs.lemmas.List.{reverse-append}
 use Rattle.std.specs.Prelude.{◌==◌, nat_lt, if◌then◌else◌}
 use Rattle.std.proofs.lemmas.Bool.{le-leb, and_from, cases_Bool, eqb-true}
 use Rattle.std.proofs.Math.Nat.{le-max_left}
 use Rattle.cyc_words.specs.Word.{add_of}
 use Rattle.cyc_words.specs.Demand.{demand_of}
+use Rattle.cyc_words.proofs.Numbers.{max_one_within, nat_le-beyond}
 use Rattle.cyc_types.specs.declared.typed.Kind.{Kind}
 use Rattle.cyc_types.specs.declared.typed.Kind.TheVariants as kinds
 use Rattle.cyc_types.specs.TypedTrees.{Arguments, NoArguments, MoreArguments, Convert, Program}
@@ -49,7 +50,7 @@ use Rattle.cyc_lower.proofs.relation.contents.HandlerData.{data_written, floor-l
 use Rattle.cyc_lower.proofs.relation.contents.GrowingData.{Holds-grows, HoldsFrom-grows, data_grows, variables_grow}
 use Rattle.cyc_lower.proofs.relation.simulation.Accesses.{IsWell, is_fitting}
 use Rattle.cyc_lower.proofs.relation.simulation.Paths.{by_path}
-use Rattle.cyc_lower.proofs.object_steps.Asking.{past_pages, by_asking, by_full}
+use Rattle.cyc_lower.proofs.object_steps.Asking.{by_asking, by_full}
 use Rattle.cyc_lower.proofs.place_steps.WideCells.{store_links, store_path, store_last, shared_stored, data_stored, stored as stored_there, above_stored, frames_stored}
 use Rattle.cyc_lower.proofs.place_steps.CellWrites.{SameVariables, data_beside, cell_is_there, saves_there, shared_saved, data_saved, with_word, above_there, frames_there}
 use Rattle.cyc_lower.proofs.relation.simulation.Matched.{IsMatched, below, silently, by_one, shared_within}
@@ -110,16 +111,11 @@ HoldsFrom-later t slots other first (v ∷ vs) same (is, holds) = (
   HoldsFrom-later t slots other (first + words_of_kind v.kind) vs (λ n from. same n (omega (arith, from))) holds,
 )
 
--- the size of a block that is asked for: values that stand in so many slots have no more words in cells
-at_most : (n most : ℕ) → 1 ≤ most → n ≤ most → max 1 n ≤ most
-at_most zero most some few = omega (arith, some)
-at_most (suc n) most some few = omega (arith, few)
-
 block_size_fits : (vs : List Kinded) → words_held vs ≤ MOST_BLOCK_WORDS → block_size (blanks_of vs) ≤ MOST_BLOCK_WORDS
 block_size_fits vs few =
     let ks : List Kind = kinds_of (blanks_of vs) in
     let enough : bytes_of_kinds ks ≤ 4 * (0 + slots_of_kinds ks) = bytes_within ks 0 0 (omega arith) in
-    at_most (words_for (bytes_of_kinds ks)) MOST_BLOCK_WORDS (omega arith) (omega (arith, enough, slots_held vs, few))
+    max_one_within (words_for (bytes_of_kinds ks)) MOST_BLOCK_WORDS (omega arith) (omega (arith, enough, slots_held vs, few))
 
 -- ---- what is made for an owner
 
@@ -308,7 +304,7 @@ module _ (source : Program) (pages calls : ℕ) where
       elim (cases_Bool (nat_lt c.store.pages (pages_of new))) [
         | inl over ↦
             by_full source pages calls focus k₀ e w c next request is_next
-            (past_pages pages (pages_of new) _ (subst (λ p. nat_lt p (pages_of new) ≡ true) shared.same_pages over))
+            (nat_le-beyond pages (pages_of new) _ (subst (λ p. nat_lt p (pages_of new) ≡ true) shared.same_pages over))
             shared₀ here (makes.refuses ∙ ap full_at over)
         | inr room ↦
             let free = makes.refuses ∙ ap full_at room in

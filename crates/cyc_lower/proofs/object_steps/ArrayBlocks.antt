@@ -3,6 +3,7 @@ use Rattle.std.proofs.Common.{◌≡◌, ◌≢◌, ℕ, zero, suc, ◌+◌, ◌
 use Rattle.std.specs.Prelude.{nat_le, nat_lt, ◌==◌, if◌then◌else◌}
 use Rattle.std.proofs.lemmas.Bool.{le-leb, false_from_ne_true, leb-true, leb-false, cases_Bool}
 use Rattle.cyc_words.specs.Word.{add_of, mul_of, sar_of}
+use Rattle.cyc_words.proofs.Numbers.{nat_le-beyond}
 use Rattle.cyc_types.specs.declared.typed.Kind.{Kind}
 use Rattle.cyc_types.specs.declared.typed.Kind.TheVariants as kinds
 use Rattle.cyc_types.specs.TypedTrees.{Expression, Program}
@@ -56,7 +57,7 @@ use Rattle.cyc_lower.proofs.value_steps.Landings.{IsStep}
 use Rattle.cyc_lower.proofs.handler_steps.Handling.{raised}
 use Rattle.cyc_lower.proofs.object_steps.Allocations.{Makes, made_for}
 use Rattle.cyc_lower.proofs.object_steps.ArrayWords.{elements_few, array_words_few, quarter_is, product_is, sized_is}
-use Rattle.cyc_lower.proofs.object_steps.Asking.{past_pages, by_asking, by_full}
+use Rattle.cyc_lower.proofs.object_steps.Asking.{by_asking, by_full}
 use Rattle.cyc_lower.proofs.relation.places.Known.{row-made_there}
 use Rattle.cyc_lower.specs.inside.Slots.{Types, global_types}
 use Rattle.cyc_lower.proofs.pointer_steps.PointerSteps.{int_word}
@@ -371,7 +372,7 @@ module _ (source : Program) (pages calls : ℕ) where
       elim (cases_Bool (nat_lt c.store.pages (pages_of new))) [
         | inl over ↦
             by_full source pages calls (Beginning owner count level wanted element) k e w c next request does
-            (past_pages pages (pages_of new) _ (subst (λ p. nat_lt p (pages_of new) ≡ true) shared.same_pages over)) shared ask (refuses ∙ ap full_at over)
+            (nat_le-beyond pages (pages_of new) _ (subst (λ p. nat_lt p (pages_of new) ≡ true) shared.same_pages over)) shared ask (refuses ∙ ap full_at over)
         | inr room ↦
             let free = refuses ∙ ap full_at room in
             let free_block = sym (ap (λ n. refusal c.store (Allocate word n)) size) ∙ free in

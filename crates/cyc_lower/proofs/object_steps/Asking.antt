@@ -1,8 +1,7 @@
 -- Steps of the source that call the store by their first instruction.
 use Rattle.std.proofs.Common.{◌≡◌, ◌≢◌, ℕ, zero, suc, ◌+◌, ◌<◌, Bool, true, false, List, [], ◌∷◌, None, Some, refl, sym, ap, subst, ◌∙◌, arith}
-use Rattle.std.specs.Prelude.{Contains, nat_le, nat_lt, ◌&&◌, if◌then◌else◌}
+use Rattle.std.specs.Prelude.{Contains, if◌then◌else◌}
 use Rattle.std.specs.List.{AllByRecursion}
-use Rattle.std.proofs.lemmas.Bool.{leb-true, ltb-true, false_from_ne_true}
 use Rattle.cyc_words.specs.Ending.{Full}
 use Rattle.cyc_types.specs.TypedTrees.{Program}
 use Rattle.cyc_store.specs.Services as services
@@ -30,10 +29,6 @@ use Rattle.cyc_lower.proofs.relation.simulation.Matched.{IsMatched, Executes, by
 later : (function p first count : ℕ) → p < first → AllByRecursion (λ (q : CodePlace). let here : CodePlace = record { function = function; index = p } in here ≢ q) (places_behind function first count)
 later function p first zero less = tt
 later function p first (suc count) less = (λ same. absurd (omega (arith, less, ap (λ (q : CodePlace). q.index) same)), later function p (first + 1) count (omega (arith, less)))
-
--- what is more than all pages is not within them
-pub past_pages : (pages n : ℕ) (b : Bool) → nat_lt pages n ≡ true → (nat_le n pages && b) ≡ false
-past_pages pages n b over = ap (λ x. x && b) (false_from_ne_true (nat_le n pages) (λ h. absurd (omega (arith, leb-true n pages h, ltb-true pages n over))))
 
 module _ (source : Program) (pages calls : ℕ) where
   -- The store is called, which serves the call, and then come instructions that stand behind.

@@ -2,6 +2,7 @@
 use Rattle.std.proofs.Common.{◌≡◌, ◌≢◌, ℕ, ◌+◌, Bool, true, false, List, [], ◌∷◌, length, set, Option, None, Some, slice_get, refl, sym, ap, subst, ◌∙◌, arith, length-set}
 use Rattle.std.specs.Prelude.{◌==◌, if◌then◌else◌}
 use Rattle.std.proofs.lemmas.Bool.{eqb-true, false_from_ne_true}
+use Rattle.cyc_words.proofs.Items.{slice_get-set_other}
 use Rattle.cyc_types.specs.declared.typed.Kind.{Kind}
 use Rattle.cyc_types.specs.declared.typed.Kind.TheVariants as kinds
 use Rattle.cyc_types.specs.TypedTrees.{Program}
@@ -34,7 +35,7 @@ use Rattle.cyc_lower.specs.inside.Lowering.{lower_program}
 use Rattle.cyc_lower.proofs.relation.contents.HeldValues.{IsIn, content_of, callers}
 use Rattle.cyc_lower.proofs.relation.simulation.Relation.{in_temporary, in_local, behind_call, behind_wrong, ProceedingAt, DataIn, SharedAt, LandsStack, ValueStack, Matches, code_of}
 use Rattle.cyc_lower.proofs.relation.contents.HandlerData.{calls_counted}
-use Rattle.cyc_lower.proofs.relation.contents.Data.{in_words, get_set_other, null_is, points_in}
+use Rattle.cyc_lower.proofs.relation.contents.Data.{in_words, null_is, points_in}
 use Rattle.cyc_lower.proofs.relation.simulation.Accesses.{IsWell, is_fitting}
 use Rattle.cyc_lower.proofs.place_steps.CellWrites.{SameVariables, data_beside}
 use Rattle.cyc_lower.proofs.relation.simulation.Matched.{IsMatched, by_places, by_one, executes, shared_way, shared_within, place_in, known, apart, Executes}
@@ -156,7 +157,7 @@ module _ (source : Program) (pages calls : ℕ) where
         beside : SameVariables shared.tables (global_types source.globals) w.objects (set w.objects number gone)
         beside o variable =
             ap content_of
-            (get_set_other w.objects number o gone
+            (slice_get-set_other w.objects number o gone
             (λ same. row-away shared.related (global_types source.globals) o UNIQUE x variable (record { at = ap (slice_get w.objects) same ∙ there; lies = ap (lies_in shared.tables.handles w.regions) owned })))
 
   -- a live object is freed

@@ -29,7 +29,7 @@ use Rattle.cyc_lower.proofs.relation.contents.Moves.{put_elsewhere}
 use Rattle.cyc_lower.proofs.relation.places.Known.{IsVariableRow, row-away, global-first, global_kind, first_word}
 use Rattle.cyc_lower.proofs.relation.contents.HeldValues.{IsWord, content_of, contents, Waiting, LocalsHold, GlobalsHold, callers, CallSlots, IsCharAt}
 use Rattle.cyc_lower.proofs.relation.simulation.Relation.{FramesHold, DataAt, DataIn, SharedAt, silent, types_at, call_slots, base_of, starts_at}
-use Rattle.cyc_lower.proofs.relation.contents.Data.{IsWord-is, get_set_other, locals_raised, data_assigned_global, data_assigned}
+use Rattle.cyc_lower.proofs.relation.contents.Data.{IsWord-is, locals_raised, data_assigned_global, data_assigned}
 use Rattle.cyc_lower.proofs.relation.contents.HandlerData.{handlers_same}
 use Rattle.cyc_lower.proofs.relation.simulation.Accesses.{IsWell, is_fitting, written_here, written_elsewhere, written_length}
 use Rattle.cyc_lower.proofs.place_steps.PlaceWords.{cell_kind}
@@ -43,6 +43,7 @@ use Rattle.cyc_lower.proofs.relation.contents.WaitingData.{with_slots_of, caller
 use Rattle.cyc_lower.proofs.relation.code.Moving.{Like, like_same, like_set, like_long, handlers_move}
 use Rattle.std.proofs.lemmas.Bool.{cases_eq, cases_Bool}
 use Rattle.cyc_words.proofs.Numbers.{when_equal}
+use Rattle.cyc_words.proofs.Items.{slice_get-set_other}
 use Rattle.cyc_objects.proofs.Chars.{char-stored, wide-aligned, wide-bytes, char-kind}
 use Rattle.cyc_lower.proofs.place_steps.KindWords.{saved_at, saved_wide, saved_variable, small_word, slot_even, waiting_even}
 use Rattle.cyc_lower.specs.inside.ValueCode.{variable_bytes}
@@ -162,7 +163,7 @@ module _ (source : Program) (pages calls : ℕ) (k : List Entry) (e : Environmen
       → DataAt source shared.tables c.active.function c.active.base next.objects e.locals (callers k) c.active.slots c.globals c.frames
   data_there h alive =
       data_beside shared.tables source c.active.function c.active.base w.objects next.objects e.locals (callers k) c.active.slots c.globals c.frames (omega (arith, objects_many))
-      (λ o row. ap content_of (get_set_other w.objects object o now (λ same. row-away shared.related globals_of_source o h at.object row (subst (λ n. objects.Alive shared.tables (silent w) n h at.object) (sym same) alive))))
+      (λ o row. ap content_of (slice_get-set_other w.objects object o now (λ same. row-away shared.related globals_of_source o h at.object row (subst (λ n. objects.Alive shared.tables (silent w) n h at.object) (sym same) alive))))
       facts.0
 
   -- the store's memory is another

@@ -5,6 +5,7 @@ use Rattle.std.proofs.Common.{◌≡◌, ℕ, ◌+◌, ◌*◌, ◌%◌, ◌<◌
 use Rattle.std.specs.Prelude.{option_map}
 use Rattle.cyc_words.specs.Word.{add_of}
 use Rattle.cyc_words.specs.Bytes.{byte_in, with_byte, word_of}
+use Rattle.cyc_words.proofs.Numbers.{plus_zero, plus_zero_plus, last_byte_of_word, remainder_of_byte}
 use Rattle.cyc_types.specs.declared.typed.Kind.{Kind}
 use Rattle.cyc_types.specs.declared.typed.Kind.TheVariants as kinds
 use Rattle.cyc_plain.specs.declared.instruction.Operand.{Operand}
@@ -16,7 +17,7 @@ use Rattle.cyc_plain.specs.inside.Memory.{memory_at, with_memory, AreBelow}
 use Rattle.cyc_plain.proofs.MemoryLaws.{below-there}
 use Rattle.cyc_meaning.specs.Values.{Value, is_kind, words_of_kind}
 use Rattle.cyc_objects.specs.inside.Tables.{Tables}
-use Rattle.cyc_objects.proofs.Chars.{char-small, last-word, last-place, last-loaded, last-stored, low-same}
+use Rattle.cyc_objects.proofs.Chars.{char-small, last-word, last-loaded, last-stored}
 use Rattle.cyc_lower.specs.inside.ValueCode.{load_of, store_of, variable_bytes}
 use Rattle.cyc_lower.proofs.relation.contents.HeldValues.{IsWord}
 
@@ -60,9 +61,6 @@ saved_wide program kind c address word wide = refl
 
 -- ---- variables
 
-same_address : (start j : ℕ) → start + 0 + j ≡ start + j
-same_address start j = omega arith
-
 -- a word of a variable whose first has this address, by that of the variable
 pub loaded_variable : (program : Program) (kind : Kind) (c : Configuration) (start j word : ℕ) → start % 4 ≡ 0 → j < words_of_kind kind → (kind ≡ kinds.Char → word < 256)
     → memory_at program c (start + 4 * j) ≡ Some word → loaded_at program kind c (start + variable_bytes kind + 4 * j) ≡ Some word
@@ -72,17 +70,14 @@ loaded_variable program kinds.Char c start j word even below small there =
     ap (loaded_at program kinds.Char c) at
     ∙ ap (λ (n : ℕ). option_map (λ (w : ℕ). byte_in w ((start + 3) % 4)) (memory_at program c n)) (last-word start even ∙ sym first)
     ∙ ap (option_map (λ (w : ℕ). byte_in w ((start + 3) % 4))) there
-    ∙ ap (λ (n : ℕ). Some (byte_in word n)) (last-place start even)
+    ∙ ap (λ (n : ℕ). Some (byte_in word n)) (last_byte_of_word start even)
     ∙ ap (λ (n : ℕ). Some n) (last-loaded word (small refl))
-loaded_variable program kinds.Int c start j word even below small there = ap (memory_at program c) (same_address start (4 * j)) ∙ there
-loaded_variable program kinds.Nullable c start j word even below small there = ap (memory_at program c) (same_address start (4 * j)) ∙ there
-loaded_variable program kinds.NonNull c start j word even below small there = ap (memory_at program c) (same_address start (4 * j)) ∙ there
-loaded_variable program kinds.Fat c start j word even below small there = ap (memory_at program c) (same_address start (4 * j)) ∙ there
-loaded_variable program kinds.Handle c start j word even below small there = ap (memory_at program c) (same_address start (4 * j)) ∙ there
-loaded_variable program kinds.Key c start j word even below small there = ap (memory_at program c) (same_address start (4 * j)) ∙ there
-
-last : (start : ℕ) → start + 0 ≡ start
-last start = omega arith
+loaded_variable program kinds.Int c start j word even below small there = ap (memory_at program c) (plus_zero_plus start (4 * j)) ∙ there
+loaded_variable program kinds.Nullable c start j word even below small there = ap (memory_at program c) (plus_zero_plus start (4 * j)) ∙ there
+loaded_variable program kinds.NonNull c start j word even below small there = ap (memory_at program c) (plus_zero_plus start (4 * j)) ∙ there
+loaded_variable program kinds.Fat c start j word even below small there = ap (memory_at program c) (plus_zero_plus start (4 * j)) ∙ there
+loaded_variable program kinds.Handle c start j word even below small there = ap (memory_at program c) (plus_zero_plus start (4 * j)) ∙ there
+loaded_variable program kinds.Key c start j word even below small there = ap (memory_at program c) (plus_zero_plus start (4 * j)) ∙ there
 
 -- a word is stored in a variable
 pub saved_variable : (program : Program) (kind : Kind) (c : Configuration) (start word old : ℕ) → start % 4 ≡ 0 → (kind ≡ kinds.Char → (old < 256) × (word < 256))
@@ -91,15 +86,15 @@ saved_variable program kinds.Char c start word old even small there =
     let (low, byte) = small refl in
     ap (saves_byte program c (start + 3) (word % 256)) (ap (memory_at program c) (last-word start even) ∙ there)
     ∙ ap (λ (n : ℕ). plain.Running (advanced (with_memory program c n (with_byte old ((start + 3) % 4) (word % 256))))) (last-word start even)
-    ∙ ap (λ (n : ℕ). plain.Running (advanced (with_memory program c start (with_byte old n (word % 256))))) (last-place start even)
-    ∙ ap (λ (n : ℕ). plain.Running (advanced (with_memory program c start n))) (last-stored old (word % 256) low ∙ low-same word byte)
+    ∙ ap (λ (n : ℕ). plain.Running (advanced (with_memory program c start (with_byte old n (word % 256))))) (last_byte_of_word start even)
+    ∙ ap (λ (n : ℕ). plain.Running (advanced (with_memory program c start n))) (last-stored old (word % 256) low ∙ remainder_of_byte word byte)
     ∙ sym (ap (saves program c start word) there)
-saved_variable program kinds.Int c start word old even small there = ap (λ (n : ℕ). saves program c n word (memory_at program c n)) (last start)
-saved_variable program kinds.Nullable c start word old even small there = ap (λ (n : ℕ). saves program c n word (memory_at program c n)) (last start)
-saved_variable program kinds.NonNull c start word old even small there = ap (λ (n : ℕ). saves program c n word (memory_at program c n)) (last start)
-saved_variable program kinds.Fat c start word old even small there = ap (λ (n : ℕ). saves program c n word (memory_at program c n)) (last start)
-saved_variable program kinds.Handle c start word old even small there = ap (λ (n : ℕ). saves program c n word (memory_at program c n)) (last start)
-saved_variable program kinds.Key c start word old even small there = ap (λ (n : ℕ). saves program c n word (memory_at program c n)) (last start)
+saved_variable program kinds.Int c start word old even small there = ap (λ (n : ℕ). saves program c n word (memory_at program c n)) (plus_zero start)
+saved_variable program kinds.Nullable c start word old even small there = ap (λ (n : ℕ). saves program c n word (memory_at program c n)) (plus_zero start)
+saved_variable program kinds.NonNull c start word old even small there = ap (λ (n : ℕ). saves program c n word (memory_at program c n)) (plus_zero start)
+saved_variable program kinds.Fat c start word old even small there = ap (λ (n : ℕ). saves program c n word (memory_at program c n)) (plus_zero start)
+saved_variable program kinds.Handle c start word old even small there = ap (λ (n : ℕ). saves program c n word (memory_at program c n)) (plus_zero start)
+saved_variable program kinds.Key c start word old even small there = ap (λ (n : ℕ). saves program c n word (memory_at program c n)) (plus_zero start)
 
 -- a char is one word, which is below 256
 pub small_word : (t : Tables) (kind : Kind) (v : Value) (word : ℕ) → IsWord t kind v word → kind ≡ kinds.Char → word < 256

@@ -1,21 +1,21 @@
 -- The words of a place that a pointer leads to: what the code of an address computes is the address of the cell, which never wraps, and
 -- each word of a cell that the source finds is there. It speaks of tables of objects and of words alone.
-use Rattle.std.proofs.Common.{◌≡◌, ℕ, zero, suc, ◌+◌, ◌*◌, ◌^◌, ◌%◌, ◌<◌, ◌≤◌, List, [], ◌∷◌, length, map, Option, Some, None, refl, sym, ap, subst, ◌∙◌, arith, add-zero, inl, inr}
+use Rattle.std.proofs.Common.{◌≡◌, ℕ, zero, suc, ◌+◌, ◌*◌, ◌%◌, ◌<◌, ◌≤◌, List, [], ◌∷◌, length, map, Option, Some, None, refl, sym, ap, subst, ◌∙◌, arith, add-zero, inl, inr}
 use Rattle.std.specs.Prelude.{◌≢◌, ◌==◌, if◌then◌else◌, slice_get}
-use Rattle.std.proofs.Math.Nat.{mod-eq_of_lt}
 use Rattle.std.proofs.lemmas.Bool.{cases_eq}
 use Rattle.cyc_words.specs.Word.{IsWord, add_of, mul_of, shl_of}
-use Rattle.cyc_words.proofs.Numbers.{when_equal}
+use Rattle.cyc_words.proofs.Numbers.{when_equal, remainder_of_word}
+use Rattle.cyc_words.proofs.Options.{never_none_and_some}
+use Rattle.cyc_words.proofs.Items.{slice_get-map}
 use Rattle.cyc_types.specs.declared.typed.Kind.{Kind}
 use Rattle.cyc_types.specs.declared.typed.Kind.TheVariants as kinds
 use Rattle.cyc_types.specs.Types.{Ty}
 use Rattle.cyc_store.specs.State.{Memory, put, AreWords, StoreState, homes, Holder, holder, word_in, word_at}
-use Rattle.cyc_store.proofs.LookupLemmas.{when_other, not_both}
+use Rattle.cyc_store.proofs.LookupLemmas.{when_other}
 use Rattle.cyc_store.proofs.WordLemmas.{words-put}
 use Rattle.cyc_meaning.specs.Values.{Value, words_of_kind, bytes_of_kind, begins, behind, Cell, kind_of, kinds_of}
 use Rattle.cyc_meaning.specs.State.{Object, World, Found, Located, cell_at}
 use Rattle.cyc_meaning.proofs.WorldLaws.{cell_found}
-use Rattle.cyc_objects.proofs.NumberLemmas.{slice_get-map}
 use Rattle.cyc_objects.specs.inside.Tables.{Tables}
 use Rattle.cyc_objects.specs.inside.Words.{bytes_of_kinds, before_from, before, words_from, Points, IsPartOf, Is}
 use Rattle.cyc_objects.proofs.Places.{before-least, before-inside}
@@ -29,18 +29,15 @@ use Rattle.cyc_plain.specs.inside.Memory.{Range, OfGlobals, OfStore, OfSlots, ra
 
 -- ---- what does not wrap
 
-below_wrap : (n : ℕ) → n < 4294967296 → n % 2 ^ 32 ≡ n
-below_wrap n below = mod-eq_of_lt below
-
 pub add_is : (a b : ℕ) → a + b < 4294967296 → add_of a b ≡ a + b
-add_is a b below = below_wrap (a + b) below
+add_is a b below = remainder_of_word (a + b) below
 
 -- an index of cells of four bytes becomes a number of bytes by a shift, and one of cells of twelve by a product
 pub shifted_is : (i : ℕ) → 4 * i < 4294967296 → shl_of i 2 ≡ i * 4
-shifted_is i below = below_wrap (i * 4) (omega (arith, below))
+shifted_is i below = remainder_of_word (i * 4) (omega (arith, below))
 
 pub multiplied_is : (i : ℕ) → 12 * i < 4294967296 → mul_of i 12 ≡ i * 12
-multiplied_is i below = below_wrap (i * 12) (omega (arith, below))
+multiplied_is i below = remainder_of_word (i * 12) (omega (arith, below))
 
 -- the bytes before a field are those before its cell, where they are a word
 field_before : (ts : List Ty) (field bytes : ℕ) → before_from bytes field (map kind_of ts) < 4294967296 → field_from bytes ts field ≡ before_from bytes field (map kind_of ts)
@@ -134,7 +131,7 @@ there_still s m x old found = elim (cases_eq (x % 4) 0) [
   | inl even ↦
       when_equal (x % 4) 0 (word_in (holder (homes s) x) m x) None even
       ∙ still (holder (homes s) x) (sym (when_equal (x % 4) 0 (word_in (holder (homes s) x) s.memory x) None even) ∙ found)
-  | inr odd ↦ absurd (not_both (when_other (x % 4) 0 (word_in (holder (homes s) x) s.memory x) None odd) found)
+  | inr odd ↦ absurd (never_none_and_some (when_other (x % 4) 0 (word_in (holder (homes s) x) s.memory x) None odd) found)
 ]
   where
     still : (o : Option Holder) → word_in o s.memory x ≡ Some old → word_in o m x ≡ Some (m x)

@@ -21,7 +21,8 @@ use Rattle.cyc_objects.proofs.Cells.{cell-aligned, cell-inside, cell-live, saved
 use Rattle.cyc_lower.specs.inside.Lowering.{lower_program}
 use Rattle.cyc_lower.proofs.place_steps.KindWords.{saved_at}
 use Rattle.cyc_words.specs.Bytes.{word_of, with_byte}
-use Rattle.cyc_objects.proofs.Chars.{low-same, wide-aligned, wide-bytes}
+use Rattle.cyc_words.proofs.Numbers.{remainder_of_byte}
+use Rattle.cyc_objects.proofs.Chars.{wide-aligned, wide-bytes}
 use Rattle.cyc_objects.proofs.Bytes.{put_byte}
 use Rattle.cyc_objects.proofs.Places.{bytes-some}
 use Rattle.cyc_types.specs.declared.typed.Kind.TheVariants as kinds
@@ -60,7 +61,7 @@ pub saves-stored_byte : (source : Program) (c : Configuration) (address byte : �
 saves-stored_byte source c address byte small there =
     let old : ℕ = c.store.memory (word_of address) in
     let new : ℕ = with_byte old (address % 4) byte in
-    ap (λ (n : ℕ). saves_byte (lower_program source) c address n (memory_at (lower_program source) c (word_of address))) (low-same byte small)
+    ap (λ (n : ℕ). saves_byte (lower_program source) c address n (memory_at (lower_program source) c (word_of address))) (remainder_of_byte byte small)
     ∙ ap (saves_byte (lower_program source) c address byte) (memory-stored (lower_program source) c (word_of address) old there)
     ∙ ap (λ (d : Configuration). plain.Running (advanced d)) (written-stored (lower_program source) c (word_of address) old there new)
     ∙ ap (λ (s : StoreState). plain.Running (advanced (record c { store = s }))) (saved-is c.store (word_of address) new old (stored-word c.store (word_of address) old there))

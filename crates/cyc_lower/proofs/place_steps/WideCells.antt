@@ -34,7 +34,7 @@ use Rattle.cyc_lower.proofs.relation.places.Known.{row-away, global-first, globa
 use Rattle.cyc_lower.proofs.place_steps.PlaceWords.{stored_still, three_put, three_words, three_elsewhere, three_written, three_words_of, cell_kind}
 use Rattle.cyc_lower.proofs.relation.contents.HeldValues.{content_of, callers, Waiting, contents, IsCharAt}
 use Rattle.cyc_lower.proofs.relation.simulation.Relation.{SharedAt, DataAt, DataIn, silent, code_of, types_at, base_of, starts_at}
-use Rattle.cyc_lower.proofs.relation.contents.Data.{Is-same, get_set_other, data_assigned_global, data_assigned}
+use Rattle.cyc_lower.proofs.relation.contents.Data.{Is-same, data_assigned_global, data_assigned}
 use Rattle.cyc_lower.proofs.relation.contents.HandlerData.{handlers_same}
 use Rattle.cyc_lower.proofs.relation.simulation.Accesses.{written_here, written_elsewhere, written_length}
 use Rattle.cyc_lower.proofs.place_steps.CellReads.{globals_long, IsOwn, AreSame}
@@ -50,6 +50,7 @@ use Rattle.cyc_lower.proofs.relation.code.Moving.{Like, like_same, like_slots, l
 use Rattle.cyc_lower.proofs.relation.places.Rows.{local-row, local-pointer, local-kind, char_cell}
 use Rattle.cyc_types.specs.Types.{Ty}
 use Rattle.std.proofs.lemmas.Bool.{cases_eq, cases_lt}
+use Rattle.cyc_words.proofs.Items.{slice_get-set_other}
 use Rattle.cyc_types.specs.declared.typed.Kind.{Kind}
 use Rattle.cyc_lower.specs.inside.ValueCode.{variable_bytes}
 use Rattle.cyc_objects.proofs.Chars.{wide-aligned}
@@ -189,7 +190,7 @@ module _ (source : Program) (pages calls : ℕ) (k : List Entry) (e : Environmen
       above = λ m least. refl;
       value = λ j below. refl;
       stays = data_beside shared.tables source g c.active.base w.objects next.objects e.locals (callers k) c.active.slots c.globals c.frames (omega (arith, length-set w.objects object now))
-          (λ o row. ap content_of (get_set_other w.objects object o now (λ same. row-away shared.related globals_of_source o h cell.object row (subst (λ n. objects.Alive shared.tables (silent w) n h cell.object) (sym same) alive))))
+          (λ o row. ap content_of (slice_get-set_other w.objects object o now (λ same. row-away shared.related globals_of_source o h cell.object row (subst (λ n. objects.Alive shared.tables (silent w) n h cell.object) (sym same) alive))))
           facts.0;
     }
 

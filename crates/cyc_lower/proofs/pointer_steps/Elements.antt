@@ -4,6 +4,7 @@ use Rattle.std.proofs.Common.{◌≡◌, ◌≢◌, ℕ, zero, suc, ◌+◌, ◌
 use Rattle.std.specs.Prelude.{◌==◌, ◌&&◌, nat_lt, nat_le, if◌then◌else◌, option_map}
 use Rattle.std.proofs.lemmas.Bool.{false_from_ne_true, eq-eqb, ne_eqb, eqb-true, cases_Bool, ltb-true, ltb-false, le-leb, lt-leb, and_parts}
 use Rattle.cyc_words.specs.Word.{add_of, mul_of, shl_of}
+use Rattle.cyc_words.proofs.Items.{slice_get-map}
 use Rattle.cyc_types.specs.declared.typed.Kind.{Kind}
 use Rattle.cyc_types.specs.declared.typed.Kind.TheVariants as kinds
 use Rattle.cyc_types.specs.TypedTrees.{Expression, Program}
@@ -30,7 +31,6 @@ use Rattle.cyc_meaning.specs.Step.{wrong, computed, step, leads_to}
 use Rattle.cyc_objects.specs.inside.Tables.{Tables}
 use Rattle.cyc_objects.specs.inside.Words.{IsPartOf, Points, Is}
 use Rattle.cyc_objects.specs.inside.Related as objects
-use Rattle.cyc_objects.proofs.NumberLemmas.{slice_get-map}
 use Rattle.cyc_objects.proofs.Pointers.{part-not-null, pointer-word, thinned, fat-moved}
 use Rattle.cyc_lower.specs.inside.Lowerable.{is_pointer}
 use Rattle.cyc_lower.specs.inside.ValueCode.{raising, scale_of, reached_operand, followed_operand}

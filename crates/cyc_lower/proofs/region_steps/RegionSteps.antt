@@ -2,6 +2,7 @@
 use Rattle.std.proofs.Common.{◌≡◌, ◌≢◌, ℕ, suc, ◌+◌, ◌≤◌, ◌<◌, Bool, true, List, [], ◌∷◌, length, Option, None, Some, slice_get, refl, sym, ap, subst, ◌∙◌, inl, inr, arith}
 use Rattle.std.specs.Prelude.{nat_lt, if◌then◌else◌}
 use Rattle.std.proofs.lemmas.Bool.{cases_Bool}
+use Rattle.cyc_words.proofs.Numbers.{nat_le-beyond}
 use Rattle.cyc_types.specs.declared.typed.Kind.TheVariants as kinds
 use Rattle.cyc_types.specs.TypedTrees.{Items, MoreItems, DeclareRegion, Function, Program, OpenRegion, DeclareAlias, DeclareKey}
 use Rattle.cyc_store.specs.State.{demand, lexical_count}
@@ -38,7 +39,7 @@ use Rattle.cyc_lower.proofs.relation.contents.HandlerData.{data_written}
 use Rattle.cyc_lower.proofs.relation.contents.GrowingData.{data_grows, variables_grow}
 use Rattle.cyc_lower.proofs.relation.simulation.Matched.{IsMatched, silently, shared_within, known, inside_by}
 use Rattle.cyc_lower.proofs.relation.simulation.Paths.{runs}
-use Rattle.cyc_lower.proofs.object_steps.Asking.{past_pages, asks_then, by_full}
+use Rattle.cyc_lower.proofs.object_steps.Asking.{asks_then, by_full}
 use Rattle.cyc_lower.proofs.region_steps.Scoped.{scopes_there}
 use Rattle.cyc_objects.proofs.Closing.{scopes-same, scopes-closed}
 use Rattle.cyc_objects.proofs.Scopes.{ends-newest, scopes-counted}
@@ -172,7 +173,7 @@ module _ (source : Program) (pages calls : ℕ) where
       elim (cases_Bool (nat_lt c.store.pages (pages_of new))) [
         | inl over ↦
             by_full source pages calls Proceeding old e w c next (requests.OpenLexical (t + 1)) refl
-            (past_pages pages (pages_of new) _ (subst (λ p. nat_lt p (pages_of new) ≡ true) shared.same_pages over))
+            (nat_le-beyond pages (pages_of new) _ (subst (λ p. nat_lt p (pages_of new) ≡ true) shared.same_pages over))
             shared ask (refusal-lexical shared.related ∙ ap full_at over)
         | inr room ↦
             let free = refusal-lexical shared.related ∙ ap full_at room in
@@ -238,7 +239,7 @@ module _ (source : Program) (pages calls : ℕ) where
       elim (cases_Bool (nat_lt c.store.pages (pages_of new))) [
         | inl over ↦
             by_full source pages calls Proceeding old e w c next (requests.OpenDynamic t) refl
-            (past_pages pages (pages_of new) _ (subst (λ p. nat_lt p (pages_of new) ≡ true) shared.same_pages over))
+            (nat_le-beyond pages (pages_of new) _ (subst (λ p. nat_lt p (pages_of new) ≡ true) shared.same_pages over))
             shared ask (refusal-dynamic shared.related ∙ ap full_at over)
         | inr room_left ↦
             let free = refusal-dynamic shared.related ∙ ap full_at room_left in

@@ -14,12 +14,13 @@ use Rattle.cyc_plain.specs.declared.instruction.Instruction.TheVariants as instr
 use Rattle.cyc_plain.specs.inside.Program.{Routine, Program as PlainProgram}
 use Rattle.cyc_plain.specs.inside.WellFormed.{IsOperand}
 use Rattle.std.specs.Prelude.{unwrap_or, ◌==◌}
+use Rattle.cyc_words.proofs.Lists.{slice_get_below}
+use Rattle.cyc_words.proofs.Items.{below_from_slice_get}
 use Rattle.cyc_meaning.specs.Operators.{null_exception}
 use Rattle.cyc_store.specs.declared.range.TheConstants.{HEAP, UNIQUE}
 use Rattle.cyc_meaning.specs.Values.{words_of_kind, is_thin, kind_of}
 use Rattle.cyc_meaning.specs.FrameCount.{result_words, operand_words, converted_words, argument_words, expression_need, dereference_need, converted_need, arguments_need, operations_need, initial_value_need, place_words}
 use Rattle.cyc_meaning.specs.Pointers.{result_kind as operator_kind}
-use Rattle.cyc_objects.proofs.NumberLemmas.{slice_get-there}
 use Rattle.cyc_lower.specs.inside.Slots.{counted, starts_of, slot_of, Types, global_of}
 use Rattle.cyc_lower.specs.inside.ValueCode.{converts_there, passed_words, all_passed, kinds_passed, operand_or, code_unless, code_unless_slot, next_slot, check_code, conversion_code, operator_code, truth_code, low_byte, test_code, is_in, copy_code, behind_left, pointer_code, count_code, span_of, loaded_code, reached_code, followed_code, span_in, global_code, unary_instruction, kind_behind, masks, kind_passed}
 use Rattle.cyc_lower.specs.inside.ObjectCode.{begun_code, filled_code, ended_code, elements_code, object_code, free_code}
@@ -30,7 +31,6 @@ use Rattle.cyc_lower.proofs.slots.Widths.{kind_positive, kind_few, result_kind, 
 use Rattle.cyc_lower.proofs.slots.CellBytes.{passed_slots}
 use Rattle.cyc_lower.proofs.relation.code.Fitting.{FitsCell, Fits, FitsConverted, FitArguments, FitOperations, FitsObject}
 use Rattle.cyc_lower.proofs.slots.Slots.{words_positive, starts-are, words-there}
-use Rattle.cyc_plain.proofs.Placed.{below_of_get}
 use Rattle.cyc_lower.proofs.sizes.RangeLemmas.{operand_positive, converted_least, arguments_words, made_needs, result_least, levels_inside, IsKnown, AreGlobals}
 use Rattle.cyc_lower.proofs.sizes.ValueRanges.{AreIn, append, unless_in, unless_slot_in, kind_at, HasOperand, assigned_kind, operator_few, stored_kind, given_needs, slot_fits, value_room, value_in, source_fits, brought_room, converted_room, printed_value_in, next_in, LeftIn, next_left_in, first_left_in, has_room, left_room, left_slot_in, left_in, free_in, check_in, reached_in, followed_in, conversion_in, operator_in, assigned_in, load_in, copy_in, pointer_copied, count_in, test_in, filled_in, object_in, loaded_in, own_needed, pointer_room, place_operand_in, addressed_in, stored_in, right_in, initial_by, unary_in, last_byte_in, begun_in, brought_by}
 
@@ -40,7 +40,7 @@ module _ (program : PlainProgram) (r : Routine) (b : Numbering) (called : (n : �
     expression_in types locals levels globals behind (Number n) p d t numbered room few short = ((omega (arith, room), tt), tt)
     expression_in types locals levels globals behind NullPointer p d t numbered room few short = ((omega (arith, room), tt), tt)
     expression_in types locals levels globals behind (Counter l) p d t numbered room few short =
-        let (slot, there) = slice_get-there types.counters l numbered in
+        let (slot, there) = slice_get_below types.counters l numbered in
         ((omega (arith, room), subst (λ (s : Option ℕ). unwrap_or s 0 < r.slots) (sym there) (levels l slot there)), tt)
     expression_in types locals levels globals behind (Copy l ty) p d t numbered room few short = load_in program r b types locals levels globals called results behind l ty d numbered room
     expression_in types locals levels globals behind (Move w n ty) p d t numbered room few short = load_in program r b types locals levels globals called results behind (Local w n) ty d numbered room
@@ -126,7 +126,7 @@ module _ (program : PlainProgram) (r : Routine) (b : Numbering) (called : (n : �
         (loaded_in program r b types locals levels globals called results behind kind (words_of_kind kind == 1) (place_operand (starts_of types) x t) (place_offset (starts_of types) x) d t refl (place_operand_in program r b types locals levels globals called results behind x own t numbered some few) room (omega (arith, few, some, needed)))
     expression_in types locals levels globals behind (AddressOf (Local w n) ty) p d t (within, (v, there, same)) room few short =
         let count : words_of_kind (kind_behind ty) ≡ words_of v = ap words_of_kind same ∙ type_words v in (
-          (omega (arith, room), omega (arith, locals n within, words-there types.locals n v there, count), (n, v, there, starts-are types n (below_of_get types.locals n v there), count)),
+          (omega (arith, room), omega (arith, locals n within, words-there types.locals n v there, count), (n, v, there, starts-are types n (below_from_slice_get types.locals n v there), count)),
           last_byte_in program r b types locals levels globals called results behind (kind_behind ty) d (omega (arith, room)),
         )
     expression_in types locals levels globals behind (AddressOf (Global n) ty) p d t numbered room few short = ((omega (arith, room), tt), tt)

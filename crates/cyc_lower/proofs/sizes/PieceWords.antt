@@ -33,12 +33,6 @@ use Rattle.cyc_lower.specs.inside.ObjectCode.{begun_code, filled_code, stores_co
 use Rattle.cyc_lower.proofs.slots.Widths.{kind_few}
 use Rattle.cyc_lower.proofs.slots.CellBytes.{begins_within, behind_within, bytes_within}
 
--- ---- lists
-
-pub all_weaker : {X : Type 0} (P Q : X → Type 0) → ((x : X) → P x → Q x) → (xs : List X) → AllByRecursion P xs → AllByRecursion Q xs
-all_weaker P Q tells [] all = tt
-all_weaker P Q tells (x ∷ xs) (first, rest) = (tells x first, all_weaker P Q tells xs rest)
-
 -- ---- instructions
 
 -- an instruction that is made: it has words, is no return that leaves handlers open, and asks no room for a call

@@ -1,5 +1,5 @@
 -- What the bounds of instructions rest on: words that are needed, and instructions that name what is there.
-use Rattle.std.proofs.Common.{◌≡◌, ℕ, zero, suc, ◌+◌, ◌-◌, ◌≤◌, ◌<◌, true, false, List, [], ◌∷◌, ◌++◌, length, take, min, Option, None, Some, All, IsSomeAnd, slice_get, refl, sym, ap, subst, arith, length-append, length-take, inl, inr}
+use Rattle.std.proofs.Common.{◌≡◌, ℕ, zero, suc, ◌+◌, ◌-◌, ◌≤◌, ◌<◌, true, false, List, [], ◌∷◌, length, take, min, Option, None, Some, All, IsSomeAnd, slice_get, refl, sym, subst, arith, length-take, inl, inr}
 use Rattle.std.specs.List.{AllByRecursion}
 use Rattle.cyc_types.specs.Types.{Ty, words_of, ValueType, Void, Null, Value}
 use Rattle.cyc_types.specs.TypedTrees.{Initial, Plain, Fields, Array, Converted, Convert, Arguments, NoArguments, MoreArguments, Signature}
@@ -11,24 +11,14 @@ use Rattle.cyc_plain.specs.declared.instruction.Operand.TheVariants as operands
 use Rattle.cyc_plain.specs.inside.Requests.{first_operand, second_operand}
 use Rattle.cyc_plain.specs.inside.WellFormed.{IsInRange, IsOperand, IsArgument, is_return, leaves}
 use Rattle.std.specs.Prelude.{max}
+use Rattle.cyc_words.proofs.Items.{slice_get_last_behind, slice_get_last_cases}
 use Rattle.cyc_meaning.specs.Values.{kind_of, words_of_kind}
 use Rattle.cyc_meaning.specs.FrameCount.{operand_words, converted_words, argument_words, words_of_all, initial_value_need}
-use Rattle.cyc_lower.proofs.relation.contents.Counters.{found_last}
 use Rattle.cyc_lower.specs.inside.Slots.{counted, Types, slot_in}
 use Rattle.cyc_lower.specs.inside.ValueCode.{all_passed, kind_passed, blocks}
 use Rattle.cyc_lower.specs.inside.Lowering.{spare_slots, results_of, target_of, farthest, with_blocks}
 use Rattle.cyc_lower.proofs.slots.Widths.{kind_positive, kind_few, type_words, kind_of_result, passed_is}
 use Rattle.cyc_lower.proofs.slots.Slots.{words_positive}
-
--- ---- lists
-
-pub last_behind : {X : Type 0} (xs ys : List X) → 0 < length ys → slice_get (xs ++ ys) (length (xs ++ ys) - 1) ≡ slice_get ys (length ys - 1)
-last_behind xs ys some = behind_all xs (length ys - 1) (length (xs ++ ys) - 1) (omega (arith, length-append xs ys, some))
-  where
-    behind_all : (zs : _) (n m : ℕ) → m ≡ length zs + n → slice_get (zs ++ ys) m ≡ slice_get ys n
-    behind_all [] n m is = ap (slice_get ys) (omega (arith, is))
-    behind_all (z ∷ zs) n zero is = absurd (omega (arith, is))
-    behind_all (z ∷ zs) n (suc m) is = behind_all zs n m (omega (arith, is))
 
 -- ---- words
 
@@ -68,7 +58,7 @@ result_least (Some t) = (omega (arith, type_words t), omega (arith, type_words t
 -- with one counter more, all counters are in slots of the function
 pub levels_inside : (r : Routine) (types : Types) → ((l slot : ℕ) → slice_get types.counters l ≡ Some slot → slot < r.slots) → (slot : ℕ) → slot < r.slots
     → (l other : ℕ) → slice_get (counted types slot).counters l ≡ Some other → other < r.slots
-levels_inside r types levels slot inside l other found = elim (found_last types.counters slot l other found) [
+levels_inside r types levels slot inside l other found = elim (slice_get_last_cases types.counters slot l other found) [
   | inl before ↦ levels l other before
   | inr (last, is) ↦ omega (arith, is, inside)
 ]
@@ -177,7 +167,7 @@ blocks_many n = omega (arith, length-take n blocks)
 pub end_leaves : (body : List Instruction) (value n : ℕ) → IsSomeAnd (slice_get (with_blocks body value n) (length (with_blocks body value n) - 1)) (λ i. leaves i ≡ true)
 end_leaves body value n =
     let end = instructions.Finish value ∷ take n blocks in
-    subst (λ (o : Option Instruction). IsSomeAnd o (λ i. leaves i ≡ true)) (sym (last_behind body end (omega arith))) (by n)
+    subst (λ (o : Option Instruction). IsSomeAnd o (λ i. leaves i ≡ true)) (sym (slice_get_last_behind body end (omega arith))) (by n)
   where
     by : (n : ℕ) → IsSomeAnd (slice_get (instructions.Finish value ∷ take n blocks) (length (instructions.Finish value ∷ take n blocks) - 1)) (λ i. leaves i ≡ true)
     by zero = refl

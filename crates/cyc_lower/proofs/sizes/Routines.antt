@@ -1,8 +1,10 @@
 -- Functions and globals that are lowered one after the other.
-use Rattle.std.proofs.Common.{◌≡◌, ℕ, zero, suc, ◌+◌, ◌<◌, ◌≤◌, List, [], ◌∷◌, ◌++◌, ◌-◌, length, get_or, map, take, min, Option, Some, refl, sym, ap, ◌∙◌, arith, slice_get}
+use Rattle.std.proofs.Common.{◌≡◌, ℕ, suc, ◌+◌, ◌<◌, ◌≤◌, List, [], ◌∷◌, ◌++◌, ◌-◌, length, get_or, map, take, min, Option, Some, sym, ap, ◌∙◌, arith}
 use Rattle.cyc_words.specs.declared.fault.Code.{Code}
 use Rattle.cyc_words.specs.declared.fault.Code.TheVariants.{TooManyFunctions}
 use Rattle.cyc_words.specs.declared.fault.Fault.{Fault}
+use Rattle.cyc_words.proofs.Lists.{take_read, map_last}
+use Rattle.cyc_words.proofs.Items.{slice_get-map_read}
 use Rattle.cyc_types.specs.declared.typed.TypedTree.{TypedTree}
 use Rattle.cyc_types.specs.declared.typed.Function.{Function as FunctionCode}
 use Rattle.cyc_types.specs.TypedTrees.{StructType, Function, Program}
@@ -19,12 +21,6 @@ use Rattle.cyc_frame_count.specs.inside.Needs.{most_frame_count}
 use Rattle.cyc_lower.specs.inside.Emission.{most_locals}
 use Rattle.cyc_lower.proofs.slots.Slots.{slots-few}
 use Rattle.cyc_lower.proofs.emission.Blocks.{some_blocks}
-
--- the element with a number, in a list that is mapped
-pub numbered_at : {A B : Type 0} (f : A → B) (xs : List A) (n : ℕ) (x : A) → n < length xs → x ≡ get_or xs n x → slice_get (map f xs) n ≡ Some (f x)
-numbered_at f [] n x inside at = absurd (omega arith)
-numbered_at f (y ∷ ys) zero x inside at = ap (λ z. Some (f z)) (sym at)
-numbered_at f (y ∷ ys) (suc n) x inside at = numbered_at f ys n x (omega arith) at
 
 -- a frame has room for the slots of the locals
 pub few_locals : (f : FunctionCode) → frame_count (view_function f) ≤ most_frame_count
@@ -47,27 +43,18 @@ function_made structs globals scopes h locals free raises end count kept first b
 
 -- ---- lists that are lowered element by element
 
-map_snoc : {A B : Type 0} (f : A → B) (xs : List A) (x : A) → map f (xs ++ x ∷ []) ≡ map f xs ++ f x ∷ []
-map_snoc f [] x = refl
-map_snoc f (y ∷ xs) x = ap (λ l. f y ∷ l) (map_snoc f xs x)
-
-one_more_taken : {A : Type 0} (xs : List A) (i : ℕ) (x : A) → i < length xs → x ≡ get_or xs i x → take (suc i) xs ≡ take i xs ++ x ∷ []
-one_more_taken [] i x inside at = absurd (omega (arith, inside))
-one_more_taken (y ∷ xs) zero x inside at = ap (λ z. z ∷ []) (sym at)
-one_more_taken (y ∷ xs) (suc i) x inside at = ap (λ l. y ∷ l) (one_more_taken xs i x (omega (arith, inside)) at)
-
 -- what is made of one element more
 pub one_more_mapped : {A B C D : Type 0} (f : A → D) (g : C → D) (view : B → C) (made new : List A) (xs : List B) (i : ℕ) (a : A) (x : B) → i < length xs → x ≡ get_or xs i x → new ≡ made ++ a ∷ []
     → f a ≡ g (view x) → map f made ≡ map g (map view (take i xs)) → map f new ≡ map g (map view (take (i + 1) xs))
 one_more_mapped {A} {B} {C} {D} f g view made new xs i a x inside at is one made_is =
     let next : suc i ≡ i + 1 = omega arith in
     ap (λ (l : List A). map f l) is
-    ∙ map_snoc f made a
+    ∙ map_last f made a
     ∙ ap (λ (l : List D). l ++ f a ∷ []) made_is
     ∙ ap (λ (d : D). map g (map view (take i xs)) ++ d ∷ []) one
-    ∙ sym (map_snoc g (map view (take i xs)) (view x))
-    ∙ ap (λ (l : List C). map g l) (sym (map_snoc view (take i xs) x))
-    ∙ ap (λ (l : List B). map g (map view l)) (sym (one_more_taken xs i x inside at))
+    ∙ sym (map_last g (map view (take i xs)) (view x))
+    ∙ ap (λ (l : List C). map g l) (sym (map_last view (take i xs) x))
+    ∙ ap (λ (l : List B). map g (map view l)) (sym (take_read xs i x inside at))
     ∙ ap (λ (n : ℕ). map g (map view (take n xs))) next
 
 -- ---- more functions than there may be
@@ -80,7 +67,7 @@ fault_is f c l k a b d =
 
 pub too_many_told : (t : TypedTree) (x : FunctionCode) (f : Fault) → max_functions < length t.functions.items → x ≡ get_or t.functions.items max_functions x
     → f.code ≡ TooManyFunctions → f.line ≡ x.span.line → f.column ≡ x.span.column → HasTooMany (view_program t) f
-too_many_told t x f more at a b d = (view_function x, numbered_at view_function t.functions.items max_functions x more at, fault_is f TooManyFunctions x.span.line x.span.column a b d)
+too_many_told t x f more at a b d = (view_function x, slice_get-map_read view_function t.functions.items max_functions x more at, fault_is f TooManyFunctions x.span.line x.span.column a b d)
 
 pub one_too_many : (p : Program) (f g : Fault) → HasTooMany p f → HasTooMany p g → f ≡ g
 one_too_many p f g (h, e, a) (k, d, b) =

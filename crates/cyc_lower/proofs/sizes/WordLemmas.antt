@@ -17,7 +17,6 @@ use Rattle.cyc_plain.specs.declared.instruction.Instruction.TheVariants as instr
 use Rattle.cyc_plain.specs.inside.Program.{routine_at, no_routine}
 use Rattle.cyc_plain.specs.inside.Uniform.{AsksNoRoom}
 use Rattle.cyc_plain.proofs.Steps.{function_known}
-use Rattle.cyc_plain.proofs.Placed.{holds_at}
 use Rattle.cyc_plain.specs.inside.WellFormed.{IsOfWord, HasWord, HasWords, is_return}
 use Rattle.cyc_lower.specs.inside.Words.{IsOfWords, IsOfWordsConverted, AreOfWordsOperations, IsOfWordsInitial, IsOfWordsStatement, AreOfWordsItems, IsOfWordsConstant, AreOfWordsGlobals, AreOfWordsFunctions, IsOfWordsProgram, IsOfWordsSide, IsOfWordsThrown, AreOfWordsClauses}
 use Rattle.cyc_plain.specs.declared.limits.TheConstants.{RECORD_WORDS}
@@ -25,6 +24,7 @@ use Rattle.cyc_lower.specs.declared.statements.Exits.{Exits}
 use Rattle.cyc_lower.specs.inside.Slots.{slot_of, Starts, global_of}
 use Rattle.std.specs.Prelude.{if◌then◌else◌, replicate}
 use Rattle.std.proofs.lemmas.List.Elements.{All-from_recursion}
+use Rattle.cyc_words.proofs.Members.{All_at, all_weaker}
 use Rattle.cyc_types.specs.Types.{words_of, Ty}
 use Rattle.cyc_meaning.specs.Values.{words_of_kind, kind_of}
 use Rattle.cyc_lower.specs.inside.ValueCode.{passed_words, code_unless, slot_or, code_unless_slot, left_with, conversion_code, failing_comparison, first_temporary, blocks, span_of, word_by_word, kind_passed, masks}
@@ -35,7 +35,7 @@ use Rattle.cyc_lower.specs.inside.ExpressionCode.{source_of, operand_of, value_s
 use Rattle.cyc_lower.specs.inside.Lowering.{assignment_code, discarded_code, first_code, second_code, pair_code, condition_code, condition_of, others_code, last_condition, tests_code, behind_tests, choice_code, choice_of, branch_code, branch_of, return_code, declaration_code, statement_code, items_code, initial_word, lower_function, lower_program, store_address_code, caught_code, clauses_code, function_code, side_code, read_side, write_side, exchange_code, swap_code, globals_of, lower_globals, starts_with, raises_of, scopes_of, body_code, farthest, with_blocks, is_guard}
 use Rattle.cyc_lower.proofs.slots.Widths.{kind_few}
 use Rattle.cyc_lower.specs.declared.statements.Opened.{Opened}
-use Rattle.cyc_lower.proofs.sizes.PieceWords.{all_weaker, IsMade, made_word, made_no_return, HaveWords, append, unless_words, unless_slot_words, conversion_words, taken_words, blocks_words, move_words, brought_by_words, load_word_of, stores_words, saved_words, blank_words}
+use Rattle.cyc_lower.proofs.sizes.PieceWords.{IsMade, made_word, made_no_return, HaveWords, append, unless_words, unless_slot_words, conversion_words, taken_words, blocks_words, move_words, brought_by_words, load_word_of, stores_words, saved_words, blank_words}
 use Rattle.cyc_lower.proofs.sizes.ExpressionWords.{known_word, converted_word, printed_word, left_with_word, loads_words, global_words, expression_words, address_of_words, initial_words, converted_operand_words, printed_words}
 
 module _ (starts : Starts) where
@@ -397,4 +397,4 @@ no_enter source words place function at =
     let all = All-from_recursion (λ r. All (λ i. is_no_enter i ≡ true) r.code) (map (lower_function source.structs (globals_of source) (scopes_of source)) source.functions) (functions_enter source.structs (globals_of source) (scopes_of source) source.functions words.functions) in
     let known = function_known (lower_program source) place (instructions.Enter function) at in
     let of_code : All (λ i. is_no_enter i ≡ true) (routine_at (lower_program source) place.function).code = all place.function no_routine known in
-    let e : false ≡ true = holds_at (λ i. is_no_enter i ≡ true) (routine_at (lower_program source) place.function).code place.index (instructions.Enter function) of_code at in cc
+    let e : false ≡ true = All_at (λ i. is_no_enter i ≡ true) (routine_at (lower_program source) place.function).code place.index (instructions.Enter function) of_code at in cc

@@ -68,18 +68,14 @@ more_words from to apart = elim (one_or_three from) [
   | inr three ↦ omega (arith, three)
 ]
 
-both_true : (a b : Bool) → (a && b) ≡ true → (a ≡ true) × (b ≡ true)
-both_true true b is = (refl, is)
-both_true false b is = absurd (let f : false ≡ true = is in cc)
-
 -- what keeps its words has as many of them
 pub keeps_wide : (from to : Kind) → keeps_words from to ≡ true → words_of_kind from ≡ words_of_kind to
-keeps_wide from to keeps = eqb-true (words_of_kind from) (words_of_kind to) (both_true (are_as_wide from to) (not (masks from to)) keeps).0
+keeps_wide from to keeps = eqb-true (words_of_kind from) (words_of_kind to) (and_parts (are_as_wide from to) (not (masks from to)) keeps).0
 
 -- and masks nothing
 pub keeps_whole : (from to : Kind) → keeps_words from to ≡ true → masks from to ≡ false
 keeps_whole from to keeps = elim (cases_Bool (masks from to)) [
-  | inl masked ↦ absurd (let f : false ≡ true = sym (ap (λ (b : Bool). not b) masked) ∙ (both_true (are_as_wide from to) (not (masks from to)) keeps).1 in cc)
+  | inl masked ↦ absurd (let f : false ≡ true = sym (ap (λ (b : Bool). not b) masked) ∙ (and_parts (are_as_wide from to) (not (masks from to)) keeps).1 in cc)
   | inr whole ↦ whole
 ]
 

@@ -4,6 +4,7 @@ use Rattle.std.specs.Prelude.{◌==◌}
 use Rattle.std.proofs.lemmas.Bool.{eqb-true}
 use Rattle.std.proofs.lemmas.Option.{same_Some}
 use Rattle.cyc_words.specs.Word.{add_of, IsWord as IsMachineWord}
+use Rattle.cyc_words.proofs.Members.{All_at}
 use Rattle.cyc_types.specs.declared.typed.Kind.{Kind}
 use Rattle.cyc_types.specs.declared.typed.Kind.TheVariants as kinds
 use Rattle.cyc_types.specs.TypedTrees.{Lvalue, Local, Global, Program}
@@ -16,7 +17,6 @@ use Rattle.cyc_plain.specs.inside.Step.{Choice, operand_word, with_slots, at, ad
 use Rattle.cyc_plain.specs.inside.Step as plain_step
 use Rattle.cyc_plain.specs.inside.Program.{CodePlace, no_routine}
 use Rattle.cyc_plain.specs.inside.WellFormed.{HasWord, HasWords}
-use Rattle.cyc_plain.proofs.Placed.{holds_at}
 use Rattle.cyc_plain.proofs.Steps.{function_known}
 use Rattle.cyc_plain.specs.inside.Straight.{At}
 use Rattle.cyc_meaning.specs.Values.{Value, Thin, Operand as Kinded, words_of_kind}
@@ -218,7 +218,7 @@ module _ (source : Program) (pages calls : ℕ) where
       let g = c.active.function in
       let place : CodePlace = record { function = g; index = p } in
       stored_has kind address bytes n
-      (holds_at HasWord (code_of source g) p (store_of kind address bytes (operands.Word n))
+      (All_at HasWord (code_of source g) p (store_of kind address bytes (operands.Word n))
       (of_words.functions g no_routine (function_known (lower_program source) place (store_of kind address bytes (operands.Word n)) here)) here)
 
   -- what an operand of one word holds, it holds also where that word is written

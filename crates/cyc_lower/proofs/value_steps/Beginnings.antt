@@ -51,12 +51,12 @@ use Rattle.cyc_lower.proofs.relation.simulation.Accesses.{IsWell, is_loaded}
 use Rattle.cyc_lower.proofs.relation.simulation.Matched.{IsMatched, silently, by_one, by_two}
 use Rattle.cyc_lower.proofs.value_steps.GlobalSteps.{each_put, each-outside, each_is, load_links, load_end, load_path, by_links}
 use Rattle.cyc_lower.proofs.relation.places.Known.{global_points, global_address, first_word}
-use Rattle.cyc_objects.proofs.NumberLemmas.{slice_get-below}
 use Rattle.cyc_plain.specs.declared.instruction.Instruction.{Instruction}
 use Rattle.cyc_lower.proofs.relation.places.Leads.{AreNamed}
 use Rattle.cyc_lower.proofs.relation.places.Rows.{local-points}
 use Rattle.cyc_plain.proofs.MemoryLaws.{pinned-at, pinned-inside, below-low, below-end}
 use Rattle.cyc_words.specs.Word.{add_of}
+use Rattle.cyc_words.proofs.Items.{below_from_slice_get}
 use Rattle.cyc_meaning.specs.Operators.{unary_kind}
 use Rattle.cyc_objects.proofs.Pointers.{pointer-word}
 use Rattle.cyc_types.specs.declared.typed.UnaryOperator.{UnaryOperator}
@@ -429,7 +429,7 @@ module _ (source : Program) (pages calls : ℕ) where
       local_there None none = absurd (well (ap (λ (o : Option ℕ). status_in (status_of (addressed o k e w))) none))
       local_there (Some object) here =
           let r = facts.0.2.rows n object here in
-          let inside = slice_get-below (types_at source g).locals n v there in
+          let inside = below_from_slice_get (types_at source g).locals n v there in
           let wide = words-there (types_at source g).locals n v there in
           let some = words_positive v in
           let pinned = pinned-at (code_of source g) c.active.next d slot (words_of v) slot at (omega arith) (omega (arith, some)) in
@@ -444,7 +444,7 @@ module _ (source : Program) (pages calls : ℕ) where
           addresses_last (kind_of v) object word d (typed.AddressOf (Local p n) t) (instructions.AddressOf d slot (words_of v)) k e w c q (ap (λ (o : Option ℕ). addressed o k e w) here) at (λ choice. refl) shared facts holds
           (subst (λ x. Points shared.tables object 0 (x + variable_bytes (kind_of v))) (sym word_is) (subst (λ (i : Kind). Points shared.tables object 0 (c.active.base + 4 * slot + variable_bytes i)) kind points)) last lands
   comes (typed.AddressOf (Global n) t) k e w c d q (well, shared, facts, holds, names) (v, there, at, end) lands =
-      let row = (facts.0.4 n (slice_get-below (global_types source.globals) n v there)).0 in
+      let row = (facts.0.4 n (below_from_slice_get (global_types source.globals) n v there)).0 in
       let first = first_word (global_types source.globals) n in
       let kind : row.kind ≡ kind_of v = sym row.of_type ∙ kind-there (global_types source.globals) n v there in
       let word = address_of_global (kind_of v) first in

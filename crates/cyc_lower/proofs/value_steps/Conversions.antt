@@ -4,6 +4,7 @@ use Rattle.std.specs.Prelude.{◌==◌, ◌&&◌, if◌then◌else◌, ◌%◌, 
 use Rattle.std.proofs.lemmas.Bool.{eqb-false, and_parts}
 use Rattle.cyc_words.specs.Word.{IsWord as IsMachineWord}
 use Rattle.cyc_words.proofs.Booleans.{and_left}
+use Rattle.cyc_words.proofs.Numbers.{bit_and_255}
 use Rattle.cyc_types.specs.declared.typed.Kind.{Kind}
 use Rattle.cyc_types.specs.declared.typed.Kind.TheVariants as kinds
 use Rattle.cyc_types.specs.TypedTrees.{Program}
@@ -38,7 +39,7 @@ use Rattle.cyc_lower.proofs.handler_steps.Handling.{raised}
 use Rattle.cyc_lower.proofs.pointer_steps.FatSteps.{widens}
 use Rattle.cyc_lower.proofs.pointer_steps.ThinSteps.{narrows}
 use Rattle.cyc_lower.proofs.value_steps.Landings.{landed_char}
-use Rattle.cyc_lower.proofs.value_steps.ValueWords.{of_kind, as_wide, int_is, not_zero, not_widened, not_narrowed, kept_at, kept_in, char_low, low_byte_of}
+use Rattle.cyc_lower.proofs.value_steps.ValueWords.{of_kind, as_wide, int_is, not_zero, not_widened, not_narrowed, kept_at, kept_in, char_low}
 
 module _ (source : Program) (pages calls : ℕ) where
   -- a branch that is taken, and one that is not
@@ -156,7 +157,7 @@ module _ (source : Program) (pages calls : ℕ) where
       → LandsStack source c.active.function e.locals kinds.Char d (c.active.next + 1) c.frames k → GoesBehind (of_kind i v) (Needs (ConvertTo from kinds.Char target) ∷ k) e w c
   masked from target i (Int a) o d k e w c does well (shared, facts, is, holds) here lands =
       let word = bit_and (operand_word c.active.slots o) 255 in
-      let same : word ≡ a % 256 = low_byte_of (operand_word c.active.slots o) ∙ ap (λ x. x % 256) (int_is shared.tables i a c.active.slots o is) in
+      let same : word ≡ a % 256 = bit_and_255 (operand_word c.active.slots o) ∙ ap (λ x. x % 256) (int_is shared.tables i a c.active.slots o is) in
       by_one source pages calls does shared here
       (λ choice. landed_char source pages calls (a % 256) word d k e w c (c.active.next + 1) same (omega arith) shared facts holds refl lands)
   masked from target i v o d k e w c does well stands here lands = absurd (well refl)

@@ -3,6 +3,7 @@ use Rattle.std.proofs.Common.{◌≡◌, ◌≢◌, ℕ, zero, suc, ◌+◌, ◌
 use Rattle.std.specs.Prelude.{◌==◌, if◌then◌else◌, ◌%◌, is_some}
 use Rattle.std.proofs.lemmas.Bool.{eqb-true, false_from_ne_true}
 use Rattle.std.proofs.lemmas.Option.{none-some}
+use Rattle.cyc_words.proofs.Numbers.{bit_and_255}
 use Rattle.cyc_types.specs.declared.typed.Kind.{Kind}
 use Rattle.cyc_types.specs.declared.typed.Kind.TheVariants as kinds
 use Rattle.cyc_types.specs.declared.typed.UnaryOperator.{UnaryOperator}
@@ -57,7 +58,7 @@ use Rattle.cyc_lower.proofs.value_steps.Beginnings.{only_computed}
 use Rattle.cyc_lower.proofs.value_steps.Evaluations.{known_simple}
 use Rattle.cyc_lower.proofs.value_steps.Landings.{landed, landed_word, lands_at}
 use Rattle.cyc_lower.proofs.value_steps.Decided.{given_compared, tested_given}
-use Rattle.cyc_lower.proofs.value_steps.ValueWords.{of_kind, int_of, fails_by, other_place, zero_is, int_is, low_byte_of, int_in}
+use Rattle.cyc_lower.proofs.value_steps.ValueWords.{of_kind, int_of, fails_by, other_place, zero_is, int_is, int_in}
 use Rattle.cyc_plain.specs.declared.instruction.UnaryOperator.{UnaryOperator as PlainUnary}
 use Rattle.cyc_types.specs.Numbered.{Numbering}
 use Rattle.cyc_lower.proofs.value_steps.Conversions.{not_taken, guard_fails, Stands, GoesBehind}
@@ -94,7 +95,7 @@ module _ (source : Program) (pages calls : ℕ) where
       by_one source pages calls refl shared here (λ choice. goes (Int a) x (put-same c.active.slots d x ∙ int_is shared.tables i a c.active.slots o is))
   operates_value unary.LowByte i (Int a) o d k e w c well shared is here goes =
       let x = bit_and (operand_word c.active.slots o) 255 in
-      let same : x ≡ a % 256 = low_byte_of (operand_word c.active.slots o) ∙ ap (λ y. y % 256) (int_is shared.tables i a c.active.slots o is) in
+      let same : x ≡ a % 256 = bit_and_255 (operand_word c.active.slots o) ∙ ap (λ y. y % 256) (int_is shared.tables i a c.active.slots o is) in
       by_one source pages calls refl shared here (λ choice. goes (Int (a % 256)) x (put-same c.active.slots d x ∙ same, omega arith))
   operates_value u i v o d k e w c well shared is here goes = absurd (well refl)
 

@@ -1,6 +1,6 @@
 -- What a value says of its words, and what operators do to these.
-use Rattle.std.proofs.Common.{◌≡◌, ◌≢◌, ℕ, ◌+◌, Bool, true, false, not, List, None, Some, slice_get, refl, sym, ap, ◌∙◌, arith, inl, inr, ◌%◌, bit_and}
-use Rattle.std.specs.Prelude.{ℤ, nat_lt, ◌==◌, ◌<ℤ◌, ◌≤ℤ◌, int_le, int_lt, if◌then◌else◌}
+use Rattle.std.proofs.Common.{◌≡◌, ◌≢◌, ℕ, ◌+◌, Bool, true, false, not, List, None, Some, slice_get, refl, sym, ap, ◌∙◌, arith, inl, inr, ◌%◌}
+use Rattle.std.specs.Prelude.{ℤ, nat_lt, ◌==◌, ◌<ℤ◌, ◌≤ℤ◌, int_le, if◌then◌else◌}
 use Rattle.std.proofs.lemmas.Int.{ints}
 use Rattle.std.proofs.lemmas.Bool.{eqb-true, false_from_ne_true}
 use Rattle.std.proofs.lemmas.Option.{same_Some, none-some}
@@ -34,7 +34,7 @@ use Rattle.cyc_objects.proofs.Pointers.{not-null, part-not-null, same_value}
 use Rattle.cyc_lower.proofs.relation.contents.HeldValues.{IsWord, IsIn}
 use Rattle.cyc_lower.proofs.relation.contents.Data.{in_words, IsWord-is, one_word, points_in, null_at, points_at}
 use Rattle.cyc_lower.proofs.relation.simulation.Accesses.{IsWell}
-use Rattle.std.proofs.lemmas.Grind.{and_numeral}
+use Rattle.cyc_words.proofs.Integers.{not_int_le}
 
 -- an operand of a kind, and an int
 abbrev pub of_kind : Kind → Value → Kinded
@@ -197,10 +197,6 @@ as_wide from kinds.Fat quiet = eqb-true (words_of_kind from) (words_of_kind kind
 as_wide from kinds.Handle quiet = eqb-true (words_of_kind from) (words_of_kind kinds.Handle) quiet
 as_wide from kinds.Key quiet = eqb-true (words_of_kind from) (words_of_kind kinds.Key) quiet
 
--- what is left of a word by its low 8 bits
-pub low_byte_of : (a : ℕ) → bit_and a 255 ≡ a % 256
-low_byte_of a = and_numeral a 254 refl
-
 pub goes_wrong : (fits : Bool) (w : World) → IsWell (if fits then wrong w else wrong w) → ⊥
 goes_wrong true w well = well refl
 goes_wrong false w well = well refl
@@ -219,9 +215,6 @@ not_less a b = elim (slt_of_cases a b) [
     at_most : (x y : ℤ) → y ≤ℤ x → int_le y x ≡ true
     at_most x y fine = grind (arith, ints)
 
-not_at_most : (x y : ℤ) → not (int_le x y) ≡ int_lt y x
-not_at_most x y = grind (arith, ints)
-
 pub untrue : (b : Bool) → (truth b == 0) ≡ not b
 untrue true = refl
 untrue false = refl
@@ -232,20 +225,20 @@ fails_by operators.Equal failing a b is = untrue (a == b) ∙ ap (λ f. compares
 fails_by operators.NotEqual failing a b is = untrue (not (a == b)) ∙ not_not (a == b) ∙ ap (λ f. compares f a b) (same_Some comparisons.Equal failing is)
 fails_by operators.Less failing a b is = not_less a b ∙ ap (λ f. compares f a b) (same_Some comparisons.GreaterOrEqual failing is)
 fails_by operators.LessOrEqual failing a b is =
-    untrue (int_le (signed a) (signed b)) ∙ not_at_most (signed a) (signed b) ∙ ap (λ f. compares f a b) (same_Some comparisons.Greater failing is)
+    untrue (int_le (signed a) (signed b)) ∙ not_int_le (signed a) (signed b) ∙ ap (λ f. compares f a b) (same_Some comparisons.Greater failing is)
 fails_by operators.Greater failing a b is = not_less b a ∙ ap (λ f. compares f a b) (same_Some comparisons.LessOrEqual failing is)
 fails_by operators.GreaterOrEqual failing a b is =
-    untrue (int_le (signed b) (signed a)) ∙ not_at_most (signed b) (signed a) ∙ ap (λ f. compares f a b) (same_Some comparisons.Less failing is)
+    untrue (int_le (signed b) (signed a)) ∙ not_int_le (signed b) (signed a) ∙ ap (λ f. compares f a b) (same_Some comparisons.Less failing is)
 fails_by u failing a b is = absurd (none-some failing is)
 
 -- the opposite of a comparison holds where it fails
 pub opposed : (c : Comparison) (a b : ℕ) → compares (opposite c) a b ≡ not (compares c a b)
 opposed comparisons.Equal a b = refl
 opposed comparisons.NotEqual a b = sym (not_not (a == b))
-opposed comparisons.Less a b = sym (ap not (sym (not_at_most (signed b) (signed a))) ∙ not_not (int_le (signed b) (signed a)))
-opposed comparisons.LessOrEqual a b = sym (not_at_most (signed a) (signed b))
-opposed comparisons.Greater a b = sym (ap not (sym (not_at_most (signed a) (signed b))) ∙ not_not (int_le (signed a) (signed b)))
-opposed comparisons.GreaterOrEqual a b = sym (not_at_most (signed b) (signed a))
+opposed comparisons.Less a b = sym (ap not (sym (not_int_le (signed b) (signed a))) ∙ not_not (int_le (signed b) (signed a)))
+opposed comparisons.LessOrEqual a b = sym (not_int_le (signed a) (signed b))
+opposed comparisons.Greater a b = sym (ap not (sym (not_int_le (signed a) (signed b))) ∙ not_not (int_le (signed a) (signed b)))
+opposed comparisons.GreaterOrEqual a b = sym (not_int_le (signed b) (signed a))
 opposed comparisons.LessUnsigned a b = grind arith
 opposed comparisons.GreaterOrEqualUnsigned a b = grind arith
 

@@ -1,8 +1,7 @@
 -- Walks: stretches of a run of labelled code through lines whose numbers rise.
-use Rattle.std.proofs.Common.{◌≡◌, ◌≢◌, ℕ, suc, ◌+◌, ◌-◌, ◌<◌, ◌≤◌, ◌%◌, drop, Bool, true, List, [], ◌∷◌, ◌++◌, length, Option, Some, None, slice_get, refl, sym, ap, subst, ◌∙◌, arith, inl, inr}
+use Rattle.std.proofs.Common.{◌≡◌, ◌≢◌, ℕ, suc, ◌+◌, ◌<◌, ◌≤◌, ◌%◌, drop, Bool, true, List, [], ◌∷◌, ◌++◌, length, Option, Some, None, slice_get, refl, sym, ap, subst, ◌∙◌, arith, inl, inr}
 use Rattle.std.specs.Prelude.{◌⊎◌, if◌then◌else◌, Contains}
 use Rattle.std.specs.List.{AllByRecursion, range_with_len}
-use Rattle.std.proofs.lemmas.List.FromFn.{get_or-range_with_len, length-range_with_len}
 use Rattle.cyc_machine.specs.declared.constants.TheConstants.{RETURN_ADDRESS}
 use Rattle.cyc_isa.specs.Effect.{branch_taken, branch_zero_taken, memory_address, high_result}
 use Rattle.cyc_isa.specs.declared.instr.Instr.{Instr}
@@ -22,7 +21,6 @@ use Rattle.cyc_store.specs.Services.{Call, Answer, refusal}
 use Rattle.cyc_plain.specs.inside.State.{Words, AreWords, put}
 use Rattle.cyc_plain.specs.inside.Step.{HasAnswerWords}
 use Rattle.cyc_plain.specs.declared.instruction.Request.{Request}
-use Rattle.cyc_plain.proofs.Placed.{holds_at}
 use Rattle.cyc_isa.specs.Encoding.{IsEncodable}
 use Rattle.cyc_isa.proofs.EffectLemmas.{IsWord-immediate_result, IsWord-load_upper_result, IsWord-arithmetic_result, IsWord-shift_result, IsWord-low_result, IsWord-high_result}
 use Rattle.cyc_plain.proofs.WordLaws.{put_words}
@@ -33,6 +31,8 @@ use Rattle.cyc_select.specs.declared.code.Line.TheVariants as lines
 use Rattle.cyc_select.specs.inside.Labelled.{Labelled, IsFormed, IsFormedLine, is_ordinary, AreAddresses}
 use Rattle.cyc_words.specs.Ending.{Ending, Returned, Uncaught, Full}
 use Rattle.cyc_words.specs.Word.{IsWord, signed}
+use Rattle.cyc_words.proofs.Ranges.{Contains-range}
+use Rattle.cyc_words.proofs.Members.{All_at}
 use Rattle.cyc_isa.specs.Decoding.{trap_code_of}
 use Rattle.cyc_select.specs.inside.Machine.{Configuration, State, Running, Ended, Step, Executes, ExecutesAt, Performs, PerformsOrdinary, machine, status_of, output_of, input_of, linked, at, word_in, holds_of, IsReturnPoint}
 use Rattle.cyc_select.specs.inside.Selection.{ordinary, syscall, service_number}
@@ -58,13 +58,10 @@ rising_below : (lo hi : ℕ) (places : List ℕ) → Rises lo hi places → lo �
 rising_below lo hi [] rises = rises
 rising_below lo hi (p ∷ places) (first, rest) = omega (arith, first, rising_below (suc p) hi places rest)
 
-in_range_with_len : (a n q : ℕ) → a ≤ q → q < a + n → Contains (range_with_len a n) q
-in_range_with_len a n q from below = (q - a, omega (arith, length-range_with_len a n), get_or-range_with_len a n (q - a) q (omega arith) ∙ (let e : a + (q - a) ≡ q = omega arith in e))
-
 pub rising_inside : (a n lo : ℕ) (places : List ℕ) → a ≤ lo → Rises lo (a + n) places → AllByRecursion (Contains (range_with_len a n)) places
 rising_inside a n lo [] from rises = tt
 rising_inside a n lo (p ∷ places) from (first, rest) =
-    (in_range_with_len a n p (omega arith) (omega (arith, rising_below (suc p) (a + n) places rest)), rising_inside a n (suc p) places (omega arith) rest)
+    (Contains-range a n p (omega arith) (omega (arith, rising_below (suc p) (a + n) places rest)), rising_inside a n (suc p) places (omega arith) rest)
 
 -- a stretch seen otherwise
 pub comes_map : (m : Machine) (Way Goal Way' Goal' : m.State → Type 0) (places : List m.Place) (s : m.State)
@@ -302,7 +299,7 @@ module _ (code : Labelled) (formed : IsFormed code) (addresses : ℕ → ℕ) (g
       → (Now (k + 1) out input (does_r i r w) (does_w i r w) (moved c i) → Walk n (k + 1) hi out Late Goal (Running (moved c i)))
       → Walk (suc n) lo hi out Late Goal (Running c)
   walk_one i n k lo hi out input Goal r w c now stands safe from goes =
-      let fits = (holds_at (IsFormedLine (length code.lines)) code.lines k (lines.Ordinary i) formed stands).1 in
+      let fits = (All_at (IsFormedLine (length code.lines)) code.lines k (lines.Ordinary i) formed stands).1 in
       walk_step n lo hi out Goal c (Running (moved c i)) (omega (arith, from, now.at_line)) now.output refl
       (λ next step. performed globals stack c r w now.view i next safe (performs_now k out input r w c i next now stands (safe_ordinary globals stack i r safe) step))
       (walk_from n (suc c.line) (k + 1) hi out Goal (Running (moved c i)) (omega (arith, now.at_line))
@@ -543,7 +540,7 @@ module _ (code : Labelled) (formed : IsFormed code) (addresses : ℕ → ℕ) (g
   comes_block Late (i ∷ is) k out input Goal r w c now (stands, rest) (safe, others) goes =
       let ordinary_one = safe_ordinary globals stack i r safe in
       let view = moved_view globals stack c r w now.view i safe in
-      let fits = (holds_at (IsFormedLine (length code.lines)) code.lines k (lines.Ordinary i) formed stands).1 in (
+      let fits = (All_at (IsFormedLine (length code.lines)) code.lines k (lines.Ordinary i) formed stands).1 in (
         now.at_line,
         inl (refl, now.output, now.input),
         λ next step.

@@ -1,8 +1,9 @@
 -- Lines that are made piece by piece.
-use Rattle.std.proofs.Common.{◌≡◌, ℕ, suc, ◌+◌, ◌-◌, ◌*◌, ◌<◌, List, [], ◌∷◌, ◌++◌, length, drop, refl, sym, ap, ◌∙◌, append_assoc, arith}
+use Rattle.std.proofs.Common.{◌≡◌, ℕ, suc, ◌+◌, ◌-◌, ◌*◌, ◌<◌, List, [], ◌∷◌, ◌++◌, length, drop, refl, ap, ◌∙◌, arith}
 use Rattle.std.specs.Prelude.{sum_by}
 use Rattle.std.proofs.lemmas.List.{append-nil, drop_more}
 use Rattle.std.proofs.lemmas.List.Sums.{sum_by-drop_more}
+use Rattle.cyc_words.proofs.Lists.{append_goes_on}
 use Rattle.cyc_isa.specs.declared.instr.Instr.{Instr}
 use Rattle.cyc_plain.specs.declared.instruction.Operand.TheVariants as operands
 use Rattle.cyc_frame.specs.inside.Frame.{Frame}
@@ -14,11 +15,6 @@ use Rattle.cyc_select.specs.declared.code.Line.TheVariants as lines
 use Rattle.cyc_select.specs.declared.code.Line.{Line}
 use Rattle.cyc_select.specs.inside.Selection.{arriving, load, store, saves_from, restores_from, value_register, pass, copies, spill, spills, move_to, moves, reload, reloads_from, ordinary}
 use Rattle.cyc_select.proofs.relation.Arriving.{reloads_next, arriving_all}
-
--- what comes next is made, and the rest of the whole is left
-pub rest_goes_on : {A : Type 0} (all old new next rest whole : List A) → new ≡ old ++ next → whole ≡ next ++ rest → old ++ whole ≡ all → new ++ rest ≡ all
-rest_goes_on {A} all old new next rest whole is parts before =
-    ap (λ (l : List A). l ++ rest) is ∙ append_assoc old next rest ∙ ap (λ (l : List A). old ++ l) (sym parts) ∙ before
 
 ordinary_append : (is js : List Instr) → ordinary (is ++ js) ≡ ordinary is ++ ordinary js
 ordinary_append [] js = refl
@@ -34,7 +30,7 @@ moved_next frame destination source count word all old new below is before =
     let left : count - word ≡ suc (count - (word + 1)) = omega (arith, below) in
     let to : suc (destination + word) ≡ destination + (word + 1) = omega arith in
     let from : suc (source + word) ≡ source + (word + 1) = omega arith in
-    rest_goes_on all old new (ordinary one) (ordinary (moves frame (destination + (word + 1)) (source + (word + 1)) (count - (word + 1))))
+    append_goes_on all old new (ordinary one) (ordinary (moves frame (destination + (word + 1)) (source + (word + 1)) (count - (word + 1))))
     (ordinary (moves frame (destination + word) (source + word) (count - word))) is
     (ap (λ (n : ℕ). ordinary (moves frame (destination + word) (source + word) n)) left
     ∙ ordinary_append one (moves frame (suc (destination + word)) (suc (source + word)) (count - (word + 1)))
@@ -52,7 +48,7 @@ copied caller callee source slot count all old new below is before =
     let left : count - slot ≡ suc (count - (slot + 1)) = omega (arith, below) in
     let from : suc (source + slot) ≡ source + (slot + 1) = omega arith in
     let to : suc slot ≡ slot + 1 = omega arith in
-    rest_goes_on all old new (ordinary one) (ordinary (copies caller callee (source + (slot + 1)) (slot + 1) (count - (slot + 1))))
+    append_goes_on all old new (ordinary one) (ordinary (copies caller callee (source + (slot + 1)) (slot + 1) (count - (slot + 1))))
     (ordinary (copies caller callee (source + slot) slot (count - slot))) is
     (ap (λ (n : ℕ). ordinary (copies caller callee (source + slot) slot n)) left
     ∙ ordinary_append one (copies caller callee (suc (source + slot)) (suc slot) (count - (slot + 1)))
@@ -70,7 +66,7 @@ spilled_next caller callee source count slot all old new below is before =
     let left : count - slot ≡ suc (count - (slot + 1)) = omega (arith, below) in
     let from : suc (source + slot) ≡ source + (slot + 1) = omega arith in
     let to : suc slot ≡ slot + 1 = omega arith in
-    rest_goes_on all old new (ordinary one) (ordinary (spills caller callee (source + (slot + 1)) (slot + 1) (count - (slot + 1))))
+    append_goes_on all old new (ordinary one) (ordinary (spills caller callee (source + (slot + 1)) (slot + 1) (count - (slot + 1))))
     (ordinary (spills caller callee (source + slot) slot (count - slot))) is
     (ap (λ (n : ℕ). ordinary (spills caller callee (source + slot) slot n)) left
     ∙ ordinary_append one (spills caller callee (suc (source + slot)) (suc slot) (count - (slot + 1)))
@@ -87,7 +83,7 @@ saves_next frame number all old new below is before =
     let one : List Instr = store (FIRST_PRESERVED + number) (4 * (frame.first_saved + number)) ∷ [] in
     let left : frame.saved - number ≡ suc (frame.saved - (number + 1)) = omega (arith, below) in
     let to : suc number ≡ number + 1 = omega arith in
-    rest_goes_on all old new (ordinary one) (ordinary (saves_from frame.first_saved (number + 1) (frame.saved - (number + 1))))
+    append_goes_on all old new (ordinary one) (ordinary (saves_from frame.first_saved (number + 1) (frame.saved - (number + 1))))
     (ordinary (saves_from frame.first_saved number (frame.saved - number))) is
     (ap (λ (n : ℕ). ordinary (saves_from frame.first_saved number n)) left
     ∙ ap (λ (n : ℕ). ordinary one ++ ordinary (saves_from frame.first_saved n (frame.saved - (number + 1)))) to)
@@ -102,7 +98,7 @@ restores_next frame number all old new below is before =
     let one : List Instr = load (FIRST_PRESERVED + number) (4 * (frame.first_saved + number)) ∷ [] in
     let left : frame.saved - number ≡ suc (frame.saved - (number + 1)) = omega (arith, below) in
     let to : suc number ≡ number + 1 = omega arith in
-    rest_goes_on all old new (ordinary one) (ordinary (restores_from frame.first_saved (number + 1) (frame.saved - (number + 1))))
+    append_goes_on all old new (ordinary one) (ordinary (restores_from frame.first_saved (number + 1) (frame.saved - (number + 1))))
     (ordinary (restores_from frame.first_saved number (frame.saved - number))) is
     (ap (λ (n : ℕ). ordinary (restores_from frame.first_saved number n)) left
     ∙ ap (λ (n : ℕ). ordinary one ++ ordinary (restores_from frame.first_saved n (frame.saved - (number + 1)))) to)
@@ -126,7 +122,7 @@ pub arrived_next : (frame : Frame) (slot : ℕ) (all old new : List Line) → ne
 arrived_next frame slot all old new is before =
     let next : suc slot ≡ slot + 1 = omega arith in
     let one : List Instr = reload frame (home_of (arriving frame) slot) slot in
-    rest_goes_on all old new (ordinary one) (ordinary (reloads_from frame (slot + 1) (drop (slot + 1) (arriving frame)))) (ordinary (reloads_from frame slot (drop slot (arriving frame)))) is
+    append_goes_on all old new (ordinary one) (ordinary (reloads_from frame (slot + 1) (drop (slot + 1) (arriving frame)))) (ordinary (reloads_from frame slot (drop slot (arriving frame)))) is
     (ap ordinary (reloads_next frame (arriving frame) slot slot)
     ∙ ordinary_append one (reloads_from frame (suc slot) (drop (suc slot) (arriving frame)))
     ∙ ap (λ (n : ℕ). ordinary one ++ ordinary (reloads_from frame n (drop n (arriving frame)))) next)

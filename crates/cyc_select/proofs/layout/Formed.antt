@@ -1,11 +1,13 @@
 -- Each line of the code is formed, and each part has few words.
 use Rattle.std.proofs.Common.{◌≡◌, ℕ, zero, suc, ◌+◌, ◌-◌, ◌*◌, ◌/◌, ◌%◌, ◌^◌, ◌<◌, ◌≤◌, Bool, true, false, List, [], ◌∷◌, ◌++◌, length, take, Option, None, Some, slice_get, refl, sym, ap, subst, ◌∙◌, arith, inl, inr}
-use Rattle.std.specs.Prelude.{All, ◌==◌, ◌&&◌, nat_lt, if◌then◌else◌, slice_index_or}
+use Rattle.std.specs.Prelude.{◌==◌, ◌&&◌, nat_lt, if◌then◌else◌, slice_index_or}
 use Rattle.std.specs.List.{AllByRecursion}
 use Rattle.std.proofs.lemmas.Bool.{cases_Bool, cases_lt, eqb-true, ltb-true, false≢true}
 use Rattle.std.proofs.lemmas.List.{get_or_past}
 use Rattle.cyc_words.specs.Word.{IsWord}
 use Rattle.cyc_words.proofs.Lists.{slice_get_below, all_append}
+use Rattle.cyc_words.proofs.Members.{All_from_recursion, All_at}
+use Rattle.cyc_words.proofs.Items.{below_from_slice_get}
 use Rattle.cyc_plain.specs.declared.limits.TheConstants.{MOST_FRAME_WORDS}
 use Rattle.cyc_registers.specs.inside.Bars.{is_crossing}
 use Rattle.cyc_isa.specs.declared.instr.Instr.{Instr}
@@ -30,7 +32,7 @@ use Rattle.cyc_plain.specs.declared.instruction.Request.{Request}
 use Rattle.cyc_plain.specs.declared.instruction.Request.TheVariants as requests
 use Rattle.cyc_plain.specs.inside.Requests.{first_operand, second_operand, answer_count, destination_of}
 use Rattle.cyc_plain.specs.inside.WellFormed.{IsOperand, IsArgument, IsInRange, IsWellFormed, HasWords, IsOfWord, IsArgumentOfWord, HasWord, leaves}
-use Rattle.cyc_plain.proofs.Placed.{holds_at, routine_in, below_of_get, goes_behind, has_code}
+use Rattle.cyc_plain.proofs.Placed.{routine_in, goes_behind, has_code}
 use Rattle.cyc_plain.proofs.Steps.{function_known}
 use Rattle.cyc_frame.specs.inside.Layout.{AreFrames, frame_at, slot_word}
 use Rattle.cyc_frame.specs.inside.Frame.{Frame}
@@ -64,15 +66,10 @@ use Rattle.cyc_select.proofs.effects.Walks.{Stands, stands_front}
 
 -- ---- lists
 
-all_by_recursion : {X : Type 0} (P : X → Type 0) (xs : List X) → AllByRecursion P xs → All P xs
-all_by_recursion P [] all k d below = absurd (omega arith)
-all_by_recursion P (x ∷ xs) (one, rest) zero d below = one
-all_by_recursion P (x ∷ xs) (one, rest) (suc k) d below = all_by_recursion P xs rest k d (omega arith)
-
 -- what stands lies within the code
 pub within_code : (code : Labelled) (n : ℕ) (ls : List Line) → 0 < length ls → Stands code n ls → n + length ls ≤ length code.lines
 within_code code n [] some stands = absurd (omega (arith, some))
-within_code code n (l ∷ []) some (first, rest) = omega (arith, below_of_get code.lines n l first)
+within_code code n (l ∷ []) some (first, rest) = omega (arith, below_from_slice_get code.lines n l first)
 within_code code n (l ∷ m ∷ ls) some (first, rest) = omega (arith, within_code code (n + 1) (m ∷ ls) (omega arith) rest)
 
 -- ---- over all parts of the code
@@ -114,7 +111,7 @@ some_either false m n first second = second
 -- what an instruction of the program names is there
 pub range_at : (program : Program) → IsWellFormed program → (place : CodePlace) (i : Instruction) → instruction_at program place ≡ Some i → IsInRange program (routine_at program place.function) i
 range_at program well place i at =
-    holds_at (IsInRange program (routine_at program place.function)) (routine_at program place.function).code place.index i
+    All_at (IsInRange program (routine_at program place.function)) (routine_at program place.function).code place.index i
     (routine_in program place.function well (function_known program place i at)).instructions at
 
 pub count_some : (program : Program) (frames : List Frame) (function : ℕ) (i : Instruction) → IsInRange program (routine_at program function) i → 0 < body_count program frames function i
@@ -593,7 +590,7 @@ module _ (program : Program) (well : IsWellFormed program) (words : HasWords pro
           let line : ℕ = instruction_line program frames function target in
           let begins = its.first (instruction_line program frames function target) in
           (subst Formed begins.1
-          (straight_formed its.i line its.straight (range_at program well (record { function = function; index = target }) its.i its.at) (holds_at HasWord (routine_at program function).code target its.i (words.functions function no_routine known) its.at)
+          (straight_formed its.i line its.straight (range_at program well (record { function = function; index = target }) its.i its.at) (All_at HasWord (routine_at program function).code target its.i (words.functions function no_routine known) its.at)
           (line_known function target its.i its.at its.busy))).0
 
       behind_known : instruction_line program frames function target + 1 < length (select_of program frames).lines
@@ -767,7 +764,7 @@ module _ (program : Program) (well : IsWellFormed program) (words : HasWords pro
       go : (b : Bool) → is_idle (frame_at frames function) index i ≡ b → Formed (if b then [] else body program frames function n i)
       go true idle = tt
       go false busy =
-          body_formed function known i n (range_at program well (record { function = function; index = index }) i at) (holds_at HasWord (routine_at program function).code index i (words.functions function no_routine known) at)
+          body_formed function known i n (range_at program well (record { function = function; index = index }) i at) (All_at HasWord (routine_at program function).code index i (words.functions function no_routine known) at)
           (omega (arith, here, line_known function index i at busy))
 
   function_formed : (function n : ℕ) → function < length program.functions → n ≡ function_line program frames function → Formed (routine_lines program frames function n (routine_at program function))
@@ -785,7 +782,7 @@ module _ (program : Program) (well : IsWellFormed program) (words : HasWords pro
 
   pub formed : IsFormed (select_of program frames)
   formed =
-      all_by_recursion (IsFormedLine (length (select_of program frames).lines)) (start_lines program frames ++ function_lines program frames 0 START_LINES program.functions)
+      All_from_recursion (IsFormedLine (length (select_of program frames).lines)) (start_lines program frames ++ function_lines program frames 0 START_LINES program.functions)
       (all_append (IsFormedLine (length (select_of program frames).lines)) (start_lines program frames) (function_lines program frames 0 START_LINES program.functions)
       ((refl, (omega arith)), ((refl, (omega arith)), ((refl, tt), ((refl, tt), ((refl, (omega arith)), (function_known_line program.main well.main, tt))))))
       (functions_all program frames (IsFormedLine (length (select_of program frames).lines)) 0 START_LINES program.functions

@@ -3,7 +3,8 @@ use Rattle.std.proofs.Common.{◌≡◌, ℕ, zero, suc, ◌+◌, ◌-◌, ◌<�
 use Rattle.std.specs.Prelude.{slice_index_or, flat_map, IsSomeAnd}
 use Rattle.std.specs.List.{range_with_len}
 use Rattle.std.proofs.lemmas.Grind.{flat_map-append}
-use Rattle.cyc_words.proofs.Lists.{slice_get_below}
+use Rattle.cyc_words.proofs.Lists.{slice_get_below, take_whole}
+use Rattle.cyc_words.proofs.Ranges.{range_append}
 use Rattle.cyc_plain.specs.declared.instruction.Instruction.{Instruction}
 use Rattle.cyc_plain.specs.declared.instruction.Instruction.TheVariants as plain
 use Rattle.cyc_plain.specs.inside.Program.{Routine, Program, CodePlace, no_routine, routine_at, places_from, places_of}
@@ -16,16 +17,6 @@ use Rattle.cyc_select.proofs.layout.Formed.{few_results}
 use Rattle.cyc_select.proofs.layout.Lines.{line_next, line_first}
 use Rattle.cyc_select.proofs.runs.Runs.{behind_of, previous_count, body_of, own_of, previous_fits}
 use Rattle.cyc_select.proofs.layout.Structure.{length_functions}
-
-pub range_append : (a n m : ℕ) → range_with_len a n ++ range_with_len (a + n) m ≡ range_with_len a (n + m)
-range_append a zero m =
-    let here : a + 0 ≡ a = omega arith in
-    let long : 0 + m ≡ m = omega arith in
-    ap (λ (x : ℕ). range_with_len x m) here ∙ ap (range_with_len a) (sym long)
-range_append a (suc n) m =
-    let there : a + suc n ≡ a + 1 + n = omega arith in
-    let long : suc n + m ≡ suc (n + m) = omega arith in
-    ap (λ (l : List ℕ). a ∷ l) (ap (λ (x : ℕ). range_with_len (a + 1) n ++ range_with_len x m) there ∙ range_append (a + 1) n m) ∙ ap (range_with_len a) (sym long)
 
 leaving_counts_none : (program : Program) (frames : List Frame) (function : ℕ) (i : Instruction) → leaves i ≡ true → behind_count program frames function i ≡ 0
 leaving_counts_none program frames function (plain.Call callee arguments count result) last = absurd (let e : false ≡ true = last in cc)
@@ -57,10 +48,6 @@ leaving_counts_none program frames function (plain.Enter callee) last = refl
 some_last_leaves : (r : Routine) (i : Instruction) → IsSomeAnd (slice_get r.code (length r.code - 1)) (λ j. leaves j ≡ true) → slice_get r.code (length r.code - 1) ≡ Some i → leaves i ≡ true
 some_last_leaves r i last at = subst (λ (o : Option Instruction). IsSomeAnd o (λ j. leaves j ≡ true)) at last
 
-take_all : {X : Type 0} (xs : List X) → take (length xs) xs ≡ xs
-take_all [] = refl
-take_all (x ∷ xs) = ap (λ (l : List _). x ∷ l) (take_all xs)
-
 functions_parts_next : (program : Program) (frames : List Frame) (first : ℕ) (routines : List Routine) (k : ℕ) → k < length routines
     → functions_count program frames first (take (suc k) routines) ≡ functions_count program frames first (take k routines) + function_count program frames (first + k) (slice_index_or routines k no_routine)
 functions_parts_next program frames first [] k below = absurd (omega arith)
@@ -85,7 +72,7 @@ module _ (program : Program) (well : IsWellFormed program) (frames : List Frame)
   first_of function index = instruction_line program frames function index - previous_count program frames function (routine_at program function).code index
 
   last_line : (function : ℕ) → instruction_line program frames function (length (routine_at program function).code) ≡ end_of function
-  last_line function = omega (arith, ap (code_count program frames function 0) (take_all (routine_at program function).code))
+  last_line function = omega (arith, ap (code_count program frames function 0) (take_whole (routine_at program function).code))
 
   last_previous : (function : ℕ) → function < length program.functions → (k : ℕ) → k ≡ length (routine_at program function).code → previous_count program frames function (routine_at program function).code k ≡ 0
   last_previous function known zero is = absurd (omega (arith, is, has_code program (routine_at program function) (routine_in program function well known)))

@@ -1,11 +1,12 @@
 -- The code that is selected is the program's, and has a place in the machine's memory.
-use Rattle.std.proofs.Common.{◌≡◌, ℕ, ◌+◌, ◌<◌, ◌≤◌, List, [], ◌∷◌, length, map, refl, sym, ap, arith}
+use Rattle.std.proofs.Common.{◌≡◌, ℕ, ◌+◌, ◌<◌, ◌≤◌, List, length, map, refl, sym, ap, arith}
 use Rattle.std.specs.Prelude.{sum_by, flat_map}
 use Rattle.std.specs.List.{range_with_len}
-use Rattle.std.proofs.lemmas.List.Sums.{sum_by-cons, sum_by-append}
+use Rattle.std.proofs.lemmas.List.Sums.{sum_by-append}
 use Rattle.cyc_plain.specs.inside.Program.{Program, CodePlace, routine_at, size}
 use Rattle.cyc_plain.specs.inside.WellFormed.{IsWellFormed, HasWords, IsPlain}
 use Rattle.cyc_words.proofs.Prices.{sum_by-flat_map}
+use Rattle.cyc_words.proofs.Sums.{sum_by-map}
 use Rattle.cyc_frame.specs.inside.Frame.{Frame}
 use Rattle.cyc_frame.specs.inside.Layout.{frame_at, AreFrames}
 use Rattle.cyc_select.specs.declared.constants.TheConstants.{MAX_START_WORDS, START_LINES}
@@ -19,11 +20,6 @@ use Rattle.cyc_select.proofs.runs.Runs.{own_of}
 use Rattle.cyc_select.proofs.emission.Sizes.{words_range, routine_words, functions_words}
 use Rattle.cyc_select.proofs.runs.Start.{follows, main_place, main_below}
 use Rattle.cyc_select.proofs.layout.Structure.{length_body, length_routine, stand, stand_saving, stand_function, starts}
-
--- a sum over mapped places
-sum_by-map : {X Y : Type 0} (price : Y → ℕ) (f : X → Y) (xs : List X) → sum_by price (map f xs) ≡ sum_by (λ x. price (f x)) xs
-sum_by-map price f [] = refl
-sum_by-map price f (x ∷ xs) = omega (arith, sum_by-cons price (f x) (map f xs), sum_by-cons (λ y. price (f y)) x xs, sum_by-map price f xs)
 
 module _ (program : Program) (well : IsWellFormed program) (words : HasWords program) (frames : List Frame) (fit : AreFrames program frames) where
   few_own : (function : ℕ) → function < length program.functions

@@ -4,6 +4,7 @@ use Rattle.cyc_plain.specs.inside.Uses.{is_slot, reads}
 use Rattle.cyc_machine.specs.State.{globals_length, words_per_call}
 use Rattle.cyc_isa.specs.Effect.{memory_address}
 use Rattle.cyc_words.specs.Word.{IsWord}
+use Rattle.cyc_words.proofs.Numbers.{eqb_itself}
 use Rattle.cyc_plain.specs.declared.instruction.Instruction.{Instruction}
 use Rattle.cyc_plain.specs.declared.instruction.Operand.{Operand}
 use Rattle.cyc_plain.specs.declared.instruction.Operand.TheVariants as operands
@@ -22,7 +23,7 @@ use Rattle.cyc_select.specs.inside.Selection.{slot_offset, value_register, instr
 use Rattle.cyc_select.proofs.values.Computing.{HeldIn, IsHeld}
 use Rattle.cyc_select.proofs.relation.Matches.{At}
 use Rattle.cyc_select.proofs.relation.Standing.{Standing, slot_cell, slot_word_is, stage_of}
-use Rattle.cyc_select.proofs.relation.Values.{Caches, memory_kept, itself}
+use Rattle.cyc_select.proofs.relation.Values.{Caches, memory_kept}
 use Rattle.cyc_select.proofs.effects.Views.{Contents}
 use Rattle.cyc_registers.specs.inside.Liveness.{IsLiveAt}
 
@@ -61,7 +62,7 @@ module _ (program : Program) (well : IsWellFormed program) (frames : List Frame)
   pub operand_held : (i : Instruction) → instruction_at program (states.place_of (states.Running c)) ≡ Some i → (o : Operand) → Uses i o
       → IsOperand (routine_at program c.active.function) o × IsOfWord o → Held o
   operand_held i at_i (operands.Slot number) used (below, fits) =
-      slot_held (value_register frame number) number refl below (0, (i, at_i, used number (itself number)))
+      slot_held (value_register frame number) number refl below (0, (i, at_i, used number (eqb_itself number)))
   operand_held i at_i (operands.Word word) used (below, fits) = fits
 
   held_word : (o : Option ℕ) (slot : ℕ) → HeldIn globals_length (words_per_call * calls) o (frame_at frames c.active.function) (r FRAME) w r c.active.slots slot → IsWord (c.active.slots slot)

@@ -7,13 +7,15 @@ use Rattle.cyc_words.specs.Word.{IsWord}
 use Rattle.cyc_words.specs.Demand.{region_pages, demand_of}
 use Rattle.cyc_words.proofs.Booleans.{and_right, and_left}
 use Rattle.cyc_words.proofs.Numbers.{when_equal}
+use Rattle.cyc_words.proofs.Lists.{all_append}
+use Rattle.cyc_words.proofs.Options.{same_from_some}
 use Rattle.cyc_store.specs.State.{lookup, changed, without, Block, address_of, Sort, Lexical, Dynamic, Home, handle_of, empty_home, down_to, StoreState, homes, covers, Holder, holder_in, or_else, holder, word_in, word_at, saved, sizes_of, sizes_in, demand, is_lexical, lexical_count, with_block, made_in, made_unique, IsNew}
 use Rattle.cyc_store.specs.State as stores
 use Rattle.cyc_store.specs.Services as services
 use Rattle.cyc_store.specs.Services.{Call, OpenLexical, CloseTo, OpenDynamic, CloseDynamic, Allocate, Free, Refusal, BadMark, BadHandle, is_dynamic, names_dynamic, refusal, served, answer, made, block_of, IsPlaced, MayChoose, ServesBy}
 use Rattle.cyc_store.specs.Soundness.{IsSound}
 use Rattle.cyc_store.specs.declared.range.TheConstants.{STORE_BASE, PAGE_WORDS, MOST_PAGES, UNIQUE}
-use Rattle.cyc_store.proofs.LookupLemmas.{IsPart, is_empty, is_left, is_kept, IsPart-without, when_other, same_some}
+use Rattle.cyc_store.proofs.LookupLemmas.{IsPart, is_empty, is_left, is_kept, IsPart-without, when_other}
 use Rattle.cyc_store.proofs.HolderLemmas.{IsPart-down_to}
 use Rattle.cyc_store.proofs.KeptClosing.{lexical-without}
 use Rattle.cyc_store.proofs.KeptServices.{lexical-length, pages-some}
@@ -28,10 +30,6 @@ abbrev pub ArePlaced : (pages : ℕ) → List Home → Type 0
 ArePlaced pages rs = AllByRecursion (λ (r : Home). AllByRecursion (IsPlaced pages) r.blocks) rs
 
 module _ {A : Type 0} (P : A → Type 0) where
-  all_end : (xs : List A) (x : A) → AllByRecursion P xs → P x → AllByRecursion P (xs ++ x ∷ [])
-  all_end [] x all one = (one, tt)
-  all_end (y ∷ xs) x all one = (all.0, all_end xs x all.1 one)
-
   all_part : {xs ys : List A} → IsPart xs ys → AllByRecursion P ys → AllByRecursion P xs
   all_part is_empty all = tt
   all_part (is_left part) all = all_part part all.1
@@ -51,22 +49,22 @@ made_placed : (pages : ℕ) (s : StoreState) (h : ℕ) (b : Block) → IsPlaced 
 made_placed pages s h b placed all = go (h == UNIQUE)
   where
     go : (unique : Bool) → ArePlaced pages (homes (if unique then made_unique s b else made_in s h b))
-    go true = (all_end (IsPlaced pages) s.unique b all.0 placed, all.1)
+    go true = (all_append (IsPlaced pages) s.unique (b ∷ []) all.0 (placed, tt), all.1)
     go false = (
       all.0,
       all_changed (λ (r : Home). AllByRecursion (IsPlaced pages) r.blocks) handle_of (with_block b) s.regions h
-          (λ r each. all_end (IsPlaced pages) r.blocks b each placed) all.1,
+          (λ r each. all_append (IsPlaced pages) r.blocks (b ∷ []) each (placed, tt)) all.1,
     )
 
 -- a block that is made lies there, and nothing else comes
 served_placed : (pages : ℕ) (s : StoreState) (call : Call) (choice : services.Choice) → s.pages ≡ pages → MayChoose s call choice → ArePlaced pages (homes s)
     → ArePlaced pages (homes (served s call choice))
 served_placed pages s OpenLexical choice has may all =
-    (all.0, all_end (λ (r : Home). AllByRecursion (IsPlaced pages) r.blocks) s.regions (empty_home choice.handle Lexical) all.1 tt)
+    (all.0, all_append (λ (r : Home). AllByRecursion (IsPlaced pages) r.blocks) s.regions ((empty_home choice.handle Lexical) ∷ []) all.1 (tt, tt))
 served_placed pages s (CloseTo mark) choice has may all =
     (all.0, all_part (λ (r : Home). AllByRecursion (IsPlaced pages) r.blocks) (IsPart-down_to mark s.regions) all.1)
 served_placed pages s OpenDynamic choice has may all =
-    (all.0, all_end (λ (r : Home). AllByRecursion (IsPlaced pages) r.blocks) s.regions (empty_home choice.handle Dynamic) all.1 tt)
+    (all.0, all_append (λ (r : Home). AllByRecursion (IsPlaced pages) r.blocks) s.regions ((empty_home choice.handle Dynamic) ∷ []) all.1 (tt, tt))
 served_placed pages s (CloseDynamic handle) choice has may all =
     (all.0, all_part (λ (r : Home). AllByRecursion (IsPlaced pages) r.blocks) (IsPart-without handle_of s.regions handle) all.1)
 served_placed pages s (Allocate handle words) choice has may all =
@@ -89,7 +87,7 @@ block_inside pages address handle (b ∷ bs) h all found =
   where
     go : (is : Bool) → covers b address ≡ is → (holder_in handle bs address ≡ Some h → IsInside pages address h)
         → (if is then Some (holder_of handle b) else holder_in handle bs address) ≡ Some h → IsInside pages address h
-    go true inside later is = subst (IsInside pages address) (same_some is) (record { placed = all.0; inside = inside })
+    go true inside later is = subst (IsInside pages address) (same_from_some is) (record { placed = all.0; inside = inside })
     go false not later is = later is
 
 home_inside : (pages address : ℕ) (rs : List Home) (h : Holder) → ArePlaced pages rs → holder rs address ≡ Some h → IsInside pages address h

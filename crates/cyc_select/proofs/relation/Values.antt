@@ -1,9 +1,10 @@
 -- Values in registers: a register has its slot's word wherever the slot is live.
 use Rattle.std.proofs.Common.{◌≡◌, ◌≢◌, ℕ, zero, suc, ◌+◌, ◌-◌, ◌%◌, ◌<◌, ◌≤◌, Bool, true, false, List, [], ◌∷◌, length, Option, Some, None, refl, sym, ap, subst, ◌∙◌, arith, inl, inr}
-use Rattle.std.specs.Prelude.{◌⊎◌, ◌==◌, nat_le, nat_lt, sum_by}
-use Rattle.std.proofs.lemmas.Bool.{cases_eq, cases_lt, cases_Bool, eq-eqb, ne_eqb, le-leb, lt-ltb, leb-true, leb-false, ltb-true, ltb-false, and_parts, and_from, and_cases, false≢true}
+use Rattle.std.specs.Prelude.{◌⊎◌, nat_le, nat_lt, sum_by}
+use Rattle.std.proofs.lemmas.Bool.{cases_eq, cases_lt, cases_Bool, ne_eqb, le-leb, lt-ltb, leb-true, leb-false, ltb-true, ltb-false, and_parts, and_from, and_cases, false≢true}
 use Rattle.std.proofs.lemmas.List.{get_or_past}
 use Rattle.std.proofs.lemmas.List.Sums.{sum_by-cons}
+use Rattle.cyc_words.proofs.Numbers.{eqb_next}
 use Rattle.cyc_plain.specs.inside.Uses.{is_among, writes, leads}
 use Rattle.cyc_registers.specs.inside.Bars.{bars}
 use Rattle.cyc_isa.specs.Effect.{memory_address}
@@ -68,15 +69,6 @@ outside_among first count slot outside = go (is_among first count slot) refl
           | inr above ↦ absurd (omega (arith, above, ltb-true slot (first + count) parts.1))
         ]
 
-pub next_led : (index : ℕ) → (suc index == index + 1) ≡ true
-next_led index = eq-eqb (suc index) (index + 1) (omega arith)
-
-pub itself : (slot : ℕ) → (slot == slot) ≡ true
-itself slot = eq-eqb slot slot refl
-
-pub apart_from : (a b : ℕ) → b ≢ a → (a == b) ≡ false
-apart_from a b other = ne_eqb a b (λ same. other (sym same))
-
 -- ---- what is live
 
 -- registers have the words of their slots, where those are live
@@ -131,7 +123,7 @@ module _ (program : Program) (frames : List Frame) (function : ℕ) (right : Are
       only : (j : ℕ) → j < count → value_register (frame_at frames function) (destination + j) ≡ Some k → slot ≡ destination + j
       only j below there =
           right.made index (index + 1) slot (destination + j) k (plain.MoveWords destination source count) at
-          (among destination count (destination + j) (omega arith) (omega (arith, below))) (next_led index) there has wanted
+          (among destination count (destination + j) (omega arith) (omega (arith, below))) (eqb_next index) there has wanted
 
       go : (b : Bool) → is_among destination count slot ≡ b → r' k ≡ copied slots source count slots destination slot
       go true inside =
@@ -145,7 +137,7 @@ module _ (program : Program) (frames : List Frame) (function : ℕ) (right : Are
       go false outside =
           others k (right.low slot k has) (right.high slot k has)
           (λ i below there. absurd (false≢true (sym outside ∙ ap (is_among destination count) (only i below there) ∙ among destination count (destination + i) (omega arith) (omega (arith, below)))))
-          ∙ (caches slot k has (live_earlier index (index + 1) slot (plain.MoveWords destination source count) at (next_led index) outside wanted)
+          ∙ (caches slot k has (live_earlier index (index + 1) slot (plain.MoveWords destination source count) at (eqb_next index) outside wanted)
           ∙ sym (elim (not_among destination count slot outside) [
             | inl below ↦ copied-below slots slots source count destination slot below
             | inr above ↦ copied-above slots slots source count destination slot above

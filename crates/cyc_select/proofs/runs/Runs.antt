@@ -27,7 +27,9 @@ use Rattle.cyc_plain.specs.inside.Step.{IsAllowed, call_of, instruction_at, oper
 use Rattle.cyc_plain.specs.inside.WellFormed.{IsOperand, IsWellFormed, IsInRange, IsTryInRange, is_return, HasWords, IsOfWord, HasWord}
 use Rattle.cyc_words.proofs.SeenLemmas.{seen_same}
 use Rattle.cyc_words.proofs.Matching.{way_before, way_after}
-use Rattle.cyc_plain.proofs.Placed.{holds_at, routine_in, below_of_get, goes_behind}
+use Rattle.cyc_words.proofs.Members.{All_at}
+use Rattle.cyc_words.proofs.Items.{below_from_slice_get}
+use Rattle.cyc_plain.proofs.Placed.{routine_in, goes_behind}
 use Rattle.cyc_plain.proofs.RunLaws.{lawful, limited-within, limited_either, zeros, zeros_allowed, zeros_at, stuck_within}
 use Rattle.cyc_plain.proofs.Steps.{function_known}
 use Rattle.cyc_frame.specs.inside.Layout.{AreFrames, frame_at}
@@ -144,12 +146,12 @@ module _ (program : Program) (well : IsWellFormed program) (words : HasWords pro
 
   in_range_of : (function index : ℕ) (i : Instruction) → instruction_at program (record { function = function; index = index }) ≡ Some i → IsInRange program (routine_at program function) i
   in_range_of function index i at =
-      holds_at (IsInRange program (routine_at program function)) (routine_at program function).code index i
+      All_at (IsInRange program (routine_at program function)) (routine_at program function).code index i
       (routine_in program function well (function_known program (record { function = function; index = index }) i at)).instructions at
 
   word_of_it : (function index : ℕ) (i : Instruction) → instruction_at program (record { function = function; index = index }) ≡ Some i → HasWord i
   word_of_it function index i at =
-      holds_at HasWord (routine_at program function).code index i
+      All_at HasWord (routine_at program function).code index i
       (words.functions function no_routine (function_known program (record { function = function; index = index }) i at)) at
 
   range_of : (function index first handler : ℕ) → instruction_at program (record { function = function; index = index }) ≡ Some (plain.Try first handler) → IsTryInRange (routine_at program function) first handler
@@ -178,7 +180,7 @@ module _ (program : Program) (well : IsWellFormed program) (words : HasWords pro
       let rest : List Line = lines.Call (line + 6 + reload_count (frame_at frames function)) ∷ (caught ++ lines.Jump (instruction_line program frames function handler) ∷ opened) in
       let whole = stands_front code line (body program frames function line (plain.Try first handler)) [] (stand function index (plain.Try first handler) at) in
       record {
-        inside = below_of_get code.lines _ _ (caught_stands function index first handler at).0;
+        inside = below_from_slice_get code.lines _ _ (caught_stands function index first handler at).0;
         call = line + 2;
         label = line + 6 + reload_count (frame_at frames function);
         behind = omega arith;
@@ -294,7 +296,7 @@ module _ (program : Program) (well : IsWellFormed program) (words : HasWords pro
         go (states.Caught ∷ handlers) is records = absurd records
         go (states.Open index first contents ∷ handlers) is (one, others) =
             let none = (range_of c.active.function index first one.handler one.opened).no_return in
-            absurd (let e : true ≡ false = holds_at (λ (i : Instruction). is_return i ≡ false) (routine_at program c.active.function).code c.active.next (plain.Return value) none at in cc)
+            absurd (let e : true ≡ false = All_at (λ (i : Instruction). is_return i ≡ false) (routine_at program c.active.function).code c.active.next (plain.Return value) none at in cc)
 
     finish_goes : (value : ℕ) → IsAt (plain.Finish value) → IsInRange program (routine_at program c.active.function) (plain.Finish value) → StandsHere (plain.Finish value) → (handlers : List states.Handler) → c.active.handlers ≡ handlers
         → Goes (body_count program frames c.active.function (plain.Finish value))
@@ -475,7 +477,7 @@ module _ (program : Program) (well : IsWellFormed program) (words : HasWords pro
       (limited_either (IsLighter c) pages (limit_at program (states.Running c) calls) (states.Running c) (step program choice (states.Running c)) (λ within. subst (IsLighter c) (sym (ap (executed program choice c) at)) (performed_lighter i straight)) some)
     where
       some : 0 < length (routine_at program c.active.function).code - c.active.next
-      some = omega (arith, below_of_get (routine_at program c.active.function).code c.active.next i at)
+      some = omega (arith, below_from_slice_get (routine_at program c.active.function).code c.active.next i at)
 
       given_lighter : (destination word : ℕ) → IsLighter c (gives c destination word)
       given_lighter destination word = omega (arith, some)

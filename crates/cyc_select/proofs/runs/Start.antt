@@ -3,7 +3,7 @@ use Rattle.std.proofs.Common.{◌≡◌, ℕ, zero, suc, ◌+◌, ◌-◌, ◌*�
 use Rattle.std.specs.Prelude.{All, slice_index, slice_set, slice_index_or, unwrap_or, Option, None, ◌==◌, if◌then◌else◌}
 use Rattle.std.specs.List.{AllByRecursion, range_with_len}
 use Rattle.std.proofs.lemmas.Bool.{cases_lt, cases_eq}
-use Rattle.std.proofs.lemmas.List.{get_or-set_same, get_or-set_other, get_or_append_left, get_or-append_right, get_or-replicate, get_or_past, length-replicate}
+use Rattle.std.proofs.lemmas.List.{get_or-set_same, get_or-set_other, get_or_append_left, get_or-append_right, get_or_past, length-replicate}
 use Rattle.cyc_select.specs.declared.constants.TheConstants.{FRAME, FRAME_SHIFT, LOWEST, START_LINES, GLOBALS, GLOBALS_MIDDLE}
 use Rattle.cyc_machine.specs.declared.constants.TheConstants.{RETURN_ADDRESS}
 use Rattle.cyc_words.specs.Word.{IsWord, shl_of, sub_of}
@@ -28,6 +28,7 @@ use Rattle.cyc_plain.proofs.WordLaws.{bytes_are_words}
 use Rattle.cyc_words.proofs.SeenLemmas.{seen_same}
 use Rattle.cyc_words.proofs.Matching.{way_before}
 use Rattle.cyc_words.proofs.Simulation.{simulates}
+use Rattle.cyc_words.proofs.Items.{slice_index_zeros}
 use Rattle.cyc_frame.specs.inside.Layout.{AreFrames, frame_at}
 use Rattle.cyc_frame.specs.inside.Frame.{Frame}
 use Rattle.cyc_select.specs.declared.code.Line.TheVariants as lines
@@ -65,12 +66,6 @@ rising_all lo (suc n) (p ∷ places) (first, rest) enough =
 
 -- ---- words at the start
 
-zeros_are : (n k : ℕ) → slice_index (replicate n 0) k ≡ 0
-zeros_are n k = elim (cases_lt k n) [
-  | inl below ↦ get_or-replicate n k 0 0 below
-  | inr past ↦ get_or_past (replicate n 0) k 0 (omega (arith, past, length-replicate {A = ℕ} n 0))
-]
-
 set_words : (xs : List ℕ) (i v : ℕ) → ((n : ℕ) → IsWord (slice_index xs n)) → IsWord v → i < length xs → (n : ℕ) → IsWord (slice_index (slice_set xs i v) n)
 set_words xs i v all one below n = elim (cases_eq n i) [
   | inl same ↦ subst IsWord (sym (ap (slice_index (slice_set xs i v)) same ∙ get_or-set_same xs i v 0 below)) one
@@ -102,7 +97,7 @@ globals_hold globals n = elim (cases_lt n (length globals)) [
   | inl below ↦ get_or_append_left globals (replicate (globals_length - length globals) 0) 0 n below
   | inr past ↦
       get_or-append_right globals (replicate (globals_length - length globals) 0) (length globals) n 0 refl past
-      ∙ (zeros_are (globals_length - length globals) (n - length globals) ∙ sym (get_or_past globals n 0 past))
+      ∙ (slice_index_zeros (globals_length - length globals) (n - length globals) ∙ sym (get_or_past globals n 0 past))
 ]
 
 globals_of_long : (globals : List ℕ) → length globals ≤ globals_length → length (globals_of globals) ≡ globals_length
@@ -181,7 +176,7 @@ module _ (program : Program) (well : IsWellFormed program) (words : HasWords pro
       no_text : (n : ℕ) → IsWord (unwrap_or (slice_index_or (let none : List (Option ℕ) = [] in none) n None) 0)
       no_text n = omega arith
   is_word_at (InGlobals n) = subst IsWord (sym (global_is n)) (all_words program.globals words.globals n)
-  is_word_at (InStack n) = subst IsWord (sym (zeros_are (words_per_call * calls) n)) (let e : 0 < 2 ^ 32 = omega arith in e)
+  is_word_at (InStack n) = subst IsWord (sym (slice_index_zeros (words_per_call * calls) n)) (let e : 0 < 2 ^ 32 = omega arith in e)
   is_word_at (InStore a) = live_word store (new_words pages store new) a
   is_word_at Nowhere = omega arith
 
@@ -191,7 +186,7 @@ module _ (program : Program) (well : IsWellFormed program) (words : HasWords pro
   listed : (n : ℕ) → IsWord (slice_index (slice_set (slice_set (replicate 32 0) 4 calls) FRAME stack_end) n)
   listed =
       set_words (slice_set (replicate 32 0) 4 calls) FRAME stack_end
-      (set_words (replicate 32 0) 4 calls (λ n. subst IsWord (sym (zeros_are 32 n)) (let e : 0 < 2 ^ 32 = omega arith in e)) (omega (arith, few)) (omega arith))
+      (set_words (replicate 32 0) 4 calls (λ n. subst IsWord (sym (slice_index_zeros 32 n)) (let e : 0 < 2 ^ 32 = omega arith in e)) (omega (arith, few)) (omega arith))
       (omega arith) (omega arith)
 
   words_r : AreWords r
@@ -218,7 +213,7 @@ module _ (program : Program) (well : IsWellFormed program) (words : HasWords pro
   stack_zero : (a : ℕ) → a % 4 ≡ 0 → stack_end - 4 * (words_per_call * calls) ≤ a → a < stack_end → w.words a ≡ 0
   stack_zero a aligned from below =
       ap (loaded (memory_of run)) (place_of-stack (globals_of code.globals) (replicate (words_per_call * calls) 0) store a (omega (arith, long_globals)) (omega (arith, long_stack, few)) (aligned, (omega (arith, from, long_stack)), below))
-      ∙ zeros_are (words_per_call * calls) (word_number (stack_base (replicate (words_per_call * calls) 0)) a)
+      ∙ slice_index_zeros (words_per_call * calls) (word_number (stack_base (replicate (words_per_call * calls) 0)) a)
 
   global_word : (global : ℕ) → global < length program.globals → w.words (data_base + 4 * global) ≡ slice_index program.globals global
   global_word global below =

@@ -4,6 +4,7 @@ use Rattle.std.specs.Prelude.{◌||◌, ◌&&◌, if◌then◌else◌}
 use Rattle.std.proofs.lemmas.Bool.{and_from, eqb-true, or_left, or_right, or_parts}
 use Rattle.cyc_words.specs.Word.{IsWord, add_of, sign_extended}
 use Rattle.cyc_words.proofs.WordLemmas.{sign_extended_low}
+use Rattle.cyc_words.proofs.Numbers.{remainder_below_32, eqb_next}
 use Rattle.cyc_plain.specs.inside.Uses.{is_among, is_slot, leads, reads, writes}
 use Rattle.cyc_registers.specs.inside.Bars.{is_crossing}
 use Rattle.cyc_isa.specs.Effect.{memory_address}
@@ -46,7 +47,7 @@ use Rattle.cyc_select.proofs.steps.Returns.{same_slots, stored}
 use Rattle.cyc_select.proofs.steps.Simple.{Agrees, gets, gives_made}
 use Rattle.cyc_select.proofs.relation.Standing.{under_way, Standing, slot_cell, slot_word_is, standing_registers, standing_at, stage_of}
 use Rattle.cyc_select.proofs.relation.Places.{Sort, OfBlock, OfCell, IsWordAt, placed, walk_read, walk_write, is_found}
-use Rattle.cyc_select.proofs.relation.Values.{Caches, caches_past, moved_caches, unbarred, barred_kept, among, not_among, next_led}
+use Rattle.cyc_select.proofs.relation.Values.{Caches, caches_past, moved_caches, unbarred, barred_kept, among, not_among}
 use Rattle.cyc_select.proofs.effects.Views.{Contents, Width, OneWord, OneByte, load_op, store_op, word_place, loaded_part, stored_word}
 use Rattle.cyc_select.proofs.effects.Walks.{stored_is_word, Stands, stands_first, stands_behind, after_r, after_w, Walk, now_at, now_is, walk_end, walk_few, walk_from, walk_block}
 
@@ -123,9 +124,6 @@ module _ (globals stack : ℕ) (frame : Frame) (r : Words) (w : Contents) (slots
   are_taken (suc (suc (suc (suc count)))) few fits there = absurd (omega (arith, few))
 
 -- ---- addresses
-
-below_32 : (n : ℕ) → n % 32 < 32
-below_32 n = omega arith
 
 module _ (globals stack : ℕ) (frame : Frame) (base : ℕ) (w : Contents) (r slots : Words) (q : Words) (m : Contents) (zero_is : q ZERO ≡ 0) (same : q FRAME ≡ base) (memory : m ≡ w) (values : ValuesSame q r) where
   -- the address of a word of memory comes of a register and of the half in the instruction
@@ -276,7 +274,7 @@ module _ (program : Program) (well : IsWellFormed program) (frames : List Frame)
             (now_is code formed addresses globals_length (words_per_call * calls) (here + length is + length js) c.output c.input (after_r js q v) m q m f puts.1 refl later);
         standing = at_d;
         caches =
-            caches_past program frames c.active.function homes_right c.active.next (c.active.next + 1) r q c.active.slots there (plain.MoveWords destination source count) at_i (next_led c.active.next)
+            caches_past program frames c.active.function homes_right c.active.next (c.active.next + 1) r q c.active.slots there (plain.MoveWords destination source count) at_i (eqb_next c.active.next)
             (λ slot k has. (moved_apart destination source count at_i crossing slot k has).0) (λ slot k has. (moved_apart destination source count at_i crossing slot k has).1) (all_same q r take.keeps.values) caches;
       }))))))
 
@@ -479,7 +477,7 @@ module _ (program : Program) (well : IsWellFormed program) (frames : List Frame)
       let u : Contents = after_w js q v in
       let same : u ≡ w = keeps.memory ∙ reaches.keeps.memory in
       let comes : memory_address (p (register % 32)) (near_half offset) ≡ a =
-      ap (λ (x : ℕ). memory_address x (near_half offset)) (second.others (register % 32) (below_32 register) (not_in_second globals_length (words_per_call * calls) frame (r FRAME) w r c.active.slots r w s.zero_is refl refl (λ n low high. refl) address offset address_held)) ∙ reaches.comes in
+      ap (λ (x : ℕ). memory_address x (near_half offset)) (second.others (register % 32) (remainder_below_32 register) (not_in_second globals_length (words_per_call * calls) frame (r FRAME) w r c.active.slots r w s.zero_is refl refl (λ n low high. refl) address offset address_held)) ∙ reaches.comes in
       let its = is_found program well frames fit addresses pages calls few c r w base back (stage_of frames c) s place old found in
       let there_is : IsWordAt its.sort globals_length (words_per_call * calls) u (word_place width (memory_address (p (register % 32)) (near_half offset))) old =
       subst (λ (x : ℕ). IsWordAt its.sort globals_length (words_per_call * calls) u (word_place width x) old) (sym comes)
@@ -547,7 +545,7 @@ module _ (program : Program) (well : IsWellFormed program) (frames : List Frame)
         free = refl;
         needs = λ slot is. is;
         apart = λ slot. refl;
-        led = next_led c.active.next;
+        led = eqb_next c.active.next;
         does = λ old found. ap (saves program c (add_of (word_in address) offset) (word_in source)) found;
         count = omega arith;
       }
@@ -567,7 +565,7 @@ module _ (program : Program) (well : IsWellFormed program) (frames : List Frame)
         free = refl;
         needs = λ slot is. is;
         apart = λ slot. refl;
-        led = next_led c.active.next;
+        led = eqb_next c.active.next;
         does = λ old found. ap (saves_byte program c (add_of (word_in address) offset) (word_in source % 256)) found;
         count = omega arith;
       }

@@ -1,7 +1,7 @@
 -- Arguments on their way from a caller, by registers or from its frame, to the slots of the frame below it.
 use Rattle.std.proofs.Common.{◌≡◌, ◌≢◌, ℕ, zero, suc, ◌+◌, ◌%◌, ◌^◌, ◌<◌, ◌≤◌, Bool, true, false, List, [], ◌∷◌, ◌++◌, Option, Some, None, refl, sym, ap, subst, ◌∙◌, arith, inl, inr}
-use Rattle.std.specs.Prelude.{◌⊎◌, ◌==◌, ◌||◌, if◌then◌else◌}
-use Rattle.std.proofs.lemmas.Bool.{cases_eq, eqb-false, ne_eqb, false≢true}
+use Rattle.std.specs.Prelude.{◌⊎◌, ◌==◌, if◌then◌else◌}
+use Rattle.std.proofs.lemmas.Bool.{cases_eq, eqb-false, ne_eqb, false≢true, or_parts}
 use Rattle.cyc_words.specs.Word.{IsWord, add_of}
 use Rattle.cyc_plain.specs.declared.limits.TheConstants.{MOST_FRAME_WORDS}
 use Rattle.cyc_isa.specs.declared.instr.Instr.{Instr}
@@ -20,15 +20,10 @@ use Rattle.cyc_select.proofs.relation.Standing.{frame_size}
 use Rattle.cyc_select.proofs.relation.Values.{made_in_is}
 use Rattle.cyc_select.proofs.effects.Walks.{after_r, after_w, after_r-append, after_w-append, AreSafe}
 
--- an earlier parameter does not come by the register that an argument is passed from
-neither_parts : (a b : Bool) → (a || b) ≡ false → (a ≡ false) × (b ≡ false)
-neither_parts true b is = absurd (let e : true ≡ false = is in cc)
-neither_parts false b is = (refl, is)
-
 not_taken : (callee : Frame) (slot j k : ℕ) → j < slot → is_taken callee slot k ≡ false → made_in callee j ≢ k
 not_taken callee zero j k below free same = omega (arith, below)
 not_taken callee (suc slot) j k below free same =
-    let (before, last) = neither_parts (is_taken callee slot k) (made_in callee slot == k) free in
+    let (before, last) = or_parts (is_taken callee slot k) (made_in callee slot == k) free in
     elim (cases_eq j slot) [
       | inl here ↦ eqb-false (made_in callee slot) k last (ap (made_in callee) (sym here) ∙ same)
       | inr apart ↦ not_taken callee slot j k (omega (arith, below, apart)) before same

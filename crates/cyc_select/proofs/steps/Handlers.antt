@@ -3,6 +3,7 @@ use Rattle.std.proofs.Common.{◌≡◌, ℕ, suc, ◌+◌, ◌*◌, ◌<◌, �
 use Rattle.std.specs.Prelude.{◌==◌, if◌then◌else◌}
 use Rattle.std.proofs.lemmas.Bool.{or_left, false≢true}
 use Rattle.cyc_words.specs.Word.{IsWord, add_of, sign_extended}
+use Rattle.cyc_words.proofs.Numbers.{eqb_next}
 use Rattle.cyc_plain.specs.inside.Uses.{is_among}
 use Rattle.cyc_isa.specs.Effect.{memory_address}
 use Rattle.cyc_isa.specs.declared.instr.Instr.{Instr}
@@ -36,7 +37,7 @@ use Rattle.cyc_select.proofs.relation.Matches.{After, At, Landed, Reached, reach
 use Rattle.cyc_select.proofs.values.Operations.{add_small}
 use Rattle.cyc_select.proofs.steps.Requests.{are_stored}
 use Rattle.cyc_select.proofs.relation.Standing.{left_same, preserved_of, under_way, Stage, Lies, IsNewest, stage_of, saves_at, Standing, lies, slot_inside, slot_address, slot_cell, slot_word_is, standing_registers, standing_handlers, standing_at, standing_slot}
-use Rattle.cyc_select.proofs.relation.Values.{Caches, caches_past, barred_kept, unbarred, among, not_among, next_led, length_reloads, reloaded}
+use Rattle.cyc_select.proofs.relation.Values.{Caches, caches_past, barred_kept, unbarred, among, not_among, length_reloads, reloaded}
 use Rattle.cyc_select.proofs.effects.Views.{Contents, written}
 use Rattle.cyc_select.proofs.effects.Walks.{Stands, stands_front, stands_back, after_r, after_w, after_r-append, after_w-append, AreSafe, Walk, now_at, now_is, walk_end, walk_few, walk_block, walk_jump, walk_call}
 use Rattle.cyc_select.proofs.steps.Records.{record_words, recorded, recorded_is, holds_four}
@@ -213,7 +214,7 @@ module _ (program : Program) (well : IsWellFormed program) (frames : List Frame)
           now = now_at code formed addresses globals_length (words_per_call * calls) (here + 1) (instruction_line program frames c.active.function (c.active.next + 1)) c.output c.input q w d line later;
           standing = at_next;
           caches =
-              caches_past program frames c.active.function homes_right c.active.next (c.active.next + 1) r q c.active.slots c.active.slots (plain.Leave first) at_i (next_led c.active.next)
+              caches_past program frames c.active.function homes_right c.active.next (c.active.next + 1) r q c.active.slots c.active.slots (plain.Leave first) at_i (eqb_next c.active.next)
               (λ slot k has. refl) (λ slot k has. refl) (λ n low high. put-other r HANDLERS n _ (λ e. absurd (omega (arith, e, high)))) caches;
         })))))
 
@@ -410,7 +411,7 @@ module _ (program : Program) (well : IsWellFormed program) (frames : List Frame)
             standing = subst (λ (x : Stage). Standing program frames addresses pages calls opened_at r3 w3 base back x (copied contents 0 4 c.active.slots first)) (sym stored) ends_at;
             caches =
                 caches_past program frames c.active.function homes_right c.active.next (c.active.next + 1) r r3 c.active.slots (copied contents 0 4 c.active.slots first) (plain.Try first handler) at_i
-                (or_left (suc c.active.next == c.active.next + 1) (handler == c.active.next + 1) (next_led c.active.next))
+                (or_left (suc c.active.next == c.active.next + 1) (handler == c.active.next + 1) (eqb_next c.active.next))
                 (λ slot k has. unbarred program frames c.active.function homes_right c.active.next slot k (plain.Try first handler) at_i has)
                 (λ slot k has. record_apart slot (unbarred program frames c.active.function homes_right c.active.next slot k (plain.Try first handler) at_i has))
                 (λ n low high.

@@ -1,8 +1,10 @@
 -- The first line of a branch's target, in front of the branch: which line it is, and that it does there what it does at its place.
 use Rattle.std.proofs.Common.{◌≡◌, ◌≢◌, ℕ, ◌+◌, ◌%◌, ◌^◌, ◌<◌, ◌≤◌, Bool, true, false, not, List, [], ◌∷◌, ◌++◌, Option, Some, None, slice_get, append_assoc, refl, sym, ap, subst, ◌∙◌, arith, inl, inr}
 use Rattle.std.specs.Prelude.{◌⊎◌, ◌==◌, ◌&&◌, ◌||◌, nat_lt, if◌then◌else◌}
-use Rattle.std.proofs.lemmas.Bool.{and_parts, or_cases, or_parts, eqb-true, eqb-false, ne_eqb, false≢true}
+use Rattle.std.proofs.lemmas.Bool.{and_parts, or_cases, or_parts, eqb-true, eqb-false, ne_eqb, false≢true, not-true}
+use Rattle.std.proofs.lemmas.Option.{same_Some, none-some}
 use Rattle.cyc_words.specs.Ending.{Ending}
+use Rattle.cyc_words.proofs.Numbers.{eqb_itself}
 use Rattle.cyc_isa.specs.Effect.{branch_taken, branch_zero_taken}
 use Rattle.cyc_isa.specs.declared.instr.Instr.{Instr}
 use Rattle.cyc_isa.specs.declared.instr.Instr.TheVariants.{Immediate, LoadUpper, Shift, ShiftVariable, Arithmetic}
@@ -44,28 +46,22 @@ use Rattle.cyc_select.proofs.relation.Matches.{is_straight}
 
 -- ---- a line that makes a word of what is in registers
 
-equal_in_some : {X : Type 0} (a b : X) → Some a ≡ Some b → a ≡ b
-equal_in_some a b same = let e : Some a ≡ Some b = same in cc
-
-no_target : (k : ℕ) → None ≡ Some k → ⊥
-no_target k is = let e : None ≡ Some k = is in cc
-
 module _ (globals stack : ℕ) where
   pub pure_safe : (x : Instr) (k : ℕ) (r : Words) → target_of x ≡ Some k → (k == 0) ≡ false → IsSafe globals stack x r
-  pure_safe (Immediate op target source half) k r is writable = subst IsWritable (sym (equal_in_some target.number k is)) writable
-  pure_safe (LoadUpper target half) k r is writable = subst IsWritable (sym (equal_in_some target.number k is)) writable
-  pure_safe (Shift op destination source amount) k r is writable = subst IsWritable (sym (equal_in_some destination.number k is)) writable
-  pure_safe (ShiftVariable op destination source by) k r is writable = subst IsWritable (sym (equal_in_some destination.number k is)) writable
-  pure_safe (Arithmetic op destination left right) k r is writable = subst IsWritable (sym (equal_in_some destination.number k is)) writable
-  pure_safe x k r is writable = absurd (no_target k is)
+  pure_safe (Immediate op target source half) k r is writable = subst IsWritable (sym (same_Some target.number k is)) writable
+  pure_safe (LoadUpper target half) k r is writable = subst IsWritable (sym (same_Some target.number k is)) writable
+  pure_safe (Shift op destination source amount) k r is writable = subst IsWritable (sym (same_Some destination.number k is)) writable
+  pure_safe (ShiftVariable op destination source by) k r is writable = subst IsWritable (sym (same_Some destination.number k is)) writable
+  pure_safe (Arithmetic op destination left right) k r is writable = subst IsWritable (sym (same_Some destination.number k is)) writable
+  pure_safe x k r is writable = absurd (none-some k is)
 
 pub pure_others : (x : Instr) (k : ℕ) (r : Words) (w : Contents) → target_of x ≡ Some k → (n : ℕ) → n ≢ k → does_r x r w n ≡ r n
-pure_others (Immediate op target source half) k r w is n other = put-other r target.number n _ (λ e. other (e ∙ equal_in_some target.number k is))
-pure_others (LoadUpper target half) k r w is n other = put-other r target.number n _ (λ e. other (e ∙ equal_in_some target.number k is))
-pure_others (Shift op destination source amount) k r w is n other = put-other r destination.number n _ (λ e. other (e ∙ equal_in_some destination.number k is))
-pure_others (ShiftVariable op destination source by) k r w is n other = put-other r destination.number n _ (λ e. other (e ∙ equal_in_some destination.number k is))
-pure_others (Arithmetic op destination left right) k r w is n other = put-other r destination.number n _ (λ e. other (e ∙ equal_in_some destination.number k is))
-pure_others x k r w is n other = absurd (no_target k is)
+pure_others (Immediate op target source half) k r w is n other = put-other r target.number n _ (λ e. other (e ∙ same_Some target.number k is))
+pure_others (LoadUpper target half) k r w is n other = put-other r target.number n _ (λ e. other (e ∙ same_Some target.number k is))
+pure_others (Shift op destination source amount) k r w is n other = put-other r destination.number n _ (λ e. other (e ∙ same_Some destination.number k is))
+pure_others (ShiftVariable op destination source by) k r w is n other = put-other r destination.number n _ (λ e. other (e ∙ same_Some destination.number k is))
+pure_others (Arithmetic op destination left right) k r w is n other = put-other r destination.number n _ (λ e. other (e ∙ same_Some destination.number k is))
+pure_others x k r w is n other = absurd (none-some k is)
 
 pub pure_memory : (x : Instr) (k : ℕ) (r : Words) (w : Contents) → target_of x ≡ Some k → does_w x r w ≡ w
 pure_memory (Immediate op target source half) k r w is = refl
@@ -73,7 +69,7 @@ pure_memory (LoadUpper target half) k r w is = refl
 pure_memory (Shift op destination source amount) k r w is = refl
 pure_memory (ShiftVariable op destination source by) k r w is = refl
 pure_memory (Arithmetic op destination left right) k r w is = refl
-pure_memory x k r w is = absurd (no_target k is)
+pure_memory x k r w is = absurd (none-some k is)
 
 pub pure_ordinary : (x : Instr) (k : ℕ) → target_of x ≡ Some k → is_ordinary x ≡ true
 pure_ordinary (Immediate op target source half) k is = refl
@@ -81,7 +77,7 @@ pure_ordinary (LoadUpper target half) k is = refl
 pure_ordinary (Shift op destination source amount) k is = refl
 pure_ordinary (ShiftVariable op destination source by) k is = refl
 pure_ordinary (Arithmetic op destination left right) k is = refl
-pure_ordinary x k is = absurd (no_target k is)
+pure_ordinary x k is = absurd (none-some k is)
 
 pub pure_performs : (x : Instr) (k : ℕ) (c : Configuration) → target_of x ≡ Some k → Performs c x (Running (moved c x))
 pure_performs (Immediate op target source half) k c is = (Ran, after (machine_of c) (Immediate op target source half), (refl, refl), refl)
@@ -89,7 +85,7 @@ pure_performs (LoadUpper target half) k c is = (Ran, after (machine_of c) (LoadU
 pure_performs (Shift op destination source amount) k c is = (Ran, after (machine_of c) (Shift op destination source amount), (refl, refl), refl)
 pure_performs (ShiftVariable op destination source by) k c is = (Ran, after (machine_of c) (ShiftVariable op destination source by), (refl, refl), refl)
 pure_performs (Arithmetic op destination left right) k c is = (Ran, after (machine_of c) (Arithmetic op destination left right), (refl, refl), refl)
-pure_performs x k c is = absurd (no_target k is)
+pure_performs x k c is = absurd (none-some k is)
 
 -- a condition that does not ask for its register
 pub holds_beside : (condition : Condition) (k : ℕ) (q p : Words) → tests_register condition k ≡ false → ((n : ℕ) → n ≢ k → q n ≡ p n) → holds_of q condition ≡ holds_of p condition
@@ -136,7 +132,7 @@ starts_append : (is js : List Instr) (x : Instr) → Starts is x → Starts (is 
 starts_append is js x (rest, same) = (rest ++ js, ap (λ (l : List Instr). l ++ js) same)
 
 starts_one : (y x : Instr) (js : List Instr) → Some y ≡ Some x → Starts (y ∷ js) x
-starts_one y x js same = (js, ap (λ (z : Instr). z ∷ js) (equal_in_some y x same))
+starts_one y x js same = (js, ap (λ (z : Instr). z ∷ js) (same_Some y x same))
 
 no_line : (x : Instr) → None ≡ Some x → ⊥
 no_line x is = let e : None ≡ Some x = is in cc
@@ -154,7 +150,7 @@ word_starts target word = go (fits_signed word) (nat_lt word (2 ^ 16)) (word % 2
 
 word_code_starts : (target word : ℕ) (x : Instr) (js : List Instr) → Some (word_first target word) ≡ Some x → Starts (word_code target word ++ js) x
 word_code_starts target word x js same =
-    starts_append (word_code target word) js x (subst (Starts (word_code target word)) (equal_in_some (word_first target word) x same) (word_starts target word))
+    starts_append (word_code target word) js x (subst (Starts (word_code target word)) (same_Some (word_first target word) x same) (word_starts target word))
 
 module _ (frame : Frame) where
   operand_starts : (register : ℕ) (o : Operand) (behind : Option Instr) (js : List Instr) (x : Instr) → operand_first frame register o behind ≡ Some x → (behind ≡ Some x → Starts js x)
@@ -229,12 +225,8 @@ passes_if frame condition destination (Some y) x is = go (may_write frame condit
     register_of z (Some register) computes may = (register, computes, may)
 
     go : (b : Bool) → may_write frame condition destination (target_of y) ≡ b → (if b then Some y else None) ≡ Some x → (Some y ≡ Some x) × Passes frame condition destination x
-    go true may same = (same, subst (Passes frame condition destination) (equal_in_some y x same) (register_of y (target_of y) refl may))
+    go true may same = (same, subst (Passes frame condition destination) (same_Some y x same) (register_of y (target_of y) refl may))
     go false may none = absurd (no_line x none)
-
-is_not : (b : Bool) → not b ≡ true → b ≡ false
-is_not true is = absurd (false≢true is)
-is_not false is = refl
 
 module _ (program : Program) (frames : List Frame) (function target : ℕ) (condition : Condition) (x : Instr) where
   abbrev frame : Frame
@@ -243,19 +235,16 @@ module _ (program : Program) (frames : List Frame) (function target : ℕ) (cond
   abbrev Its : Type 0
   Its = Hoists program frames function target condition x
 
-  itself : (n : ℕ) → (n == n) ≡ true
-  itself n = grind arith
-
   of_line : (i : Instruction) → slice_get (routine_at program function).code target ≡ Some i → fills_at (frame_at frames function).fills target ≡ true → is_idle (frame_at frames function) target i ≡ false
       → copied (frame_at frames function) condition i ≡ Some x → Its
   of_line (plain.Move destination source) at fills busy is =
       let (first, (register, computes, may)) = passes_if frame condition destination (move_first (value_register frame destination) frame source) x is in
       let (rest, same) = move_starts frame (value_register frame destination) destination source x first in
-      record { i = plain.Move destination source; at = at; fills = fills; busy = busy; straight = refl; destination = destination; written = itself destination; register = register; computes = computes; may = may; first = λ line. (ordinary rest, ap ordinary same) }
+      record { i = plain.Move destination source; at = at; fills = fills; busy = busy; straight = refl; destination = destination; written = eqb_itself destination; register = register; computes = computes; may = may; first = λ line. (ordinary rest, ap ordinary same) }
   of_line (plain.Unary operator destination operand) at fills busy is =
       let (first, (register, computes, may)) = passes_if frame condition destination (plan_first frame (unary_plan operator operand) destination) x is in
       let (rest, same) = plan_starts frame (unary_plan operator operand) destination x first in
-      record { i = plain.Unary operator destination operand; at = at; fills = fills; busy = busy; straight = refl; destination = destination; written = itself destination; register = register; computes = computes; may = may; first = λ line. (ordinary rest, ap ordinary same) }
+      record { i = plain.Unary operator destination operand; at = at; fills = fills; busy = busy; straight = refl; destination = destination; written = eqb_itself destination; register = register; computes = computes; may = may; first = λ line. (ordinary rest, ap ordinary same) }
   of_line (plain.Binary operator destination left right) at fills busy is = go (is_tested operator right) refl is
     where
       go : (b : Bool) → is_tested operator right ≡ b → (if b then None else copied_if (frame_at frames function) condition destination (plan_first (frame_at frames function) (binary_plan operator left right) destination)) ≡ Some x → Its
@@ -270,7 +259,7 @@ module _ (program : Program) (frames : List Frame) (function target : ℕ) (cond
             busy = busy;
             straight = refl;
             destination = destination;
-            written = itself destination;
+            written = eqb_itself destination;
             register = register;
             computes = computes;
             may = may;
@@ -289,7 +278,7 @@ module _ (program : Program) (frames : List Frame) (function target : ℕ) (cond
       go : (b : Bool) → (fills_at (frame_at frames function).fills target && not (is_idle (frame_at frames function) target i)) ≡ b → (if b then copied (frame_at frames function) condition i else None) ≡ Some x → Its
       go true both given =
           let parts = and_parts (fills_at (frame_at frames function).fills target) (not (is_idle (frame_at frames function) target i)) both in
-          of_line i at parts.0 (is_not (is_idle (frame_at frames function) target i) parts.1) given
+          of_line i at parts.0 (not-true (is_idle (frame_at frames function) target i) parts.1) given
       go false both none = absurd (no_line x none)
 
 pub hoists : (program : Program) (frames : List Frame) (function target : ℕ) (test : Test) (x : Instr) → hoisted (frame_at frames function) (routine_at program function).code test target ≡ Some x
@@ -308,7 +297,7 @@ module _ (frame : Frame) (condition : Condition) (destination register : ℕ) (m
   parts = and_parts (register == FIRST || register == SECOND || register == made_in frame destination) (not (tests_register condition register)) may
 
   pub untested : tests_register condition register ≡ false
-  untested = is_not (tests_register condition register) parts.1
+  untested = not-true (tests_register condition register) parts.1
 
   which : (register ≡ FIRST) ⊎ ((register ≡ SECOND) ⊎ (register ≡ made_in frame destination))
   which = elim (or_cases (register == FIRST || register == SECOND) (register == made_in frame destination) parts.0) [

@@ -2,6 +2,8 @@
 use Rattle.std.proofs.Common.{◌≡◌, ◌≢◌, ℕ, suc, ◌+◌, ◌*◌, ◌≤◌, Bool, true, false, List, Some, refl, sym, ap, subst, ◌∙◌, arith, inl, inr}
 use Rattle.std.specs.Prelude.{◌⊎◌, ◌==◌, if◌then◌else◌}
 use Rattle.std.proofs.lemmas.Bool.{cases_eq, eq-eqb, false≢true, or_left}
+use Rattle.cyc_words.proofs.Items.{below_from_slice_get}
+use Rattle.cyc_words.proofs.Numbers.{eqb_other, eqb_itself, eqb_next}
 use Rattle.cyc_plain.specs.inside.Uses.{writes, leads}
 use Rattle.cyc_machine.specs.State.{globals_length, words_per_call}
 use Rattle.cyc_plain.specs.declared.instruction.Instruction.{Instruction}
@@ -17,7 +19,6 @@ use Rattle.cyc_plain.specs.inside.State as states
 use Rattle.cyc_plain.specs.inside.State.{Words, put, Configuration}
 use Rattle.cyc_plain.specs.inside.Step.{at, with_slots, gives, instruction_at, operand_word, performed, is_within}
 use Rattle.cyc_plain.specs.inside.WellFormed.{IsWellFormed}
-use Rattle.cyc_plain.proofs.Placed.{below_of_get}
 use Rattle.cyc_plain.proofs.RunLaws.{zeros, calls_nothing, zeros_at, limit_free}
 use Rattle.cyc_plain.proofs.SlotLaws.{put-same, put-other}
 use Rattle.cyc_frame.specs.inside.Frame.{Frame}
@@ -33,7 +34,7 @@ use Rattle.cyc_select.proofs.effects.Walks.{now_at}
 use Rattle.cyc_select.proofs.layout.Lines.{line_next}
 use Rattle.cyc_select.proofs.relation.Matches.{Ready, Passed, steps_to, within}
 use Rattle.cyc_select.proofs.relation.Standing.{Standing, stage_of, standing_at, standing_unkept}
-use Rattle.cyc_select.proofs.relation.Values.{Caches, caches_past, live_earlier, apart_from, itself, next_led}
+use Rattle.cyc_select.proofs.relation.Values.{Caches, caches_past, live_earlier}
 use Rattle.cyc_registers.specs.inside.Liveness.{IsLiveAt}
 
 module _ (program : Program) (well : IsWellFormed program) (frames : List Frame) (fit : AreFrames program frames) (code : Labelled) (formed : IsFormed code) (addresses : ℕ → ℕ) (pages calls : ℕ) (few : calls ≤ 4096)
@@ -76,7 +77,7 @@ module _ (program : Program) (well : IsWellFormed program) (frames : List Frame)
           standing = there;
           caches = caches;
         }),
-        omega (arith, below_of_get (routine_at program c.active.function).code c.active.next i at_i),
+        omega (arith, below_from_slice_get (routine_at program c.active.function).code c.active.next i at_i),
       )
 
   -- a slot that nothing asks for gets a word
@@ -125,7 +126,7 @@ module _ (program : Program) (well : IsWellFormed program) (frames : List Frame)
         | inl same ↦ ready.caches slot k has (0, (plain.Move destination (operands.Slot destination), at_i, eq-eqb destination slot (sym same)))
         | inr other ↦
             ready.caches slot k has
-            (live_earlier program frames c.active.function right c.active.next (c.active.next + 1) slot (plain.Move destination (operands.Slot destination)) at_i (next_led c.active.next) (apart_from destination slot other) wanted)
+            (live_earlier program frames c.active.function right c.active.next (c.active.next + 1) slot (plain.Move destination (operands.Slot destination)) at_i (eqb_next c.active.next) (eqb_other destination slot other) wanted)
       ])
 
   -- a slot gets a word that its register has already
@@ -137,11 +138,11 @@ module _ (program : Program) (well : IsWellFormed program) (frames : List Frame)
       (λ slot k slot_has wanted. elim (cases_eq slot destination) [
         | inl same ↦
             let own : Some register ≡ Some k = sym (ap homing.register_of home) ∙ (ap (value_register (frame_at frames c.active.function)) (sym same) ∙ slot_has) in
-            ready.caches number k (has ∙ own) (0, (plain.Move destination (operands.Slot number), at_i, itself number))
+            ready.caches number k (has ∙ own) (0, (plain.Move destination (operands.Slot number), at_i, eqb_itself number))
             ∙ sym (ap (put c.active.slots destination (c.active.slots number)) same ∙ put-same c.active.slots destination (c.active.slots number))
         | inr other ↦
             ready.caches slot k slot_has
-            (live_earlier program frames c.active.function right c.active.next (c.active.next + 1) slot (plain.Move destination (operands.Slot number)) at_i (next_led c.active.next) (apart_from destination slot other) wanted)
+            (live_earlier program frames c.active.function right c.active.next (c.active.next + 1) slot (plain.Move destination (operands.Slot number)) at_i (eqb_next c.active.next) (eqb_other destination slot other) wanted)
             ∙ sym (put-other c.active.slots destination slot (c.active.slots number) other)
       ])
 
@@ -172,26 +173,26 @@ module _ (program : Program) (well : IsWellFormed program) (frames : List Frame)
       moves destination (operands.Slot number) there is (inr (inr (register, home, has))) = passes_there destination number register there is home has
       moves destination (operands.Word word) there is (inr (inr found)) = absurd found
       moves destination source there is (inr (inl unused)) =
-          passes_unused (plain.Move destination source) there refl is refl destination (operand_word c.active.slots source) unused (λ slot other. apart_from destination slot other) (next_led c.active.next) refl
+          passes_unused (plain.Move destination source) there refl is refl destination (operand_word c.active.slots source) unused (λ slot other. eqb_other destination slot other) (eqb_next c.active.next) refl
 
       branches : (comparison : Comparison) (left other : Operand) (target : ℕ) → IsAt (plain.Branch comparison left other target) → is_idle (frame_at frames c.active.function) c.active.next (plain.Branch comparison left other target) ≡ true
           → (target ≡ suc c.active.next) ⊎ NeverHolds comparison left other → Passes
       branches comparison left other target there is (inl next) =
-          passes_same (plain.Branch comparison left other target) there refl is refl (λ slot. refl) (or_left (suc c.active.next == c.active.next + 1) (target == c.active.next + 1) (next_led c.active.next))
+          passes_same (plain.Branch comparison left other target) there refl is refl (λ slot. refl) (or_left (suc c.active.next == c.active.next + 1) (target == c.active.next + 1) (eqb_next c.active.next))
           (ap (λ (n : ℕ). states.Running (at c n)) (either_next (compares comparison (operand_word c.active.slots left) (operand_word c.active.slots other)) target next))
       branches comparison left other target there is (inr never) =
-          passes_same (plain.Branch comparison left other target) there refl is refl (λ slot. refl) (or_left (suc c.active.next == c.active.next + 1) (target == c.active.next + 1) (next_led c.active.next))
+          passes_same (plain.Branch comparison left other target) there refl is refl (λ slot. refl) (or_left (suc c.active.next == c.active.next + 1) (target == c.active.next + 1) (eqb_next c.active.next))
           (ap (λ (b : Bool). states.Running (at c (if b then target else c.active.next + 1))) (never_holds comparison left other never))
 
       go : (j : Instruction) → IsAt j → is_idle (frame_at frames c.active.function) c.active.next j ≡ true → Passes
       go (plain.Move destination source) there is = moves destination source there is (idle_is (plain.Move destination source) there is)
       go (plain.Unary operator destination operand) there is =
           passes_unused (plain.Unary operator destination operand) there refl is refl destination (unary_result operator (operand_word c.active.slots operand)) (idle_is (plain.Unary operator destination operand) there is)
-          (λ slot other. apart_from destination slot other) (next_led c.active.next) refl
+          (λ slot other. eqb_other destination slot other) (eqb_next c.active.next) refl
       go (plain.Binary operator destination left other) there is =
           let (always, unused) = idle_is (plain.Binary operator destination left other) there is in
           passes_unused (plain.Binary operator destination left other) there refl is refl destination (binary_result operator (operand_word c.active.slots left) (operand_word c.active.slots other)) unused
-          (λ slot apart. apart_from destination slot apart) (next_led c.active.next)
+          (λ slot apart. eqb_other destination slot apart) (eqb_next c.active.next)
           (ap (λ (b : Bool). if b then states.Stuck c.output c.input else gives c destination (binary_result operator (operand_word c.active.slots left) (operand_word c.active.slots other)))
           (has_result operator (operand_word c.active.slots other) always))
       go (plain.Jump target) there is =

@@ -1,9 +1,11 @@
 -- The instruction that calls the store.
-use Rattle.std.proofs.Common.{◌≡◌, ◌≢◌, ℕ, suc, ◌+◌, ◌*◌, ◌%◌, ◌^◌, ◌<◌, ◌≤◌, true, false, List, [], ◌∷◌, ◌++◌, length, length-append, Option, None, Some, refl, sym, ap, subst, ◌∙◌, arith, inl, inr}
+use Rattle.std.proofs.Common.{◌≡◌, ◌≢◌, ℕ, suc, ◌+◌, ◌*◌, ◌%◌, ◌^◌, ◌<◌, ◌≤◌, true, false, List, [], ◌∷◌, ◌++◌, length, length-append, Option, None, Some, refl, sym, ap, subst, ◌∙◌, arith, inl}
 use Rattle.std.specs.Prelude.{◌⊎◌}
 use Rattle.std.proofs.lemmas.Bool.{eq-eqb, ne_eqb, or_left, or_right}
 use Rattle.cyc_words.specs.Ending.{Full}
 use Rattle.cyc_words.specs.Word.{IsWord, add_of, sign_extended}
+use Rattle.cyc_words.proofs.Numbers.{outside_one, eqb_next}
+use Rattle.cyc_words.proofs.Options.{same_from_some}
 use Rattle.cyc_plain.specs.inside.Uses.{is_slot, request_reads, request_writes}
 use Rattle.cyc_isa.specs.Effect.{memory_address}
 use Rattle.cyc_isa.specs.declared.instr.Instr.{Instr}
@@ -13,7 +15,6 @@ use Rattle.cyc_store.specs.State.{StoreState, lexical_count}
 use Rattle.cyc_store.specs.Services as services
 use Rattle.cyc_store.specs.Services.{Call, Answer, refusal, served, answer}
 use Rattle.cyc_store.specs.Soundness.{IsSound}
-use Rattle.cyc_store.proofs.LookupLemmas.{same_some}
 use Rattle.cyc_plain.specs.declared.instruction.Instruction.{Instruction}
 use Rattle.cyc_plain.specs.declared.instruction.Instruction.TheVariants as plain
 use Rattle.cyc_plain.specs.declared.instruction.Operand.{Operand}
@@ -46,7 +47,7 @@ use Rattle.cyc_select.proofs.relation.Matches.{After, At, Reached, reached, with
 use Rattle.cyc_select.proofs.values.Operations.{add_small}
 use Rattle.cyc_select.proofs.relation.Standing.{Stage, Standing, slot_address, slot_cell, standing_at, standing_slot, standing_store, stage_of}
 use Rattle.cyc_select.proofs.relation.Stores.{lexical_opened, lexical_besides, lexical_left, lexical_made, lexical_closed, marks_few, IsLaid, served_laid, served_words}
-use Rattle.cyc_select.proofs.relation.Values.{Caches, live_earlier, among, outside_among, next_led}
+use Rattle.cyc_select.proofs.relation.Values.{Caches, live_earlier, among, outside_among}
 use Rattle.cyc_select.proofs.effects.Views.{Contents, IsWritable, written, answered_r}
 use Rattle.cyc_select.proofs.effects.Walks.{Stands, stands_first, stands_behind, after_r, after_w, AreSafe, after_r-append, after_w-append, Walk, now_at, now_is, walk_few, walk_block, walk_served, walk_no_room, comes_block, lines_from, lines_rise}
 use Rattle.cyc_registers.specs.inside.Liveness.{IsLiveAt}
@@ -75,10 +76,6 @@ told_is (requests.CloseDynamic handle) store slots q m choice = refl
 told_is (requests.Allocate destination handle words) store slots q m choice = refl
 told_is (requests.Free address) store slots q m choice = refl
 
-one_apart : (destination slot : ℕ) → slot < destination ⊎ destination + 1 ≤ slot → destination ≢ slot
-one_apart destination slot (inl below) same = omega (arith, below, same)
-one_apart destination slot (inr above) same = omega (arith, above, same)
-
 -- these slots get its answer, and no others
 answers_written : (request : Request) (slot : ℕ) → destination_of request ≤ slot → slot < destination_of request + length (result_registers (answer_count request)) → request_writes request slot ≡ true
 answers_written (requests.OpenLexical destination) slot begun below = among destination 2 slot begun below
@@ -91,9 +88,9 @@ answers_written (requests.Free address) slot begun below = absurd (omega (arith,
 answers_apart : (request : Request) (slot : ℕ) → slot < destination_of request ⊎ destination_of request + length (result_registers (answer_count request)) ≤ slot → request_writes request slot ≡ false
 answers_apart (requests.OpenLexical destination) slot outside = outside_among destination 2 slot outside
 answers_apart (requests.CloseTo mark) slot outside = refl
-answers_apart (requests.OpenDynamic destination) slot outside = ne_eqb destination slot (one_apart destination slot outside)
+answers_apart (requests.OpenDynamic destination) slot outside = ne_eqb destination slot (outside_one destination slot outside)
 answers_apart (requests.CloseDynamic handle) slot outside = refl
-answers_apart (requests.Allocate destination handle words) slot outside = ne_eqb destination slot (one_apart destination slot outside)
+answers_apart (requests.Allocate destination handle words) slot outside = ne_eqb destination slot (outside_one destination slot outside)
 answers_apart (requests.Free address) slot outside = refl
 
 -- ---- how many lexical regions are open
@@ -226,7 +223,7 @@ module _ (program : Program) (well : IsWellFormed program) (frames : List Frame)
         safe = puts.safe;
         memory = puts.memory;
         others = λ n below other. puts.others n below (λ e. other (e ∙ is));
-        result = λ one e. ap (after_r (argument_code frame register (Some operand)) q m) (sym is) ∙ (puts.result ∙ ap word_in (same_some e));
+        result = λ one e. ap (after_r (argument_code frame register (Some operand)) q m) (sym is) ∙ (puts.result ∙ ap word_in (same_from_some e));
       }
 
   -- ---- the call
@@ -273,18 +270,18 @@ module _ (program : Program) (well : IsWellFormed program) (frames : List Frame)
     -- its operands are what it needs
     first_used : (one : Request) (operand : Operand) (slot : ℕ) → first_operand one ≡ Some operand → is_slot operand slot ≡ true → request_reads one slot ≡ true
     first_used (requests.OpenLexical destination) operand slot some is_it = absurd (let e : None ≡ Some operand = some in cc)
-    first_used (requests.CloseTo mark) operand slot some is_it = ap (λ (o : Operand). is_slot o slot) (same_some some) ∙ is_it
+    first_used (requests.CloseTo mark) operand slot some is_it = ap (λ (o : Operand). is_slot o slot) (same_from_some some) ∙ is_it
     first_used (requests.OpenDynamic destination) operand slot some is_it = absurd (let e : None ≡ Some operand = some in cc)
-    first_used (requests.CloseDynamic handle) operand slot some is_it = ap (λ (o : Operand). is_slot o slot) (same_some some) ∙ is_it
-    first_used (requests.Allocate destination handle words) operand slot some is_it = or_left (is_slot handle slot) (is_slot words slot) (ap (λ (o : Operand). is_slot o slot) (same_some some) ∙ is_it)
-    first_used (requests.Free address) operand slot some is_it = ap (λ (o : Operand). is_slot o slot) (same_some some) ∙ is_it
+    first_used (requests.CloseDynamic handle) operand slot some is_it = ap (λ (o : Operand). is_slot o slot) (same_from_some some) ∙ is_it
+    first_used (requests.Allocate destination handle words) operand slot some is_it = or_left (is_slot handle slot) (is_slot words slot) (ap (λ (o : Operand). is_slot o slot) (same_from_some some) ∙ is_it)
+    first_used (requests.Free address) operand slot some is_it = ap (λ (o : Operand). is_slot o slot) (same_from_some some) ∙ is_it
 
     second_used : (one : Request) (operand : Operand) (slot : ℕ) → second_operand one ≡ Some operand → is_slot operand slot ≡ true → request_reads one slot ≡ true
     second_used (requests.OpenLexical destination) operand slot some is_it = absurd (let e : None ≡ Some operand = some in cc)
     second_used (requests.CloseTo mark) operand slot some is_it = absurd (let e : None ≡ Some operand = some in cc)
     second_used (requests.OpenDynamic destination) operand slot some is_it = absurd (let e : None ≡ Some operand = some in cc)
     second_used (requests.CloseDynamic handle) operand slot some is_it = absurd (let e : None ≡ Some operand = some in cc)
-    second_used (requests.Allocate destination handle words) operand slot some is_it = or_right (is_slot handle slot) (is_slot words slot) (ap (λ (o : Operand). is_slot o slot) (same_some some) ∙ is_it)
+    second_used (requests.Allocate destination handle words) operand slot some is_it = or_right (is_slot handle slot) (is_slot words slot) (ap (λ (o : Operand). is_slot o slot) (same_from_some some) ∙ is_it)
     second_used (requests.Free address) operand slot some is_it = absurd (let e : None ≡ Some operand = some in cc)
 
     first : HasArgument is ARGUMENT (first_operand request) r w
@@ -455,7 +452,7 @@ module _ (program : Program) (well : IsWellFormed program) (frames : List Frame)
         shares_none : (d slot k : ℕ) → destination_of request ≤ d → d < past → value_register (frame_at frames c.active.function) d ≡ Some k → value_register (frame_at frames c.active.function) slot ≡ Some k
             → IsLiveAt program (routine_at program c.active.function) slot (c.active.next + 1) → slot ≡ d
         shares_none d slot k begun below has_d has wanted =
-            homes_right.made c.active.next (c.active.next + 1) slot d k (plain.Ask request) at_i (answers_written request d begun below) (next_led c.active.next) has_d has wanted
+            homes_right.made c.active.next (c.active.next + 1) slot d k (plain.Ask request) at_i (answers_written request d begun below) (eqb_next c.active.next) has_d has wanted
 
         low_words : (n : ℕ) → n < 6 → IsWord (after_r counts answered w1 n)
         low_words n low = subst IsWord (sym (regions_others request answered w1 n (λ e. absurd (omega (arith, e, low))))) (answered_words n)
@@ -476,7 +473,7 @@ module _ (program : Program) (well : IsWellFormed program) (frames : List Frame)
             → a < destination_of request ⊎ destination_of request + length (result_registers (answer_count request)) ≤ a → final k ≡ c.active.slots a
         apart_kept a k has wanted outside =
             values_kept k (homes_right.low a k has) (homes_right.high a k has)
-            ∙ caches a k has (live_earlier program frames c.active.function homes_right c.active.next (c.active.next + 1) a (plain.Ask request) at_i (next_led c.active.next) (answers_apart request a outside) wanted)
+            ∙ caches a k has (live_earlier program frames c.active.function homes_right c.active.next (c.active.next + 1) a (plain.Ask request) at_i (eqb_next c.active.next) (answers_apart request a outside) wanted)
 
         told_caches : Caches program frames c.active.function (c.active.next + 1) brought (told (answer c.store call chosen) (destination_of request) c.active.slots)
         told_caches a k has wanted =

@@ -7,6 +7,7 @@ use Rattle.cyc_words.specs.Ending.{Ending, Uncaught}
 use Rattle.cyc_words.specs.Word.{IsWord, signed, add_of, sign_extended}
 use Rattle.cyc_words.specs.Simulation as simulation
 use Rattle.cyc_words.proofs.SeenLemmas.{seen_same}
+use Rattle.cyc_words.proofs.Numbers.{eqb_other, eqb_itself, eqb_next}
 use Rattle.cyc_plain.specs.inside.Uses.{is_slot, reads, writes, leads}
 use Rattle.cyc_isa.specs.Effect.{branch_taken, branch_zero_taken, memory_address}
 use Rattle.cyc_isa.specs.declared.instr.Instr.{Instr}
@@ -63,7 +64,7 @@ use Rattle.cyc_select.proofs.values.Halves.{divisor_is}
 use Rattle.cyc_select.proofs.layout.Lines.{line_next}
 use Rattle.cyc_select.proofs.values.Operations.{add_small}
 use Rattle.cyc_select.proofs.values.Plans.{multiply_divide_result, if_low, AllOfTest, operation_word, plan_word, unary_word, binary_word, test_taken, test_goes, all_unary, all_binary, all_test}
-use Rattle.cyc_select.proofs.relation.Values.{Caches, memory_kept, made_in_is, apart_from, itself, next_led, caches_past}
+use Rattle.cyc_select.proofs.relation.Values.{Caches, memory_kept, made_in_is, caches_past}
 use Rattle.cyc_select.proofs.effects.Views.{Contents, written, does_r, does_w, IsSafe, moved}
 use Rattle.cyc_select.proofs.effects.Walks.{Stands, stands_front, stands_back, stands_first, stands_behind, after_r, after_w, after_r-append, after_w-append, AreSafe, Walk, now_at, now_is, walk_end, walk_few, walk_from, walk_one, walk_block, walk_branch, walk_branch_to, at_now, walk_jump, walk_get, walk_put, walk_uncaught}
 use Rattle.cyc_select.proofs.relation.Standing.{Standing, based_here, lies, slot_inside, slot_cell, global_cell, standing_global, standing_registers, standing_at, stage_of}
@@ -149,7 +150,7 @@ module _ (program : Program) (well : IsWellFormed program) (frames : List Frame)
       ((slot : ℕ) → slot ≢ destination → writes program i slot ≡ false) × (writes program i destination ≡ true) × (leads i c.active.next (c.active.next + 1) ≡ true)
 
   pub gets : (destination : ℕ) → ((slot : ℕ) → slot ≢ destination → (destination == slot) ≡ false) × ((destination == destination) ≡ true) × ((suc c.active.next == c.active.next + 1) ≡ true)
-  gets destination = (λ slot other. apart_from destination slot other, itself destination, next_led c.active.next)
+  gets destination = (λ slot other. eqb_other destination slot other, eqb_itself destination, eqb_next c.active.next)
 
   -- registers are those that the instruction began with, but for what no call keeps, and for one that a value may have
   pub record Agrees (but : ℕ) (q : Words) : Type 0 where
@@ -597,7 +598,7 @@ module _ (program : Program) (well : IsWellFormed program) (frames : List Frame)
       walk_jump code formed addresses globals_length (words_per_call * calls) 0 here here (here + 1) c.output c.input _ r w run (instruction_line program frames c.active.function target) now stands.0 (omega arith)
       (λ d later.
       walk_end code formed addresses globals_length (words_per_call * calls) (suc here) (here + 1) c.output _ (Running d) (omega arith)
-      (reached_at program well frames fit code formed addresses pages calls few c (plain.Jump target) at_i refl r w base back s caches (at c target) (instruction_line program frames c.active.function target) d r w refl refl refl refl refl refl refl refl refl refl refl refl refl refl refl (λ n low high. refl) refl (λ slot. refl) (itself target) later))
+      (reached_at program well frames fit code formed addresses pages calls few c (plain.Jump target) at_i refl r w base back s caches (at c target) (instruction_line program frames c.active.function target) d r w refl refl refl refl refl refl refl refl refl refl refl refl refl refl refl (λ n low high. refl) refl (λ slot. refl) (eqb_itself target) later))
 
   -- the line of the place that is taken
   line_taken : (b : Bool) (target other : ℕ) (line : ℕ → ℕ) (n : ℕ) → n ≡ line other → (if b then line target else n) ≡ line (if b then target else other)
@@ -823,8 +824,8 @@ module _ (program : Program) (well : IsWellFormed program) (frames : List Frame)
           )
 
       either_led : (taken : Bool) → (suc c.active.next == (if taken then target else c.active.next + 1) || target == (if taken then target else c.active.next + 1)) ≡ true
-      either_led true = or_right (suc c.active.next == target) (target == target) (itself target)
-      either_led false = or_left (suc c.active.next == c.active.next + 1) (target == c.active.next + 1) (next_led c.active.next)
+      either_led true = or_right (suc c.active.next == target) (target == target) (eqb_itself target)
+      either_led false = or_left (suc c.active.next == c.active.next + 1) (target == c.active.next + 1) (eqb_next c.active.next)
 
   -- ---- bytes
 
@@ -895,7 +896,7 @@ module _ (program : Program) (well : IsWellFormed program) (frames : List Frame)
       reached_at program well frames fit code formed addresses pages calls few c (plain.WriteByte source) at_i refl r w base back s caches
       (record c { active = record c.active { next = c.active.next + 1 }; output = c.output ++ word_of source % 256 ∷ [] }) (here + length is + 1 + 1) f (put (after_r is r w) 2 (add_of (after_r is r w 0) (sign_extended 2))) (after_w is r w) refl refl refl refl refl refl refl refl refl
       (omega (arith, line_next program frames c.active.function c.active.next (plain.WriteByte source) at_i, long)) keeps.zero keeps.base keeps.lowest keeps.back keeps.lasts
-      (λ n low high. put-other (after_r is r w) 2 n _ (λ x. absurd (omega (arith, x, low))) ∙ all_same (after_r is r w) r keeps.values n low high) keeps.memory (λ slot. refl) (next_led c.active.next)
+      (λ n low high. put-other (after_r is r w) 2 n _ (λ x. absurd (omega (arith, x, low))) ∙ all_same (after_r is r w) r keeps.values n low high) keeps.memory (λ slot. refl) (eqb_next c.active.next)
       (subst (λ (x : ℕ). At program well frames fit code formed addresses pages calls few (here + length is + 1 + 1) (c.output ++ x % 256 ∷ []) c.input (put (after_r is r w) 2 (add_of (after_r is r w 0) (sign_extended 2))) (after_w is r w) f) puts.result printed)))))
 
   -- ---- globals
@@ -998,7 +999,7 @@ module _ (program : Program) (well : IsWellFormed program) (frames : List Frame)
         now = now_at code formed addresses globals_length (words_per_call * calls) (here + length is + length js + 1) (instruction_line program frames c.active.function (c.active.next + 1)) c.output c.input _ _ e line later;
         standing = four;
         caches =
-            caches_past program frames c.active.function homes_right c.active.next (c.active.next + 1) r q c.active.slots c.active.slots (plain.StoreGlobal global source) at_i (next_led c.active.next)
+            caches_past program frames c.active.function homes_right c.active.next (c.active.next + 1) r q c.active.slots c.active.slots (plain.StoreGlobal global source) at_i (eqb_next c.active.next)
             (λ slot k has. refl) (λ slot k has. refl)
             (λ n low high. all_same q p reach.keeps.values n low high ∙ all_same p r keeps.values n low high) caches;
       })))))))

@@ -4,6 +4,7 @@ use Rattle.std.specs.Prelude.{◌==◌, nat_lt, if◌then◌else◌, bit_or}
 use Rattle.std.proofs.lemmas.Bool.{eqb-true, ne_eqb}
 use Rattle.cyc_words.specs.Word.{IsWord, add_of, sltu_of, sign_extended}
 use Rattle.cyc_words.proofs.WordLemmas.{sign_extended_high}
+use Rattle.cyc_words.proofs.Numbers.{other_beyond_32, remainder_below_32, remainder_of_register_number}
 use Rattle.cyc_isa.specs.declared.instr.Instr.{Instr}
 use Rattle.cyc_isa.specs.declared.instr.MoveFromOp.TheVariants.{High, Low}
 use Rattle.cyc_isa.specs.declared.instr.MultiplyDivideOp.TheVariants.{Multiply, Divide}
@@ -92,10 +93,6 @@ module _ (globals stack : ℕ) where
   IsHeld frame base w r slots (operands.Slot number) = HeldIn (value_register frame number) frame base w r slots number
   IsHeld frame base w r slots (operands.Word word) = IsWord word
 
-  -- a register of a value has its own number
-  whole_is : (register : ℕ) → register < 24 → register % 32 ≡ register
-  whole_is register high = omega (arith, high)
-
   -- from registers and memory on, where the frame lies as before, and values have the registers that they had
   module _ (frame : Frame) (base : ℕ) (w : Contents) (r slots : Words) (q : Words) (m : Contents) (zero : q ZERO ≡ 0) (same : q FRAME ≡ base) (memory : m ≡ w) (values : ValuesSame q r) where
     memory_puts : (target number : ℕ) → IsWritable (target % 32) → IsCell globals stack (memory_address base (slot_offset frame number)) → w.words (memory_address base (slot_offset frame number)) ≡ slots number
@@ -111,7 +108,7 @@ module _ (globals stack : ℕ) where
     }
 
     register_is : (register number : ℕ) → HeldIn (Some register) frame base w r slots number → q (register % 32) ≡ slots number
-    register_is register number (low, high, is, fits) = ap q (whole_is register high) ∙ (values register low high ∙ is)
+    register_is register number (low, high, is, fits) = ap q (remainder_of_register_number register high) ∙ (values register low high ∙ is)
 
     pub slot_puts : (o : Option ℕ) (target number : ℕ) → IsWritable (target % 32) → HeldIn o frame base w r slots number
         → Puts globals stack (load_from o frame target number ∷ []) q m (target % 32) (target % 32) (slots number)
@@ -214,9 +211,6 @@ module _ (globals stack : ℕ) where
   pub scratch_writable : (n : ℕ) → IsScratch globals stack n → IsWritable n
   scratch_writable n scratch = ne_eqb n 0 (λ same. scratch.not_zero (sym same))
 
-  below_32 : (n : ℕ) → n % 32 < 32
-  below_32 n = omega arith
-
   -- ---- what is computed
 
   -- the machine computes it of these words
@@ -224,14 +218,11 @@ module _ (globals stack : ℕ) where
   IsComputable (operations.MultiplyDivide Divide from) a b = (b ≢ 0) × (a ≡ 2 ^ 31 → b ≡ 2 ^ 32 - 1 → ⊥)
   IsComputable operation a b = Unit {0}
 
-  not_high : (n k : ℕ) → n < 32 → 32 ≤ k → n ≢ k
-  not_high n k below above same = omega (arith, below, above, same)
-
   -- any register that has a number of its own, once the target and the two words of a product or quotient are written
   kept : (q : Words) (at n high low word : ℕ) → n < 32 → n ≢ at → put (put (put q 32 high) 33 low) at word n ≡ q n
   kept q at n high low word below other =
       put-other (put (put q 32 high) 33 low) at n word other
-      ∙ (put-other (put q 32 high) 33 n low (not_high n 33 below (omega arith)) ∙ put-other q 32 n high (not_high n 32 below (omega arith)))
+      ∙ (put-other (put q 32 high) 33 n low (other_beyond_32 n 33 below (omega arith)) ∙ put-other q 32 n high (other_beyond_32 n 32 below (omega arith)))
 
   pub operation_puts : (o : Operation) (q : Words) (m : Contents) (target left right : ℕ) → IsWritable (target % 32) → IsComputable o (q (left % 32)) (q (right % 32))
       → Puts globals stack (operation_code o target left right) q m (target % 32) (target % 32) (operation_result o (q (left % 32)) (q (right % 32)))
@@ -309,7 +300,7 @@ module _ (globals stack : ℕ) where
           keeps = keeps_append globals stack c d q m but kept (puts_keeps globals stack d (after_r c q m) (after_w c q m) SECOND _ _ but second_scratch (second_aside but) second);
           left_is =
               after_both globals stack c d q m (operand_register frame FIRST left % 32)
-              ∙ (second.others (operand_register frame FIRST left % 32) (below_32 (operand_register frame FIRST left)) (not_second frame base w r slots q m zero same memory values left left_held) ∙ first.result);
+              ∙ (second.others (operand_register frame FIRST left % 32) (remainder_below_32 (operand_register frame FIRST left)) (not_second frame base w r slots q m zero same memory values left left_held) ∙ first.result);
           right_is = after_both globals stack c d q m (operand_register frame SECOND right % 32) ∙ second.result;
         }
 

@@ -1,7 +1,7 @@
 -- The numbers that stand in an instruction are the words that they are for.
 use Rattle.std.proofs.Common.{◌≡◌, ◌≢◌, ℕ, ◌+◌, ◌-◌, ◌%◌, ◌^◌, ◌<◌, ◌≤◌, ℤ, pos, ◌+ℤ◌, ◌-ℤ◌, Bool, true, false, not, Some, None, refl, sym, ap, subst, ◌∙◌, inl, inr, arith}
 use Rattle.std.specs.Prelude.{◌==◌, nat_le, nat_lt, if◌then◌else◌}
-use Rattle.std.proofs.lemmas.Bool.{cases_eq, cases_lt, eqb-true, ltb-true, leb-true, eq-eqb}
+use Rattle.std.proofs.lemmas.Bool.{cases_eq, cases_lt, eqb-true, ltb-true, leb-true, eq-eqb, or_cases}
 use Rattle.std.proofs.lemmas.Int.{ints}
 use Rattle.std.proofs.lemmas.Nat.{trailing_le}
 use Rattle.std.specs.Int.Count.{count_trailing_zeros}
@@ -12,11 +12,10 @@ use Rattle.cyc_plain.specs.declared.instruction.Operand.{Operand}
 use Rattle.cyc_plain.specs.declared.instruction.Operand.TheVariants as operands
 use Rattle.cyc_plain.specs.inside.State.{Words}
 use Rattle.cyc_plain.specs.inside.Step.{operand_word}
-use Rattle.cyc_plain.proofs.MemoryLaws.{or_either}
 use Rattle.cyc_select.specs.inside.Numbers.{fits_signed, half_of, signed_half, negated_half, next_half, low_half, is_zero_word, is_plain_divisor, shift_amount, power_of}
 
 pub fits_is : (word : ℕ) → IsWord word → fits_signed word ≡ true → sign_extended (word % 2 ^ 16) ≡ word
-fits_is word is_word fits = elim (or_either (nat_lt word (2 ^ 15)) (nat_le (2 ^ 32 - 2 ^ 15) word) fits) [
+fits_is word is_word fits = elim (or_cases (nat_lt word (2 ^ 15)) (nat_le (2 ^ 32 - 2 ^ 15) word) fits) [
   | inl low ↦
       let below : word < 2 ^ 15 = ltb-true word (2 ^ 15) low in
       sign_extended_low (word % 2 ^ 16) (omega (arith, below)) ∙ (let e : word % 2 ^ 16 ≡ word = omega (arith, below) in e)

@@ -1,13 +1,13 @@
 -- What the machine's operations make of words, against what the plain program's operators are.
-use Rattle.std.proofs.Common.{◌≡◌, ◌≢◌, ℕ, zero, suc, ◌+◌, ◌-◌, ◌*◌, ◌/◌, ◌%◌, ◌^◌, ◌<◌, ◌≤◌, ℤ, pos, negsuc, neg_ℤ, ◌-ℤ◌, ◌*ℤ◌, Bool, not, sym, ap, subst, ◌∙◌, arith, inl, inr}
-use Rattle.std.proofs.lemmas.Int.{ints}
+use Rattle.std.proofs.Common.{◌≡◌, ◌≢◌, ℕ, zero, suc, ◌+◌, ◌-◌, ◌*◌, ◌/◌, ◌%◌, ◌^◌, ◌<◌, ◌≤◌, ℤ, pos, negsuc, neg_ℤ, ◌*ℤ◌, Bool, not, sym, ap, subst, ◌∙◌, arith, inl, inr}
 use Rattle.std.proofs.lemmas.Nat.{mul-le}
 use Rattle.std.proofs.Math.IntN.{pos-*ℤ-pos, pos-*ℤ-negsuc, negsuc-*ℤ-pos, negsuc-*ℤ-negsuc}
-use Rattle.std.specs.Prelude.{◌==◌, int_div, int_rem, bit_or, FitsSigned}
+use Rattle.std.specs.Prelude.{◌==◌, bit_or, FitsSigned}
 use Rattle.std.specs.Int.{w32, w64, cast_unsigned}
 use Rattle.std.proofs.lemmas.Bool.{cases_eq, cases_lt, eq-eqb, ne_eqb}
 use Rattle.cyc_words.specs.Word.{IsWord, signed, unsigned, sign_extended, add_of, sub_of, mul_of, shl_of, sltu_of, div_of, rem_of}
 use Rattle.cyc_words.proofs.WordLemmas.{FitsSigned-signed, sign_extended_low, sign_extended_high, bit_or-halves, mul_of-signed, sub_of-signed, sltu_of-one, sltu_of-zero}
+use Rattle.cyc_words.proofs.Integers.{int_div-minus_one, int_rem-minus_one, zero_minus}
 use Rattle.cyc_isa.specs.Effect.{load_upper_result, memory_address, low_result, high_result}
 use Rattle.cyc_isa.specs.declared.instr.MultiplyDivideOp.TheVariants.{Multiply}
 use Rattle.cyc_plain.specs.inside.Operators.{truth}
@@ -121,17 +121,6 @@ low_product a b is_a is_b =
 
 -- ---- quotients by -1
 
-by_minus_one : (z : ℤ) → int_div z (negsuc 0) ≡ neg_ℤ z
-by_minus_one (pos n) = ap (λ (x : ℕ). neg_ℤ (pos x)) (let e : n / 1 ≡ n = omega arith in e)
-by_minus_one (negsuc n) = ap pos (let e : suc n / 1 ≡ suc n = omega arith in e)
-
-rest_by_minus_one : (z : ℤ) → int_rem z (negsuc 0) ≡ pos 0
-rest_by_minus_one (pos n) = ap pos (let e : n % 1 ≡ 0 = omega arith in e)
-rest_by_minus_one (negsuc n) = ap (λ (x : ℕ). neg_ℤ (pos x)) (let e : suc n % 1 ≡ 0 = omega arith in e)
-
-from_zero : (z : ℤ) → pos 0 -ℤ z ≡ neg_ℤ z
-from_zero z = grind (arith, ints)
-
 -- the product of the dividend and -1 has the quotient by -1, and that of 0 and 0 the remainder
 pub product_quotient : (a : ℕ) → IsWord a → low_result Multiply a (2 ^ 32 - 1) ≡ div_of a (2 ^ 32 - 1)
 unfolding div_of
@@ -139,8 +128,8 @@ product_quotient a is_a =
     low_product a (2 ^ 32 - 1) is_a (omega arith)
     ∙ ((let e : mul_of a (2 ^ 32 - 1) ≡ sub_of 0 a = omega (arith, is_a) in e)
     ∙ (sub_of-signed 0 a (omega arith) is_a
-    ∙ (ap unsigned (from_zero (signed a)) ∙ sym (ap unsigned (by_minus_one (signed a))))))
+    ∙ (ap unsigned (zero_minus (signed a)) ∙ sym (ap unsigned (int_div-minus_one (signed a))))))
 
 pub product_remainder : (a : ℕ) → high_result Multiply 0 0 ≡ rem_of a (2 ^ 32 - 1)
 unfolding rem_of
-product_remainder a = sym (ap unsigned (rest_by_minus_one (signed a)))
+product_remainder a = sym (ap unsigned (int_rem-minus_one (signed a)))

@@ -2,12 +2,13 @@
 use Rattle.std.proofs.Common.{◌≡◌, ◌≢◌, ℕ, suc, ◌-◌, ◌*◌, ◌/◌, ◌%◌, ◌^◌, ◌<◌, ◌≤◌, ℤ, pos, ◌+ℤ◌, ◌≤ℤ◌, ◌<ℤ◌, Bool, true, false, not, Option, Some, None, refl, sym, ap, ◌∙◌, arith, inl, inr}
 use Rattle.std.specs.Prelude.{◌==◌, nat_le, int_le, int_lt, if◌then◌else◌, bit_and, bit_or, bit_xor}
 use Rattle.std.specs.Int.{w32, bit_not}
-use Rattle.std.proofs.lemmas.Bool.{cases_eq, eq-eqb, ne_eqb, le-leb}
+use Rattle.std.proofs.lemmas.Bool.{le-leb}
 use Rattle.std.proofs.lemmas.Nat.{and_comm, or_comm, xor_comm}
 use Rattle.std.proofs.Math.Nat.{mul_comm}
 use Rattle.std.proofs.lemmas.Int.{ints}
 use Rattle.cyc_words.specs.Word.{IsWord, signed, unsigned, sign_extended, floor_div, add_of, sub_of, mul_of, sar_of, slt_of, sltu_of}
 use Rattle.cyc_words.proofs.WordLemmas.{slt_of_cases, sltu_of_cases}
+use Rattle.cyc_words.proofs.Numbers.{eqb_turned}
 use Rattle.cyc_isa.specs.Effect.{immediate_result, arithmetic_result, shift_result, high_result, low_result, branch_taken, branch_zero_taken}
 use Rattle.cyc_isa.specs.declared.instr.BranchZeroOp.{BranchZeroOp}
 use Rattle.cyc_isa.specs.declared.instr.BranchZeroOp.TheVariants as signs
@@ -192,16 +193,9 @@ module _ (slots : Words) (left right : Operand) (left_fits : IsWord (operand_wor
   compared_word comparisons.LessUnsigned = less_unsigned_word outcomes.AsItIs
   compared_word comparisons.GreaterOrEqualUnsigned = less_unsigned_word outcomes.WhetherZero ∙ not_below_truth a b
 
--- the other way round
-same_equal : (a b : ℕ) → (b == a) ≡ (a == b)
-same_equal a b = elim (cases_eq a b) [
-  | inl same ↦ eq-eqb b a (sym same) ∙ sym (eq-eqb a b same)
-  | inr other ↦ ne_eqb b a (λ e. other (sym e)) ∙ sym (ne_eqb a b other)
-]
-
 mirrored_same : (comparison : Comparison) (left : Operand) (a b : ℕ) → is_mirrored comparison left ≡ true → compares (mirrored comparison) b a ≡ compares comparison a b
-mirrored_same comparisons.Equal left a b is = same_equal a b
-mirrored_same comparisons.NotEqual left a b is = ap not (same_equal a b)
+mirrored_same comparisons.Equal left a b is = eqb_turned a b
+mirrored_same comparisons.NotEqual left a b is = ap not (eqb_turned a b)
 mirrored_same comparisons.Less left a b is = refl
 mirrored_same comparisons.LessOrEqual left a b is = refl
 mirrored_same comparisons.Greater left a b is = refl

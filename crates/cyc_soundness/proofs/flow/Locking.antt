@@ -2,7 +2,8 @@
 use Rattle.std.proofs.Common.{◌≡◌, ◌<◌, arith, ℕ, zero, suc, Bool, true, false, not, ◌+◌, ◌||◌, ◌&&◌, List, [], ◌∷◌, ◌++◌, Option, Some, None, refl, sym, ap, subst, ◌∙◌}
 use Rattle.std.specs.Prelude.{◌≢◌, get_or, slice_set, if◌then◌else◌}
 use Rattle.std.proofs.lemmas.List.{get_or-set_other}
-use Rattle.std.proofs.lemmas.Bool.{not-true, and_parts}
+use Rattle.std.proofs.lemmas.Bool.{not-true, and_parts, or_parts}
+use Rattle.cyc_words.proofs.Booleans.{and_false_cases}
 use Rattle.cyc_types.specs.Types.{ValueType, Void, Null, Value}
 use Rattle.cyc_types.specs.Declarations.{declared_regions, item_regions}
 use Rattle.cyc_types.specs.TypedTrees.{Local, Global, Expression, Number, NullPointer, HeapRegion, Counter, Copy, Move, Peek, Load, AddressOf, AddressOfCell, NumberOfElements, FreeUnique, FreeKey, Call, Unary, Binary, Assign, Store, New, Dereference, Target, Member, Element, Placement, OnHeap, AsUnique, ByHandle, Initial, Plain, Fields, Array, Converted, Convert, Arguments, NoArguments, MoreArguments, Operations, NoOperations, ThenCompute, ThenTest, ThenPointer, ThenPointerPeek, Lvalue, Side, VariableSide, CellSide, Statement, Block, Empty, Evaluate, Swap, If, While, Return, Break, Continue, Throw, Try, Items, NoItems, MoreItems, Execute, Declare, DeclareRegion, OpenRegion, DeclareAlias, DeclareKey, Clauses, NoClauses, Default, Case, Program}
@@ -90,14 +91,6 @@ reached_meet_right Unreached g reached = reached
 reached_meet_right (Reached as') Unreached reached = refl
 reached_meet_right (Reached as') (Reached bs) reached = refl
 
-neither : (a b : Bool) → (a || b) ≡ false → (a ≡ false) × (b ≡ false)
-neither true b e = let k : true ≡ false = e in absurd (cc)
-neither false b e = (refl, e)
-
-either_false : {A : Type 0} (x y : Bool) → (x && y) ≡ false → (x ≡ false → A) → (y ≡ false → A) → A
-either_false true y e one two = two e
-either_false false y e one two = one refl
-
 -- where a statement never ends, nothing behind it is run
 mutual
   never_statement : (w : ℕ → Bool) (c : Around) (s : Statement) (a b : Known) → IsFresh w s → Derives (rule_statement c s a) b → may_end s ≡ false → is_reached b.now ≡ false
@@ -106,7 +99,7 @@ mutual
   never_statement w c (Evaluate x) a b fresh flows e = let k : true ≡ false = e in absurd (cc)
   never_statement w c (Swap x y) a b fresh flows e = let k : true ≡ false = e in absurd (cc)
   never_statement w c (If x s t) a b (one, two) (f, d, (l, ds, (m, dt, (u, same)))) e =
-      let none = neither (may_end s) (may_end t) e in
+      let none = or_parts (may_end s) (may_end t) e in
       subst (λ (z : Known). is_reached z.now ≡ false) (sym same) (meet_none l.now m.now (never_statement w c s (at f a) l one ds none.0) (never_statement w c t (at f l) m two dt none.1))
   never_statement w c (While p x s) a b fresh flows e = let k : true ≡ false = e in absurd (cc)
   never_statement w c (Return v) a b fresh (f, d, (u, same)) e = ap (λ (z : Known). is_reached z.now) same
@@ -114,13 +107,13 @@ mutual
   never_statement w c Continue a b fresh (demands, same) e = ap (λ (z : Known). is_reached z.now) same
   never_statement w c (Throw t v) a b fresh (f, d, (u, same)) e = ap (λ (z : Known). is_reached z.now) same
   never_statement w c (Try s cs) a b (one, two) (l, ds, dcs) e =
-      let none = neither (may_end s) (clauses_may_end cs) e in
+      let none = or_parts (may_end s) (clauses_may_end cs) e in
       never_clauses w c (caught a.now s) cs l b two dcs none.1 (never_statement w c s a l one ds none.0)
 
   never_items : (w : ℕ → Bool) (c : Around) (js : Items) (a b : Known) → AreFresh w js → Derives (rule_items c js a) b → items_may_end js ≡ false → is_reached b.now ≡ false
   never_items w c NoItems a b fresh flows e = let k : true ≡ false = e in absurd (cc)
   never_items w c (MoreItems (Execute s) js) a b (one, fresh) (l, d, ds) e =
-      either_false (may_end s) (items_may_end js) e (λ same. items_unreached w (statements.behind_item (Execute s) c) js l b fresh ds (never_statement w c s a l one d same))
+      and_false_cases (may_end s) (items_may_end js) e (λ same. items_unreached w (statements.behind_item (Execute s) c) js l b fresh ds (never_statement w c s a l one d same))
       (λ rest. never_items w (statements.behind_item (Execute s) c) js l b fresh ds rest)
   never_items w c (MoreItems (Declare n t v) js) a b (one, fresh) (l, d, ds) e = never_items w (statements.behind_item (Declare n t v) c) js l b fresh ds e
   never_items w c (MoreItems (DeclareRegion r n) js) a b (one, fresh) (l, d, ds) e = never_items w (statements.behind_item (DeclareRegion r n) c) js l b fresh ds e
@@ -133,7 +126,7 @@ mutual
   never_clauses w c start (Default r js) a b fresh (l, d, (u, same)) e none =
       subst (λ (z : Known). is_reached z.now ≡ false) (sym same) (meet_none a.now (with_each Full (locks_of js) l.now) none (each_reached Full (locks_of js) l.now ∙ never_items w c js (at start a) l fresh d e))
   never_clauses w c start (Case t n r js cs) a b (caught', fresh, more) (l, d, ds) e none =
-      let both = neither (items_may_end js) (clauses_may_end cs) e in
+      let both = or_parts (items_may_end js) (clauses_may_end cs) e in
       never_clauses w c start cs (or_clause a.now js l) b more ds both.1
       (meet_none a.now (with_each Full (locks_of js) l.now) none (each_reached Full (locks_of js) l.now ∙ never_items w c js (at (statements.with_caught n start) a) l fresh d both.0))
 

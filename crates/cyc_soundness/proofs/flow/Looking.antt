@@ -1,8 +1,9 @@
 -- What was looked at stays as it is until it is used: nothing that is evaluated in between moves the local.
-use Rattle.std.proofs.Common.{◌≡◌, ◌≢◌, ℕ, zero, suc, Bool, true, false, not, ◌||◌, List, [], ◌∷◌, ◌++◌, Option, Some, None, refl, sym, ap, ◌∙◌, eqb}
+use Rattle.std.proofs.Common.{◌≡◌, ◌≢◌, ℕ, zero, suc, true, false, not, List, [], ◌∷◌, ◌++◌, Option, Some, None, refl, sym, ap, ◌∙◌, eqb}
 use Rattle.std.specs.Prelude.{get_or, nat_eq}
 use Rattle.std.specs.List.{list_any}
 use Rattle.std.proofs.lemmas.Bool.{eq-eqb, and_parts}
+use Rattle.cyc_words.proofs.Booleans.{not_or_parts}
 use Rattle.cyc_types.specs.TypedTrees.{Local, Global, Expression, Number, NullPointer, HeapRegion, Counter, Copy, Move, Peek, Load, AddressOf, AddressOfCell, NumberOfElements, FreeUnique, FreeKey, Call, Unary, Binary, Assign, Store, New, Dereference, Target, Member, Element, Placement, OnHeap, AsUnique, ByHandle, Initial, Plain, Fields, Array, Converted, Convert, Arguments, NoArguments, MoreArguments, Operations, NoOperations, ThenCompute, ThenTest, ThenPointer, ThenPointerPeek, Lvalue, Side, VariableSide, CellSide, peeked}
 use Rattle.cyc_types.specs.Types.{ValueType, Void, Null, Value}
 use Rattle.cyc_types.specs.Rules.{Derives}
@@ -16,14 +17,10 @@ use Rattle.cyc_soundness.proofs.flow.FlowLemmas.{before_last, at_last, meet_firs
 
 -- ---- a local that is free is another one
 
-neither_true : (a b : Bool) → not (a || b) ≡ true → (not a ≡ true) × (not b ≡ true)
-neither_true true b e = absurd (let k : false ≡ true = e in cc)
-neither_true false b e = (refl, e)
-
 free_other : (n m : ℕ) (w : List ℕ) → IsAmong n w → not (list_any (λ k. nat_eq k m) w) ≡ true → n ≢ m
-free_other n m w (first as') e = λ same. (let k : not (eqb n m) ≡ true = (neither_true (nat_eq n m) (list_any (λ k. nat_eq k m) as') e).0 in
+free_other n m w (first as') e = λ same. (let k : not (eqb n m) ≡ true = (not_or_parts (nat_eq n m) (list_any (λ k. nat_eq k m) as') e).0 in
     let z : eqb n m ≡ true = eq-eqb n m same in let y : false ≡ true = sym (ap (λ b. not b) z) ∙ k in absurd (cc))
-free_other n m w (later b as' is) e = free_other n m as' is (neither_true (nat_eq b m) (list_any (λ k. nat_eq k m) as') e).1
+free_other n m w (later b as' is) e = free_other n m as' is (not_or_parts (nat_eq b m) (list_any (λ k. nat_eq k m) as') e).1
 
 pub only_other : (n m : ℕ) → n ≢ m → is_full (get_or (only n) m Vacant) ≡ false
 only_other zero zero apart = absurd (apart refl)

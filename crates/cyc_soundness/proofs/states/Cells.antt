@@ -1,6 +1,8 @@
 -- CELLS that a step reads and writes: those of variables, and those that a pointer leads to.
 use Rattle.std.proofs.Common.{◌≡◌, ◌≢◌, Option, ℕ, zero, suc, ◌≤◌, ◌<◌, Bool, true, false, List, [], ◌∷◌, Some, None, slice_get, refl, sym, ap, subst, ◌∙◌, arith}
 use Rattle.std.specs.Prelude.{if◌then◌else◌}
+use Rattle.std.proofs.lemmas.Option.{same_Some}
+use Rattle.cyc_words.proofs.Items.{slice_get-set_same}
 use Rattle.cyc_syntax.specs.declared.tree.PointerKind.{PointerKind}
 use Rattle.cyc_types.specs.declared.typed.Kind.{Kind}
 use Rattle.cyc_types.specs.Types.{Ty}
@@ -19,7 +21,6 @@ use Rattle.cyc_soundness.specs.inside.Lives.{at as at'}
 use Rattle.cyc_soundness.specs.inside.Worlds.{IsKept, IsPlain, PointerTo, thing_of, same_thing, given, giving, Thing, Holder, Hand, At, IsHeld, pointer_at, Claims, ClaimsPart, ClaimsBy, IsHad, IsOpenObject, IsKeyless, AreKeyless, Stays, ObjectType, Typing, IsOpenIn, Outlasts, alike, heap as for_ever, globals as with_globals, stays, encloses, IsFilled, IsPart, IsTarget, HasType, IsResult, IsTyped, IsOpenLife, borrows, KeyOf, life_at, lent_now, global_life, Standing, Away}
 use Rattle.cyc_soundness.specs.inside.Frames.{InScope, IsBound, AreVariables, LiveIn, Holds, Exits, KnowsProgram, IsLasting}
 use Rattle.cyc_soundness.specs.inside.Stacks.{IsCommonLife, IsByType, Val, operands_in, IsStack, IsFocus, IsWell}
-use Rattle.cyc_soundness.proofs.states.Numbers.{slice_get-set_same, some_same}
 use Rattle.cyc_soundness.proofs.types.TypeLemmas.{is_kind_same}
 use Rattle.cyc_soundness.proofs.states.WorldLemmas.{typed_cell, cell_there, live_object, result_grown, risen, risen_past, with_filled, written_grows, cell_written, globals_grown}
 use Rattle.cyc_soundness.proofs.states.Hands.{Changed, at_no_hand, given_now, giving_changed, given_typed, hands_globals, variables_kept, changed_after, variables_marked, variables_grown, lent_no_hand}
@@ -72,7 +73,7 @@ module _ (g : Typing) (w : World) (typed : IsTyped g w.regions w.objects) where
   never_struct number x n ls offset there at (m, flag, enough) =
       let (y, k, stands, filled, is) = typed.each number x there in
       let c = typed_cell g x.cells y.cells k offset (Struct n ls) is.cells at in
-      let same : m ≡ k = some_same m k (sym flag ∙ filled) in
+      let same : m ≡ k = same_Some m k (sym flag ∙ filled) in
       let (v, content, has) = c.content (let less : offset < k = omega (arith, same, enough) in less) in
       has
 
@@ -153,7 +154,7 @@ stored_part g object x (Struct n ls) offset v has is = absurd has
 
 pub keyless_at : (ts : List RunTy) (i : ℕ) (t : RunTy) → AreKeyless ts → slice_get ts i ≡ Some t → IsKeyless t
 keyless_at [] i t are found = absurd (let k : None ≡ Some t = found in cc)
-keyless_at (u ∷ ts) zero t (is, are) found = subst (λ z. IsKeyless z) (some_same u t found) is
+keyless_at (u ∷ ts) zero t (is, are) found = subst (λ z. IsKeyless z) (same_Some u t found) is
 keyless_at (u ∷ ts) (suc i) t (is, are) found = keyless_at ts i t are found
 
 -- what is neither a key nor unique claims nothing
@@ -233,7 +234,7 @@ module _ (p : Program) (g : Typing) (x : Exits) (bs : List InScope) (e : Environ
       → Content kind number offset t
   content_of kind number offset t y at cells opens (m, flag, enough) same =
       let c = cell_there g w number offset t y typed at cells opens in
-      let count : m ≡ c.filled = some_same m c.filled (sym flag ∙ c.flag) in
+      let count : m ≡ c.filled = same_Some m c.filled (sym flag ∙ c.flag) in
       let (v, content, has) = c.of.content (let less : offset < c.filled = omega (arith, count, enough) in less) in
       record {
         value = v;
@@ -270,7 +271,7 @@ module _ (p : Program) (g : Typing) (x : Exits) (bs : List InScope) (e : Environ
         → IsWell p (stored (cell_at w number offset) number offset v focus k e w)
     writes_marking live at cells opens flag few is before beside free lasts claims goes =
         let c = cell_there g w number offset t y typed at cells opens in
-        let count : m ≡ c.filled = some_same m c.filled (sym flag ∙ c.flag) in
+        let count : m ≡ c.filled = same_Some m c.filled (sym flag ∙ c.flag) in
         let few_too : offset ≤ c.filled = omega (arith, count, few) in
         let h : Typing = record (with_filled g number (risen offset c.filled)) { here = here } in
         let grows = written_grows g w number offset y t v.value typed at cells c few_too is.1 in

@@ -3,17 +3,18 @@ use Rattle.std.proofs.Common.{◌≡◌, ◌≢◌, ℕ, suc, ◌+◌, ◌≤◌
 use Rattle.std.specs.Prelude.{if◌then◌else◌, ◌==◌}
 use Rattle.std.proofs.lemmas.Bool.{ltb-true, lt-ltb, eqb-true, eq-eqb, false_from_ne_true}
 use Rattle.std.proofs.lemmas.List.{length-set}
-use Rattle.cyc_words.proofs.Numbers.{when_equal}
+use Rattle.std.proofs.lemmas.Option.{same_Some}
+use Rattle.cyc_words.proofs.Numbers.{when_equal, same_or_other}
+use Rattle.cyc_words.proofs.Lists.{slice_get_last}
+use Rattle.cyc_words.proofs.Items.{slice_get-set_other, slice_get-set_same}
 use Rattle.cyc_types.specs.flow.States as flow
 use Rattle.cyc_types.specs.TypedTrees.{Program}
 use Rattle.cyc_meaning.specs.Values.{Operand, Cell}
 use Rattle.cyc_meaning.specs.Values as values
 use Rattle.cyc_meaning.specs.State.{Dynamic, new_region, Region, Unique, Object, heap_number, is_open}
-use Rattle.cyc_meaning.proofs.ListLemmas.{slice_get-end, slice_get-set_other}
 use Rattle.cyc_soundness.specs.inside.Lives.{Life, OfRegion, Owned, Kept, RunTy, RunValue, Void, Null, Value, Seen, Into}
 use Rattle.cyc_soundness.specs.inside.Worlds.{Pending, Settled, Awaits, IsHiding, IsKept, IsAmong, first as newest, later as behind, ObjectType, Thing, KeyOf, PointerTo, Holder, Nobody, Hand, At, Lent, Typing, IsHeld, same_thing, thing_of, Owns, Claims, ClaimsPart, ClaimsBy, ClaimsAlone, IsLookedAt, IsSlot, IsHere, given, giving, marked, handing, AreOwned, IsUniqueObject, is_lent_by, lent_now, IsOpenIn, Stays, IsDynamic, IsOwner, IsObject, IsTyped, Grows, Standing, Here, Away, Gone, AreLent}
 use Rattle.cyc_soundness.specs.inside.Frames.{InScope, Variable, Names, Instance, IsOfVariable, local_type, HoldsIts, IsFullIn, AreVariables, AreSet, Holds, KnowsProgram}
-use Rattle.cyc_soundness.proofs.states.Numbers.{same_or_other, slice_get-set_same, some_same}
 use Rattle.cyc_soundness.proofs.states.WorldLemmas.{life_grown, object_grown, globals_grown, opened_typed, typed_beside}
 
 -- ---- who has what
@@ -220,7 +221,7 @@ shown_changed g object y there shown = record {
   grows = same_grows g g.own (marked object Here g.here);
   own = λ a apart. refl;
   here = λ n is apart. marked_keeps object g.here n is;
-  away = λ n j hides is apart other. marked_other object Here g.here n (λ same. let type_is : y ≡ hides.0 = some_same y hides.0 (sym there ∙ ap (λ i. slice_get g.objects i) (sym same) ∙ hides.1) in
+  away = λ n j hides is apart other. marked_other object Here g.here n (λ same. let type_is : y ≡ hides.0 = same_Some y hides.0 (sym there ∙ ap (λ i. slice_get g.objects i) (sym same) ∙ hides.1) in
       let z : true ≡ false = sym hides.2 ∙ ap (λ (z : ObjectType). z.is_hidden) (sym type_is) ∙ shown in absurd (cc)) ∙ is;
   pending = refl;
   depth = refl;
@@ -376,7 +377,7 @@ module _ (g : Typing) (o : Option Thing) (object : ℕ) (new : Holder) (y : Obje
   taken_kept : (a : Standing) → (a ≡ Here → ⊥) → (n i : ℕ) (u : ObjectType) (x : Object) → slice_get g.objects n ≡ Some u → slice_get objects n ≡ Some x → IsKept (handing g o new object a) n i u.is_hidden
       → (IsKept g n i u.is_hidden × (At n i ≢ At object 0)) ⊎ ((r : RunTy) (c : Cell) (v : values.Value) → slice_get u.cells i ≡ Some r → slice_get x.cells i ≡ Some c → c.content ≡ Some v → Claims (given o new g.own) (At n i) r v)
   taken_kept a none n i u x found stands kept = elim (same_or_other n object) [
-    | inl same ↦ (let type_is : y ≡ u = some_same y u (sym there ∙ ap (λ k. slice_get g.objects k) (sym same) ∙ found) in
+    | inl same ↦ (let type_is : y ≡ u = same_Some y u (sym there ∙ ap (λ k. slice_get g.objects k) (sym same) ∙ found) in
         let now = kept.0 (ap (λ (z : ObjectType). z.is_hidden) (sym type_is) ∙ hidden) in
         absurd (none (sym (when_equal n object a (g.here n) same) ∙ now)))
     | inr apart ↦ inl (((λ is. marked_before object a g.here n Here apart (kept.0 is)), kept.1), λ e. apart (at_same n i object 0 e).0)
@@ -400,7 +401,7 @@ module _ (g : Typing) (o : Option Thing) (object : ℕ) (new : Holder) (y : Obje
       away : (n i : ℕ) (t : ObjectType) (x : Object) → slice_get g.objects n ≡ Some t → slice_get objects n ≡ Some x → marked object (Away j) g.here n ≡ Away i → t.is_hidden ≡ true
           → ((g.here n ≡ Away i) × (Lent i n ≢ At object 0)) ⊎ ((m : ℕ) (u : RunTy) (c : Cell) (v : values.Value) → slice_get t.cells m ≡ Some u → slice_get x.cells m ≡ Some c → c.content ≡ Some v → Claims (given o new g.own) (Lent i n) u v)
       away n i t x found stands now hides = elim (same_or_other n object) [
-        | inl same ↦ (let type_is : y ≡ t = some_same y t (sym there ∙ ap (λ k. slice_get g.objects k) (sym same) ∙ found) in
+        | inl same ↦ (let type_is : y ≡ t = same_Some y t (sym there ∙ ap (λ k. slice_get g.objects k) (sym same) ∙ found) in
             let number : j ≡ i = away_same j i (sym (when_equal n object (Away j) (g.here n) same) ∙ now) in
             inr (λ m u c v cell at content. subst (λ k. Claims (given o new g.own) (Lent k n) u v) number (subst (λ k. Claims (given o new g.own) (Lent j k) u v) (sym same)
             (claims x (ap (λ k. slice_get objects k) (sym same) ∙ stands) m u c v (ap (λ (z : ObjectType). slice_get z.cells m) type_is ∙ cell) at content))))
@@ -428,7 +429,7 @@ also_typed g o object j y regions objects there hidden lent (inl has) typed = ha
       kept,
       λ e.
           (let same = (at_same n i object 0 e).0 in
-          let type_is : y ≡ t = some_same y t (sym there ∙ ap (λ k. slice_get g.objects k) (sym same) ∙ found) in
+          let type_is : y ≡ t = same_Some y t (sym there ∙ ap (λ k. slice_get g.objects k) (sym same) ∙ found) in
           let here : g.here n ≡ Here = kept.0 (ap (λ (z : ObjectType). z.is_hidden) (sym type_is) ∙ hidden) in
           absurd (let z : Away j ≡ Here = sym lent ∙ ap g.here (sym same) ∙ here in cc)),
     )
@@ -474,7 +475,7 @@ returned_typed g o object j y regions objects has there claims typed = hands_typ
     before : (n i : ℕ) (t : ObjectType) (x : Object) → slice_get g.objects n ≡ Some t → slice_get objects n ≡ Some x → IsKept (handing g o (At object 0) object Here) n i t.is_hidden
         → (IsKept g n i t.is_hidden × (At n i ≢ Lent j object)) ⊎ ((u : RunTy) (c : Cell) (v : values.Value) → slice_get t.cells i ≡ Some u → slice_get x.cells i ≡ Some c → c.content ≡ Some v → Claims (given o (At object 0) g.own) (At n i) u v)
     before n i t x found stands kept = elim (same_or_other n object) [
-      | inl same ↦ (let type_is : y ≡ t = some_same y t (sym there ∙ ap (λ k. slice_get g.objects k) (sym same) ∙ found) in
+      | inl same ↦ (let type_is : y ≡ t = same_Some y t (sym there ∙ ap (λ k. slice_get g.objects k) (sym same) ∙ found) in
           inr (λ u c v cell at content. subst (λ k. Claims (given o (At object 0) g.own) (At k i) u v) (sym same)
           (claims x (ap (λ k. slice_get objects k) (sym same) ∙ stands) i u c v (ap (λ (z : ObjectType). slice_get z.cells i) type_is ∙ cell) at content)))
       | inr apart ↦ inl (((λ is. marked_before object Here g.here n Here apart (kept.0 is)), kept.1), at_not_lent n i j object)
@@ -545,8 +546,8 @@ freed_typed g object i x regions objects has stands typed =
         m,
         subst (λ k. slice_get (set objects object gone) k ≡ Some gone) (sym same) gone_there,
         flag,
-        (let type_is : t ≡ u = some_same t u (sym there ∙ ap (λ k. slice_get g.objects k) (sym same) ∙ found) in
-            let same_z : z ≡ x = some_same z x (sym at ∙ ap (λ k. slice_get objects k) same ∙ stands) in
+        (let type_is : t ≡ u = same_Some t u (sym there ∙ ap (λ k. slice_get g.objects k) (sym same) ∙ found) in
+            let same_z : z ≡ x = same_Some z x (sym at ∙ ap (λ k. slice_get objects k) same ∙ stands) in
             gone_is m u x (ap (λ (k : ObjectType). k.life) (sym type_is) ∙ life) (subst (λ k. IsObject h m u k) same_z is)),
       )
       | inr apart ↦ (z, m, slice_get-set_other objects object n gone apart ∙ at, flag, is)
@@ -560,14 +561,14 @@ freed_typed g object i x regions objects has stands typed =
 
     owned : (n : ℕ) (u : ObjectType) (z : Object) → slice_get g.objects n ≡ Some u → slice_get (set objects object gone) n ≡ Some z → IsTyped h regions objects → AreOwned h n u z.cells
     owned n u z found is now = elim (same_or_other n object) [
-      | inl same ↦ (let z_is : gone ≡ z = some_same gone z (sym gone_there ∙ ap (λ k. slice_get (set objects object gone) k) (sym same) ∙ is) in
+      | inl same ↦ (let z_is : gone ≡ z = same_Some gone z (sym gone_there ∙ ap (λ k. slice_get (set objects object gone) k) (sym same) ∙ is) in
           subst (λ (k : Object). AreOwned h n u k.cells) z_is (now.owned n u x found (ap (λ k. slice_get objects k) same ∙ stands)))
       | inr apart ↦ now.owned n u z found (sym (slice_get-set_other objects object n gone apart) ∙ is)
     ]
 
     lent : (n : ℕ) (u : ObjectType) (z : Object) → slice_get g.objects n ≡ Some u → slice_get (set objects object gone) n ≡ Some z → IsTyped h regions objects → AreLent h n u z.cells
     lent n u z found is now = elim (same_or_other n object) [
-      | inl same ↦ (let z_is : gone ≡ z = some_same gone z (sym gone_there ∙ ap (λ k. slice_get (set objects object gone) k) (sym same) ∙ is) in
+      | inl same ↦ (let z_is : gone ≡ z = same_Some gone z (sym gone_there ∙ ap (λ k. slice_get (set objects object gone) k) (sym same) ∙ is) in
           subst (λ (k : Object). AreLent h n u k.cells) z_is (now.lent n u x found (ap (λ k. slice_get objects k) same ∙ stands)))
       | inr apart ↦ now.lent n u z found (sym (slice_get-set_other objects object n gone apart) ∙ is)
     ]
@@ -742,12 +743,12 @@ kept_typed g regions objects holder many typed =
     kept n k (newest ms) same more = (
       (let less : 1 < n = omega (arith, same, many) in less),
       λ held. subst (λ i. IsDynamic (slice_get (regions ++ new_region Dynamic ∷ []) i)) (sym same)
-          (subst (λ z. IsDynamic z) (sym (slice_get-end regions (new_region Dynamic))) (refl, refl)),
+          (subst (λ z. IsDynamic z) (sym (slice_get_last regions (new_region Dynamic))) (refl, refl)),
     )
     kept n k (behind m ms among) same more = (
       (more.kept n among).0,
       λ held. elim (same_or_other n (length regions)) [
-        | inl here ↦ subst (λ i. IsDynamic (slice_get (regions ++ new_region Dynamic ∷ []) i)) (sym here) (subst (λ z. IsDynamic z) (sym (slice_get-end regions (new_region Dynamic))) (refl, refl))
+        | inl here ↦ subst (λ i. IsDynamic (slice_get (regions ++ new_region Dynamic ∷ []) i)) (sym here) (subst (λ z. IsDynamic z) (sym (slice_get_last regions (new_region Dynamic))) (refl, refl))
         | inr apart ↦ (more.kept n among).1 (subst (λ z. IsHeld z) (other_number n (length regions) holder (g.own (KeyOf n)) apart) held)
       ],
     )

@@ -3,6 +3,8 @@ use Rattle.std.proofs.Common.{◌≡◌, ◌≢◌, inl, inr, ℕ, ◌≤◌, �
 use Rattle.std.specs.Prelude.{if◌then◌else◌, nat_lt, ◌⊎◌, zero, suc, length, get_or}
 use Rattle.std.proofs.lemmas.Bool.{ltb-true}
 use Rattle.std.proofs.lemmas.Bool.{eqb-true, eq-eqb, false_from_ne_true}
+use Rattle.std.proofs.lemmas.Option.{same_Some}
+use Rattle.cyc_words.proofs.Numbers.{same_or_other}
 use Rattle.cyc_syntax.specs.declared.tree.PointerKind.TheVariants as marks
 use Rattle.cyc_types.specs.declared.typed.PointerOperator.{PointerOperator}
 use Rattle.cyc_types.specs.declared.typed.Callee.{Callee}
@@ -27,7 +29,6 @@ use Rattle.cyc_soundness.specs.inside.Frames.{IsAmong, first, later, Bound, InSc
 use Rattle.cyc_soundness.specs.inside.Classes.{is_full, Relied, only, and_looked, IsSparedBy, IsSpared, InOperations}
 use Rattle.cyc_soundness.specs.inside.Stacks.{IsAccepted, Part, Whole, PartOf, part, part_of_place, relied_by, relied_at, WaitsPlace, Want, Nothing, Val, PlaceOf, Go, held, Waits, place_operand, count_held, count_place, IsThrough, IsArray, IsArrayOf, AreClaimed, IsHeldPart, operands_in, Keeps, IsSpot, of_local, of_global, of_cell, IsLeftSpot, left_variable, left_cell, KeepsPlace, AreSwapped, IsStack, IsCommonLife, IsLentOut}
 use Rattle.cyc_soundness.specs.inside.Stacks as stacks
-use Rattle.cyc_soundness.proofs.states.Numbers.{same_or_other, some_same}
 use Rattle.cyc_soundness.proofs.flow.FlowLemmas.{other_set, other_full, full_put, reached_with}
 use Rattle.cyc_soundness.proofs.types.ValueLemmas.{ends_through}
 use Rattle.cyc_soundness.proofs.types.RegionLemmas.{there_lasting, there_open}
@@ -89,7 +90,7 @@ local_same c d m n e = let k : OfLocal c m ≡ OfLocal d n = e in (cc, cc)
 -- an object is the variable of one local
 pub slot_same : (g : Typing) (c d m n object : ℕ) → IsSlot g c m object → IsSlot g d n object → (c ≡ d) × (m ≡ n)
 slot_same g c d m n object (x, there, one) (y, stands, two) =
-    let same : x ≡ y = some_same x y (sym there ∙ stands) in
+    let same : x ≡ y = same_Some x y (sym there ∙ stands) in
     local_same c d m n (sym one ∙ ap (λ (z : ObjectType). z.slot) same ∙ two)
 
 hand_other : (empties : Bool) (x : Exits) (g : Typing) (k : List Entry) (i : ℕ) (old : Holder) → IsAboveBy empties x g k old → i < operands_in k → Hand i ≢ old
@@ -126,7 +127,7 @@ variable_other x g k n object (At other zero) (inr (filling, shown)) slot relied
 -- no pointer leads to one that is looked at
 hiding_other : (g : Typing) (object other : ℕ) → IsHiding g object true → IsHiding g other false → At object 0 ≢ At other 0
 hiding_other g object other (y, there, hidden) (z, stands, shown) e =
-    let same : y ≡ z = some_same y z (sym there ∙ ap (λ n. slice_get g.objects n) (at_same object 0 other 0 e).0 ∙ stands) in
+    let same : y ≡ z = same_Some y z (sym there ∙ ap (λ n. slice_get g.objects n) (at_same object 0 other 0 e).0 ∙ stands) in
     let k : true ≡ false = sym hidden ∙ ap (λ (t : ObjectType). t.is_hidden) same ∙ shown in absurd (cc)
 
 looked_other : (empties : Bool) (x : Exits) (g : Typing) (k : List Entry) (n object : ℕ) (old : Holder) → IsAboveBy empties x g k old → IsSlot g g.depth n object → IsHiding g object true → (IsSpared (relied_at (relied_if empties x.relied) k) n → ⊥) → At object 0 ≢ old
@@ -349,7 +350,7 @@ place_peek a = None
 looked_unspared : (peek : Option ℕ) (q : Relied) (n : ℕ) → peek ≡ Some n → IsSpared (and_looked peek q) n → ⊥
 looked_unspared None q n e spared = let k : None ≡ Some n = e in absurd (cc)
 looked_unspared (Some m) q n e spared =
-    let same : m ≡ n = some_same m n e in
+    let same : m ≡ n = same_Some m n e in
     let one : is_full (get_or (only m) n Vacant) ≡ false = spared.0 in
     let z : true ≡ false = sym (ap is_full (ap (λ i. get_or (only i) n Vacant) same ∙ only_full n)) ∙ one in absurd (cc)
 
@@ -806,7 +807,7 @@ set_with_fullness g a f number (b ∷ bs) (less, below) (is, are) = (tt, set_wit
 one_object : (e : Environment) (number object : ℕ) (b : Bound) → e.locals number ≡ Some object → e.locals b.number ≡ Some b.object → b.number ≡ number → b.object ≡ object
 one_object e number object b there here same =
     let k : Some object ≡ Some b.object = sym there ∙ ap e.locals (sym same) ∙ here in
-    sym (some_same object b.object k)
+    sym (same_Some object b.object k)
 
 moved_here : (g : Typing) (number object : ℕ) (b : Bound) → b.number ≡ number → b.object ≡ object → IsHere g g.depth number object → IsHere g g.depth b.number b.object
 moved_here g number object b same one is = subst (λ i. IsHere g g.depth i b.object) (sym same) (subst (λ i. IsHere g g.depth number i) (sym one) is)

@@ -2,18 +2,20 @@
 use Rattle.std.proofs.Common.{◌≡◌, ◌≢◌, ℕ, zero, suc, ◌+◌, ◌≤◌, ◌<◌, Bool, true, false, List, [], ◌∷◌, ◌++◌, length, map, set, Option, Some, None, refl, sym, ap, subst, ◌∙◌, inl, inr, arith, length-append}
 use Rattle.std.specs.Prelude.{if◌then◌else◌, slice_get}
 use Rattle.std.proofs.lemmas.List.{length-set}
+use Rattle.std.proofs.lemmas.Option.{same_Some}
+use Rattle.cyc_words.proofs.Numbers.{anything_below_zero, same_or_other}
+use Rattle.cyc_words.proofs.Lists.{same_length_pushed, slice_get_last}
+use Rattle.cyc_words.proofs.Items.{never_at_length, slice_get_front, slice_get-set_other, slice_get-set_same, slice_get_last_cases_turned}
 use Rattle.cyc_syntax.specs.declared.tree.PointerKind.TheVariants as marks
 use Rattle.cyc_types.specs.TypedTrees.{Program}
 use Rattle.cyc_meaning.specs.Values.{Operand, Cell}
 use Rattle.cyc_meaning.specs.Values as values
 use Rattle.cyc_meaning.specs.State.{Region, Owner, InRegion, Unique, Object, World, Found, Closed, found_region, located, heap_number, is_open, is_live, cell_in, cell_at, written}
 use Rattle.cyc_meaning.specs.inside.Nesting.{IsScoped, IsFound}
-use Rattle.cyc_meaning.proofs.ListLemmas.{slice_get-append, slice_get-end, slice_get-set_other}
 use Rattle.cyc_meaning.proofs.NestingLemmas.{open_region}
 use Rattle.cyc_soundness.specs.inside.Lives.{Life, OfRegion, Owned, Kept, RunTy, Int, Char, Pointer, Handle, Key, Struct, RunValue, Void, Null, Value, Seen, Into, kind_at, at}
 use Rattle.cyc_soundness.specs.inside.Worlds.{Pending, IsKept, IsAmong, KeyOf, PointerTo, At, ObjectType, Typing, IsHeld, Claims, AreOwned, IsUniqueObject, IsOpenObject, Stays, IsKnownLife, IsKnownOwner, IsDynamic, IsFilled, IsPart, IsTarget, HasType, IsResult, AreOperands, IsContent, AreCells, IsOwner, IsObject, IsTyped, Grows, Thing, Holder, Nobody, Owns, thing_of, Standing, Here, Away, Lent, AreLent}
 use Rattle.cyc_soundness.specs.inside.Frames.{lives_among, KnowsProgram}
-use Rattle.cyc_soundness.proofs.states.Numbers.{same_or_other, slice_get-set_same, appended, some_same}
 
 -- ---- what was typed stays so
 
@@ -97,8 +99,8 @@ with_object g t n = record g { objects = g.objects ++ t ∷ []; filled = g.fille
 
 pub object_grows : (g : Typing) (t : ObjectType) (n : ℕ) → Grows g (with_object g t n)
 object_grows g t n = record {
-  objects = λ number u there. slice_get-append g.objects (t ∷ []) number u there;
-  filled = λ number count. λ (m, is, enough). (m, slice_get-append g.filled (n ∷ []) number m is, enough);
+  objects = λ number u there. slice_get_front g.objects (t ∷ []) number u there;
+  filled = λ number count. λ (m, is, enough). (m, slice_get_front g.filled (n ∷ []) number m is, enough);
   fields = λ number ls ts is. is;
   kept = λ number is. is;
 }
@@ -108,75 +110,64 @@ object_stays g t n = record { grows = object_grows g t n; own = refl; here = ref
 
 pub variable_grows : (g : Typing) (t : ObjectType) (n : ℕ) (here : ℕ → Standing) → Grows g (record (with_object g t n) { here = here })
 variable_grows g t n here = record {
-  objects = λ number u there. slice_get-append g.objects (t ∷ []) number u there;
-  filled = λ number count. λ (m, is, enough). (m, slice_get-append g.filled (n ∷ []) number m is, enough);
+  objects = λ number u there. slice_get_front g.objects (t ∷ []) number u there;
+  filled = λ number count. λ (m, is, enough). (m, slice_get_front g.filled (n ∷ []) number m is, enough);
   fields = λ number ls ts is. is;
   kept = λ number is. is;
 }
-
-both_longer : {A B : Type 0} (xs : List A) (ys : List B) (x : A) (y : B) → length xs ≡ length ys → length (xs ++ x ∷ []) ≡ length (ys ++ y ∷ [])
-both_longer xs ys x y same =
-    let a : length (xs ++ x ∷ []) ≡ length xs + length (x ∷ []) = length-append xs (x ∷ []) in
-    let b : length (ys ++ y ∷ []) ≡ length ys + length (y ∷ []) = length-append ys (y ∷ []) in
-    a ∙ ap (λ n. n + 1) same ∙ sym b
 
 -- What has what is in it had it before, or is the new one.
 abbrev pub with_variable : Typing → ObjectType → (filled : ℕ) → (here : ℕ → Standing) → Typing
 with_variable g t n here = record (with_object g t n) { here = here }
 
-pub beyond : {A : Type 0} (xs : List A) (n : ℕ) (x : A) → slice_get xs n ≡ Some x → n ≡ length xs → ⊥
-beyond [] n x found same = absurd (let e : None ≡ Some x = found in cc)
-beyond (y ∷ xs) zero x found same = absurd (omega (arith, same))
-beyond (y ∷ xs) (suc n) x found same = beyond xs n x found (let e : n ≡ length xs = omega (arith, same) in e)
-
 pub object_typed : (g : Typing) (regions : List Region) (objects : List Object) (t : ObjectType) (n : ℕ) (x : Object) (here : ℕ → Standing) → IsTyped g regions objects → IsObject (with_variable g t n here) n t x
     → ((object : ℕ) (s : Standing) → object ≢ length objects → here object ≡ s → g.here object ≡ s) → AreOwned (with_variable g t n here) (length objects) t x.cells
     → ((j : ℕ) → here (length objects) ≡ Away j → t.is_hidden ≡ true → ⊥) → IsTyped (with_variable g t n here) regions (objects ++ x ∷ [])
 object_typed g regions objects t n x here typed is before own none = record {
-  count = both_longer objects g.objects x t typed.count;
-  counts = both_longer objects g.filled x n typed.counts;
+  count = same_length_pushed objects g.objects x t typed.count;
+  counts = same_length_pushed objects g.filled x n typed.counts;
   each = each;
   heap = typed.heap;
   kept = typed.kept;
   fresh = typed.fresh;
-  unique = λ object held. (let (u, y, there, owned, stands, live) = typed.unique object held in (u, y, slice_get-append g.objects (t ∷ []) object u there, owned, slice_get-append objects (x ∷ []) object y stands, live));
+  unique = λ object held. (let (u, y, there, owned, stands, live) = typed.unique object held in (u, y, slice_get_front g.objects (t ∷ []) object u there, owned, slice_get_front objects (x ∷ []) object y stands, live));
   owned = owned;
   lent = lent;
 }
   where
     each : (number : ℕ) (u : ObjectType) → slice_get (g.objects ++ t ∷ []) number ≡ Some u
         → (y : Object) × (m : ℕ) × (slice_get (objects ++ x ∷ []) number ≡ Some y) × (slice_get (g.filled ++ n ∷ []) number ≡ Some m) × IsObject (with_variable g t n here) m u y
-    each number u there = elim (appended g.objects t number u there) [
+    each number u there = elim (slice_get_last_cases_turned g.objects t number u there) [
       | inl old ↦ (let (y, m, at, flag, was) = typed.each number u old in
-          (y, m, slice_get-append objects (x ∷ []) number y at, slice_get-append g.filled (n ∷ []) number m flag, object_grown g (with_variable g t n here) (variable_grows g t n here) m u y was))
+          (y, m, slice_get_front objects (x ∷ []) number y at, slice_get_front g.filled (n ∷ []) number m flag, object_grown g (with_variable g t n here) (variable_grows g t n here) m u y was))
       | inr new ↦ (
         x,
         n,
-        subst (λ i. slice_get (objects ++ x ∷ []) i ≡ Some x) (typed.count ∙ sym new.0) (slice_get-end objects x),
-        subst (λ i. slice_get (g.filled ++ n ∷ []) i ≡ Some n) (sym typed.counts ∙ typed.count ∙ sym new.0) (slice_get-end g.filled n),
+        subst (λ i. slice_get (objects ++ x ∷ []) i ≡ Some x) (typed.count ∙ sym new.0) (slice_get_last objects x),
+        subst (λ i. slice_get (g.filled ++ n ∷ []) i ≡ Some n) (sym typed.counts ∙ typed.count ∙ sym new.0) (slice_get_last g.filled n),
         subst (λ z. IsObject (with_variable g t n here) n z x) new.1 is,
       )
     ]
 
     -- what is found of an object that was there before
     same_object : (number : ℕ) (y z : Object) → slice_get (objects ++ x ∷ []) number ≡ Some y → slice_get objects number ≡ Some z → z ≡ y
-    same_object number y z found before = some_same z y (sym (slice_get-append objects (x ∷ []) number z before) ∙ found)
+    same_object number y z found before = same_Some z y (sym (slice_get_front objects (x ∷ []) number z before) ∙ found)
 
     owned : (object : ℕ) (u : ObjectType) (y : Object) → slice_get (g.objects ++ t ∷ []) object ≡ Some u → slice_get (objects ++ x ∷ []) object ≡ Some y → AreOwned (with_variable g t n here) object u y.cells
-    owned object u y there stands = elim (appended g.objects t object u there) [
+    owned object u y there stands = elim (slice_get_last_cases_turned g.objects t object u there) [
       | inl old ↦ (let (z, m, at, flag, was) = typed.each object u old in
-          let apart : object ≢ length objects = (λ e. beyond objects object z at e) in
+          let apart : object ≢ length objects = (λ e. never_at_length objects object z at e) in
           λ i r c v kept. typed.owned object u y old (at ∙ ap (λ z. Some z) (same_object object y z stands at)) i r c v ((λ hidden. before object Here apart (kept.0 hidden)), kept.1))
       | inr new ↦ (let here_is : object ≡ length objects = new.0 ∙ sym typed.count in
-          let found : Some x ≡ Some y = sym (slice_get-end objects x) ∙ ap (λ i. slice_get (objects ++ x ∷ []) i) (sym here_is) ∙ stands in
-          let same : x ≡ y = some_same x y found in
+          let found : Some x ≡ Some y = sym (slice_get_last objects x) ∙ ap (λ i. slice_get (objects ++ x ∷ []) i) (sym here_is) ∙ stands in
+          let same : x ≡ y = same_Some x y found in
           subst (λ i. AreOwned (with_variable g t n here) i u y.cells) (sym here_is) (subst (λ (z : Object). AreOwned (with_variable g t n here) (length objects) u z.cells) same (subst (λ z. AreOwned (with_variable g t n here) (length objects) z x.cells) new.1 own)))
     ]
 
     lent : (object : ℕ) (u : ObjectType) (y : Object) → slice_get (g.objects ++ t ∷ []) object ≡ Some u → slice_get (objects ++ x ∷ []) object ≡ Some y → AreLent (with_variable g t n here) object u y.cells
-    lent object u y there stands = elim (appended g.objects t object u there) [
+    lent object u y there stands = elim (slice_get_last_cases_turned g.objects t object u there) [
       | inl old ↦ (let (z, m, at, flag, was) = typed.each object u old in
-          let apart : object ≢ length objects = (λ e. beyond objects object z at e) in
+          let apart : object ≢ length objects = (λ e. never_at_length objects object z at e) in
           λ i j r c v away. typed.lent object u y old (at ∙ ap (λ z. Some z) (same_object object y z stands at)) i j r c v (before object (Away j) apart away))
       | inr new ↦ (let here_is : object ≡ length objects = new.0 ∙ sym typed.count in
           λ i j r c v away hides. absurd (none j (ap here (sym here_is) ∙ away) (ap (λ (z : ObjectType). z.is_hidden) new.1 ∙ hides)))
@@ -219,8 +210,8 @@ dynamic_open (Some r) (sort, opens) = opens
 pub opened_typed : (g : Typing) (regions more : List Region) (objects : List Object) → IsTyped g regions objects → IsTyped g (regions ++ more) objects
 opened_typed g regions more objects typed =
     let (r, at, opens) = open_region (slice_get regions heap_number) typed.heap in
-    typed_beside g regions (regions ++ more) objects typed (ap is_open (slice_get-append regions more heap_number r at) ∙ opens)
-    (λ n among held. dynamic_there (slice_get regions n) (slice_get (regions ++ more) n) (λ s is. slice_get-append regions more n s is) ((typed.kept n among).1 held))
+    typed_beside g regions (regions ++ more) objects typed (ap is_open (slice_get_front regions more heap_number r at) ∙ opens)
+    (λ n among held. dynamic_there (slice_get regions n) (slice_get (regions ++ more) n) (λ s is. slice_get_front regions more n s is) ((typed.kept n among).1 held))
     (let all : length (regions ++ more) ≡ length regions + length more = length-append regions more in let few : length regions ≤ length (regions ++ more) = omega (arith, all) in few)
 
 pub closed_typed : (g : Typing) (regions : List Region) (number : ℕ) (r : Region) (objects : List Object) → heap_number ≢ number → IsFound (found_region (slice_get regions number)) → IsTyped g regions objects → IsTyped g (set regions number r) objects
@@ -246,20 +237,17 @@ pub record CellAt (g : Typing) (n : ℕ) (t : RunTy) (offset : ℕ) (cells : Lis
   pub kind : cell.kind ≡ kind_at t
   pub content : offset < n → (v : values.Value) × (cell.content ≡ Some v) × HasType g t v
 
-never_less : {A : Type 0} (i : ℕ) → i < 0 → A
-never_less i less = absurd (omega (arith, less))
-
 pub typed_cell : (g : Typing) (ts : List RunTy) (cs : List Cell) (n i : ℕ) (t : RunTy) → AreCells g ts cs n → slice_get ts i ≡ Some t → CellAt g n t i cs
 typed_cell g [] cs n i t are found = absurd (let e : None ≡ Some t = found in cc)
 typed_cell g (u ∷ ts) [] n i t are found = absurd are
 typed_cell g (u ∷ ts) (c ∷ cs) zero zero t ((kind, is), are) found =
-    record { cell = c; at = refl; kind = kind ∙ ap kind_at (some_same u t found); content = λ less. never_less 0 less }
+    record { cell = c; at = refl; kind = kind ∙ ap kind_at (same_Some u t found); content = λ less. anything_below_zero 0 less }
 typed_cell g (u ∷ ts) (c ∷ cs) (suc n) zero t ((kind, is), are) found =
-    let same = some_same u t found in
+    let same = same_Some u t found in
     record { cell = c; at = refl; kind = kind ∙ ap kind_at same; content = λ less. content_there g t c.content (subst (λ z. IsContent g true z c.content) same is) }
 typed_cell g (u ∷ ts) (c ∷ cs) zero (suc i) t (one, are) found =
     let rest = typed_cell g ts cs zero i t are found in
-    record { cell = rest.cell; at = rest.at; kind = rest.kind; content = λ less. never_less (suc i) less }
+    record { cell = rest.cell; at = rest.at; kind = rest.kind; content = λ less. anything_below_zero (suc i) less }
 typed_cell g (u ∷ ts) (c ∷ cs) (suc n) (suc i) t (one, are) found =
     let rest = typed_cell g ts cs n i t are found in
     record { cell = rest.cell; at = rest.at; kind = rest.kind; content = λ less. rest.content (let e : i < n = omega (arith, less) in e) }
@@ -277,7 +265,7 @@ live_object g w number x y typed there stands owner opens = go x.life refl y.own
     go (Kept (PointerTo object)) e (Unique live) f is opens = absurd is
     go Owned e o f is held =
         let (t, z, at, owned, found, live) = typed.unique number held in
-        let same : z ≡ y = some_same z y (sym found ∙ stands) in
+        let same : z ≡ y = same_Some z y (sym found ∙ stands) in
         let owner_is : o ≡ Unique true = sym f ∙ ap (λ (z : Object). z.owner) (sym same) ∙ live in
         ap (λ z. is_live w z) owner_is
 
@@ -340,7 +328,7 @@ filled_grows g number m n flag more = record { objects = λ other u there. there
   where
     filled : (other count : ℕ) → IsFilled g other count → IsFilled (with_filled g number n) other count
     filled other count (k, is, enough) = elim (same_or_other other number) [
-      | inl same ↦ (let k_is : k ≡ m = some_same k m (sym is ∙ ap (λ i. slice_get g.filled i) same ∙ flag) in (
+      | inl same ↦ (let k_is : k ≡ m = same_Some k m (sym is ∙ ap (λ i. slice_get g.filled i) same ∙ flag) in (
         n,
         subst (λ i. slice_get (set g.filled number n) i ≡ Some n) (sym same) (slice_get-set_same g.filled number m n flag),
         (let le : count ≤ n = omega (arith, enough, k_is, more) in le),
@@ -357,9 +345,9 @@ cells_written : (g : Typing) (ts : List RunTy) (cs : List Cell) (n i : ℕ) (t :
 cells_written g [] cs n i t c v are found at kind few has = absurd (let e : None ≡ Some t = found in cc)
 cells_written g (u ∷ ts) [] n i t c v are found at kind few has = absurd are
 cells_written g (u ∷ ts) (d ∷ cs) zero zero t c v (one, are) found at kind few has =
-    let same = sym (some_same u t found) in ((kind ∙ ap kind_at same, subst (λ z. HasType g z v) same has), are)
+    let same = sym (same_Some u t found) in ((kind ∙ ap kind_at same, subst (λ z. HasType g z v) same has), are)
 cells_written g (u ∷ ts) (d ∷ cs) (suc n) zero t c v (one, are) found at kind few has =
-    let same = sym (some_same u t found) in ((kind ∙ ap kind_at same, subst (λ z. HasType g z v) same has), are)
+    let same = sym (same_Some u t found) in ((kind ∙ ap kind_at same, subst (λ z. HasType g z v) same has), are)
 cells_written g (u ∷ ts) (d ∷ cs) zero (suc i) t c v (one, are) found at kind few has = absurd (omega (arith, few))
 cells_written g (u ∷ ts) (d ∷ cs) (suc n) (suc i) t c v (one, are) found at kind few has =
     (one, cells_written g ts cs n i t c v are found at kind (let e : i ≤ n = omega (arith, few) in e) has)
@@ -424,7 +412,7 @@ module _ (g : Typing) (w : World) (number offset : ℕ) (x : ObjectType) (t : Ru
             subst (λ n. slice_get (set w.objects number with_value) n ≡ Some with_value) (sym same) now_there,
             subst (λ n. slice_get (set g.filled number (risen offset c.filled)) n ≡ Some (risen offset c.filled)) (sym same) (slice_get-set_same g.filled number c.filled (risen offset c.filled) c.flag),
             subst (λ z. IsObject now_typed (risen offset c.filled) z with_value)
-                (some_same x u (sym at ∙ ap (λ n. slice_get g.objects n) (sym same) ∙ there)) is_with_value,
+                (same_Some x u (sym at ∙ ap (λ n. slice_get g.objects n) (sym same) ∙ there)) is_with_value,
           )
           | inr apart ↦ (let (y, m, stands, flag, was) = typed.each other u there in (
             y,
@@ -443,17 +431,17 @@ module _ (g : Typing) (w : World) (number offset : ℕ) (x : ObjectType) (t : Ru
             there,
             life,
             subst (λ n. slice_get (set w.objects number with_value) n ≡ Some with_value) (sym same) now_there,
-            ap (λ (z : Object). z.owner) (some_same c.object y (sym c.there ∙ ap (λ n. slice_get w.objects n) (sym same) ∙ stands)) ∙ live,
+            ap (λ (z : Object). z.owner) (same_Some c.object y (sym c.there ∙ ap (λ n. slice_get w.objects n) (sym same) ∙ stands)) ∙ live,
           )
           | inr apart ↦ (u, y, there, life, slice_get-set_other w.objects number object with_value apart ∙ stands, live)
         ]
 
         its_own : AreOwned now_typed number x with_value.cells
         its_own i u d z kept found there content = elim (same_or_other i offset) [
-          | inl same ↦ (let type_is : t ≡ u = some_same t u (sym cell ∙ ap (λ n. slice_get x.cells n) (sym same) ∙ found) in
+          | inl same ↦ (let type_is : t ≡ u = same_Some t u (sym cell ∙ ap (λ n. slice_get x.cells n) (sym same) ∙ found) in
               let filled' = filled_with c.of.cell v in
-              let cell_is : filled' ≡ d = some_same filled' d (sym (slice_get-set_same c.object.cells offset c.of.cell filled' c.of.at) ∙ ap (λ n. slice_get (set c.object.cells offset filled') n) (sym same) ∙ there) in
-              let value_is : v ≡ z = some_same v z (ap (λ (e : Cell). e.content) cell_is ∙ content) in
+              let cell_is : filled' ≡ d = same_Some filled' d (sym (slice_get-set_same c.object.cells offset c.of.cell filled' c.of.at) ∙ ap (λ n. slice_get (set c.object.cells offset filled') n) (sym same) ∙ there) in
+              let value_is : v ≡ z = same_Some v z (ap (λ (e : Cell). e.content) cell_is ∙ content) in
               subst (λ n. Claims own (At number n) u z) (sym same) (subst (λ e. Claims own (At number offset) u e) value_is (subst (λ e. Claims own (At number offset) e v) type_is (claims (subst (λ n. IsKept now_typed number n x.is_hidden) same kept)))))
           | inr apart ↦ (let (owns, start) = typed.owned number x c.object at c.there i u d z (beside i u found apart kept) found (sym (slice_get-set_other c.object.cells offset i (filled_with c.of.cell v) apart) ∙ there) content in
               (still (At number i) (thing_of u z) (stays number i x.is_hidden (λ same. apart) kept) owns, start))
@@ -461,8 +449,8 @@ module _ (g : Typing) (w : World) (number offset : ℕ) (x : ObjectType) (t : Ru
 
         owned : (object : ℕ) (u : ObjectType) (y : Object) → slice_get g.objects object ≡ Some u → slice_get (set w.objects number with_value) object ≡ Some y → AreOwned now_typed object u y.cells
         owned object u y there stands = elim (same_or_other object number) [
-          | inl same ↦ (let type_is : x ≡ u = some_same x u (sym at ∙ ap (λ n. slice_get g.objects n) (sym same) ∙ there) in
-              let is : with_value ≡ y = some_same with_value y (sym now_there ∙ ap (λ n. slice_get (set w.objects number with_value) n) (sym same) ∙ stands) in
+          | inl same ↦ (let type_is : x ≡ u = same_Some x u (sym at ∙ ap (λ n. slice_get g.objects n) (sym same) ∙ there) in
+              let is : with_value ≡ y = same_Some with_value y (sym now_there ∙ ap (λ n. slice_get (set w.objects number with_value) n) (sym same) ∙ stands) in
               subst (λ n. AreOwned now_typed n u y.cells) (sym same) (subst (λ (z : Object). AreOwned now_typed number u z.cells) is (subst (λ z. AreOwned now_typed number z with_value.cells) type_is its_own)))
           | inr apart ↦ λ i r d z kept found stored content. (let (owns, start) = typed.owned object u y there (sym (slice_get-set_other w.objects number object with_value apart) ∙ stands) i r d z (before object i u.is_hidden apart kept) found stored content in
               (still (At object i) (thing_of r z) (stays object i u.is_hidden (λ same. absurd (apart same)) kept) owns, start))
@@ -471,7 +459,7 @@ module _ (g : Typing) (w : World) (number offset : ℕ) (x : ObjectType) (t : Ru
         -- what is written is not lent
         lent : (object : ℕ) (u : ObjectType) (y : Object) → slice_get g.objects object ≡ Some u → slice_get (set w.objects number with_value) object ≡ Some y → AreLent now_typed object u y.cells
         lent object u y there stands = elim (same_or_other object number) [
-          | inl same ↦ λ i j r d z now hides. (let type_is : x ≡ u = some_same x u (sym at ∙ ap (λ n. slice_get g.objects n) (sym same) ∙ there) in
+          | inl same ↦ λ i j r d z now hides. (let type_is : x ≡ u = same_Some x u (sym at ∙ ap (λ n. slice_get g.objects n) (sym same) ∙ there) in
               absurd (free (ap (λ (y : ObjectType). y.is_hidden) type_is ∙ hides) j (ap here (sym same) ∙ now)))
           | inr apart ↦ λ i j r d z now hides found stored content. (let (owns, start) = typed.lent object u y there (sym (slice_get-set_other w.objects number object with_value apart) ∙ stands) i j r d z (away object j apart now) hides found stored content in
               (still (Lent j object) (thing_of r z) (lasts object j) owns, start))

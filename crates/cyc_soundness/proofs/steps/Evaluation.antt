@@ -2,6 +2,7 @@
 use Rattle.std.proofs.Common.{◌≡◌, ◌≢◌, ◌⊎◌, inl, inr, ℕ, ◌≤◌, zero, suc, Bool, true, false, not, List, [], ◌∷◌, map, Option, Some, None, slice_get, refl, sym, ap, subst, ◌∙◌, arith}
 use Rattle.std.specs.Prelude.{◌+◌, nat_lt, if◌then◌else◌, option_map, ◌||◌}
 use Rattle.std.proofs.lemmas.Bool.{not-true, and_from}
+use Rattle.cyc_words.proofs.Items.{slice_get-map_from_turned}
 use Rattle.cyc_syntax.specs.declared.tree.PointerKind.{PointerKind}
 use Rattle.cyc_syntax.specs.declared.tree.PointerKind.TheVariants as marks
 use Rattle.cyc_types.specs.declared.typed.Kind.{Kind}
@@ -41,7 +42,6 @@ use Rattle.cyc_soundness.specs.inside.Frames.{IsAmong, Bound, local_type, InScop
 use Rattle.cyc_soundness.specs.inside.Classes.{Relied, and_looked, IsSpared, InExpression, InArguments, InOperations, SparesAssigned}
 use Rattle.cyc_soundness.specs.inside.Stacks.{KeepsUnique, IsCommonLife, IsPlainValue, IsChained, Evaluates, Val, Go, turned, relied_at, IsCalled, null, IsStack, IsFocus, IsWell}
 use Rattle.cyc_soundness.specs.inside.Stacks as stacks
-use Rattle.cyc_soundness.proofs.states.Numbers.{some_same}
 use Rattle.cyc_soundness.proofs.types.TypeLemmas.{place_type, target_typed, is_kind_same, kind_read, kind_meant}
 use Rattle.cyc_soundness.proofs.flow.FlowLemmas.{full_set, used_full, implies_self, meet_first, meet_second, vacant_implied, holds_implied, reached_with}
 use Rattle.cyc_soundness.proofs.states.WorldLemmas.{type_grown, result_grown}
@@ -54,11 +54,6 @@ use Rattle.cyc_soundness.proofs.states.Cells.{lasting_common, open_object, plain
 use Rattle.cyc_soundness.proofs.flow.Looking.{looked_expression, looked_converted, peeked_so}
 use Rattle.cyc_soundness.proofs.steps.Objects.{makes_on}
 use Rattle.cyc_soundness.proofs.steps.Places.{gives_same, looked_result, looked_part, takes_left, gives, gives_by, converted_leads, moved_comes}
-
-pub of_map : {A B : Type 0} (f : A → B) (xs : List A) (i : ℕ) (y : B) → slice_get (map f xs) i ≡ Some y → (x : A) × (slice_get xs i ≡ Some x) × (f x ≡ y)
-of_map f [] i y found = absurd (let e : None ≡ Some y = found in cc)
-of_map f (x ∷ xs) zero y found = (x, refl, some_same (f x) y found)
-of_map f (x ∷ xs) (suc i) y found = of_map f xs i y found
 
 abbrev left_typed : (q : Relied) (well : Type 0) (c : Context) (a : Expression) (v : ValueType) (os : Operations) → InOperations q os → IsLeft well c a v os → well ⊎ IsPeek c a v
 left_typed q well c a v NoOperations kept is = inl is
@@ -270,7 +265,7 @@ module _ (p : Program) where
   called_is x bs c callees.Getchar s m stands is apart named alive outlive =
       subst (λ (z : Signature). IsCalled p bs callees.Getchar (map (read bs) (map (substituted_ty m) z.parameters)) (read_value bs (result_type (option_map (substituted_ty m) z.result)))) (sym is) (refl, refl)
   called_is x bs c (callees.Function n) s m stands is apart named alive outlive =
-      let (h, there, same) = of_map signature_of p.functions n s (ap (λ ss. slice_get ss n) (sym stands.functions) ∙ is) in
+      let (h, there, same) = slice_get-map_from_turned signature_of p.functions n s (ap (λ ss. slice_get ss n) (sym stands.functions) ∙ is) in
       let these = these_by (lives_in bs) m in
       let instance = instance_is p x bs c stands h m apart (named n h there) (subst (λ (z : Signature). AreLive c (instantiated m z).effect) (sym same) alive) (subst (λ (z : Signature). AreOutliving c (instantiated m z).constraints) (sym same) outlive) in
       subst (λ (z : Signature). IsCalled p bs (callees.Function n) (map (read bs) (map (substituted_ty m) z.parameters)) (read_value bs (result_type (option_map (substituted_ty m) z.result)))) same

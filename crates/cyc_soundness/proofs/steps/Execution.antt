@@ -1,6 +1,7 @@
 -- STATEMENTS and the items of blocks: each step leads to a typed state.
 use Rattle.std.proofs.Common.{◌≡◌, inl, ℕ, suc, ◌+◌, ◌≤◌, ◌<◌, Bool, true, false, List, [], ◌∷◌, length, Option, Some, None, refl, sym, ap, subst, ◌∙◌, arith}
 use Rattle.std.proofs.lemmas.Bool.{not-true}
+use Rattle.cyc_words.proofs.Members.{Contains-tail}
 use Rattle.cyc_types.specs.declared.typed.Kind.{Kind}
 use Rattle.cyc_types.specs.Types.{Ty, result_type}
 use Rattle.cyc_types.specs.Types as types
@@ -38,7 +39,7 @@ use Rattle.cyc_soundness.proofs.types.TypeLemmas.{target_typed, kind_read, kind_
 use Rattle.cyc_soundness.proofs.flow.FlowLemmas.{used_full, implies_self, implies_after, meet_first, meet_second, at_least_implies, emptied_implied, holds_implied, full_last}
 use Rattle.cyc_soundness.proofs.flow.RuleLemmas.{breaks_statement, breaks_items, breaks_clauses, clauses_implied, nothing_locked}
 use Rattle.cyc_soundness.proofs.states.StackLemmas.{within_bound, within_variables, within_live, within_holds, scopes_below_more, bound_to}
-use Rattle.cyc_soundness.proofs.types.RegionLemmas.{opened_known, contains_more, live_more, same_name, known_behind, opened_lasting, agrees_of, context_inside, context_lexical}
+use Rattle.cyc_soundness.proofs.types.RegionLemmas.{opened_known, live_more, same_name, known_behind, opened_lasting, agrees_of, context_inside, context_lexical}
 use Rattle.cyc_soundness.proofs.states.WorldLemmas.{opened_typed}
 use Rattle.cyc_soundness.proofs.types.Sharing.{keeps_by}
 use Rattle.cyc_soundness.proofs.states.Cells.{running}
@@ -375,7 +376,7 @@ module _ (p : Program) (g : Typing) (x : Exits) (bs : List InScope) (e : Environ
       let inner : List InScope = Names c.next_region l true ∷ bs in
       let here : IsContext p x inner d = context_lexical p x bs c stands g variables (length w.regions) (ends_of k) live.0 alive in
       let stands_for : lives_in inner (regions.Variable r) ≡ l = ap (λ i. life_named inner i) region ∙ same_name c.next_region l (life_named bs c.next_region) in
-      let there : IsLive d (regions.Variable c.region) = contains_more (regions.Variable c.next_region) (regions.Variable c.region) (live_regions c.regions.live c.regions.opened) alive in
+      let there : IsLive d (regions.Variable c.region) = Contains-tail (regions.Variable c.next_region) (live_regions c.regions.live c.regions.opened) (regions.Variable c.region) alive in
       running p g x inner e (opened_as Lexical w) (opened_typed g w.regions (new_region Lexical ∷ []) w.objects typed') globals (tt, bound) (opened_known g (length w.regions) (ends_of k), variables)
       (Naming n (record { kind = kinds.Handle; value = values.Handle (length w.regions) }) js) (CloseLexical (length w.regions) ∷ k)
       (((λ is. opened_lasting (length w.regions) (ends_of k) (lent_now g)), live_more (length w.regions) (ends_of k) bs live.0), live.1) (

@@ -2,6 +2,8 @@
 use Rattle.std.proofs.Common.{◌≡◌, inl, inr, set, ℕ, suc, ◌+◌, ◌≤◌, ◌<◌, Bool, true, false, List, [], ◌∷◌, length, Option, Some, None, slice_get, refl, sym, ap, subst, ◌∙◌, arith, zero}
 use Rattle.std.specs.Prelude.{if◌then◌else◌}
 use Rattle.std.proofs.lemmas.Bool.{eq-eqb}
+use Rattle.std.proofs.lemmas.Option.{same_Some}
+use Rattle.cyc_words.proofs.Members.{Contains-tail}
 use Rattle.cyc_syntax.specs.declared.tree.PointerKind.{PointerKind}
 use Rattle.cyc_syntax.specs.declared.tree.PointerKind.TheVariants as marks
 use Rattle.cyc_types.specs.declared.region.Region.{Region as Region'}
@@ -32,10 +34,9 @@ use Rattle.cyc_soundness.specs.inside.Worlds.{OfLocal, Thing, KeyOf, PointerTo, 
 use Rattle.cyc_soundness.specs.inside.Classes.{IsSpared, IsDeclarable}
 use Rattle.cyc_soundness.specs.inside.Frames.{IsAmong, first, later, Bound, InScope, Variable, Names, life_named, lives_in, read, IsBound, AreVariables, IsLasting, LiveIn, Within, older, IsFullIn, Holds, Implies, Exits, lending, AreKnownLocals, AreKnown, IsContext, KnowsProgram, local_type}
 use Rattle.cyc_soundness.specs.inside.Stacks.{operands_in, Continues, Go, IsStack, IsWell, IsCommonLife}
-use Rattle.cyc_soundness.proofs.states.Numbers.{some_same}
 use Rattle.cyc_soundness.proofs.types.TypeLemmas.{all_in_weaker, read_alike}
 use Rattle.cyc_soundness.proofs.flow.FlowLemmas.{full_set, reached_with}
-use Rattle.cyc_soundness.proofs.types.RegionLemmas.{contains_more, name_known, same_name, known_other, other_life, context_key, context_alias, context_again, region_owner}
+use Rattle.cyc_soundness.proofs.types.RegionLemmas.{name_known, same_name, known_other, other_life, context_key, context_alias, context_again, region_owner}
 use Rattle.cyc_soundness.proofs.states.WorldLemmas.{globals_grown, result_grown, typed_cell}
 use Rattle.cyc_soundness.proofs.states.Hands.{Changed, at_no_hand, at_some, given_now, giving_changed, handing_changed, changed_after, variables_kept, holds_kept, freed_typed, hands_globals, with_kept, kept_grows, kept_typed, variables_more, moment_typed, moment_globals, holds_lent, lent_last, closed_by_key, lent_typed, marked_now, kept_now, also_changed, also_typed, also_lent}
 use Rattle.cyc_soundness.proofs.states.StackLemmas.{emptied_other, stack_changed, above_globals, full_here, within_full_at, within_variables, among_bound, among_variable, among_own, among_set, set_stored, statement_relied, settled, lent_held}
@@ -108,7 +109,7 @@ module _ (g : Typing) (regions : List state.Region) (objects : List state.Object
   shared_target : (t : lives.RunTy) (object offset : ℕ) → IsTarget g t lives.Owned object offset → lent_now g (PointerTo object) ≡ true → IsTarget g t (Kept (PointerTo object)) object offset
   shared_target t object offset (x, there, shown, lasts, part) lent =
       let (y, z, at, life, stands, owner) = typed.unique object (lent_held g.loans (g.own (PointerTo object)) lent) in
-      let owned : x.life ≡ lives.Owned = ap (λ (z : ObjectType). z.life) (some_same x y (sym there ∙ at)) ∙ life in
+      let owned : x.life ≡ lives.Owned = ap (λ (z : ObjectType). z.life) (same_Some x y (sym there ∙ at)) ∙ life in
       (x, there, shown, subst (λ m. Outlasts (life_at object m) (Kept (PointerTo object))) (sym owned) (alike (Kept (PointerTo object))), part)
 
   shared_null : (k : PointerKind) (t : lives.RunTy) → HasType g (lives.Pointer k t lives.Owned) values.Null → HasType g (lives.Pointer k t heap_life) values.Null
@@ -227,7 +228,7 @@ module _ (p : Program) (g : Typing) (x : Exits) (bs : List InScope) (e : Environ
       let there = among_variable g among variables in
       let (x, i, stands, filled, is) = typed.each b.object (local_type g.depth b) there in
       let c = typed_cell g (b.of_type ∷ []) x.cells i 0 b.of_type is.cells refl in
-      let same : m ≡ i = some_same m i (sym flag ∙ filled) in
+      let same : m ≡ i = same_Some m i (sym flag ∙ filled) in
       let (z, content, has) = c.content (let less : 0 < i = omega (arith, same, enough) in less) in
       record {
         value = z;
@@ -238,10 +239,10 @@ module _ (p : Program) (g : Typing) (x : Exits) (bs : List InScope) (e : Environ
       one : (own : Thing → Holder) (h : Holder) (z : values.Value) (c : Cell) → Claims own h b.of_type z → (x y : Object) (n : ℕ) (u : lives.RunTy) (d : Cell) (v : values.Value) → slice_get w.objects b.object ≡ Some x → slice_get x.cells 0 ≡ Some c → c.content ≡ Some z
           → slice_get w.objects b.object ≡ Some y → slice_get (b.of_type ∷ []) n ≡ Some u → slice_get y.cells n ≡ Some d → d.content ≡ Some v → Claims own h u v
       one own h z c claims x y zero u d v stands at content found type_is there full =
-          let same : x ≡ y = some_same x y (sym stands ∙ found) in
-          let cell_is : c ≡ d = some_same c d (sym at ∙ ap (λ (o : Object). slice_get o.cells 0) same ∙ there) in
-          let value_is : z ≡ v = some_same z v (sym content ∙ ap (λ (o : Cell). o.content) cell_is ∙ full) in
-          subst (λ t. Claims own h t v) (some_same b.of_type u type_is) (subst (λ e. Claims own h b.of_type e) value_is claims)
+          let same : x ≡ y = same_Some x y (sym stands ∙ found) in
+          let cell_is : c ≡ d = same_Some c d (sym at ∙ ap (λ (o : Object). slice_get o.cells 0) same ∙ there) in
+          let value_is : z ≡ v = same_Some z v (sym content ∙ ap (λ (o : Cell). o.content) cell_is ∙ full) in
+          subst (λ t. Claims own h t v) (same_Some b.of_type u type_is) (subst (λ e. Claims own h b.of_type e) value_is claims)
       one own h z c claims x y (suc n) u d v stands at content found type_is there full = absurd (let e : None ≡ Some u = type_is in cc)
 
   lends : (also : Option Thing) (b : Bound) (lent : ℕ) (f h i : flow.State) (cs : List InScope) (k : List Entry) → Within cs bs → IsAmong (Variable b) bs → b.is_hidden ≡ true → b.number ≡ lent → IsFullIn f lent → IsSpared x.relied lent → Holds g f bs → Implies (with_fullness Full h lent) i
@@ -329,7 +330,7 @@ module _ (p : Program) (g : Typing) (x : Exits) (bs : List InScope) (e : Environ
             older (Names r (life_named bs r) true) cs bs tt within,
             here,
             (z.holds.0, (tt, z.holds.1)),
-            (less, contains_more (regions.Variable r) (regions.Variable c.region) (live_regions c.regions.live c.regions.opened) alive),
+            (less, Contains-tail (regions.Variable r) (live_regions c.regions.live c.regions.opened) (regions.Variable c.region) alive),
             number_is,
             (refl, subst (λ l. IsNumber l region) (sym named) same),
             (tt, tt),
@@ -376,7 +377,7 @@ module _ (p : Program) (g : Typing) (x : Exits) (bs : List InScope) (e : Environ
         older (Names c.next_region l true) cs bs tt within,
         here,
         (z.holds.0, (tt, z.holds.1)),
-        (declared, contains_more (regions.Variable c.next_region) (regions.Variable c.region) (live_regions c.regions.live c.regions.opened) alive),
+        (declared, Contains-tail (regions.Variable c.next_region) (live_regions c.regions.live c.regions.opened) (regions.Variable c.region) alive),
         number_is,
         subst (λ y. IsResult j (Value y) v) (sym same) result,
         subst (λ y. Claims j.own (Hand (operands_in (EndLoan lent ∷ k))) y v.value) (sym same)

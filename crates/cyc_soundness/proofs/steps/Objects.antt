@@ -16,6 +16,10 @@ use Rattle.cyc_types.specs.Rules.{Derives}
 use Rattle.cyc_types.specs.typing.Tests as tests
 use Rattle.cyc_types.specs.typing.Tests.{is_key}
 use Rattle.std.proofs.lemmas.List.{length-set, length-map}
+use Rattle.std.proofs.lemmas.Option.{same_Some}
+use Rattle.cyc_words.proofs.Numbers.{below_when_not_equal, same_or_other, below_or_last}
+use Rattle.cyc_words.proofs.Lists.{slice_get_last}
+use Rattle.cyc_words.proofs.Items.{slice_get-set_other, slice_get-set_same, never_at_length}
 use Rattle.cyc_types.specs.typing.WellTyped.{Context, ArePassed, IsMade}
 use Rattle.cyc_types.specs.typing.WellTyped as counting
 use Rattle.cyc_types.specs.flow.States as flow
@@ -28,7 +32,6 @@ use Rattle.cyc_meaning.specs.Parts.{target_by, wrong, stored, step_writing}
 use Rattle.cyc_meaning.specs.Operators.{array_size}
 use Rattle.cyc_meaning.specs.Allocation.{writes_from, blanks_of, filled, makes_of, makes_plain, makes_fields, most_words, blanks, begun, makes_array, step_beginning, step_repeating, fills_element, makes}
 use Rattle.cyc_meaning.specs.inside.Nesting.{ends_of, AreOpen}
-use Rattle.cyc_meaning.proofs.ListLemmas.{slice_get-end, slice_get-set_other}
 use Rattle.cyc_meaning.proofs.NestingLemmas.{open_region}
 use Rattle.cyc_soundness.specs.inside.Lives.{at, Life, OfRegion, Kept, RunTy, Int, Char, Pointer, Handle, Key, Struct, Value, looked, kind_at, Owned, Lives}
 use Rattle.cyc_soundness.specs.inside.Worlds.{NoLocal, Thing, KeyOf, PointerTo, Holder, Nobody, Hand, At, Lent, pointer_at, Owns, Claims, given, giving, AreOwned, IsUniqueObject, IsOpenObject, IsNewOwner, IsAmong, IsHeld, IsKeyless, AreKeyless, IsDynamic, ObjectType, Typing, Outlasts, IsFilled, IsPart, IsTarget, HasType, IsResult, AreOperands, AreCells, IsOwner, IsObject, IsTyped, IsOpenLife, Grows, IsKnownOwner, life_at}
@@ -36,11 +39,10 @@ use Rattle.cyc_soundness.specs.inside.Frames.{first, later, InScope, Level, HasM
 use Rattle.cyc_soundness.specs.inside.Classes.{InInitial, InArguments}
 use Rattle.cyc_soundness.specs.inside.Stacks.{Val, turned, AreClaimed, operands_in, AreFields, Repeats, AreNext, IsWhole, IsMaking, IsArray, IsStack, IsFocus, IsWell, relied_at, AreGiven, AreNextGiven}
 use Rattle.cyc_soundness.specs.inside.Stacks as stacks
-use Rattle.cyc_soundness.proofs.states.Numbers.{same_or_other, less_or_same, slice_get-set_same, some_same}
 use Rattle.cyc_soundness.proofs.flow.FlowLemmas.{at_least_implies, holds_implied}
 use Rattle.cyc_soundness.proofs.types.TypeLemmas.{target_typed, is_kind_same, kind_read}
 use Rattle.cyc_soundness.proofs.types.ValueLemmas.{lasts_itself}
-use Rattle.cyc_soundness.proofs.states.WorldLemmas.{beyond, owner_grown, operands_grown, globals_grown, with_object, object_grows, object_stays, object_typed, typed_beside}
+use Rattle.cyc_soundness.proofs.states.WorldLemmas.{owner_grown, operands_grown, globals_grown, with_object, object_grows, object_stays, object_typed, typed_beside}
 use Rattle.cyc_soundness.proofs.states.Hands.{Changed, hand_same, at_no_hand, given_now, at_some, changed_after, giving_changed, owns_kept, claims_kept, variables_kept, holds_kept, given_typed, hands_globals, pointed_typed, lent_no_hand}
 use Rattle.cyc_soundness.proofs.types.Sharing.{at_start, keeps_by, plain_keyless}
 use Rattle.cyc_soundness.proofs.states.StackLemmas.{keeps_fields, stack_changed, kept_open, lasting_open}
@@ -106,7 +108,7 @@ next_one g (suc i) (t ∷ ts) v vs are = next_one g i ts v vs are
 -- which claims what it is
 next_claims : (own : Thing → Holder) (g : Typing) (place i : ℕ) (ts : List RunTy) (v : Operand) (vs : List Operand) (t : RunTy) → slice_get ts i ≡ Some t → AreNextGiven own place i ts (v ∷ vs) → Claims own (Hand place) t v.value × AreNextGiven own (suc place) (suc i) ts vs
 next_claims own g place zero [] v vs t at are = absurd (let k : None ≡ Some t = at in cc)
-next_claims own g place zero (u ∷ ts) v vs t at (is, are) = (subst (λ z. Claims own (Hand place) z v.value) (some_same u t at) is, are)
+next_claims own g place zero (u ∷ ts) v vs t at (is, are) = (subst (λ z. Claims own (Hand place) z v.value) (same_Some u t at) is, are)
 next_claims own g place (suc i) [] v vs t at are = absurd (let k : None ≡ Some t = at in cc)
 next_claims own g place (suc i) (u ∷ ts) v vs t at are = next_claims own g place i ts v vs t at are
 
@@ -166,12 +168,12 @@ AreEmpty cs = (i : ℕ) (c : Cell) → slice_get cs i ≡ Some c → c.content �
 
 blanks_empty : (vs : List Operand) → AreEmpty (blanks_of vs)
 blanks_empty [] i c found = absurd (let k : None ≡ Some c = found in cc)
-blanks_empty (v ∷ vs) zero c found = ap (λ (z : Cell). z.content) (sym (some_same (blank v.kind) c found))
+blanks_empty (v ∷ vs) zero c found = ap (λ (z : Cell). z.content) (sym (same_Some (blank v.kind) c found))
 blanks_empty (v ∷ vs) (suc i) c found = blanks_empty vs i c found
 
 all_empty : (n : ℕ) (kind : Kind) → AreEmpty (blanks n kind)
 all_empty zero kind i c found = absurd (let k : None ≡ Some c = found in cc)
-all_empty (suc n) kind zero c found = ap (λ (z : Cell). z.content) (sym (some_same (blank kind) c found))
+all_empty (suc n) kind zero c found = ap (λ (z : Cell). z.content) (sym (same_Some (blank kind) c found))
 all_empty (suc n) kind (suc i) c found = all_empty n kind i c found
 
 new_owned : (g : Typing) (n : ℕ) (y : ObjectType) (cs : List Cell) → AreEmpty cs → AreOwned g n y cs
@@ -193,7 +195,7 @@ unheld_new : (g : Typing) (regions : List Region) (objects : List Object) → Is
 unheld_new g regions objects typed = go (g.own (PointerTo (length objects))) refl
   where
     gone : IsUniqueObject g objects (length objects) → ⊥
-    gone (t, x, there, life, stands, live) = beyond objects (length objects) x stands refl
+    gone (t, x, there, life, stands, live) = never_at_length objects (length objects) x stands refl
 
     go : (h : Holder) → g.own (PointerTo (length objects)) ≡ h → g.own (PointerTo (length objects)) ≡ Nobody
     go Nobody same = same
@@ -259,13 +261,7 @@ context_counted p x bs c stands = record {
 }
   where
     below : (l n : ℕ) → l < suc n → l ≢ n → l < n
-    below l n less apart = elim (less_or_same l n less) [ inl is ↦ is | inr same ↦ absurd (apart same) ]
-
-unfinished : (i n : ℕ) → i ≤ n → (i == n) ≡ false → i < n
-unfinished i n few other = elim (less_or_same i n (let e : i < suc n = omega (arith, few) in e)) [
-  | inl less ↦ less
-  | inr same ↦ absurd (let z : true ≡ false = sym (eq-eqb i n same) ∙ other in cc)
-]
+    below l n less apart = elim (below_or_last l n less) [ inl is ↦ is | inr same ↦ absurd (apart same) ]
 
 counter_new : (e : Environment) (level index : ℕ) → HasMeaning (with_counter e level index).locals (with_counter e level index).counters (Level level)
 counter_new e level index = (index, ap (λ (b : Bool). if b then Some index else e.counters level) (eq-eqb level level refl))
@@ -353,9 +349,9 @@ module _ (p : Program) (g : Typing) (x : Exits) (bs : List InScope) (e : Environ
       let made : Object = record { owner = owner; cells = cells } in
       let is : IsObject one 0 t made = record { owner = new_is_owner l owner owned; known = owner_grown g one grows l known; keyless = λ shown. keyless; cells = blanks_are one } in
       let first' : IsTyped one w.regions (w.objects ++ made ∷ []) = object_typed g w.regions w.objects t 0 made g.here typed is (λ object s apart here. here) (new_owned one n t cells empty) (λ j away hides. let z : false ≡ true = hides in absurd (cc)) in
-      let there = subst (λ n. slice_get h.objects n ≡ Some t) (sym typed.count) (slice_get-end g.objects t) in
-      let flag = subst (λ n. slice_get h.filled n ≡ Some 0) (sym typed.counts) (slice_get-end g.filled 0) in
-      let second : IsTyped h w.regions (w.objects ++ made ∷ []) = claimed_new one l n (Hand i) t made w.regions (w.objects ++ made ∷ []) owned refl none there (slice_get-end w.objects made) first' in
+      let there = subst (λ n. slice_get h.objects n ≡ Some t) (sym typed.count) (slice_get_last g.objects t) in
+      let flag = subst (λ n. slice_get h.filled n ≡ Some 0) (sym typed.counts) (slice_get_last g.filled 0) in
+      let second : IsTyped h w.regions (w.objects ++ made ∷ []) = claimed_new one l n (Hand i) t made w.regions (w.objects ++ made ∷ []) owned refl none there (slice_get_last w.objects made) first' in
       let beside : IsTyped h w.regions new.objects = subst (λ os. IsTyped h w.regions os) (sym objects_are) second in
       running p h x bs e new (typed_beside h w.regions new.regions new.objects beside still.0 (λ m among held. still.1 m among (kept_before l n (Hand i) m held)) still.2) (globals_grown g h changed.grows p (λ n ls. refl) globals) bound (variables_kept Nobody g h changed bs refl variables) focus k live
       (goes changed there (0, flag, (let few : 0 ≤ 0 = omega arith in few)) (given_now one.own (pointer_at l n) (Hand i)))
@@ -477,7 +473,7 @@ module _ (p : Program) (g : Typing) (x : Exits) (bs : List InScope) (e : Environ
               bs,
               Val (Value (Pointer marks.Fat (read bs t) (lives_in bs r))) f,
               stacks.fills bs c t r f repeats.now refl alive stands repeats repeats.back,
-              (unfinished index count (last (read bs t) (lives_in bs r) object count index array) other, array, has),
+              (below_when_not_equal index count (last (read bs t) (lives_in bs r) object count index array) other, array, has),
               stack,
             ),
           )

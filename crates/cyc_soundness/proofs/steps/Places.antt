@@ -3,9 +3,11 @@ use Rattle.std.proofs.Common.{◌≡◌, ◌⊎◌, inl, inr, ℕ, zero, suc, �
 use Rattle.std.specs.Prelude.{if◌then◌else◌, nat_lt, ◌==◌, ◌&&◌}
 use Rattle.std.proofs.lemmas.Bool.{eq-eqb, ltb-true, and_from}
 use Rattle.std.proofs.lemmas.List.{length-map}
+use Rattle.std.proofs.lemmas.Option.{same_Some}
 use Rattle.cyc_syntax.specs.declared.tree.PointerKind.{PointerKind}
 use Rattle.cyc_syntax.specs.declared.tree.PointerKind.TheVariants as marks
 use Rattle.cyc_words.specs.Word.{add_of, sub_of}
+use Rattle.cyc_words.proofs.Items.{below_from_slice_get, slice_get-map}
 use Rattle.cyc_types.specs.declared.region.Region.{Region as Named}
 use Rattle.cyc_types.specs.declared.typed.Kind.{Kind}
 use Rattle.cyc_types.specs.declared.typed.Kind.TheVariants as kinds
@@ -39,7 +41,6 @@ use Rattle.cyc_soundness.specs.inside.Frames.{InScope, IsBound, AreVariables, Li
 use Rattle.cyc_soundness.specs.inside.Classes.{and_looked, InExpression, InPlace}
 use Rattle.cyc_soundness.specs.inside.Stacks.{IsThrough, seen_by, EvaluatesWhole, relied_at, Val, PlaceOf, null, WaitsPlace, of_cell, left_cell, IsByType, KeepsPlace, IsStack, IsFocus, IsWell}
 use Rattle.cyc_soundness.specs.inside.Stacks as stacks
-use Rattle.cyc_soundness.proofs.states.Numbers.{some_same, inside, mapped_at}
 use Rattle.cyc_soundness.proofs.types.TypeLemmas.{target_typed, is_kind_same, mark_kinds, kind_meant}
 use Rattle.cyc_soundness.proofs.states.WorldLemmas.{result_grown, typed_cell}
 use Rattle.cyc_soundness.proofs.states.Hands.{at_no_hand, holds_kept, variables_kept}
@@ -378,10 +379,10 @@ module _ (p : Program) (g : Typing) (x : Exits) (bs : List InScope) (e : Environ
       let (z, count, stands, filled, is) = typed.each object y at' in
       let enough : length ls ≡ s.parameters = globals.counts n s ls y.cells struct fields in
       let ts : List RunTy = map (at (lives_among ls)) s.fields in
-      let cells : y.cells ≡ ts = some_same y.cells ts (sym fields ∙ globals.structs n s ls struct enough) in
+      let cells : y.cells ≡ ts = same_Some y.cells ts (sym fields ∙ globals.structs n s ls struct enough) in
       let alike : are_kinds (kinds_of z.cells) (map values.kind_of s.fields) ≡ true = kinds_typed (lives_among ls) g s.fields z.cells count (subst (λ ts. AreCells g ts z.cells count) cells is.cells) in
-      let found : slice_get y.cells field ≡ Some u = ap (λ us. slice_get us field) cells ∙ mapped_at (at (lives_among ls)) s.fields field t there ∙ ap (λ z. Some z) (means enough) in
-      let within : field < length y.cells = inside y.cells field u found in
+      let found : slice_get y.cells field ≡ Some u = ap (λ us. slice_get us field) cells ∙ slice_get-map (at (lives_among ls)) s.fields field t there ∙ ap (λ z. Some z) (means enough) in
+      let within : field < length y.cells = below_from_slice_get y.cells field u found in
       let some : IsFilled g object (suc field) = (m, flag, (let le : suc field ≤ m = omega (arith, within, full) in le)) in
       let test : ((offset == 0) && are_kinds (kinds_of z.cells) (map values.kind_of s.fields)) ≡ true = and_from (offset == 0) (are_kinds (kinds_of z.cells) (map values.kind_of s.fields)) (eq-eqb offset 0 first) alike in
       subst (λ o. IsWell p (arrives (field_of o object offset (map values.kind_of s.fields) field) k e w)) (sym stands)

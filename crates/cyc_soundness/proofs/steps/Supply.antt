@@ -1,6 +1,9 @@
 -- A VALUE COMES: what waits for it goes on, in a typed state.
 use Rattle.std.proofs.Common.{◌≡◌, ap, ℕ, zero, suc, ◌<◌, ◌≤◌, Bool, true, false, List, [], ◌∷◌, length, Option, Some, None, slice_get, refl, sym, subst, ◌∙◌, arith, ◌+◌}
 use Rattle.std.specs.Prelude.{if◌then◌else◌}
+use Rattle.std.proofs.lemmas.Option.{same_Some}
+use Rattle.cyc_words.proofs.Lists.{slice_get_last}
+use Rattle.cyc_words.proofs.Items.{never_at_length}
 use Rattle.cyc_types.specs.declared.region.Region.{Region}
 use Rattle.cyc_types.specs.declared.region.Region.TheVariants as regions
 use Rattle.cyc_types.specs.declared.typed.Kind.{Kind}
@@ -27,7 +30,6 @@ use Rattle.cyc_meaning.specs.Exceptions.{throws_value}
 use Rattle.cyc_meaning.specs.inside.Nesting.{ends_of, AreOpen, IsNested}
 use Rattle.cyc_meaning.specs.inside.Nesting as nesting
 use Rattle.cyc_meaning.specs.Step.{chosen, looped, supplied}
-use Rattle.cyc_meaning.proofs.ListLemmas.{slice_get-end}
 use Rattle.cyc_meaning.proofs.NestingLemmas.{home_found}
 use Rattle.cyc_soundness.specs.inside.Lives.{Life, OfRegion, Kept, Lives, at, RunTy, RunValue, Value, kind_at}
 use Rattle.cyc_soundness.specs.inside.Lives as lives
@@ -36,10 +38,9 @@ use Rattle.cyc_soundness.specs.inside.Worlds.{given as given_to}
 use Rattle.cyc_soundness.specs.inside.Frames.{later, Bound, InScope, Variable, Level, life_named, lives_in, read, read_value, IsThere, IsHomed, AreBelow, IsBound, AreVariables, IsLasting, LiveIn, Within, itself, older, Holds, Implies, LoopExit, Exits, IsHome, IsContext, KnowsProgram}
 use Rattle.cyc_soundness.specs.inside.Stacks.{Executes, Continues, IsLoop, Repeats, IsArray, IsNew, Want, Val, Go, operands_in, Comes, Keeps, inside, Waits, IsReturn, IsStack, IsFocus, IsWell, relied_at}
 use Rattle.cyc_soundness.specs.inside.Stacks as stacks
-use Rattle.cyc_soundness.proofs.states.Numbers.{some_same}
 use Rattle.cyc_soundness.proofs.types.TypeLemmas.{is_kind_same, kind_read}
 use Rattle.cyc_soundness.proofs.flow.FlowLemmas.{holds_implied, reached_with, full_put, vacant_now}
-use Rattle.cyc_soundness.proofs.states.WorldLemmas.{type_grown, with_variable, variable_grows, object_typed, globals_grown, owner_grown, beyond}
+use Rattle.cyc_soundness.proofs.states.WorldLemmas.{type_grown, with_variable, variable_grows, object_typed, globals_grown, owner_grown}
 use Rattle.cyc_soundness.proofs.states.Hands.{Changed, Raises, at_no_hand, given_now, marked_now, marked_before, marked_keeps, giving_changed, changed_raised, open_kept, variables_kept, holds_kept, given_typed, lent_no_hand, away_not_here, marked_other}
 use Rattle.cyc_soundness.proofs.types.Sharing.{plain_read}
 use Rattle.cyc_soundness.proofs.states.StackLemmas.{stack_changed, there_present, fields_kept, passed_kept, comes_alone, claimed_next, scopes_below_more, local_new, bound_more, set_with_fullness, home_is, found_is, within_bound, within_variables, within_live, within_holds}
@@ -117,12 +118,12 @@ content_owns own h t (Some v) is = is.0
 
 content_given : (own : Thing → Holder) (h new : Holder) (t : RunTy) (content : Option values.Value) (v : values.Value) → ClaimsContent own h t content → content ≡ Some v → Claims (given_to (its_thing t content) new own) new t v
 content_given own h new t None v is same = absurd (let k : None ≡ Some v = same in cc)
-content_given own h new t (Some u) v is same = subst (λ z. Claims (given_to (thing_of t u) new own) new t z) (some_same u v same) (given_now own (thing_of t u) new, is.1)
+content_given own h new t (Some u) v is same = subst (λ z. Claims (given_to (thing_of t u) new own) new t z) (same_Some u v same) (given_now own (thing_of t u) new, is.1)
 
 -- the one cell of a new variable is its own
 one_owned : (g : Typing) (object : ℕ) (t : RunTy) (l : Life) (hidden : Bool) (s : Slot) (c : Cell) → ((v : values.Value) → c.content ≡ Some v → Claims g.own (At object 0) t v) → AreOwned g object (variable_type t l hidden s) (c ∷ [])
 one_owned g object t l hidden s c has zero u d v kept found at content =
-    subst (λ z. Claims g.own (At object 0) z v) (some_same t u found) (has v (ap (λ (z : Cell). z.content) (some_same c d at) ∙ content))
+    subst (λ z. Claims g.own (At object 0) z v) (same_Some t u found) (has v (ap (λ (z : Cell). z.content) (same_Some c d at) ∙ content))
 one_owned g object t l hidden s c has (suc i) u d v kept found at content = absurd (let k : None ≡ Some u = found in cc)
 
 -- the typing of the world with it, where it has what is put into it
@@ -146,14 +147,14 @@ module _ (p : Program) (g : Typing) (x : Exits) (bs : List InScope) (e : Environ
       let y = new_type g.depth number bs t l in
       let h = made_typing number t l n content in
       let has : Owns g.own (Hand i) o = content_owns g.own (Hand i) (read bs t) content claims in
-      let raises : Raises one h = record { grows = variable_grows one y n (marked m Here g.here); own = refl; here = λ object is. marked_keeps m g.here object is; away = λ object j hides is. marked_other m Here g.here object (λ same. beyond g.objects object hides.0 hides.1 (same ∙ typed.count)) ∙ is; pending = refl; depth = refl; loans = refl } in
+      let raises : Raises one h = record { grows = variable_grows one y n (marked m Here g.here); own = refl; here = λ object is. marked_keeps m g.here object is; away = λ object j hides is. marked_other m Here g.here object (λ same. never_at_length g.objects object hides.0 hides.1 (same ∙ typed.count)) ∙ is; pending = refl; depth = refl; loans = refl } in
       let changed : Changed (Hand i) g h = changed_raised (Hand i) g one h (giving_changed g o (Hand i) (At m 0) has) raises in
       let first' : IsTyped one w.regions w.objects = given_typed g o (Hand i) (At m 0) w.regions w.objects has tt (λ object j. at_no_hand object j i) (λ object j. lent_no_hand j object i) typed in
       let is : IsObject h n y (variable e.home kind content) =
       record { owner = owner_is l e.home numbered; known = owner_grown g h changed.grows l (owner_known g l known); keyless = λ plain. (plain_unkept (read bs t) (plain_read g bs variables t plain), tt); cells = cells changed.grows } in
       let (r, found) = found_is (region_at w e.home) (home_found w.regions e.home stack nests.2 nests.0) in
-      let there = subst (λ i. slice_get h.objects i ≡ Some y) (sym typed.count) (slice_get-end g.objects y) in
-      let flag = subst (λ i. slice_get h.filled i ≡ Some n) (sym typed.counts) (slice_get-end g.filled n) in
+      let there = subst (λ i. slice_get h.objects i ≡ Some y) (sym typed.count) (slice_get_last g.objects y) in
+      let flag = subst (λ i. slice_get h.filled i ≡ Some n) (sym typed.counts) (slice_get_last g.filled n) in
       subst (λ a. IsWell p (declared a focus number kind content stack e w)) (sym found)
       (running p h x (Variable (new_local w bs number t l) ∷ bs) (state.with_local e number m) (made w (variable e.home kind content))
       (object_typed one w.regions w.objects y n (variable e.home kind content) (marked m Here g.here) first' is (λ object s apart now. marked_before m Here g.here object s apart now)

@@ -1,6 +1,7 @@
 -- SWAPS: both places are found, and then are read and written.
 use Rattle.std.proofs.Common.{true, ◌≡◌, ℕ, suc, ◌≤◌, Bool, false, List, [], ◌∷◌, Option, Some, None, slice_get, refl, sym, ap, subst, ◌∙◌, arith, inl, inr, zero, ◌⊎◌, ◌≢◌}
 use Rattle.std.specs.Prelude.{if◌then◌else◌}
+use Rattle.std.proofs.lemmas.Option.{same_Some}
 use Rattle.cyc_syntax.specs.declared.tree.PointerKind.TheVariants as marks
 use Rattle.cyc_types.specs.declared.typed.Kind.{Kind}
 use Rattle.cyc_types.specs.Types.{Ty}
@@ -26,7 +27,6 @@ use Rattle.cyc_soundness.specs.inside.Frames.{InScope, local_type, IsBound, AreV
 use Rattle.cyc_soundness.specs.inside.Classes.{InSide, and_looked, IsSpared}
 use Rattle.cyc_soundness.specs.inside.Stacks.{IsByType, relied_at, operands_in, Finds, Go, IsSpot, of_local, of_global, of_cell, IsLeftSpot, left_variable, left_cell, IsRead, AreSwapped, IsStack, IsWell, ClaimsAt, IsWrite, IsAwaited, IsFocus}
 use Rattle.cyc_soundness.specs.inside.Stacks as stacks
-use Rattle.cyc_soundness.proofs.states.Numbers.{some_same}
 use Rattle.cyc_soundness.proofs.types.TypeLemmas.{is_kind_same, kind_meant, place_type}
 use Rattle.cyc_soundness.proofs.flow.FlowLemmas.{full_set, used_full}
 use Rattle.cyc_soundness.proofs.states.WorldLemmas.{cell_there, type_grown, result_grown, risen, with_filled, written_grows, cell_written, globals_grown}
@@ -195,7 +195,7 @@ module _ (p : Program) (g : Typing) (x : Exits) (bs : List InScope) (e : Environ
   swap_content_on kind left right place before t k f s kind_is stack goes =
       let c = cell_there g w s.number s.offset (read bs t) s.of_type typed s.there s.cell s.opens in
       let (m, flag, enough) = s.full in
-      let count : m ≡ c.filled = some_same m c.filled (sym flag ∙ c.flag) in
+      let count : m ≡ c.filled = same_Some m c.filled (sym flag ∙ c.flag) in
       let (v, content, has) = c.of.content (let less : suc s.offset ≤ c.filled = omega (arith, count, enough) in less) in
       let kept = free_kept g s.number s.offset s.of_type (settled p g x bs (Go f) k stack) s.free in
       let claims : Claims g.own (At s.number s.offset) (read bs t) v = typed.owned s.number s.of_type c.object s.there c.there s.offset (read bs t) c.of.cell v kept s.cell c.of.at content in
@@ -240,7 +240,7 @@ module _ (p : Program) (g : Typing) (x : Exits) (bs : List InScope) (e : Environ
   writes_next v focus k t place s own pending live is held none stays before claims lasts known goes =
       let c = cell_there g w s.number s.offset t s.of_type typed s.there s.cell s.opens in
       let (m, flag, enough) = s.full in
-      let count : m ≡ c.filled = some_same m c.filled (sym flag ∙ c.flag) in
+      let count : m ≡ c.filled = same_Some m c.filled (sym flag ∙ c.flag) in
       let few : s.offset ≤ c.filled = omega (arith, count, enough) in
       let h : Typing = record (with_filled g s.number (risen s.offset c.filled)) { own = own; here = g.here; pending = pending } in
       let more = written_grows g w s.number s.offset s.of_type t v.value typed s.there s.cell c few is.1 in

@@ -1,5 +1,6 @@
 -- THE CONTROL STACK is left entry by entry: normally, by `break`, `continue` and `return`, and by an exception.
 use Rattle.std.proofs.Common.{◌≡◌, ◌≤◌, ℕ, zero, suc, arith, Bool, true, false, List, [], ◌∷◌, Option, Some, None, refl, sym, ap, subst, ◌∙◌, slice_get}
+use Rattle.std.proofs.lemmas.Option.{same_Some}
 use Rattle.cyc_types.specs.Types.{Ty, ValueType, result_type}
 use Rattle.cyc_types.specs.Types as types
 use Rattle.cyc_types.specs.TypedTrees.{Expression, Statement, Program}
@@ -18,7 +19,6 @@ use Rattle.cyc_soundness.specs.inside.Worlds.{OfLocal, Hand, At, Lent, thing_of,
 use Rattle.cyc_soundness.specs.inside.Frames.{InScope, Names, Home, IsBound, AreVariables, AreFullAt, LiveIn, Holds, Implies, LoopExit, Exits, HasResult, is_loop, KnowsProgram}
 use Rattle.cyc_soundness.specs.inside.Stacks.{IsByType, IsLentOut, IsLoop, Want, Nothing, Val, PlaceOf, Go, operands_in, IsBlocked, IsReturn, IsStack, IsFocus, IsWell}
 use Rattle.cyc_soundness.specs.inside.Stacks as stacks
-use Rattle.cyc_soundness.proofs.states.Numbers.{some_same}
 use Rattle.cyc_soundness.proofs.flow.FlowLemmas.{holds_implied, full_added}
 use Rattle.cyc_soundness.proofs.states.StackLemmas.{void_goes, given_back, stack_changed, none_lent, full_at_grown, not_heap, lexical_not_heap, within_bound, within_variables, within_live, within_holds, found_is, waits_within}
 use Rattle.cyc_soundness.proofs.states.WorldLemmas.{closed_typed, result_grown, typed_cell}
@@ -89,8 +89,8 @@ module _ (p : Program) (g : Typing) (e : Environment) (w : World) (typed : IsTyp
           None,
           tt,
           λ own owns y found d v there full.
-              (let same : x ≡ y = some_same x y (sym stands ∙ found) in
-              let one : c ≡ d = some_same c d (sym at ∙ ap (λ (z : Object). slice_get z.cells 0) same ∙ there) in
+              (let same : x ≡ y = same_Some x y (sym stands ∙ found) in
+              let one : c ≡ d = same_Some c d (sym at ∙ ap (λ (z : Object). slice_get z.cells 0) same ∙ there) in
               let k : None ≡ Some v = sym content ∙ ap (λ (z : Cell). z.content) one ∙ full in absurd (cc)),
         )
         go x stands c at (Some u) content =
@@ -98,9 +98,9 @@ module _ (p : Program) (g : Typing) (e : Environment) (w : World) (typed : IsTyp
               thing_of t u,
               claims.0,
               λ own owns y found d v there full.
-                  (let same : x ≡ y = some_same x y (sym stands ∙ found) in
-                  let one : c ≡ d = some_same c d (sym at ∙ ap (λ (z : Object). slice_get z.cells 0) same ∙ there) in
-                  let value_is : u ≡ v = some_same u v (sym content ∙ ap (λ (z : Cell). z.content) one ∙ full) in
+                  (let same : x ≡ y = same_Some x y (sym stands ∙ found) in
+                  let one : c ≡ d = same_Some c d (sym at ∙ ap (λ (z : Object). slice_get z.cells 0) same ∙ there) in
+                  let value_is : u ≡ v = same_Some u v (sym content ∙ ap (λ (z : Cell). z.content) one ∙ full) in
                   subst (λ z. Claims own (At object 0) t z) value_is (owns, claims.1)),
             )
 
@@ -125,7 +125,7 @@ module _ (p : Program) (g : Typing) (e : Environment) (w : World) (typed : IsTyp
       where
         variable_claims : (own : Thing → Holder) (t : RunTy) (x : Object) → ((c : Cell) (v : values.Value) → slice_get x.cells 0 ≡ Some c → c.content ≡ Some v → Claims own (At object 0) t v)
             → (i : ℕ) (u : RunTy) (c : Cell) (v : values.Value) → slice_get (t ∷ []) i ≡ Some u → slice_get x.cells i ≡ Some c → c.content ≡ Some v → Claims own (At object i) u v
-        variable_claims own t x claims zero u c v found at content = subst (λ e. Claims own (At object 0) e v) (some_same t u found) (claims c v at content)
+        variable_claims own t x claims zero u c v found at content = subst (λ e. Claims own (At object 0) e v) (same_Some t u found) (claims c v at content)
         variable_claims own t x claims (suc i) u c v found at content = absurd (let e : None ≡ Some u = found in cc)
 
     -- and it is full
@@ -180,7 +180,7 @@ module _ (p : Program) (g : Typing) (e : Environment) (w : World) (typed : IsTyp
         (l, f, i, same, within_holds g f cs bs within holds, left, stack)
     breaks (Join ∷ k) l f h nests live same holds left (i, implies, stack) = on Breaking k live (l, f, i, same, holds, left, stack)
     breaks (Loop condition body ∷ k) l f h nests live same holds left (y, m, v, u, i, around_is, loop, implies, stack) =
-        let one : m ≡ l = some_same m l (sym (ap (λ (z : Exits). z.loop) around_is) ∙ same) in
+        let one : m ≡ l = same_Some m l (sym (ap (λ (z : Exits). z.loop) around_is) ∙ same) in
         let none : Implies f l.breaks = subst (λ ns. Implies (with_each Full ns f) l.breaks) (ap (λ (z : Exits). z.locks) around_is) left in
         let now : Holds g m.breaks bs = subst (λ (z : LoopExit). Holds g z.breaks bs) (sym one) (holds_implied g f l.breaks bs none holds) in
         running p g y bs e w typed globals bound variables Proceeding k live (i, holds_implied g m.breaks i bs loop.left now, stack)
@@ -206,7 +206,7 @@ module _ (p : Program) (g : Typing) (e : Environment) (w : World) (typed : IsTyp
         (l, f, i, same, within_holds g f cs bs within holds, left, stack)
     continues (Join ∷ k) l f h nests live same holds left (i, implies, stack) = on Continuing k live (l, f, i, same, holds, left, stack)
     continues (Loop condition body ∷ k) l f h nests live same holds left (y, m, v, u, i, around_is, loop, implies, stack) =
-        let one : m ≡ l = some_same m l (sym (ap (λ (z : Exits). z.loop) around_is) ∙ same) in
+        let one : m ≡ l = same_Some m l (sym (ap (λ (z : Exits). z.loop) around_is) ∙ same) in
         let none : Implies f l.head = subst (λ ns. Implies (with_each Full ns f) l.head) (ap (λ (z : Exits). z.locks) around_is) left in
         let now : Holds g m.head bs = subst (λ (z : LoopExit). Holds g z.head bs) (sym one) (holds_implied g f l.head bs none holds) in
         tests_again condition body k y m v u i live loop now stack

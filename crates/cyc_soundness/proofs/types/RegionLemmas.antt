@@ -1,7 +1,8 @@
 -- What region variables stand for: where more of them are named, where a region is opened, and where a function is called.
-use Rattle.std.proofs.Common.{◌≡◌, ◌≢◌, ◌⊎◌, inl, inr, ℕ, zero, suc, ◌≤◌, ◌<◌, Bool, true, false, List, [], ◌∷◌, length, map, Some, slice_get, eqb, refl, sym, ap, subst, ◌∙◌, arith}
+use Rattle.std.proofs.Common.{◌≡◌, ◌≢◌, inl, inr, ℕ, zero, suc, ◌≤◌, ◌<◌, Bool, true, false, List, [], ◌∷◌, length, map, Some, slice_get, eqb, refl, sym, ap, subst, ◌∙◌, arith}
 use Rattle.std.specs.Prelude.{Option, None, option_map, if◌then◌else◌, ◌==◌, Contains, slice_index_or}
 use Rattle.std.proofs.lemmas.Bool.{eqb-true, eq-eqb, false_from_ne_true}
+use Rattle.cyc_words.proofs.Members.{Contains-tail, Contains-empty, Contains-cons_cases}
 use Rattle.cyc_types.specs.declared.region.Region.{Region}
 use Rattle.cyc_types.specs.declared.region.Region.TheVariants as regions
 use Rattle.cyc_types.specs.declared.scope.Scope.{Scope}
@@ -21,18 +22,6 @@ use Rattle.cyc_soundness.specs.inside.Frames.{later, InScope, Variable, Level, N
 use Rattle.cyc_soundness.specs.inside.Stacks.{IsNew, regions_at_call, IsInstance}
 use Rattle.cyc_soundness.proofs.types.TypeLemmas.{all_in_weaker, every_in, read_alike, value_alike, lives_by, instance_by, result_by}
 use Rattle.cyc_soundness.proofs.types.ValueLemmas.{given_agree}
-
--- ---- lists
-
-pub contains_later : {A : Type 0} (x y : A) (xs : List A) → Contains (x ∷ xs) y → (x ≡ y) ⊎ Contains xs y
-contains_later x y xs (zero, less, same) = inl same
-contains_later x y xs (suc n, less, same) = inr (n, (let e : n < length xs = omega (arith, less) in e), same)
-
-pub contains_more : {A : Type 0} (x y : A) (xs : List A) → Contains xs y → Contains (x ∷ xs) y
-contains_more x y xs (n, less, same) = (suc n, (let e : suc n < suc (length xs) = omega (arith, less) in e), same)
-
-pub contains_none : {A B : Type 0} (y : A) → Contains [] y → B
-contains_none y (n, less, same) = absurd (omega (arith, less))
 
 -- ---- what lasts
 
@@ -158,9 +147,9 @@ opened_there number l bs r same = subst (λ z. IsThere (Names number l true ∷ 
 at_opening : (live : List Region) (opened : List Scope) (a b : Region) → IsLiveAtOpening live opened a b → Contains (live_regions live opened) a × Contains (live_regions live opened) b
 at_opening live [] a b is = absurd is
 at_opening live (s ∷ earlier) a b (inl (kind, same, plain, has)) =
-    (contains_more s.region a (live_regions live earlier) has, (0, (let e : 0 < suc (length (live_regions live earlier)) = omega arith in e), sym same))
+    (Contains-tail s.region (live_regions live earlier) a has, (0, (let e : 0 < suc (length (live_regions live earlier)) = omega arith in e), sym same))
 at_opening live (s ∷ earlier) a b (inr is) =
-    let (one, two) = at_opening live earlier a b is in (contains_more s.region a (live_regions live earlier) one, contains_more s.region b (live_regions live earlier) two)
+    let (one, two) = at_opening live earlier a b is in (Contains-tail s.region (live_regions live earlier) a one, Contains-tail s.region (live_regions live earlier) b two)
 
 -- where a scope opens, nothing else outlives what is unique
 opened_plain : (kind : Kind) (number : ℕ) (c : RegionContext) → ((a : Region) → IsGiven c a regions.Unique → ⊥) → (a : Region) → IsGiven (with_scope kind (regions.Variable number) c) a regions.Unique → ⊥
@@ -178,7 +167,7 @@ module _ (g : Typing) (kind : Kind) (number region : ℕ) (ns : List ℕ) (c : R
   stand_opened names = record { there = there; agrees = agrees; plain = opened_plain kind number c names.plain }
     where
       there : (r : Region) → Contains (regions.Variable number ∷ live_regions c.live c.opened) r → IsThere inner r
-      there r has = elim (contains_later (regions.Variable number) r (live_regions c.live c.opened) has) [
+      there r has = elim (Contains-cons_cases (regions.Variable number) (live_regions c.live c.opened) r has) [
         | inl new ↦ opened_there number (OfRegion region ns (lent_now g)) bs r new
         | inr old ↦ other_there number (OfRegion region ns (lent_now g)) true bs r (others r old) (names.there r old)
       ]
@@ -224,7 +213,7 @@ also_opened : (kind : Kind) (number : ℕ) (c : RegionContext) (these : ℕ → 
 also_opened kind number c these live older alive names = record { there = there; agrees = agrees; plain = opened_plain kind number c names.plain }
   where
     there : (r : Region) → Contains (regions.Variable number ∷ live_regions c.live c.opened) r → IsThereBy live r
-    there r has = elim (contains_later (regions.Variable number) r (live_regions c.live c.opened) has) [
+    there r has = elim (Contains-cons_cases (regions.Variable number) (live_regions c.live c.opened) r has) [
       | inl new ↦ subst (λ z. IsThereBy live z) new alive
       | inr old ↦ names.there r old
     ]
@@ -314,7 +303,7 @@ known_opened n kind c vs result known = record {
     most = omega arith
 
     live : (r : Region) → Contains (regions.Variable n ∷ live_regions c.live c.opened) r → IsKnown (suc n) r
-    live r has = elim (contains_later (regions.Variable n) r (live_regions c.live c.opened) has) [
+    live r has = elim (Contains-cons_cases (regions.Variable n) (live_regions c.live c.opened) r has) [
       | inl new ↦ subst (λ z. IsKnown (suc n) z) new (let e : n < suc n = omega arith in e)
       | inr old ↦ known_more n (suc n) r most (known.live r old)
     ]
@@ -441,7 +430,7 @@ known_in_dynamic : (n r : ℕ) (c : RegionContext) (vs : List LocalInScope) (res
 known_in_dynamic n r c vs result less known = record { live = live; pairs = known.pairs; locals = known.locals; gives = known.gives }
   where
     live : (s : Region) → Contains (regions.Variable r ∷ live_regions c.live c.opened) s → IsKnown n s
-    live s has = elim (contains_later (regions.Variable r) s (live_regions c.live c.opened) has) [
+    live s has = elim (Contains-cons_cases (regions.Variable r) (live_regions c.live c.opened) s has) [
       | inl new ↦ subst (λ z. IsKnown n z) new less
       | inr old ↦ known.live s old
     ]
@@ -529,20 +518,20 @@ named_result k None named = tt
 named_result k (Some t) named = named_in k t named
 
 named_among : (k : ℕ) (rs : List Region) (r : Region) → AreNamedRegions k rs → Contains rs r → IsNamed k r
-named_among k [] r named has = contains_none r has
-named_among k (a ∷ rs) r (one, named) has = elim (contains_later a r rs has) [ inl same ↦ subst (λ z. IsNamed k z) same one | inr old ↦ named_among k rs r named old ]
+named_among k [] r named has = absurd (Contains-empty r has)
+named_among k (a ∷ rs) r (one, named) has = elim (Contains-cons_cases a rs r has) [ inl same ↦ subst (λ z. IsNamed k z) same one | inr old ↦ named_among k rs r named old ]
 
 named_pairs : (k : ℕ) (ps : List (Region × Region)) (a b : Region) → AreConstraints k ps → Contains ps (a, b) → IsNamed k a × IsNamed k b
-named_pairs k [] a b named has = contains_none (a, b) has
-named_pairs k (q ∷ ps) a b ((first, plain, second, also), named) has = elim (contains_later q (a, b) ps has) [
+named_pairs k [] a b named has = absurd (Contains-empty (a, b) has)
+named_pairs k (q ∷ ps) a b ((first, plain, second, also), named) has = elim (Contains-cons_cases q ps (a, b) has) [
   | inl same ↦ subst (λ (z : Region × Region). IsNamed k z.0 × IsNamed k z.1) same (first, second)
   | inr old ↦ named_pairs k ps a b named old
 ]
 
 named_live : (k : ℕ) (effect : List Region) (r : Region) → AreNamedRegions k effect → Contains (regions.Heap ∷ regions.Unique ∷ effect) r → IsNamed k r
-named_live k effect r named has = elim (contains_later regions.Heap r (regions.Unique ∷ effect) has) [
+named_live k effect r named has = elim (Contains-cons_cases regions.Heap (regions.Unique ∷ effect) r has) [
   | inl heap ↦ subst (λ z. IsNamed k z) heap tt
-  | inr later' ↦ elim (contains_later regions.Unique r effect later') [ inl unique ↦ subst (λ z. IsNamed k z) unique tt | inr old ↦ named_among k effect r named old ]
+  | inr later' ↦ elim (Contains-cons_cases regions.Unique effect r later') [ inl unique ↦ subst (λ z. IsNamed k z) unique tt | inr old ↦ named_among k effect r named old ]
 ]
 
 alike_parameters : (k : ℕ) (i j : Lives) (ts : List Ty) → AreNamedIn k ts → ((r : Region) → IsOther 0 r → i r ≡ j r) → map (at i) ts ≡ map (at j) ts
@@ -583,7 +572,7 @@ known_body p h well = record {
 }
   where
     live : (r : Region) → Contains (regions.Variable 0 ∷ regions.Heap ∷ regions.Unique ∷ h.effect) r → IsKnown (suc h.variables) r
-    live r has = elim (contains_later (regions.Variable 0) r (regions.Heap ∷ regions.Unique ∷ h.effect) has) [
+    live r has = elim (Contains-cons_cases (regions.Variable 0) (regions.Heap ∷ regions.Unique ∷ h.effect) r has) [
       | inl own ↦ subst (λ z. IsKnown (suc h.variables) z) own (let e : 0 < suc h.variables = omega arith in e)
       | inr old ↦ named_known h.variables r (named_live h.variables h.effect r well.effect old)
     ]
@@ -667,10 +656,10 @@ result_means bs m t =
     result_by n m t ∙ value_alike (lives_by n m) (lives_of (these_by n m)) (result_type t) (every_value (λ r. lives_by n m r ≡ lives_of (these_by n m) r) (these_are bs m) (result_type t))
 
 contained : (rs : List Region) (n : ℕ) → Contains rs (regions.Variable n) → is_among n rs ≡ true
-contained [] n has = contains_none (regions.Variable n) has
-contained (regions.Heap ∷ rs) n has = elim (contains_later regions.Heap (regions.Variable n) rs has) [ inl e ↦ (let z : regions.Heap ≡ regions.Variable n = e in absurd (cc)) | inr old ↦ contained rs n old ]
-contained (regions.Unique ∷ rs) n has = elim (contains_later regions.Unique (regions.Variable n) rs has) [ inl e ↦ (let z : regions.Unique ≡ regions.Variable n = e in absurd (cc)) | inr old ↦ contained rs n old ]
-contained (regions.Variable k ∷ rs) n has = elim (contains_later (regions.Variable k) (regions.Variable n) rs has) [
+contained [] n has = absurd (Contains-empty (regions.Variable n) has)
+contained (regions.Heap ∷ rs) n has = elim (Contains-cons_cases regions.Heap rs (regions.Variable n) has) [ inl e ↦ (let z : regions.Heap ≡ regions.Variable n = e in absurd (cc)) | inr old ↦ contained rs n old ]
+contained (regions.Unique ∷ rs) n has = elim (Contains-cons_cases regions.Unique rs (regions.Variable n) has) [ inl e ↦ (let z : regions.Unique ≡ regions.Variable n = e in absurd (cc)) | inr old ↦ contained rs n old ]
+contained (regions.Variable k ∷ rs) n has = elim (Contains-cons_cases (regions.Variable k) rs (regions.Variable n) has) [
   | inl e ↦ (let z : regions.Variable k ≡ regions.Variable n = e in let same : n ≡ k = cc in ap (λ (b : Bool). if b then true else is_among n rs) (eq-eqb n k same))
   | inr old ↦ either (n == k) (is_among n rs) (contained rs n old)
 ]
@@ -692,8 +681,8 @@ substituted_among_live c m (regions.Variable k ∷ rs) n (is, are) e = among_eit
 
 outliving : (c : Context) (m : List Region) (ps : List (Region × Region)) (a b : Region)
     → AreOutliving c (map (λ (p : Region × Region). (substituted_region m p.0, substituted_region m p.1)) ps) → Contains ps (a, b) → OutlivesIn c.regions (substituted_region m a) (substituted_region m b)
-outliving c m [] a b are has = contains_none (a, b) has
-outliving c m (q ∷ ps) a b (is, are) has = elim (contains_later q (a, b) ps has) [
+outliving c m [] a b are has = absurd (Contains-empty (a, b) has)
+outliving c m (q ∷ ps) a b (is, are) has = elim (Contains-cons_cases q ps (a, b) has) [
   | inl same ↦ subst (λ (z : Region × Region). OutlivesIn c.regions (substituted_region m z.0) (substituted_region m z.1)) same is
   | inr old ↦ outliving c m ps a b are old
 ]
@@ -711,8 +700,8 @@ never_unique (r ∷ m) (suc n) (one, apart) = λ e. never_other m n n apart e
 
 -- no constraint names what is unique
 unmixed : (k : ℕ) (ps : List (Region × Region)) (a : Region) → AreConstraints k ps → Contains ps (a, regions.Unique) → ⊥
-unmixed k [] a named has = contains_none (a, regions.Unique) has
-unmixed k (q ∷ ps) a ((first, plain, second, also), named) has = elim (contains_later q (a, regions.Unique) ps has) [
+unmixed k [] a named has = absurd (Contains-empty (a, regions.Unique) has)
+unmixed k (q ∷ ps) a ((first, plain, second, also), named) has = elim (Contains-cons_cases q ps (a, regions.Unique) has) [
   | inl same ↦ also (ap (λ (z : Region × Region). z.1) same)
   | inr old ↦ unmixed k ps a named old
 ]

@@ -1,6 +1,7 @@
 -- A typed statement declares as many locals and as many regions as the statement that it is of.
 use Rattle.std.proofs.Common.{◌≡◌, ℕ, suc, ◌+◌, Bool, List, [], ◌∷◌, ◌++◌, Option, None, Some, length, refl, sym, ap, subst, ◌∙◌, arith, length-append}
 use Rattle.std.specs.Prelude.{option_map}
+use Rattle.cyc_words.proofs.Numbers.{suc_one_plus, same_zero_plus}
 use Rattle.cyc_syntax.specs.Symbols.{Place}
 use Rattle.cyc_syntax.specs.Trees.{Named, WrittenType, Expression, Statement, Block, Labelled, Empty, Evaluate, Swap, If, IfElse, While, Return, Break, Continue, Throw, Try, Body, Braces, Items, NoItems, MoreItems, Execute, Local, Region, Alias, DynamicRegion, Clauses, NoClauses, Default, Case}
 use Rattle.cyc_types.specs.Types.{Ty}
@@ -49,12 +50,6 @@ both_counted : (s u : Statement) (t v : typed.Statement) → IsCounted s t → I
 both_counted s u t v (l, r) (m, n) =
     (length-append (declared_types t) (declared_types v) ∙ (ap (λ k. k + length (declared_types v)) l ∙ ap (λ k. locals_in s + k) m), ap (λ k. k + declared_regions v) r ∙ ap (λ k. regions_in s + k) n)
 
-one_more : (m n : ℕ) → m ≡ n → suc m ≡ 1 + n
-one_more m n e = omega arith
-
-none_more : (m n : ℕ) → m ≡ n → m ≡ 0 + n
-none_more m n e = omega arith
-
 -- a clause's int is a local where the clause has one
 caught_counted : (v : Option Named) (n : ℕ) → length (caught_types (option_map (λ (y : Named). n) v)) ≡ counted v
 caught_counted None n = refl
@@ -94,21 +89,21 @@ mutual
       (length-append (declared_types t) (item_types ks) ∙ (ap (λ k. k + length (item_types ks)) l ∙ ap (λ k. locals_in s + k) m), ap (λ k. k + declarations.item_regions ks) r ∙ ap (λ k. regions_in s + k) n)
   items_counted g (MoreItems (Local w x v) is) js (j, (u, ku, (c, kc, (y, is_j))), (ks, hs, (z, eq))) =
       let (m, n) = items_counted (behind_item g (Local w x v) j) is ks hs in
-      subst (AreCounted (MoreItems (Local w x v) is)) (sym (eq ∙ ap (λ i. typed.MoreItems i ks) is_j)) (one_more (length (item_types ks)) (item_locals is) m, none_more (declarations.item_regions ks) (item_regions is) n)
+      subst (AreCounted (MoreItems (Local w x v) is)) (sym (eq ∙ ap (λ i. typed.MoreItems i ks) is_j)) (suc_one_plus (length (item_types ks)) (item_locals is) m, same_zero_plus (declarations.item_regions ks) (item_regions is) n)
   items_counted g (MoreItems (Region r h None) is) js (j, (kept, is_j), (ks, hs, (z, eq))) =
       let (m, n) = items_counted (behind_item g (Region r h None) j) is ks hs in
-      subst (AreCounted (MoreItems (Region r h None) is)) (sym (eq ∙ ap (λ i. typed.MoreItems i ks) is_j)) (one_more (length (item_types ks)) (item_locals is) m, one_more (declarations.item_regions ks) (item_regions is) n)
+      subst (AreCounted (MoreItems (Region r h None) is)) (sym (eq ∙ ap (λ i. typed.MoreItems i ks) is_j)) (suc_one_plus (length (item_types ks)) (item_locals is) m, suc_one_plus (declarations.item_regions ks) (item_regions is) n)
   items_counted g (MoreItems (Region r h (Some k)) is) js (j, (u, ku, d), (ks, hs, (z, eq))) =
       let (m, n) = items_counted (behind_item g (Region r h (Some k)) j) is ks hs in
       let (o, l, is_j) = opened_shape g r h (meaning_of g k) k.place j d in
-      subst (AreCounted (MoreItems (Region r h (Some k)) is)) (sym (eq ∙ ap (λ i. typed.MoreItems i ks) is_j)) (one_more (length (item_types ks)) (item_locals is) m, none_more (declarations.item_regions ks) (item_regions is) n)
+      subst (AreCounted (MoreItems (Region r h (Some k)) is)) (sym (eq ∙ ap (λ i. typed.MoreItems i ks) is_j)) (suc_one_plus (length (item_types ks)) (item_locals is) m, same_zero_plus (declarations.item_regions ks) (item_regions is) n)
   items_counted g (MoreItems (Alias r w x y) is) js (j, (u, ku, (v, kv, d)), (ks, hs, (z, eq))) =
       let (m, n) = items_counted (behind_item g (Alias r w x y) j) is ks hs in
       let (t, l, is_j) = aliased_shape g r x w (meaning_of g y) y.place j d in
-      subst (AreCounted (MoreItems (Alias r w x y) is)) (sym (eq ∙ ap (λ i. typed.MoreItems i ks) is_j)) (one_more (length (item_types ks)) (item_locals is) m, one_more (declarations.item_regions ks) (item_regions is) n)
+      subst (AreCounted (MoreItems (Alias r w x y) is)) (sym (eq ∙ ap (λ i. typed.MoreItems i ks) is_j)) (suc_one_plus (length (item_types ks)) (item_locals is) m, suc_one_plus (declarations.item_regions ks) (item_regions is) n)
   items_counted g (MoreItems (DynamicRegion r k) is) js (j, (kept, is_j), (ks, hs, (z, eq))) =
       let (m, n) = items_counted (behind_item g (DynamicRegion r k) j) is ks hs in
-      subst (AreCounted (MoreItems (DynamicRegion r k) is)) (sym (eq ∙ ap (λ i. typed.MoreItems i ks) is_j)) (one_more (length (item_types ks)) (item_locals is) m, one_more (declarations.item_regions ks) (item_regions is) n)
+      subst (AreCounted (MoreItems (DynamicRegion r k) is)) (sym (eq ∙ ap (λ i. typed.MoreItems i ks) is_j)) (suc_one_plus (length (item_types ks)) (item_locals is) m, suc_one_plus (declarations.item_regions ks) (item_regions is) n)
 
   clauses_counted : (g : Scope) (before : List ℕ) (cs : Clauses) (ds : typed.Clauses) → Derives (rule_clauses g before cs) ds → AreCountedClauses cs ds
   clauses_counted g before NoClauses ds (u, eq) = subst (AreCountedClauses NoClauses) (sym eq) (refl, refl)

@@ -5,6 +5,7 @@ use Rattle.std.specs.List.{list_any}
 use Rattle.std.proofs.lemmas.Bool.{and_parts, eqb-true, true≢false, not-true}
 use Rattle.std.proofs.lemmas.List.{length-map, length-replicate}
 use Rattle.cyc_words.proofs.Booleans.{some_there}
+use Rattle.cyc_words.proofs.Searches.{any-true}
 use Rattle.cyc_syntax.specs.declared.tree.PointerKind.{PointerKind}
 use Rattle.cyc_syntax.specs.declared.tree.PointerKind.TheVariants as marks
 use Rattle.cyc_syntax.specs.declared.tree.PrefixOperator.TheVariants as prefixes
@@ -40,7 +41,7 @@ use Rattle.cyc_types.specs.typing.Statements.{exception_number, exception_among}
 use Rattle.cyc_types.specs.typing.WellTyped.{LocalInScope, Context, IsLive, AreLive, AreOutliving, HasLocal, HasPlace, IsVariable, IsPlace, IsCallee, AreNotUnique, Converts, IsPeek, IsPeekOf, PointerOperation, adds, subtracts, equals, differs, thin_null, thin_there, fat_null, fat_there, null_is, null_is_not, IsLeft, WellTyped, IsConverted, ArePassed, IsCell, IsPlacement, IsMade, IsChain, signature_of}
 use Rattle.cyc_types.specs.typing.WellTyped as judgement
 use Rattle.cyc_types.proofs.RegionLemmas.{region_eq-true}
-use Rattle.cyc_types.proofs.ClosureLemmas.{any-true, outliving-sound}
+use Rattle.cyc_types.proofs.ClosureLemmas.{outliving-sound}
 use Rattle.cyc_types.proofs.typing.TestLemmas.{kept_append, ty_eq-true, int_of, char_of, unique_of, fat_of, not_moved, other_region}
 
 -- ---- lists

@@ -1,8 +1,10 @@
 -- What the typing rules derive declares no type with a region that is not there yet.
-use Rattle.std.proofs.Common.{◌≡◌, ℕ, zero, suc, pred, ◌+◌, ◌<◌, ◌≤◌, Bool, true, false, cond, nat_eq, List, [], ◌∷◌, ◌++◌, Option, Some, None, map, length, slice_get, inl, inr, refl, sym, ap, subst, ◌∙◌, arith}
+use Rattle.std.proofs.Common.{◌≡◌, ℕ, zero, suc, ◌+◌, ◌<◌, ◌≤◌, Bool, true, false, cond, nat_eq, List, [], ◌∷◌, ◌++◌, Option, Some, None, map, length, slice_get, inl, inr, refl, sym, ap, subst, ◌∙◌, arith}
 use Rattle.std.specs.Prelude.{unwrap_or, codes}
 use Rattle.std.proofs.lemmas.Bool.{true≢false, not-true}
 use Rattle.std.proofs.lemmas.List.{length-map}
+use Rattle.std.proofs.lemmas.Option.{none-some}
+use Rattle.cyc_words.proofs.Numbers.{suc_pred}
 use Rattle.cyc_syntax.specs.Names.{number_of}
 use Rattle.cyc_syntax.specs.Symbols.{Place}
 use Rattle.cyc_syntax.specs.Trees.{Named, Pointer as Mark, BaseType, WrittenType, Expression, Statement, Block, Labelled, Empty, Evaluate, Swap, If, IfElse, While, Return, Break, Continue, Throw, Try, Body, Braces, Items, NoItems, MoreItems, Execute, Local, Region, Alias, DynamicRegion, Clauses, NoClauses, Default, Case, Member, Parameters, Declaration, StructType, Exceptions, Global, Function, place_of}
@@ -26,7 +28,7 @@ use Rattle.cyc_types.specs.typing.Programs.{declared_before, known_of, before_al
 use Rattle.cyc_types.specs.inside.typing.Formed.{AllOf, AllIn, IsKnown, IsFormedStatement, AreFormedItems, AreFormedClauses, AreFormedFunctions, AreFormedGlobals, AreFormedFields, AreFormedStructs, IsFormedProgram}
 use Rattle.cyc_types.proofs.typing.TestLemmas.{kept_append}
 use Rattle.cyc_types.proofs.typing.ProgramLemmas.{base_before}
-use Rattle.cyc_types.proofs.typing.NamingLemmas.{IsBase, none_is_not_some, IsNumbered, after_members_numbered, types_named}
+use Rattle.cyc_types.proofs.typing.NamingLemmas.{IsBase, IsNumbered, after_members_numbered, types_named}
 use Rattle.cyc_types.proofs.typing.CountLemmas.{statement_counted, items_counted, thrown_shape}
 use Rattle.cyc_types.specs.typing.WellTyped.{IsNamed, AreNamed, IsNamedIn, AreNamedIn}
 use Rattle.cyc_types.proofs.typing.FormedLemmas.{known_more, IsCounted, IsFormed, formed_more, IsFormedValue, region_formed, name_known, arguments_counted, written_formed, AreFormedLocals, locals_more, IsFormedMeaning, IsFormedResult, AreFormedFieldTypes, IsFormedScope, meant_formed, formed_well}
@@ -217,7 +219,7 @@ mutual
 
 -- the names that are there before a text are those of no variable
 base_known : (names : List RegionName) → IsBase names → (x : ℕ) (r : RegionCode) → region_among names x ≡ Some r → IsKnown 0 r
-base_known names base x r e = elim (base x) [ inl none ↦ absurd (none_is_not_some r (sym none ∙ e)) | inr (inl heap) ↦ subst (IsKnown 0) (from_some regions.Heap r (sym heap ∙ e)) tt | inr (inr unique) ↦ subst (IsKnown 0) (from_some regions.Unique r (sym unique ∙ e)) tt ]
+base_known names base x r e = elim (base x) [ inl none ↦ absurd (none-some r (sym none ∙ e)) | inr (inl heap) ↦ subst (IsKnown 0) (from_some regions.Heap r (sym heap ∙ e)) tt | inr (inr unique) ↦ subst (IsKnown 0) (from_some regions.Unique r (sym unique ∙ e)) tt ]
   where
     from_some : (a b : RegionCode) → Some a ≡ Some b → a ≡ b
     from_some a b f = ap (λ (o : Option RegionCode). unwrap_or o a) f
@@ -306,12 +308,8 @@ module _ (k : Known) (base : IsBase k.regions) where
   named_by : (ps : Parameters) → IsNumbered k.regions base (parameter_naming k ps)
   named_by ps = after_members_numbered k.regions base (record { names = k.regions; next = 1 }) (members_of ps.list) first
 
-  back : (n : ℕ) → 1 ≤ n → n ≡ suc (pred n)
-  back zero l = absurd (omega arith)
-  back (suc n) l = refl
-
   parameter_names_known : (r : Option WrittenType) (ps : Parameters) (x : ℕ) (s : RegionCode) → region_among (parameter_naming k ps).names x ≡ Some s → IsKnown (suc (signature_of k r ps).variables) s
-  parameter_names_known r ps x s e = subst (λ n. IsKnown n s) (back (parameter_naming k ps).next (named_by ps).one) (numbered_known (parameter_naming k ps) (named_by ps) x s e)
+  parameter_names_known r ps x s e = subst (λ n. IsKnown n s) (suc_pred (parameter_naming k ps).next (named_by ps).one) (numbered_known (parameter_naming k ps) (named_by ps) x s e)
 
   result_formed : (before : List ℕ) (r : Option WrittenType) (x : Named) (ps : Parameters) → Derives (rule_function_head k before r x ps) tt → IsFormedResult k.structs (suc (signature_of k r ps).variables) (signature_of k r ps).result
   result_formed before None x ps d = tt
@@ -366,7 +364,7 @@ module _ (k : Known) (base : IsBase k.regions) where
       let s : Signature = signature_of k r ps in
       let n : Naming = parameter_naming k ps in
       let start : Naming = record { names = k.regions; next = 1 } in
-      let bound : n.next ≤ suc s.variables = let e = back n.next (named_by ps).one in omega arith in
+      let bound : n.next ≤ suc s.variables = let e = suc_pred n.next (named_by ps).one in omega arith in
       let at : Known → Scope = λ (known : Known). body_scope (record q { known = known }) (signature_of known r ps) x ps in
       let formed : IsFormedScope (at k) = record {
         names = λ y t e. own_name (suc s.variables) n.names x (omega arith) (parameter_names_known r ps) y t e;

@@ -2,6 +2,8 @@
 use Rattle.std.proofs.Common.{◌≡◌, ◌≢◌, ◌⊎◌, ℕ, zero, suc, ◌+◌, ◌<◌, ◌≤◌, Bool, true, false, cond, not, nat_eq, ◌&&◌, ◌||◌, List, [], ◌∷◌, Option, Some, None, map, replicate, inl, inr, refl, sym, ap, subst, ◌∙◌, arith}
 use Rattle.std.specs.Prelude.{is_some, unwrap_or}
 use Rattle.std.proofs.lemmas.Bool.{and_parts, and_from, or_left, eqb-true, true≢false, not-true}
+use Rattle.std.proofs.lemmas.Option.{none-some}
+use Rattle.cyc_words.proofs.Numbers.{le_trans}
 use Rattle.cyc_syntax.specs.Trees.{Named, Pointer, BaseType, Struct, WrittenType, Member, Constraint, Parameters}
 use Rattle.cyc_syntax.specs.Trees as written
 use Rattle.cyc_types.specs.declared.region.Region.{Region}
@@ -23,9 +25,6 @@ use Rattle.cyc_types.proofs.typing.ExpressionLemmas.{IsKeyOfVariable}
 abbrev pub IsBase : List RegionName → Type 0
 IsBase names = (x : ℕ) → (region_among names x ≡ None) ⊎ ((region_among names x ≡ Some Heap) ⊎ (region_among names x ≡ Some Unique))
 
-pub none_is_not_some : {A : Type 0} (x : A) → ◌≡◌ {A = Option A} None (Some x) → ⊥
-none_is_not_some x e = absurd (cc)
-
 -- a name stands for what it stood for before, or for a variable below this one
 abbrev IsOld : ℕ → (before now : Option Region) → Type 0
 IsOld next before now = (now ≡ before) ⊎ ((m : ℕ) × (now ≡ Some (Variable m)) × (1 ≤ m) × (m < next) × (before ≡ None))
@@ -36,7 +35,7 @@ old_weaker n m before now l (inr (k, is, one, below, none)) = inr (k, is, one, (
 
 -- a region that a name stands for is one of the first k variables, or no variable
 named_of : (k n : ℕ) (before : Option Region) (now : Option Region) → (before ≡ None) ⊎ ((before ≡ Some Heap) ⊎ (before ≡ Some Unique)) → IsOld n before now → n ≤ suc k → (r : Region) → now ≡ Some r → IsNamed k r
-named_of k n before now (inl e) (inl same) l r is = absurd (none_is_not_some r (sym e ∙ (sym same ∙ is)))
+named_of k n before now (inl e) (inl same) l r is = absurd (none-some r (sym e ∙ (sym same ∙ is)))
 named_of k n before now (inr (inl e)) (inl same) l Heap is = tt
 named_of k n before now (inr (inl e)) (inl same) l Unique is = tt
 named_of k n before now (inr (inl e)) (inl same) l (Variable m) is = let f : Some Heap ≡ Some (Variable m) = sym e ∙ (sym same ∙ is) in absurd (cc)
@@ -60,7 +59,7 @@ module _ (base : List RegionName) (is_base : IsBase base) where
       new e x false is = old_weaker n.next (suc n.next) (region_among base x) (region_among n.names x) (omega arith) (i.old x)
       new e x true is =
           let same : r.name ≡ x = eqb-true r.name x is in
-          let none : region_among base r.name ≡ None = elim (i.old r.name) [ inl s ↦ sym s ∙ e | inr m ↦ absurd (none_is_not_some (Variable m.0) (sym e ∙ m.1)) ] in
+          let none : region_among base r.name ≡ None = elim (i.old r.name) [ inl s ↦ sym s ∙ e | inr m ↦ absurd (none-some (Variable m.0) (sym e ∙ m.1)) ] in
           let l : 1 ≤ n.next = i.one in
           inr (n.next, refl, l, (omega arith), subst (λ y. region_among base y ≡ None) same none)
 
@@ -110,16 +109,13 @@ module _ (base : List RegionName) (is_base : IsBase base) where
   mark_grows n None = let l : n.next ≤ suc n.next = omega arith in l
   mark_grows n (Some r) = region_grows n r
 
-  up : (a b c : ℕ) → a ≤ b → b ≤ c → a ≤ c
-  up a b c l m = omega arith
-
   regions_grow : (n : Naming) (rs : List Named) → n.next ≤ (after_regions n rs).next
   regions_grow n [] = omega arith
-  regions_grow n (r ∷ rs) = up n.next (after_region n r).next (after_regions (after_region n r) rs).next (region_grows n r) (regions_grow (after_region n r) rs)
+  regions_grow n (r ∷ rs) = le_trans n.next (after_region n r).next (after_regions (after_region n r) rs).next (region_grows n r) (regions_grow (after_region n r) rs)
 
   marks_grow : (n : Naming) (ms : List Pointer) → n.next ≤ (after_marks n ms).next
   marks_grow n [] = omega arith
-  marks_grow n (m ∷ ms) = up n.next (after_mark n m.region).next (after_marks (after_mark n m.region) ms).next (mark_grows n m.region) (marks_grow (after_mark n m.region) ms)
+  marks_grow n (m ∷ ms) = le_trans n.next (after_mark n m.region).next (after_marks (after_mark n m.region) ms).next (mark_grows n m.region) (marks_grow (after_mark n m.region) ms)
 
   base_grows : (n : Naming) (b : BaseType) → n.next ≤ (after_base n b).next
   base_grows n written.Int = omega arith
@@ -131,8 +127,8 @@ module _ (base : List RegionName) (is_base : IsBase base) where
   members_grow : (n : Naming) (ms : List Member) → n.next ≤ (after_members n ms).next
   members_grow n [] = omega arith
   members_grow n (m ∷ ms) =
-      up n.next (after_type n m.of_type).next (after_members (after_type n m.of_type) ms).next
-      (up n.next (after_base n m.of_type.base).next (after_type n m.of_type).next (base_grows n m.of_type.base) (marks_grow (after_base n m.of_type.base) m.of_type.marks))
+      le_trans n.next (after_type n m.of_type).next (after_members (after_type n m.of_type) ms).next
+      (le_trans n.next (after_base n m.of_type.base).next (after_type n m.of_type).next (base_grows n m.of_type.base) (marks_grow (after_base n m.of_type.base) m.of_type.marks))
       (members_grow (after_type n m.of_type) ms)
 
   -- ---- the types of parameters
@@ -151,7 +147,7 @@ module _ (base : List RegionName) (is_base : IsBase base) where
   regions_named : (k : ℕ) (n : Naming) (rs : List Named) → IsNumbered n → (after_regions n rs).next ≤ suc k → AreNamed k (regions_for n rs)
   regions_named k n [] i l = tt
   regions_named k n (r ∷ rs) i l = (
-    region_named k n r i (up (after_region n r).next (after_regions (after_region n r) rs).next (suc k) (regions_grow (after_region n r) rs) l),
+    region_named k n r i (le_trans (after_region n r).next (after_regions (after_region n r) rs).next (suc k) (regions_grow (after_region n r) rs) l),
     regions_named k (after_region n r) rs (after_region_numbered n r i) l,
   )
 
@@ -171,14 +167,14 @@ module _ (base : List RegionName) (is_base : IsBase base) where
   pointers_named k n t [] i named l = named
   pointers_named k n t (m ∷ ms) i named l =
       pointers_named k (after_mark n m.region) (types.Pointer m.kind t (mark_for n m.region)) ms (after_mark_numbered n m.region i)
-      (named, mark_named k n m.region i (up (after_mark n m.region).next (after_marks (after_mark n m.region) ms).next (suc k) (marks_grow (after_mark n m.region) ms) l)) l
+      (named, mark_named k n m.region i (le_trans (after_mark n m.region).next (after_marks (after_mark n m.region) ms).next (suc k) (marks_grow (after_mark n m.region) ms) l)) l
 
   pub types_named : (structs : List StructName) (k : ℕ) (n : Naming) (ms : List Member) → IsNumbered n → (after_members n ms).next ≤ suc k → AreNamedIn k (types_for structs n ms)
   types_named structs k n [] i l = tt
   types_named structs k n (m ∷ ms) i l =
-      let bound : (after_type n m.of_type).next ≤ suc k = up (after_type n m.of_type).next (after_members (after_type n m.of_type) ms).next (suc k) (members_grow (after_type n m.of_type) ms) l in (
+      let bound : (after_type n m.of_type).next ≤ suc k = le_trans (after_type n m.of_type).next (after_members (after_type n m.of_type) ms).next (suc k) (members_grow (after_type n m.of_type) ms) l in (
         pointers_named k (after_base n m.of_type.base) (base_for structs n m.of_type.base) m.of_type.marks (after_base_numbered n m.of_type.base i)
-            (base_named structs k n m.of_type.base i (up (after_base n m.of_type.base).next (after_type n m.of_type).next (suc k) (marks_grow (after_base n m.of_type.base) m.of_type.marks) bound)) bound,
+            (base_named structs k n m.of_type.base i (le_trans (after_base n m.of_type.base).next (after_type n m.of_type).next (suc k) (marks_grow (after_base n m.of_type.base) m.of_type.marks) bound)) bound,
         types_named structs k (after_type n m.of_type) ms (after_type_numbered n m.of_type i) l,
       )
 

@@ -1,7 +1,12 @@
 -- A program that the typing rules derive is well typed.
-use Rattle.std.proofs.Common.{◌≡◌, ◌⊎◌, ℕ, zero, suc, pred, ◌+◌, ◌^◌, ◌%◌, ◌-◌, ◌<◌, ◌≤◌, Bool, true, false, cond, if◌then◌else◌, not, nat_eq, ◌&&◌, ◌||◌, List, [], ◌∷◌, ◌++◌, Option, Some, None, map, length, slice_get, inl, inr, refl, sym, ap, subst, ◌∙◌, arith}
+use Rattle.std.proofs.Common.{◌≡◌, ◌⊎◌, ℕ, zero, suc, ◌+◌, ◌^◌, ◌%◌, ◌-◌, ◌<◌, ◌≤◌, Bool, true, false, cond, if◌then◌else◌, not, nat_eq, ◌&&◌, ◌||◌, List, [], ◌∷◌, ◌++◌, Option, Some, None, map, length, slice_get, inl, inr, refl, sym, ap, subst, ◌∙◌, arith}
 use Rattle.std.specs.Prelude.{codes as bytes}
 use Rattle.std.proofs.lemmas.Bool.{and_parts, true≢false, not-true}
+use Rattle.cyc_words.proofs.Booleans.{or_right_without_left}
+use Rattle.cyc_words.proofs.Numbers.{at_most_suc_pred}
+use Rattle.cyc_words.proofs.Options.{false_from_some_false}
+use Rattle.cyc_words.proofs.Members.{Contains-head}
+use Rattle.cyc_words.proofs.Items.{slice_get_front, slice_get_behind}
 use Rattle.cyc_syntax.specs.Names.{number_of}
 use Rattle.cyc_syntax.specs.Symbols.{Place}
 use Rattle.cyc_syntax.specs.Trees.{Named, Pointer, BaseType, Struct, WrittenType, Body, Braces, Items, Member, GlobalValue, Positive, Negative, Byte, NullPointer, Constraint, Listed, Parameters, Declaration, StructType, Exceptions, Global, Function}
@@ -25,8 +30,7 @@ use Rattle.cyc_types.specs.typing.Heads.{Known, members_of, structs_of, fields_o
 use Rattle.cyc_types.specs.typing.Programs.{regions_before, exceptions_before, declared_before, known_of, before_all, Program, program_known, parameter_locals, body_scope, function_of, rule_functions, word_of, global_of, globals_of, struct_types, function_number, program_of, IsTypedProgram}
 use Rattle.cyc_types.specs.typing.WellTyped.{LocalInScope, WellTypedItems, parameters_in_scope, body_context, IsWellTypedFunction, AreWellTypedFunctions, IsWellTypedGlobal, AreWellTypedGlobals, IsWellTypedProgram}
 use Rattle.cyc_types.specs.typing.WellTyped as judgement
-use Rattle.cyc_types.proofs.ClosureLemmas.{Contains-head}
-use Rattle.cyc_types.proofs.typing.ListLemmas.{Holds, front_of, back_of}
+use Rattle.cyc_types.proofs.typing.ListLemmas.{Holds}
 use Rattle.cyc_types.proofs.typing.TestLemmas.{kept_append}
 use Rattle.cyc_types.proofs.typing.ExpressionLemmas.{in_scope, all_variables, all_globals, at, IsMeantDeclared, AreKnown, IsExceptionOf, Fits}
 use Rattle.cyc_types.proofs.typing.CountLemmas.{items_counted}
@@ -86,18 +90,15 @@ exception_there (f ∷ es) x has e = go (nat_eq f.name x) e (exception_there es 
     go true h rest = (0, refl, h)
     go false h rest = let (m, is, there) = rest h in (suc m, ap suc is, there)
 
-no_int : (has : Bool) → ◌≡◌ {A = Option Bool} (Some false) (Some has) → has ≡ false
-no_int has e = sym (ap (λ (o : Option Bool). elim o [ None ↦ false | Some b ↦ b ]) e)
-
 exceptions_fit : (p : typed.Program) (h : typed.Function) (texts : List (List ℕ)) (es : List Exception) → p.exceptions ≡ ints_of es
     → (x : ℕ) (has : Bool) → exception_among (exceptions_before texts ++ es) x ≡ Some has → IsExceptionOf p h (exception_number (exceptions_before texts ++ es) x) has
 exceptions_fit p h texts es same x has e = let (m, is, there) = exception_there (exceptions_before texts ++ es) x has e in subst (λ n. IsExceptionOf p h n has) (sym is) (go m there)
   where
     go : (m : ℕ) → slice_get (ints_of (exceptions_before texts ++ es)) m ≡ Some has → IsExceptionOf p h (suc m) has
-    go zero t = inl ((omega arith), (omega arith), no_int has t)
-    go (suc zero) t = inl ((omega arith), (omega arith), no_int has t)
-    go (suc (suc zero)) t = inl ((omega arith), (omega arith), no_int has t)
-    go (suc (suc (suc zero))) t = inl ((omega arith), (omega arith), no_int has t)
+    go zero t = inl ((omega arith), (omega arith), false_from_some_false has t)
+    go (suc zero) t = inl ((omega arith), (omega arith), false_from_some_false has t)
+    go (suc (suc zero)) t = inl ((omega arith), (omega arith), false_from_some_false has t)
+    go (suc (suc (suc zero))) t = inl ((omega arith), (omega arith), false_from_some_false has t)
     go (suc (suc (suc (suc m)))) t = inr (m, (omega arith), subst (λ bs. slice_get bs m ≡ Some has) (sym same) t)
 
 -- ---- globals
@@ -218,10 +219,6 @@ parameters_known p h (m ∷ ms) [] n vs same i keys known = absurd (omega arith)
 parameters_known p h (m ∷ ms) (t ∷ ts) n vs same i (key, keys) known =
     parameters_known p h ms ts (suc n) _ (omega arith) (λ a b u e at_a. i (suc a) b u (omega arith) at_a) keys ((i 0 n t (omega arith) refl, key), known)
 
-count_back : (n : ℕ) → 1 ≤ n → n ≤ suc (pred n)
-count_back zero l = omega arith
-count_back (suc n) l = omega arith
-
 -- what a program's bodies know agrees with the program
 record Agrees (p : typed.Program) (q : Program) : Type 0 where
   pub base : IsBase q.known.regions
@@ -242,13 +239,13 @@ module _ (p : typed.Program) (q : Program) (agrees : Agrees p q) where
       let n : Naming = parameter_naming q.known ps in
       let first : IsNumbered q.known.regions agrees.base start = record { one = (omega arith); old = λ y. inl refl } in
       let last : IsNumbered q.known.regions agrees.base n = after_members_numbered q.known.regions agrees.base start ms first in
-      let bound : n.next ≤ suc s.variables = count_back n.next last.one in
+      let bound : n.next ≤ suc s.variables = at_most_suc_pred n.next last.one in
       let count : length s.parameters ≡ length ms = types_counted q.known.structs start ms in
       let keys : AreKeysOfVariables s.parameters = keys_formed q.known agrees.base x.name [] start ms c first parameters in
       let written = constraints_written q.known.regions agrees.base s.variables n ps.constraints last bound constraints in
       let scope : Scope = body_scope q s x ps in
       let fits : Fits p h scope = record {
-        locals = parameters_known p h ms s.parameters 0 [] count (λ i j t e at_i. front_of s.parameters (item_types js) j t (subst (λ m. slice_get s.parameters m ≡ Some t) (let same : i ≡ j = omega arith in same) at_i)) keys tt;
+        locals = parameters_known p h ms s.parameters 0 [] count (λ i j t e at_i. slice_get_front s.parameters (item_types js) j t (subst (λ m. slice_get s.parameters m ≡ Some t) (let same : i ≡ j = omega arith in same) at_i)) keys tt;
         program = agrees.program h;
         structs = agrees.structs;
         fields = agrees.fields;
@@ -264,7 +261,7 @@ module _ (p : typed.Program) (q : Program) (agrees : Agrees p q) where
       let counts = items_counted scope is js d in
       record {
         body = subst (λ c. WellTypedItems c js) same
-            (items_well p h scope fits is js (λ i j t e at_i. back_of s.parameters (item_types js) i j t (omega arith) at_i) (omega arith) d);
+            (items_well p h scope fits is js (λ i j t e at_i. slice_get_behind s.parameters (item_types js) i j t (omega arith) at_i) (omega arith) d);
         own = refl;
         locals = refl;
         regions = ap (λ m. suc s.variables + m) (sym counts.1);
@@ -321,15 +318,11 @@ main_type k r ps e =
     ap (λ ms. of_parts k r ms ps.effect ps.constraints) (nothing_in (members_of ps.list) none)
     ∙ (ap (λ o. of_parts k r [] o ps.constraints) (left_out_is_none ps.effect effect) ∙ (ap (λ cs. of_parts k r [] None cs) (nothing_in ps.constraints constraints) ∙ int_written k r result))
 
-not_main : (c d : Bool) → not c ≡ true → c || d ≡ true → d ≡ true
-not_main true d e h = absurd (cc)
-not_main false d e h = h
-
 main_well : (k : Known) (b : Before) (tree : List Declaration) → Derives (rule_heads k b tree) tt → declares k.main tree ≡ true → slice_get (signatures k tree) (function_number k.main tree) ≡ Some (signature_of_ints [])
 main_well k b [] heads d = absurd (cc)
 main_well k b (StructType s rs ms ∷ ds) (u, hd, heads) d = main_well k (after_head b (StructType s rs ms)) ds heads d
 main_well k b (Exceptions cs ∷ ds) (u, hd, heads) d = main_well k (after_head b (Exceptions cs)) ds heads d
-main_well k b (Global w x v ∷ ds) (u, (o, formed, ((new, (main, value)), f)), heads) d = main_well k (after_head b (Global w x v)) ds heads (not_main (nat_eq x.name k.main) (declares k.main ds) main d)
+main_well k b (Global w x v ∷ ds) (u, (o, formed, ((new, (main, value)), f)), heads) d = main_well k (after_head b (Global w x v)) ds heads (or_right_without_left (nat_eq x.name k.main) (declares k.main ds) main d)
 main_well k b (Function r x ps c ∷ ds) (u, (o, resulting, (v, ((new, (main, z)), e), more)), heads) d =
     go (nat_eq x.name k.main) main d (λ i. main_well k (after_head b (Function r x ps c)) ds heads i)
   where

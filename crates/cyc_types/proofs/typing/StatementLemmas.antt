@@ -2,6 +2,8 @@
 use Rattle.std.proofs.Common.{◌≡◌, ℕ, suc, ◌+◌, ◌≤◌, Bool, true, false, not, ◌&&◌, ◌||◌, List, [], ◌∷◌, ◌++◌, Option, Some, None, length, slice_get, refl, sym, ap, subst, ◌∙◌, arith}
 use Rattle.std.specs.Prelude.{is_some, unwrap_or, option_map}
 use Rattle.std.proofs.lemmas.Bool.{and_parts, or_left, or_right, true≢false, not-true}
+use Rattle.cyc_words.proofs.Members.{Contains-head, Contains-tail}
+use Rattle.cyc_words.proofs.Items.{slice_get_front, slice_get_behind}
 use Rattle.cyc_syntax.specs.Symbols.{Place}
 use Rattle.cyc_syntax.specs.Trees.{Named, Pointer, BaseType, Struct, WrittenType, Expression, Statement, Block, Labelled, Empty, Evaluate, Swap, If, IfElse, While, Return, Break, Continue, Throw, Try, Body, Braces, Items, NoItems, MoreItems, Item, Execute, Local, Region, Alias, DynamicRegion, Clauses, NoClauses, Default, Case, place_of}
 use Rattle.cyc_syntax.specs.Trees as written
@@ -25,9 +27,8 @@ use Rattle.cyc_types.specs.typing.Expressions.{as_int, Found, type_of_side, rule
 use Rattle.cyc_types.specs.typing.Statements.{rule_condition, returned, rule_returned, swapped, exception_among, rule_thrown, thrown_demanded, is_given, thrown, caught, behind_clause, local_type, rule_initial, number_of_region, opened, with_region_of, alias_type, aliased, behind_item, rule_statement, rule_body, rule_items, rule_clauses}
 use Rattle.cyc_types.specs.typing.WellTyped.{Context, IsLive, IsVariable, IsPlace, WellTyped, IsPeek, IsConverted, IsCell, IsCondition, IsInitial, IsReturned, IsSide, IsException, IsThrown, IsCaught, IsDeclared, IsNextRegion, WellTypedStatement, WellTypedItems, WellTypedClauses}
 use Rattle.cyc_types.specs.typing.WellTyped as judgement
-use Rattle.cyc_types.proofs.ClosureLemmas.{Contains-head, Contains-tail}
 use Rattle.cyc_types.proofs.RegionLemmas.{region_eq-true}
-use Rattle.cyc_types.proofs.typing.ListLemmas.{Holds, front_of, back_of}
+use Rattle.cyc_types.proofs.typing.ListLemmas.{Holds}
 use Rattle.cyc_types.proofs.typing.TestLemmas.{kept_append, ty_eq-true}
 use Rattle.cyc_types.proofs.typing.ExpressionLemmas.{IsKeyOfVariable, in_scope, all_variables, at, IsMeant, Fits, meant, converted_well, int_well, int_served, seen_served, place_of_variable, variable_of_place, seen_well, IsFoundIn, well, found_well}
 use Rattle.cyc_types.proofs.typing.CountLemmas.{AreCounted, statement_counted, items_counted}
@@ -171,7 +172,7 @@ module _ (p : typed.Program) (h : typed.Function) where
 
   -- what is behind the locals that something declares
   behind_locals : (n m : ℕ) (ts us : List Ty) → length ts ≡ m → Holds (all_variables p h) n (ts ++ us) → Holds (all_variables p h) (n + m) us
-  behind_locals n m ts us same k i j t e at_i = k (length ts + i) j t (omega arith) (back_of ts us i (length ts + i) t refl at_i)
+  behind_locals n m ts us same k i j t e at_i = k (length ts + i) j t (omega arith) (slice_get_behind ts us i (length ts + i) t refl at_i)
 
   behind_same : (g : Scope) (s : Statement) (t : typed.Statement) → Derives (rule_statement g s) t → at p h (behind g s) ≡ judgement.behind (at p h g) t
   behind_same g s t d =
@@ -329,13 +330,13 @@ module _ (p : typed.Program) (h : typed.Function) where
     statement_well g fits (If q e s) t k l (a, d, (b, ds, (u, eq))) =
         let inside : Holds (all_variables p h) g.next_local (declared_types b ++ []) = subst (λ z. Holds (all_variables p h) g.next_local (declared_types z)) eq k in
         subst (WellTypedStatement (at p h g)) (sym eq)
-        (condition_well g fits e a d, statement_well g fits s b (λ i j x same at_i. inside i j x same (front_of (declared_types b) [] i x at_i)) l ds, tt)
+        (condition_well g fits e a d, statement_well g fits s b (λ i j x same at_i. inside i j x same (slice_get_front (declared_types b) [] i x at_i)) l ds, tt)
     statement_well g fits (IfElse q e s v) t k l (a, d, (b, ds, (c, es, (u, eq)))) =
         let inside : Holds (all_variables p h) g.next_local (declared_types b ++ declared_types c) = subst (λ z. Holds (all_variables p h) g.next_local (declared_types z)) eq k in
         let counts = statement_counted g s b ds in
         subst (WellTypedStatement (at p h g)) (sym eq) (
           condition_well g fits e a d,
-          statement_well g fits s b (λ i j x same at_i. inside i j x same (front_of (declared_types b) (declared_types c) i x at_i)) (omega arith) ds,
+          statement_well g fits s b (λ i j x same at_i. inside i j x same (slice_get_front (declared_types b) (declared_types c) i x at_i)) (omega arith) ds,
           subst (λ z. WellTypedStatement z c) (behind_same g s b ds)
               (statement_well (behind g s) (going_on g _ _ _ fits) v c (behind_locals g.next_local (locals_in s) (declared_types b) (declared_types c) counts.0 inside) (omega arith) es),
         )
@@ -350,7 +351,7 @@ module _ (p : typed.Program) (h : typed.Function) where
         let inside : Holds (all_variables p h) g.next_local (declared_types b ++ clause_types es) = subst (λ z. Holds (all_variables p h) g.next_local (declared_types z)) eq k in
         let counts = statement_counted g s b ds in
         subst (WellTypedStatement (at p h g)) (sym eq) (
-          statement_well g fits s b (λ i j x same at_i. inside i j x same (front_of (declared_types b) (clause_types es) i x at_i)) (omega arith) ds,
+          statement_well g fits s b (λ i j x same at_i. inside i j x same (slice_get_front (declared_types b) (clause_types es) i x at_i)) (omega arith) ds,
           subst (λ z. WellTypedClauses z es) (behind_same g s b ds)
               (clauses_well (behind g s) (going_on g _ _ _ fits) [] cs es (behind_locals g.next_local (locals_in s) (declared_types b) (clause_types es) counts.0 inside) (omega arith) ks),
         )
@@ -367,7 +368,7 @@ module _ (p : typed.Program) (h : typed.Function) where
         let inside : Holds (all_variables p h) g.next_local (declared_types t ++ item_types ks) = subst (λ z. Holds (all_variables p h) g.next_local (item_types z)) whole k in
         let counts = statement_counted g s t d in
         subst (WellTypedItems (at p h g)) (sym whole) (
-          statement_well g fits s t (λ i n x same at_i. inside i n x same (front_of (declared_types t) (item_types ks) i x at_i)) (omega arith) d,
+          statement_well g fits s t (λ i n x same at_i. inside i n x same (slice_get_front (declared_types t) (item_types ks) i x at_i)) (omega arith) d,
           subst (λ z. WellTypedItems z ks) (behind_same g s t d)
               (items_well (behind g s) (going_on g _ _ _ fits) is ks (behind_locals g.next_local (locals_in s) (declared_types t) (item_types ks) counts.0 inside) (omega arith) ds),
         )
@@ -450,7 +451,7 @@ module _ (p : typed.Program) (h : typed.Function) where
           subst (λ b. IsException (at p h g) n b) same there,
           tt,
           (refl, omega arith),
-          items_well (in_block g) (entering g fits) is js (λ i j z same at_i. inside i j z same (front_of (item_types js) (clause_types es) i z at_i)) (omega arith) d,
+          items_well (in_block g) (entering g fits) is js (λ i j z same at_i. inside i j z same (slice_get_front (item_types js) (clause_types es) i z at_i)) (omega arith) d,
           subst (λ z. WellTypedClauses z es) (clause_same g None is js counts)
               (clauses_well (behind_clause g 0 is) (going_on g _ _ _ fits) (x.name ∷ before) cs es
               (subst (λ m. Holds (all_variables p h) m (clause_types es)) (let e : g.next_local + item_locals is ≡ g.next_local + (0 + item_locals is) = omega arith in e)
@@ -468,7 +469,7 @@ module _ (p : typed.Program) (h : typed.Function) where
           (refl, known),
           (refl, omega arith),
           items_well (with_local Ordinary y Int (in_block g)) (declaring (in_block g) y Int (entering g fits) known tt) is js
-              (λ i j z same at_i. further i j z same (front_of (item_types js) (clause_types es) i z at_i)) (omega arith) d,
+              (λ i j z same at_i. further i j z same (slice_get_front (item_types js) (clause_types es) i z at_i)) (omega arith) d,
           subst (λ z. WellTypedClauses z es) (clause_same g (Some y) is js counts)
               (clauses_well (behind_clause g 1 is) (going_on g _ _ _ fits) (x.name ∷ before) cs es
               (subst (λ m. Holds (all_variables p h) m (clause_types es)) (let e : suc g.next_local + item_locals is ≡ g.next_local + (1 + item_locals is) = omega arith in e)

@@ -1,6 +1,7 @@
 use Rattle.std.proofs.Common.{ℕ, List, ◌∷◌, [], ◌++◌, ◌∙◌, sym, ap, arith, true, false, inl, inr}
+use Rattle.cyc_words.proofs.Lists.{push_three}
 use Rattle.cyc_isa.specs.declared.instr.JumpOp.TheVariants.{Plain}
-use Rattle.cyc_asm.proofs.Tables.{length-most_of_each, length-position_of_each, most_low, position_low, formed_here, near_here, tail_here, tail_of_branch_here, jump_here, pushed_three}
+use Rattle.cyc_asm.proofs.Tables.{length-most_of_each, length-position_of_each, most_low, position_low, formed_here, near_here, tail_here, tail_of_branch_here, jump_here}
 use Rattle.cyc_asm.proofs.emission.push_tail.Goals as goal
 
 pub bounds-most-number : goal.bounds-most-number
@@ -42,7 +43,7 @@ returns-in_ok-push-in-Branch-2 c =
     let label = formed_here c.args.lines.now c.args.number _ _ c.requires.formed c.requires.within c.in-Branch.is in
     let far = near_here c.args.lines.now c.args.most.now c.args.number c.in-Branch.label c.is_near.result false c.requires.most c.requires.within label c.is_near.ensures c.if-is_near.false in
     let round = c.encode.ensures.word ∙ c.jump-round.ensures ∙ jump_here c.args.lines.now c.args.positions.now Plain c.in-Branch.label c.requires.positions label in
-    pushed_three c.args.words.now.items _ _ _ c.args.slot _ 0 c.in_ok-push.ensures.items c.in_ok-push-in-Branch.ensures.items c.in_ok-push-in-Branch-2.ensures.items
+    push_three c.args.words.now.items _ _ _ c.args.slot _ 0 c.in_ok-push.ensures.items c.in_ok-push-in-Branch.ensures.items c.in_ok-push-in-Branch-2.ensures.items
     ∙ ap (λ (w : ℕ). c.args.words.now.items ++ c.args.slot ∷ w ∷ 0 ∷ []) round
     ∙ ap (λ (ws : List ℕ). c.args.words.now.items ++ ws) (sym (tail_of_branch_here c.args.lines.now c.args.number _ _ c.in-Branch.label false c.args.slot c.requires.within c.in-Branch.is far))
 

@@ -5,6 +5,7 @@ use Rattle.std.proofs.Common.{◌≡◌, Some, Ok, OnOk, ◌+◌, [], ◌∷◌,
 use Rattle.std.proofs.lemmas.Result.{err_from_is_err_and}
 use Rattle.std.proofs.lemmas.List.{drop_all}
 use Rattle.cyc_words.proofs.Lists.{drop_read}
+use Rattle.cyc_words.proofs.Options.{OnOk-always}
 use Rattle.cyc_syntax.specs.declared.tree.Stmt.TheVariants as stmt
 use Rattle.cyc_syntax.specs.inside.TreeView.{place_of_span, view_name, view_expression, view_statement, view_item, items_of, clauses_of, default_of}
 use Rattle.cyc_syntax.specs.Trees.{NoClauses, Default, Case, Try}
@@ -18,7 +19,7 @@ use Rattle.cyc_types.specs.typing.Statements.{new_name_demanded, rule_statement,
 use Rattle.cyc_scope.specs.inside.Code.{Gives, Stops}
 use Rattle.cyc_check.specs.inside.Walks.{behind_block, behind_labelled, behind_clauses}
 use Rattle.cyc_statements.specs.inside.Nodes.{view_boxed_statement}
-use Rattle.cyc_check.proofs.Blocks.{Walked, walk_starts, walk_goes_on, walk_stops, walk_gives, block_is_left, labelled_is_left, if_behind, on_ok}
+use Rattle.cyc_check.proofs.Blocks.{Walked, walk_starts, walk_goes_on, walk_stops, walk_gives, block_is_left, labelled_is_left, if_behind}
 use Rattle.cyc_check.proofs.Clauses.{CaughtSoFar, catch_goes_on, catch_stops, default_gives, default_stops, try_behind, default_behind, clause_is_left, clause_in_order}
 use Rattle.cyc_check.proofs.Catches.{try_gives, try_stops, clauses_stop_before}
 use Rattle.cyc_check.proofs.statements.+statement.Goals as goal
@@ -78,12 +79,12 @@ check_statement-returns-in-Labelled-clause-behind t c =
 
 pub check_block-returns-clause-behind : goal.check_block-returns-clause-behind
 check_block-returns-clause-behind t c =
-    on_ok c.block_of.result _
+    OnOk-always c.block_of.result _
     (c.leave.ensures ∙ block_is_left c.args.scope.now c.enter_block.new.self c.check_items.new.scope c.mark-mark.result (items_of c.args.items.now) c.mark-mark.ensures.mark c.in_ok-enter_block.ensures.entered c.in_ok-items.ensures.inside)
 
 pub check_labelled-returns-clause-behind : goal.check_labelled-returns-clause-behind
 check_labelled-returns-clause-behind t c =
-    on_ok c.block_of.result _
+    OnOk-always c.block_of.result _
     (c.leave.ensures
     ∙ labelled_is_left c.args.scope.now c.enter_labelled.new.self c.check_items.new.scope c.mark-mark.result (view_name c.args.label) (items_of c.args.items.now) c.mark-mark.ensures.mark c.in_ok-enter_labelled.ensures.entered c.in_ok-items.ensures.inside)
 
@@ -183,7 +184,7 @@ check_statement-returns-in-None-clause-behind t c =
     let same = c.in_ok-body-in-Try.ensures.behind ∙ ap (λ x. behind g (view_statement x)) c.deref-in-Try.ensures in
     let viewed = ap view_statement c.in-Try.is ∙ view_try c.in-Try.span c.in-Try.body c.in-Try.clauses c.in-Try.default ∙ ap (λ o. Try p t' (clauses_of cs (default_of o))) c.in-None.is in
     let ends = c.in_ok-clauses-in-Try.ensures.behind ∙ ap (λ xs. behind_clauses h (clauses_of xs NoClauses)) c.deref-in-Try-2.ensures.value in
-    on_ok c.try_of.result _ (ends ∙ ap (λ x. behind_clauses x (clauses_of cs NoClauses)) same ∙ try_behind g p t' (clauses_of cs NoClauses) ∙ ap (behind g) (sym viewed))
+    OnOk-always c.try_of.result _ (ends ∙ ap (λ x. behind_clauses x (clauses_of cs NoClauses)) same ∙ try_behind g p t' (clauses_of cs NoClauses) ∙ ap (behind g) (sym viewed))
 
 pub check_statement-returns-in_err-default-in-Some-clause-gives : goal.check_statement-returns-in_err-default-in-Some-clause-gives
 check_statement-returns-in_err-default-in-Some-clause-gives t c =
@@ -242,7 +243,7 @@ check_statement-returns-in_ok-default-in-Some-clause-behind t c =
     let same = c.in_ok-body-in-Try.ensures.behind ∙ ap (λ x. behind g (view_statement x)) c.deref-in-Try.ensures in
     let viewed = ap view_statement c.in-Try.is ∙ view_try c.in-Try.span c.in-Try.body c.in-Try.clauses c.in-Try.default ∙ ap (λ o. Try p t' (clauses_of cs (default_of o))) c.in-Some.is in
     let ends = c.in_ok-clauses-in-Try.ensures.behind ∙ ap (λ xs. behind_clauses h (clauses_of xs NoClauses)) c.deref-in-Try-2.ensures.value in
-    on_ok c.try_of-in-Some.result _
+    OnOk-always c.try_of-in-Some.result _
     (c.in_ok-default-in-Some.ensures.behind ∙ ap (λ is. behind_block c.check_clauses.new.scope (items_of is)) c.deref-in-Some.ensures.value ∙ ap (λ k. behind_block k (items_of c.in-Some.items.items)) ends
     ∙ default_behind h cs (items_of c.in-Some.items.items) ∙ ap (λ x. behind_clauses x (clauses_of cs (Default (items_of c.in-Some.items.items)))) same
     ∙ try_behind g p t' (clauses_of cs (Default (items_of c.in-Some.items.items))) ∙ ap (behind g) (sym viewed))
@@ -256,7 +257,7 @@ check_statement-returns-in_ok-otherwise-in-If-default-default-default-Some-claus
     ap view_statement c.in-If-default-default-default-Some.is ∙ ap (λ o. view_statement (stmt.If c.in-If-default-default-default-Some.span c.in-If-default-default-default-Some.condition c.in-If-default-default-default-Some.then o)) held
     ∙ sym (ap (λ (s : trees.Statement). trees.IfElse (place_of_span c.in-If-default-default-default-Some.span) (view_expression c.in-If-default-default-default-Some.condition) s (view_statement c.deref-in-If-default-default-default-Some-2.result.now)) (ap view_statement c.deref-in-If-default-default-default-Some.ensures)
     ∙ ap (λ (s : trees.Statement). trees.IfElse (place_of_span c.in-If-default-default-default-Some.span) (view_expression c.in-If-default-default-default-Some.condition) (view_statement c.in-If-default-default-default-Some.then.value) s) (ap view_statement other)) in
-    on_ok c.choice-in-If-default-default-default-Some.result _
+    OnOk-always c.choice-in-If-default-default-default-Some.result _
     (c.in_ok-otherwise-in-If-default-default-default-Some.ensures.behind ∙ ap (λ x. behind x (view_statement c.deref-in-If-default-default-default-Some-2.result.now)) c.in_ok-then-in-If-default-default-default-Some.ensures.behind
     ∙ ap (λ x. behind (behind x (view_statement c.deref-in-If-default-default-default-Some.result.now)) (view_statement c.deref-in-If-default-default-default-Some-2.result.now)) c.in_ok-condition-in-If-default-default-default-Some.ensures.same
     ∙ if_behind c.args.scope.now (place_of_span c.in-If-default-default-default-Some.span) (view_expression c.in-If-default-default-default-Some.condition) (view_statement c.deref-in-If-default-default-default-Some.result.now) (view_statement c.deref-in-If-default-default-default-Some-2.result.now) ∙ ap (behind c.args.scope.now) (sym is))

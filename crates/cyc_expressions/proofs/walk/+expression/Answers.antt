@@ -5,14 +5,13 @@ use Rattle.cyc_syntax.specs.Trees.{Call, Fields, place_of}
 use Rattle.cyc_syntax.specs.inside.TreeView.{place_of_span, view_name, view_initial, view_expression, expressions_of, postfixes_of, operations_of}
 use Rattle.cyc_syntax.proofs.TreeViewLemmas.{view_call, view_chained, view_binary, view_fields}
 use Rattle.cyc_words.specs.declared.fault.Code.TheVariants as codes
-use Rattle.cyc_words.proofs.Lists.{drop_read}
+use Rattle.cyc_words.proofs.Lists.{drop_read, drop_first}
 use Rattle.cyc_types.specs.Rules.{fault_at, and_then, settled, gives, run}
 use Rattle.cyc_types.specs.typing.Tests.{value_of}
 use Rattle.cyc_types.specs.typing.Expressions.{value_wanted, is_looking_first, loaded, reached, on_heap, created, rule, rule_place, rule_postfixed, rule_made, rule_placement}
 use Rattle.cyc_scope.specs.inside.Code.{Gives, Stops}
 use Rattle.cyc_forms.specs.inside.Forms.{GivesOne, IsReached, IsPlaced, IsMade, view_given, view_boxed, view_found, value_in}
 use Rattle.cyc_expressions.specs.inside.Walks.{one_postfix, left_of, peeked_behind}
-use Rattle.cyc_expressions.proofs.Loops.{next_element}
 use Rattle.cyc_expressions.proofs.Chains.{looked_named, looked_unnamed, values_go_on, chain_goes_on, chain_ends, chain_whole, one_of}
 use Rattle.cyc_expressions.proofs.Arms.{behind_gives, behind_stops, behind_nothing, chain_gives, chain_fails, operation_at, region_new_gives, further_starts, further_goes_on, load_stops}
 use Rattle.cyc_expressions.proofs.walk.+expression.Goals as goal
@@ -129,7 +128,7 @@ pub check_postfixes-returns-in_err-value-clause-gives : goal.check_postfixes-ret
 check_postfixes-returns-in_err-value-clause-gives t c =
     let e = c.in_err-value.field-0.0 in
     let p = err_from_is_err_and (c.from_residual-in_err-value).result (c.from_residual-in_err-value).ensures.1 in
-    let next = next_element c.args.postfixes.now c.loop-i.i c.loop-i-test.true in
+    let next = drop_first c.args.postfixes.now c.loop-i.i c.loop-i-test.true in
     rw (p.1, p.2)
     (load_stops e c.args.scope.now (place_of_span c.args.span) c.loop-i.invariant.reached (drop c.loop-i.i c.args.postfixes.now) (drop (c.loop-i.i + 1) c.args.postfixes.now) next.0 _ next.1 (c.in_err-value.ensures c.loop-i.invariant.reached c.loop-i.invariant.is) c.loop-i.invariant.gives)
 

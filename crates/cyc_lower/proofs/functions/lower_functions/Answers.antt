@@ -1,14 +1,15 @@
 use Rattle.std.specs.Prelude.{map}
+use Rattle.cyc_words.proofs.Items.{slice_get-map_read}
 use Rattle.cyc_types.specs.TypedTreeView.{view_struct, view_function}
 use Rattle.cyc_plain.specs.inside.Program.{routine_of}
 use Rattle.cyc_lower.specs.inside.Lowering.{lower_function}
-use Rattle.cyc_lower.proofs.sizes.Routines.{numbered_at, one_more_mapped}
+use Rattle.cyc_lower.proofs.sizes.Routines.{one_more_mapped}
 use Rattle.cyc_lower.proofs.functions.lower_functions.Goals as goal
 
 pub lower_function-requires : goal.lower_function-requires
 lower_function-requires c =
     let x = c.function-item.result in
-    c.requires c.loop-function.function-index (view_function x) (numbered_at view_function c.args.functions.now c.loop-function.function-index x c.loop-function-test.true c.function-item.is)
+    c.requires c.loop-function.function-index (view_function x) (slice_get-map_read view_function c.args.functions.now c.loop-function.function-index x c.loop-function-test.true c.function-item.is)
 
 pub loop-function-preserved : goal.loop-function-preserved
 loop-function-preserved c =

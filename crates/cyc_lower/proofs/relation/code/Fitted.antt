@@ -36,9 +36,10 @@ use Rattle.cyc_lower.specs.inside.Lowering.{types_of, results_of, scopes_of, is_
 use Rattle.cyc_lower.proofs.slots.Widths.{kind_of_result, result_kind, called_kind, given, type_words, HasRoom, HasGlobal, chain_kind, HasLocal, passed_is}
 use Rattle.cyc_lower.proofs.slots.Slots.{words-there, words_positive, kind-there}
 use Rattle.cyc_plain.specs.declared.limits.TheConstants.{RECORD_WORDS}
-use Rattle.cyc_plain.proofs.Placed.{below_of_get}
 use Rattle.std.specs.List.{list_any}
 use Rattle.std.proofs.lemmas.List.Folds.{list_any-append}
+use Rattle.std.proofs.lemmas.Bool.{or_right}
+use Rattle.cyc_words.proofs.Items.{below_from_slice_get}
 use Rattle.cyc_lower.proofs.relation.code.Fitting.{FitsAddress, Fits, FitsCell, FitsObject, FitsConverted, FitArguments, FitOperations, IsCounting, FitsSide, FitsReturn, FitsInitial, FitsThrown, FitsCaught, FitsStatement, FitItems, FitClauses, AreFitting, IsFitting}
 
 -- ---- types and kinds
@@ -406,7 +407,7 @@ module _ (b : Numbering) where
           same,
           (
             thin_by_mark k m kind mark,
-            (st, ap (λ (ss : List StructType). slice_get ss s) (sym suits.structs) ∙ there, below_of_get st.fields f w field),
+            (st, ap (λ (ss : List StructType). slice_get ss s) (sym suits.structs) ∙ there, below_from_slice_get st.fields f w field),
             (looked_fits b types a c pointer suits met (λ h. fits types a c pointer suits met h) well).1,
           ),
         )
@@ -571,15 +572,11 @@ module _ (b : Numbering) (types : Types) where
 
 -- ---- programs
 
-right_true : (x y : Bool) → y ≡ true → (x || y) ≡ true
-right_true true y is = refl
-right_true false y is = is
-
 -- a function with a local that is a handle may open regions
 handle_among : (ts : List Ty) (n : ℕ) (r : Region) → slice_get ts n ≡ Some (type_forms.Handle r) → list_any is_handle ts ≡ true
 handle_among [] n r there = absurd (none-some (type_forms.Handle r) there)
 handle_among (t ∷ ts) zero r there = ap (λ (u : Ty). is_handle u || list_any is_handle ts) (same_Some t (type_forms.Handle r) there)
-handle_among (t ∷ ts) (suc n) r there = right_true (is_handle t) (list_any is_handle ts) (handle_among ts n r there)
+handle_among (t ∷ ts) (suc n) r there = or_right (is_handle t) (list_any is_handle ts) (handle_among ts n r there)
 
 may_count : (may : Bool) → may ≡ true → IsCounting (scopes_if may)
 may_count true is = (RECORD_WORDS, refl)
@@ -592,7 +589,7 @@ functions_fit p [] among met well = tt
 functions_fit p (h ∷ hs) among (one, all) (well, rest) = (
   body_fits (numbering_of (length p.globals) (signatures_of p.functions) h) (types_of p.structs (global_types p.globals) (scopes_of p) h) h.body (body_context p h) refl refl refl refl refl refl (length-append h.parameters h.locals)
       (λ n r there. may_count (list_any may_open p.functions) (among (ap (λ (x : Bool). x || list_any may_open hs) (opens n r there)))) one well.body,
-  functions_fit p hs (λ later. among (right_true (may_open h) (list_any may_open hs) later)) all rest,
+  functions_fit p hs (λ later. among (or_right (may_open h) (list_any may_open hs) later)) all rest,
 )
   where
     opens : (n : ℕ) (r : Region) → slice_get (h.parameters ++ h.locals) n ≡ Some (type_forms.Handle r) → may_open h ≡ true

@@ -1,23 +1,14 @@
 -- The counters of arrays that are being filled: each stands in the slot of the index of its array's pointer.
-use Rattle.std.proofs.Common.{◌≡◌, ◌≢◌, ◌⊎◌, ℕ, zero, suc, ◌+◌, ◌≤◌, Bool, List, [], ◌∷◌, ◌++◌, length, Option, Some, slice_get, refl, sym, ap, ◌∙◌, arith, inl, inr, length-append}
+use Rattle.std.proofs.Common.{◌≡◌, ◌≢◌, ℕ, ◌+◌, ◌≤◌, Bool, List, [], ◌∷◌, length, Option, Some, slice_get, refl, ap, ◌∙◌, arith, inl, inr, length-append}
 use Rattle.std.specs.Prelude.{◌==◌, if◌then◌else◌}
 use Rattle.std.proofs.lemmas.Bool.{eqb-true, false_from_ne_true}
-use Rattle.std.proofs.lemmas.Option.{same_Some, none-some}
+use Rattle.std.proofs.lemmas.Option.{none-some}
+use Rattle.cyc_words.proofs.Items.{slice_get_last_cases}
 use Rattle.cyc_plain.specs.inside.State.{Words}
 use Rattle.cyc_meaning.specs.State.{FreeObject, CloseByKey, PlaceBy, BesideHandle, CountElements, Index, Advance, LoadFrom, TakeAddress, StoreTo, Awaiting, ConvertTo, Operate, Chain, Apply, ApplyPointer, Follow, FollowMember, Decide, Store, StoreCell, Pass, MakePlain, MakeFields, MakeArray, FillElement, Entry, Needs, NeedsPlace, Caller}
 use Rattle.cyc_objects.specs.inside.Tables.{Tables}
 use Rattle.cyc_lower.proofs.relation.contents.HeldValues.{height, Holds, held, counters_of, arrays_in, AreCounted}
 use Rattle.cyc_lower.proofs.relation.contents.Data.{Holds-rest, height-append}
-
--- what is found in a list with one more
-pub found_last : (xs : List ℕ) (y n z : ℕ) → slice_get (xs ++ y ∷ []) n ≡ Some z → (slice_get xs n ≡ Some z) ⊎ ((n ≡ length xs) × (z ≡ y))
-found_last [] y zero z found = inr (refl, sym (same_Some y z found))
-found_last [] y (suc n) z found = absurd (none-some z found)
-found_last (x ∷ xs) y zero z found = inl found
-found_last (x ∷ xs) y (suc n) z found = elim (found_last xs y n z found) [
-  | inl before ↦ inl before
-  | inr (last, is) ↦ inr (ap suc last, is)
-]
 
 -- there are as many wherever the locals end
 pub counters-many : (base : ℕ) (k : List Entry) → length (counters_of base k) ≡ length (counters_of 0 k)
@@ -68,7 +59,7 @@ counters_low base (Needs (BesideHandle region) ∷ k) level slot found = omega (
 counters_low base (Needs (MakePlain owner kind) ∷ k) level slot found = counters_low base k level slot found
 counters_low base (Needs (MakeFields owner before cs) ∷ k) level slot found = omega (arith, height-append base before (held k), counters_low base k level slot found)
 counters_low base (Needs (MakeArray owner inner kind a) ∷ k) level slot found = counters_low base k level slot found
-counters_low base (Needs (FillElement object count index inner kind a) ∷ k) level slot found = elim (found_last (counters_of base k) (height base (held k) + 2) level slot found) [
+counters_low base (Needs (FillElement object count index inner kind a) ∷ k) level slot found = elim (slice_get_last_cases (counters_of base k) (height base (held k) + 2) level slot found) [
   | inl before ↦ omega (arith, counters_low base k level slot before)
   | inr (level_is, slot_is) ↦ omega (arith, slot_is)
 ]
@@ -106,7 +97,7 @@ counters_hold t counters slots base (Needs (MakePlain owner kind) ∷ k) count h
 counters_hold t counters slots base (Needs (MakeFields owner before cs) ∷ k) count holds level slot found = counters_hold t counters slots base k count (Holds-rest t slots base before (held k) holds) level slot found
 counters_hold t counters slots base (Needs (MakeArray owner inner kind a) ∷ k) count holds level slot found = counters_hold t counters slots base k count holds level slot found
 counters_hold t counters slots base (Needs (FillElement object count index inner kind a) ∷ k) ((nested, last, now), more) ((part, length_is, index_is), holds) level slot found =
-    elim (found_last (counters_of base k) (height base (held k) + 2) level slot found) [
+    elim (slice_get_last_cases (counters_of base k) (height base (held k) + 2) level slot found) [
       | inl before ↦ counters_hold t counters slots base k more holds level slot before
       | inr (level_is, slot_is) ↦ (index, ap counters (omega (arith, level_is, last, counters-many base k)) ∙ now, ap slots slot_is ∙ index_is)
     ]

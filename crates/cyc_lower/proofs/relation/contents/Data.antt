@@ -1,5 +1,5 @@
 -- What stays of the data in slots, variables and globals while a step changes some of it.
-use Rattle.std.proofs.Common.{◌≡◌, ◌≢◌, ℕ, zero, suc, ◌+◌, ◌≤◌, ◌<◌, Bool, List, [], ◌∷◌, ◌++◌, length, reverse, set, Option, None, Some, slice_get, refl, sym, ap, subst, ◌∙◌, arith, inl, inr, length-append}
+use Rattle.std.proofs.Common.{◌≡◌, ◌≢◌, ℕ, ◌+◌, ◌≤◌, ◌<◌, Bool, List, [], ◌∷◌, ◌++◌, length, reverse, Option, None, Some, refl, sym, ap, subst, ◌∙◌, arith, inl, inr, length-append}
 use Rattle.std.specs.Prelude.{◌==◌, if◌then◌else◌}
 use Rattle.std.proofs.lemmas.Bool.{cases_eq, eq-eqb, eqb-true, false_from_ne_true}
 use Rattle.std.proofs.lemmas.List.{reverse-append}
@@ -50,18 +50,6 @@ words-reverse (v ∷ vs) = omega (arith, ap words_held (reverse-append (v ∷ []
 
 -- ---- objects
 
-pub get_set_same : {X : Type 0} (xs : List X) (k : ℕ) (x y : X) → slice_get xs k ≡ Some x → slice_get (set xs k y) k ≡ Some y
-get_set_same [] k x y at = absurd (none-some x at)
-get_set_same (z ∷ xs) zero x y at = refl
-get_set_same (z ∷ xs) (suc k) x y at = get_set_same xs k x y at
-
-pub get_set_other : {X : Type 0} (xs : List X) (k other : ℕ) (y : X) → other ≢ k → slice_get (set xs k y) other ≡ slice_get xs other
-get_set_other [] k other y apart = refl
-get_set_other (z ∷ xs) zero zero y apart = absurd (apart refl)
-get_set_other (z ∷ xs) zero (suc other) y apart = refl
-get_set_other (z ∷ xs) (suc k) zero y apart = refl
-get_set_other (z ∷ xs) (suc k) (suc other) y apart = get_set_other xs k other y (λ same. apart (ap suc same))
-
 pub contents_made : (objects : List Object) (x : Object) (o : ℕ) → o < length objects → contents (objects ++ x ∷ []) o ≡ contents objects o
 contents_made objects x o below = ap content_of (slice_get_before objects x o below)
 
@@ -89,8 +77,6 @@ newest_there given number new = ap (λ (b : Bool). if b then Some new else given
 other_local : (locals : ℕ → Option ℕ) (number other object : ℕ) → other ≢ number → (if other == number then Some object else locals other) ≡ locals other
 other_local locals number other object apart =
     ap (λ (b : Bool). if b then Some object else locals other) (false_from_ne_true (other == number) (λ h. apart (eqb-true other number h)))
-
--- ---- the calls that wait, and the globals
 
 -- ---- what is said of values
 

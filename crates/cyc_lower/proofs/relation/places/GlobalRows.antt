@@ -3,15 +3,16 @@ use Rattle.std.proofs.Common.{◌≡◌, ℕ, zero, suc, ◌+◌, ◌*◌, ◌<�
 use Rattle.std.specs.Prelude.{slice_get, unwrap_or}
 use Rattle.std.proofs.lemmas.List.{length-map}
 use Rattle.std.proofs.lemmas.Option.{none-some}
+use Rattle.cyc_words.proofs.Options.{same_from_some}
+use Rattle.cyc_words.proofs.Lists.{slice_get_below}
+use Rattle.cyc_words.proofs.Items.{below_from_slice_get}
 use Rattle.cyc_types.specs.Types.{words_of}
 use Rattle.cyc_types.specs.TypedTrees.{GlobalVariable, Program}
-use Rattle.cyc_store.proofs.LookupLemmas.{same_some}
 use Rattle.cyc_plain.specs.declared.limits.TheConstants.{GLOBALS_BASE, MOST_GLOBALS}
 use Rattle.cyc_meaning.specs.Values.{kind_of, words_of_kind}
 use Rattle.cyc_meaning.specs.FrameCount.{words_of_all}
 use Rattle.cyc_objects.specs.inside.Tables.{Row, Placed, first_tables}
 use Rattle.cyc_objects.specs.inside.Related.{AreGlobals}
-use Rattle.cyc_objects.proofs.NumberLemmas.{slice_get-there, slice_get-below}
 use Rattle.cyc_lower.specs.inside.Slots.{Types, starts_from, global_types}
 use Rattle.cyc_lower.proofs.slots.Widths.{type_words, words_in, kind_in}
 use Rattle.cyc_objects.proofs.Places.{begins-first}
@@ -32,17 +33,17 @@ rows_many first (g ∷ globals) = ap suc (rows_many (first + words_of g.of_type)
 row_there : (first : ℕ) (globals : List GlobalVariable) (number : ℕ) (g : GlobalVariable) → slice_get globals number ≡ Some g
     → slice_get (rows_from first globals) number ≡ Some (Placed (GLOBALS_BASE + 4 * unwrap_or (slice_get (starts_from first (global_types globals)) number) 0 + variable_bytes (kind_of g.of_type)) (kind_of g.of_type ∷ []))
 row_there first [] number g there = absurd (none-some g there)
-row_there first (h ∷ globals) zero g there = ap (λ (x : GlobalVariable). Some (Placed (GLOBALS_BASE + 4 * first + variable_bytes (kind_of x.of_type)) (kind_of x.of_type ∷ []))) (same_some there)
+row_there first (h ∷ globals) zero g there = ap (λ (x : GlobalVariable). Some (Placed (GLOBALS_BASE + 4 * first + variable_bytes (kind_of x.of_type)) (kind_of x.of_type ∷ []))) (same_from_some there)
 row_there first (h ∷ globals) (suc number) g there = row_there (first + words_of h.of_type) globals number g there
 
 words_there : (globals : List GlobalVariable) (number : ℕ) (g : GlobalVariable) → slice_get globals number ≡ Some g → words_in (global_types globals) number ≡ words_of g.of_type
 words_there [] number g there = absurd (none-some g there)
-words_there (h ∷ globals) zero g there = ap (λ (x : GlobalVariable). words_of x.of_type) (same_some there)
+words_there (h ∷ globals) zero g there = ap (λ (x : GlobalVariable). words_of x.of_type) (same_from_some there)
 words_there (h ∷ globals) (suc number) g there = words_there globals number g there
 
 kind_of_global : (globals : List GlobalVariable) (number : ℕ) (g : GlobalVariable) → slice_get globals number ≡ Some g → kind_in (global_types globals) number ≡ kind_of g.of_type
 kind_of_global [] number g there = absurd (none-some g there)
-kind_of_global (h ∷ globals) zero g there = ap (λ (x : GlobalVariable). kind_of x.of_type) (same_some there)
+kind_of_global (h ∷ globals) zero g there = ap (λ (x : GlobalVariable). kind_of x.of_type) (same_from_some there)
 kind_of_global (h ∷ globals) (suc number) g there = kind_of_global globals number g there
 
 module _ (source : Program) (few : words_of_all (global_types source.globals) ≤ MOST_GLOBALS) where
@@ -57,7 +58,7 @@ module _ (source : Program) (few : words_of_all (global_types source.globals) �
       → GLOBALS_BASE + 4 * (first_word (global_types source.globals) number + words_of_kind (kind_of g.of_type)) ≤ 536870912
   before_store number g there =
       let types : Types = record { locals = []; structs = []; raises = 0; counters = []; globals = global_types source.globals; scopes = None } in
-      omega (arith, few, global-room types number (omega (arith, types_many, slice_get-below source.globals number g there)), words_there source.globals number g there, type_words g.of_type)
+      omega (arith, few, global-room types number (omega (arith, types_many, below_from_slice_get source.globals number g there)), words_there source.globals number g there, type_words g.of_type)
 
   pub are_globals : AreGlobals source global_rows
   are_globals = record {
@@ -72,7 +73,7 @@ module _ (source : Program) (few : words_of_all (global_types source.globals) �
 
   pub start-rows : (number : ℕ) → number < length (global_types source.globals) → IsGlobalRow (first_tables global_rows) (global_types source.globals) number
   start-rows number below =
-      let (g, there) = slice_get-there source.globals number (omega (arith, below, types_many)) in
+      let (g, there) = slice_get_below source.globals number (omega (arith, below, types_many)) in
       record {
         kind = kind_of g.of_type;
         row = row_there 0 source.globals number g there;

@@ -5,7 +5,6 @@ use Rattle.std.specs.Prelude.{◌⊎◌, slice_get, unwrap_or, ◌%◌, ◌^◌}
 use Rattle.cyc_types.specs.declared.typed.Kind.{Kind}
 use Rattle.cyc_types.specs.Types.{Ty}
 use Rattle.cyc_store.specs.State.{StoreState, homes, room}
-use Rattle.cyc_store.proofs.LookupLemmas.{same_some}
 use Rattle.cyc_store.specs.declared.range.TheConstants.{STORE_BASE}
 use Rattle.cyc_plain.specs.declared.limits.TheConstants.{GLOBALS_BASE}
 use Rattle.cyc_meaning.specs.Values.{words_of_kind, bytes_of_kind, begins, block_size}
@@ -13,7 +12,6 @@ use Rattle.cyc_meaning.specs.State.{Object, World}
 use Rattle.cyc_objects.specs.inside.Tables.{Variable, Placed, Tables, Grows}
 use Rattle.cyc_objects.specs.inside.Words.{bytes_of_kinds, before, Points}
 use Rattle.cyc_objects.specs.inside.Related.{Alive, Stands, Related}
-use Rattle.cyc_objects.proofs.NumberLemmas.{slice_get-below}
 use Rattle.cyc_objects.proofs.Places.{bytes-some, begins-first, before-first}
 use Rattle.cyc_objects.proofs.Pointers.{same-row}
 use Rattle.cyc_objects.proofs.Cells.{variable-alone}
@@ -22,6 +20,8 @@ use Rattle.cyc_lower.specs.inside.Slots.{starts_from}
 use Rattle.cyc_lower.proofs.slots.Widths.{words_in, kind_in}
 use Rattle.cyc_lower.proofs.slots.CellBytes.{kind_bytes}
 use Rattle.cyc_words.specs.Word.{add_of, mul_of}
+use Rattle.cyc_words.proofs.Options.{same_from_some}
+use Rattle.cyc_words.proofs.Items.{below_from_slice_get}
 use Rattle.cyc_lower.specs.inside.ValueCode.{address_of_global, variable_bytes}
 
 -- the first word of a global, of which all have these types
@@ -53,9 +53,9 @@ IsVariableRow t globals number = (slice_get t.rows number ≡ Some Variable) ⊎
 module _ {t : Tables} {w : World} {s : StoreState} (related : Related t w s) (globals : List Ty) where
   -- what has one was made
   pub row-made_there : (number : ℕ) → IsVariableRow t globals number → number < length w.objects
-  row-made_there number (inl row) = subst (λ n. number < n) related.rows (slice_get-below t.rows number Variable row)
-  row-made_there number (inr (inr r)) = subst (λ n. number < n) related.rows (slice_get-below t.rows number (Placed r.address (r.kind ∷ [])) r.row)
-  row-made_there number (inr (inl r)) = subst (λ n. number < n) related.rows (slice_get-below t.rows number (Placed (GLOBALS_BASE + 4 * first_word globals number + variable_bytes r.kind) (r.kind ∷ [])) r.row)
+  row-made_there number (inl row) = subst (λ n. number < n) related.rows (below_from_slice_get t.rows number Variable row)
+  row-made_there number (inr (inr r)) = subst (λ n. number < n) related.rows (below_from_slice_get t.rows number (Placed r.address (r.kind ∷ [])) r.row)
+  row-made_there number (inr (inl r)) = subst (λ n. number < n) related.rows (below_from_slice_get t.rows number (Placed (GLOBALS_BASE + 4 * first_word globals number + variable_bytes r.kind) (r.kind ∷ [])) r.row)
 
   -- and is none of the store's objects
   pub row-away : (number h : ℕ) (x : Object) → IsVariableRow t globals number → Alive t w number h x → ⊥
@@ -112,4 +112,4 @@ pub global_kind : {t : Tables} {globals : List Ty} {number offset word : ℕ} (r
 global_kind {t} {globals} {number} {offset} {word} r points {kind} there =
     let (address, kinds) = same-row points.row r.row in
     let start = (global-first globals number offset word r points).0 in
-    same_some (sym (ap (slice_get (r.kind ∷ [])) start) ∙ (sym (ap (λ ks. slice_get ks offset) kinds) ∙ there))
+    same_from_some (sym (ap (slice_get (r.kind ∷ [])) start) ∙ (sym (ap (λ ks. slice_get ks offset) kinds) ∙ there))

@@ -2,6 +2,8 @@
 use Rattle.std.proofs.Common.{◌≡◌, ℕ, ◌+◌, ◌*◌, ◌<◌, ◌≤◌, Bool, true, false, List, [], ◌∷◌, length, Option, Some, refl, sym, ap, subst, ◌∙◌, inl, inr, arith}
 use Rattle.std.specs.Prelude.{◌&&◌, nat_le, slice_get}
 use Rattle.std.proofs.lemmas.Bool.{cond-true, cond-false, and_parts, and_from, leb-true, le-leb}
+use Rattle.cyc_words.proofs.Options.{same_from_some}
+use Rattle.cyc_words.proofs.Items.{slice_get-map}
 use Rattle.cyc_types.specs.declared.typed.Kind.{Kind}
 use Rattle.cyc_types.specs.Types.{Ty}
 use Rattle.cyc_plain.specs.inside.Memory.{slots_base, slots_end, is_pinned}
@@ -22,8 +24,6 @@ use Rattle.cyc_types.specs.declared.typed.Kind.TheVariants as kinds
 use Rattle.cyc_objects.proofs.Chars.{char-small}
 use Rattle.cyc_plain.specs.inside.State.{Words}
 use Rattle.cyc_store.specs.State.{StoreState}
-use Rattle.cyc_store.proofs.LookupLemmas.{same_some}
-use Rattle.cyc_objects.proofs.NumberLemmas.{slice_get-map}
 
 -- whether it stands there
 abbrev pub stands_in : CallSlots → (slot : ℕ) → Bool
@@ -58,7 +58,7 @@ pub char_row : (t : Tables) (s : CallSlots) (slot : ℕ) (kind : Kind) (object :
 char_row t s slot kind object there (address, is) = go (stands_in s slot) refl
   where
     same : row_of s slot kind ≡ Placed address (kinds.Char ∷ [])
-    same = same_some (sym there ∙ is)
+    same = same_from_some (sym there ∙ is)
 
     go : (b : Bool) → stands_in s slot ≡ b → kind ≡ kinds.Char
     go true stands = let e : Placed (s.base + 4 * slot + variable_bytes kind) (kind ∷ []) ≡ Placed address (kinds.Char ∷ []) = sym (row-stands s slot kind stands) ∙ same in cc
@@ -75,7 +75,7 @@ pub char_cell : {t : Tables} {w : World} {s : StoreState} (related : Related t w
     → IsCharAt t object → c.kind ≡ kinds.Char
 char_cell related object x c there cell (address, row) =
     let kinds : kinds.Char ∷ [] ≡ kinds_of x.cells = related.shapes object address (kinds.Char ∷ []) x there row in
-    same_some (sym (slice_get-map (λ (z : Cell). z.kind) x.cells 0 c cell) ∙ ap (λ (ks : List Kind). slice_get ks 0) (sym kinds))
+    same_from_some (sym (slice_get-map (λ (z : Cell). z.kind) x.cells 0 c cell) ∙ ap (λ (ks : List Kind). slice_get ks 0) (sym kinds))
 
 -- it is the row of a variable
 pub local-row : {t : Tables} {types : Types} {s : CallSlots} {number object : ℕ} (globals : List Ty) → IsLocalRow t types s number object → IsVariableRow t globals object

@@ -3,6 +3,7 @@ use Rattle.std.proofs.Common.{◌≡◌, ◌≢◌, ℕ, Bool, true, false, List
 use Rattle.std.specs.Prelude.{if◌then◌else◌, ◌==◌, ◌&&◌}
 use Rattle.std.proofs.lemmas.Bool.{eqb-true}
 use Rattle.cyc_words.specs.Simulation.{Failed}
+use Rattle.cyc_words.proofs.Items.{slice_get-set_same, slice_get-set_other}
 use Rattle.cyc_types.specs.declared.typed.Kind.{Kind}
 use Rattle.cyc_meaning.specs.Values.{Value, Thin, Operand, Cell, kinds_of, is_kind, are_kinds}
 use Rattle.cyc_meaning.specs.Pointers.{At, Nowhere}
@@ -13,7 +14,6 @@ use Rattle.cyc_meaning.specs.SourceMachine.{status_in}
 use Rattle.cyc_meaning.proofs.NestingLemmas.{region_is}
 use Rattle.cyc_lower.proofs.slots.Widths.{same_kind, same_kinds}
 use Rattle.cyc_lower.proofs.relation.contents.HeldValues.{with_kind, content_of_cell, content_of, contents}
-use Rattle.cyc_lower.proofs.relation.contents.Data.{get_set_same, get_set_other}
 
 abbrev pub IsWell : State → Type 0
 IsWell s = status_in (status_of s) ≡ Failed → ⊥
@@ -104,12 +104,12 @@ is_stored number v focus stack e w well =
 module _ (w : World) (number : ℕ) (at : Located) (v : Value) (object_there : slice_get w.objects number ≡ Some at.object) (cell_there : slice_get at.object.cells 0 ≡ Some at.cell) where
   pub written_here : (kind : Kind) → at.cell.kind ≡ kind → contents (written w number 0 at v).objects number ≡ Some (record { kind = kind; value = v })
   written_here kind same =
-      ap content_of (get_set_same w.objects number at.object (record at.object { cells = set at.object.cells 0 (record at.cell { content = Some v }) }) object_there)
-      ∙ ap content_of_cell (get_set_same at.object.cells 0 at.cell (record at.cell { content = Some v }) cell_there)
+      ap content_of (slice_get-set_same w.objects number at.object (record at.object { cells = set at.object.cells 0 (record at.cell { content = Some v }) }) object_there)
+      ∙ ap content_of_cell (slice_get-set_same at.object.cells 0 at.cell (record at.cell { content = Some v }) cell_there)
       ∙ ap (λ (i : Kind). with_kind i (Some v)) same
 
   pub written_elsewhere : (o : ℕ) → o ≢ number → contents (written w number 0 at v).objects o ≡ contents w.objects o
-  written_elsewhere o other = ap content_of (get_set_other w.objects number o (record at.object { cells = set at.object.cells 0 (record at.cell { content = Some v }) }) other)
+  written_elsewhere o other = ap content_of (slice_get-set_other w.objects number o (record at.object { cells = set at.object.cells 0 (record at.cell { content = Some v }) }) other)
 
   pub written_length : length (written w number 0 at v).objects ≡ length w.objects
   written_length = length-set w.objects number (record at.object { cells = set at.object.cells 0 (record at.cell { content = Some v }) })

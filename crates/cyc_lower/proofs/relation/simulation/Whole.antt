@@ -69,6 +69,7 @@ use Rattle.cyc_lower.specs.inside.Slots.{slot_in, global_of, global_types}
 use Rattle.cyc_lower.proofs.slots.Widths.{words_in, type_words, kind_in}
 use Rattle.cyc_lower.proofs.slots.Slots.{words_positive, globals-are}
 use Rattle.std.proofs.lemmas.List.{length-replicate, get_or-append_right}
+use Rattle.cyc_words.proofs.Options.{same_from_some}
 use Rattle.cyc_meaning.specs.FrameCount.{words_of_all}
 use Rattle.cyc_lower.proofs.relation.places.GlobalRows.{global_rows, are_globals, start-rows}
 use Rattle.cyc_lower.proofs.relation.places.Leads.{AreNamed}
@@ -77,7 +78,6 @@ use Rattle.cyc_plain.specs.declared.limits.TheConstants.{MOST_GLOBALS, GLOBALS_B
 use Rattle.cyc_lower.proofs.relation.places.Known.{IsGlobalRow, first_word}
 use Rattle.cyc_lower.specs.inside.ValueCode.{variable_bytes}
 use Rattle.cyc_objects.proofs.Chars.{char-small}
-use Rattle.cyc_store.proofs.LookupLemmas.{same_some}
 
 -- ---- the globals at the start
 
@@ -140,7 +140,7 @@ global_has (g ∷ gs) (suc number) few = global_has gs number (omega (arith, few
 char_global : (t : Tables) (globals : List Ty) (number : ℕ) (r : IsGlobalRow t globals number) → IsCharAt t number → r.kind ≡ kinds.Char
 char_global t globals number r (address, is) =
     let start : ℕ = GLOBALS_BASE + 4 * first_word globals number + variable_bytes r.kind in
-    let same : Placed start (r.kind ∷ []) ≡ Placed address (kinds.Char ∷ []) = same_some (sym r.row ∙ is) in
+    let same : Placed start (r.kind ∷ []) ≡ Placed address (kinds.Char ∷ []) = same_from_some (sym r.row ∙ is) in
     cc
 
 none_open : (source : Program) → MayBeOpen (scopes_of source) 0

@@ -1,7 +1,8 @@
 -- Chars of cells and of variables.
 use Rattle.std.proofs.Common.{◌+◌, ◌%◌, ap, ◌∙◌}
 use Rattle.cyc_words.specs.Bytes.{byte_in}
-use Rattle.cyc_objects.proofs.Chars.{char-loaded, char-stored, last-word, last-place, last-loaded, last-stored}
+use Rattle.cyc_words.proofs.Numbers.{last_byte_of_word}
+use Rattle.cyc_objects.proofs.Chars.{char-loaded, char-stored, last-word, last-loaded, last-stored}
 use Rattle.cyc_objects.proofs.laws.chars_are_bytes.Goals as goal
 
 pub returns-clause-loaded : goal.returns-clause-loaded
@@ -12,7 +13,7 @@ returns-clause-stored c = λ t v words place m address is. char-stored t v words
 
 pub returns-clause-last_loaded : goal.returns-clause-last_loaded
 returns-clause-last_loaded c = λ m address even small.
-    ap (λ x. byte_in (m x) ((address + 3) % 4)) (last-word address even) ∙ (ap (byte_in (m address)) (last-place address even) ∙ last-loaded (m address) small)
+    ap (λ x. byte_in (m x) ((address + 3) % 4)) (last-word address even) ∙ (ap (byte_in (m address)) (last_byte_of_word address even) ∙ last-loaded (m address) small)
 
 pub returns-clause-last_stored : goal.returns-clause-last_stored
 returns-clause-last_stored c = λ old byte small. last-stored old byte small

@@ -1,13 +1,13 @@
 use Rattle.std.proofs.Common.{◌≡◌, [], ◌∷◌, ◌<◌, false, set, sym, ap, subst, ◌∙◌, arith}
+use Rattle.cyc_words.proofs.Items.{never_in_falses}
 use Rattle.cyc_rawpages.specs.inside.Lists.{chain_at, freed}
 use Rattle.cyc_rawpages.specs.inside.Pool.{PoolState, IsFree}
 use Rattle.cyc_pagestore.specs.inside.Table.{AreAlone}
-use Rattle.cyc_pagestore.proofs.Calls.{none-in}
 use Rattle.cyc_pagestore.proofs.First.{true_count, count-less, both, still-free, still-alone, back-is}
 use Rattle.cyc_pagestore.proofs.table.+take_first.Goals as goal
 
 pub returns-in_default : goal.returns-in_default
-returns-in_default t c = absurd (none-in c.args.pool.now.pages 0 (subst (λ marks. IsFree marks 0) c.in_default.ensures.0 c.requires.first))
+returns-in_default t c = absurd (never_in_falses c.args.pool.now.pages 0 (subst (λ marks. IsFree marks 0) c.in_default.ensures.0 c.requires.first))
 
 pub take_first-requires : goal.take_first-requires
 take_first-requires t c =

@@ -2,8 +2,9 @@ use Rattle.std.proofs.Common.{subst, ◌++◌, get_or, take, arith}
 use Rattle.std.proofs.lemmas.Bool.{ne_eqb}
 use Rattle.std.proofs.lemmas.List.{take_all}
 use Rattle.cyc_words.specs.declared.span.Span.{Span}
+use Rattle.cyc_words.proofs.Lists.{append_take_next}
 use Rattle.cyc_syntax.specs.inside.Place.{IsBehind}
-use Rattle.cyc_syntax.proofs.PlaceLemmas.{behind_line_feed, behind_other, front_more}
+use Rattle.cyc_syntax.proofs.PlaceLemmas.{behind_line_feed, behind_other}
 use Rattle.cyc_syntax.proofs.place.place_behind.Goals as goal
 use Rattle.cyc_syntax.proofs.place.place_behind.Goals.{then-b-eq10, else-b-eq10}
 
@@ -19,14 +20,14 @@ loop-b-preserved c =
         line = omega arith;
         column = omega arith;
         behind = λ front before.
-            subst (IsBehind new) (front_more front bytes i c.loop-b-test.true)
+            subst (IsBehind new) (append_take_next front bytes i c.loop-b-test.true)
             (behind_line_feed old new (front ++ take i bytes) b w.if-b-eq10.true w.line-is w.column-is (c.loop-b.invariant.behind front before));
       }
       | else-b-eq10 w ↦ record {
         line = omega arith;
         column = omega arith;
         behind = λ front before.
-            subst (IsBehind new) (front_more front bytes i c.loop-b-test.true)
+            subst (IsBehind new) (append_take_next front bytes i c.loop-b-test.true)
             (behind_other old new (front ++ take i bytes) b (ne_eqb b 10 w.if-b-eq10.false) w.line-is w.column-is (c.loop-b.invariant.behind front before));
       }
     ]

@@ -5,12 +5,12 @@ use Rattle.std.specs.Io.KnownBytes.{Appends}
 use Rattle.std.proofs.lemmas.List.{get_or-map, length-map}
 use Rattle.cyc_words.specs.Device.{AppendsPrefix}
 use Rattle.cyc_words.proofs.DeviceLemmas.{Appends-append, TakesText_part_exit}
+use Rattle.cyc_words.proofs.Lists.{flat_map-take_next}
 use Rattle.cyc_elf.specs.declared.program_header.ProgramHeader.{ProgramHeader}
 use Rattle.cyc_elf.specs.Image.{IsSegment, SegmentContents}
 use Rattle.cyc_elf.specs.Outline.{fields_of}
 use Rattle.cyc_elf.specs.Reading.{segment_of}
 use Rattle.cyc_system.specs.Listing.{listed_lines}
-use Rattle.cyc_system.proofs.Listings.{parts_more}
 use Rattle.cyc_system.proofs.listing.put_all_listed.Goals as goal
 
 -- the segments that headers of a file describe
@@ -67,7 +67,7 @@ loop-number-preserved g c =
     let below : c.loop-number.number < length (described file loads) = omega (arith, low, described-all file loads) in
     record {
       written = subst (Appends (g.W.ByteOut.written c.args.out.now) (g.W.ByteOut.written c.put_listed.new.out))
-          (parts_more listed_lines (described file loads) c.loop-number.number item below (described-seen file loads c.loop-number.number low))
+          (flat_map-take_next listed_lines (described file loads) c.loop-number.number item below (described-seen file loads c.loop-number.number low))
           (Appends-append (g.W.ByteOut.written c.args.out.now) (g.W.ByteOut.written c.loop-number.out) (g.W.ByteOut.written c.put_listed.new.out)
           (flat_map listed_lines (take c.loop-number.number (described file loads))) (listed_lines item) c.loop-number.invariant.written c.in_ok-put_listed.ensures.bytes);
       works = c.in_ok-put_listed.ensures.works ∙ c.loop-number.invariant.works;

@@ -3,10 +3,11 @@ use Rattle.std.specs.List.{flat_map, range_with_len}
 use Rattle.std.specs.Io.KnownBytes.{Appends}
 use Rattle.cyc_words.specs.Device.{AppendsPrefix}
 use Rattle.cyc_words.proofs.DeviceLemmas.{Appends-append}
+use Rattle.cyc_words.proofs.Ranges.{flat_map-range_push}
 use Rattle.cyc_system.specs.Listing.{line_of}
 use Rattle.cyc_elf.specs.Outline.{fields_of}
 use Rattle.cyc_elf.specs.Reading.{segment_of}
-use Rattle.cyc_system.proofs.Listings.{segment_line, listed_range_more, segment_lines-all, segment_exit}
+use Rattle.cyc_system.proofs.Listings.{segment_line, segment_lines-all, segment_exit}
 use Rattle.cyc_system.proofs.listing.put_segment.Goals as goal
 
 pub returns-in_err-put_line-clause-bytes : goal.returns-in_err-put_line-clause-bytes
@@ -20,7 +21,7 @@ returns-in_err-put_line-clause-bytes g c =
 
 pub loop-number-preserved : goal.loop-number-preserved
 loop-number-preserved g c = record {
-  written = subst (Appends (g.W.ByteOut.written c.args.out.now) (g.W.ByteOut.written c.put_line.new.out)) (listed_range_more (segment_line (segment_of c.args.file.now (fields_of c.args.header.now))) c.loop-number.number)
+  written = subst (Appends (g.W.ByteOut.written c.args.out.now) (g.W.ByteOut.written c.put_line.new.out)) (flat_map-range_push (segment_line (segment_of c.args.file.now (fields_of c.args.header.now))) c.loop-number.number)
       (Appends-append (g.W.ByteOut.written c.args.out.now) (g.W.ByteOut.written c.loop-number.out) (g.W.ByteOut.written c.put_line.new.out)
       (flat_map (segment_line (segment_of c.args.file.now (fields_of c.args.header.now))) (range_with_len 0 c.loop-number.number)) (segment_line (segment_of c.args.file.now (fields_of c.args.header.now)) c.loop-number.number)
       c.loop-number.invariant.written

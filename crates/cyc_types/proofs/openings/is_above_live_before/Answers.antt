@@ -6,8 +6,8 @@ use Rattle.cyc_types.specs.Types.{region_eq, is_region_among}
 use Rattle.cyc_types.specs.Closure.{above_one_of, written_in}
 use Rattle.cyc_types.specs.inside.Openings.{live_before}
 use Rattle.std.proofs.lemmas.Bool.{and_left, and_right}
+use Rattle.cyc_words.proofs.Booleans.{or_false_right}
 use Rattle.cyc_types.proofs.RegionLemmas.{derived-region_eq}
-use Rattle.cyc_types.proofs.TableLemmas.{or_false}
 use Rattle.cyc_types.proofs.OpeningLemmas.{above-itself, above-among}
 use Rattle.cyc_types.proofs.openings.is_above_live_before.Goals as goal
 use Rattle.cyc_types.proofs.openings.is_above_live_before.Goals.{else-ne-via-then-ne+else-is_live_before, else-ne-via-else-ne}
@@ -43,5 +43,5 @@ returns-in-None c =
       | else-ne-via-else-ne v ↦ and_left (not (region_eq c.args.a Unique)) (is_region_among c.args.a rs) (ap not (sym (derived-region_eq c.args.a Unique)) ∙ sym c.ne.ensures ∙ v.if-ne.false)
     ] in
     sym (above-among (written_in c.args.constraints.now) rs (c.args.a ∷ []) c.args.a
-    (λ b. sym (c.requires.closed c.args.a b) ∙ c.in-None.ensures.entry b ∙ sym (or_false (region_eq c.args.a b)))
-    ∙ or_false (not (region_eq c.args.a Unique) && is_region_among c.args.a rs) ∙ first)
+    (λ b. sym (c.requires.closed c.args.a b) ∙ c.in-None.ensures.entry b ∙ sym (or_false_right (region_eq c.args.a b)))
+    ∙ or_false_right (not (region_eq c.args.a Unique) && is_region_among c.args.a rs) ∙ first)

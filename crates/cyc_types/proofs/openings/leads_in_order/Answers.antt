@@ -1,11 +1,12 @@
 use Rattle.std.proofs.Common.{sym, ◌∙◌, arith, reverse}
+use Rattle.cyc_words.proofs.Booleans.{never_true_and_false}
 use Rattle.cyc_types.specs.Outlives.{is_outlived_by_live}
 use Rattle.cyc_types.specs.Types.{region_eq}
 use Rattle.cyc_types.specs.Closure.{written_in}
 use Rattle.cyc_types.specs.inside.Openings.{scope_at}
 use Rattle.cyc_types.proofs.RegionLemmas.{derived-region_eq, region_eq-true}
 use Rattle.cyc_types.proofs.ClosureLemmas.{leads-above}
-use Rattle.cyc_types.proofs.OpeningLemmas.{never, leads-by_place, leads-by_no_place}
+use Rattle.cyc_types.proofs.OpeningLemmas.{leads-by_place, leads-by_no_place}
 use Rattle.cyc_types.proofs.openings.leads_in_order.Goals as goal
 use Rattle.cyc_types.proofs.openings.leads_in_order.Goals.{else-eq-via-then-eq+else-is_outlived_by_live, else-eq-via-else-eq}
 use Rattle.cyc_types.proofs.TableLemmas.{eq_true_at}
@@ -31,11 +32,10 @@ returns-else-eq c =
     c.opening_of-place.result c.opening_of-place.ensures
     (sym (c.requires.closed c.args.a c.args.b) ∙ sym c.table_leads.ensures ∙ c.if-table_leads.false)
     (λ lt same k. elim c.else-eq.branch [
-      | else-eq-via-then-eq+else-is_outlived_by_live v ↦ never (is_outlived_by_live (scope_at c.args.scopes.now c.opening_of-place.result).kind) k (sym v.is_outlived_by_live.ensures ∙ v.if-is_outlived_by_live.false)
+      | else-eq-via-then-eq+else-is_outlived_by_live v ↦ never_true_and_false k (sym v.is_outlived_by_live.ensures ∙ v.if-is_outlived_by_live.false)
       | else-eq-via-else-eq v ↦
           let scope = scope_at c.args.scopes.now c.opening_of-place.result in
-          never (region_eq scope.region c.args.b) (eq_true_at scope.region c.args.b same)
-          (sym (derived-region_eq scope.region c.args.b) ∙ sym c.eq.ensures ∙ v.if-eq.false)
+          never_true_and_false (eq_true_at scope.region c.args.b same) (sym (derived-region_eq scope.region c.args.b) ∙ sym c.eq.ensures ∙ v.if-eq.false)
     ]))
 
 pub returns-else-place-scopes : goal.returns-else-place-scopes

@@ -5,7 +5,8 @@ use Rattle.cyc_types.specs.Closure.{written_in}
 use Rattle.cyc_types.specs.inside.Openings.{IsInOrder, live_before, opening_of}
 use Rattle.std.proofs.lemmas.Bool.{not-true}
 use Rattle.std.proofs.lemmas.Result.{IfOk-weaker}
-use Rattle.cyc_types.proofs.OpeningLemmas.{never, in_order-noted, in_order-known, in_order-new}
+use Rattle.cyc_words.proofs.Booleans.{never_true_and_false}
+use Rattle.cyc_types.proofs.OpeningLemmas.{in_order-noted, in_order-known, in_order-new}
 use Rattle.cyc_types.proofs.openings.opens_in_order.Goals as goal
 use Rattle.cyc_types.proofs.openings.opens_in_order.Goals.{else-is_outlived_by_live-via-then-is_outlived_by_live+else-not-is_alone, else-is_outlived_by_live-via-else-is_outlived_by_live}
 
@@ -36,7 +37,7 @@ returns-clause-next c =
     (noted is)
     (λ k b. elim c.else-is_outlived_by_live.branch [
       | else-is_outlived_by_live-via-then-is_outlived_by_live+else-not-is_alone v ↦ sym (c.requires.closed c.args.scope.region b) ∙ v.is_alone.ensures (v.if-not-is_alone.false) b
-      | else-is_outlived_by_live-via-else-is_outlived_by_live v ↦ absurd (never (is_outlived_by_live c.args.scope.kind) k (sym c.is_outlived_by_live-2.ensures ∙ v.if-is_outlived_by_live.false))
+      | else-is_outlived_by_live-via-else-is_outlived_by_live v ↦ absurd (never_true_and_false k (sym c.is_outlived_by_live-2.ensures ∙ v.if-is_outlived_by_live.false))
     ])
     apart)
     c.note.ensures.noted

@@ -1,10 +1,10 @@
 use Rattle.std.proofs.Common.{◌≡◌, ◌+◌, ◌*◌, ◌<◌, ◌≤◌, true, None, length, refl, sym, subst, arith}
 use Rattle.std.specs.Prelude.{is_some}
-use Rattle.cyc_words.proofs.Booleans.{some_there}
+use Rattle.cyc_words.proofs.Booleans.{some_there, false_is_not_true}
 use Rattle.cyc_store.specs.Ledger.{Stored, IsUsedUp, held_of, store_of}
 use Rattle.cyc_store.specs.State.{lookup, handle_of}
 use Rattle.cyc_store.specs.Services.{Allocate, Allocated, Refused, Full, refusal, Serves}
-use Rattle.cyc_store.proofs.KeptServices.{not-true, kept-full, kept-unchanged, held-unchanged, kept-some, kept-used}
+use Rattle.cyc_store.proofs.KeptServices.{kept-full, kept-unchanged, held-unchanged, kept-some, kept-used}
 use Rattle.cyc_store.proofs.KeptMaking.{root-there, root-small, first-there, first-small, first-count, last-few, behind-serves, behind-kept, after-full, after-none, after-serves, after-kept}
 use Rattle.cyc_plainstore.proofs.plain.PlainStore.alloc_in.Goals as goal
 
@@ -123,7 +123,7 @@ returns-in_default-clause-answer c =
     let f = c.self.inside in let k = c.self.invariant in
     let (r, named) = some_there (lookup handle_of f.ledger.blocks.regions (2 * c.args.root + 1))
     (subst (λ (v : Stored). is_some (lookup handle_of v.blocks.regions (2 * c.args.root + 1)) ≡ true) (sym c.self.view_is) c.requires.named) in
-    let some = kept-some f.table f.lexicals.items f.classes f.ledger.blocks k (λ full. not-true (c.if-is_full.ensures.1 full)) in
+    let some = kept-some f.table f.lexicals.items f.classes f.ledger.blocks k (λ full. false_is_not_true (c.if-is_full.ensures.1 full)) in
     subst (λ (v : Stored). (true ≡ true) × (refusal (held_of v) (Allocate (2 * c.args.root + 1) c.args.words) ≡ None) × (store_of c.draw.new.self.most c.draw.new.self.words.items f.ledger.blocks ≡ held_of v)) c.self.view_is
     (refl, after-none f.table f.lexicals.items f.classes f.ledger.blocks k c.args.root r named c.index-first.result.now c.index-first.ensures c.index-last.result.now c.index-last.ensures c.args.words c.requires.least c.requires.most c.if-last-words-le-PAGE_WORDS.false some.0 some.1 some.2, held-unchanged f.table c.draw.new.self f.ledger.blocks c.in_default.ensures.same)
 
@@ -170,7 +170,7 @@ invariant_of-self-2 c =
     let f = c.self.inside in let k = c.self.invariant in
     let (r, named) = some_there (lookup handle_of f.ledger.blocks.regions (2 * c.args.root + 1))
     (subst (λ (v : Stored). is_some (lookup handle_of v.blocks.regions (2 * c.args.root + 1)) ≡ true) (sym c.self.view_is) c.requires.named) in
-    after-kept f.table f.lexicals.items f.classes f.ledger.blocks k c.args.root r named c.index-first.result.now c.index-first.ensures c.index-last.result.now c.index-last.ensures c.args.words c.requires.least c.requires.most c.if-last-words-le-PAGE_WORDS.false c.draw.new.self c.in-Ok.page c.in-Ok.ensures.draws (λ full. not-true (c.if-is_full.ensures.1 full)) c.address_at-address-2.result c.address_at-address-2.ensures
+    after-kept f.table f.lexicals.items f.classes f.ledger.blocks k c.args.root r named c.index-first.result.now c.index-first.ensures c.index-last.result.now c.index-last.ensures c.args.words c.requires.least c.requires.most c.if-last-words-le-PAGE_WORDS.false c.draw.new.self c.in-Ok.page c.in-Ok.ensures.draws (λ full. false_is_not_true (c.if-is_full.ensures.1 full)) c.address_at-address-2.result c.address_at-address-2.ensures
     c.with-self-inside-2.result.blocks c.with-self-inside-2.ensures _ refl refl refl refl refl
 
 pub returns-clause-answer : goal.returns-clause-answer
@@ -179,5 +179,5 @@ returns-clause-answer c =
     let (r, named) = some_there (lookup handle_of f.ledger.blocks.regions (2 * c.args.root + 1))
     (subst (λ (v : Stored). is_some (lookup handle_of v.blocks.regions (2 * c.args.root + 1)) ≡ true) (sym c.self.view_is) c.requires.named) in
     subst (λ (v : Stored). Serves (held_of v) (Allocate (2 * c.args.root + 1) c.args.words) (Allocated c.address_at-address-2.result) (store_of c.draw.new.self.most c.draw.new.self.words.items c.with-self-inside-2.result.blocks)) c.self.view_is
-    (after-serves f.table f.lexicals.items f.classes f.ledger.blocks k c.args.root r named c.index-first.result.now c.index-first.ensures c.index-last.result.now c.index-last.ensures c.args.words c.requires.least c.requires.most c.if-last-words-le-PAGE_WORDS.false c.draw.new.self c.in-Ok.page c.in-Ok.ensures.draws (λ full. not-true (c.if-is_full.ensures.1 full)) c.address_at-address-2.result c.address_at-address-2.ensures
+    (after-serves f.table f.lexicals.items f.classes f.ledger.blocks k c.args.root r named c.index-first.result.now c.index-first.ensures c.index-last.result.now c.index-last.ensures c.args.words c.requires.least c.requires.most c.if-last-words-le-PAGE_WORDS.false c.draw.new.self c.in-Ok.page c.in-Ok.ensures.draws (λ full. false_is_not_true (c.if-is_full.ensures.1 full)) c.address_at-address-2.result c.address_at-address-2.ensures
     c.with-self-inside-2.result.blocks c.with-self-inside-2.ensures)

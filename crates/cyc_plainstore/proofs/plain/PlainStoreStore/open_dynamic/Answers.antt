@@ -1,9 +1,10 @@
 use Rattle.std.proofs.Common.{◌≡◌, true, None, refl, subst}
+use Rattle.cyc_words.proofs.Booleans.{false_is_not_true}
 use Rattle.cyc_store.specs.Ledger.{Stored, IsUsedUp, held_of, store_of}
 use Rattle.cyc_store.specs.Services.{OpenDynamic, Opened, Refused, Full, refusal, Serves}
 use Rattle.cyc_store.specs.inside.Kept.{handle_of_page}
 use Rattle.cyc_store.proofs.Responses.{dynamic-full, dynamic-none}
-use Rattle.cyc_store.proofs.KeptServices.{not-true, kept-full, kept-unchanged, held-unchanged, kept-some, kept-used, dynamic-kept, dynamic-serves}
+use Rattle.cyc_store.proofs.KeptServices.{kept-full, kept-unchanged, held-unchanged, kept-some, kept-used, dynamic-kept, dynamic-serves}
 use Rattle.cyc_plainstore.proofs.plain.PlainStoreStore.open_dynamic.Goals as goal
 
 pub returns-then-is_full-clause-answer : goal.returns-then-is_full-clause-answer
@@ -20,7 +21,7 @@ invariant_of-self c =
 pub returns-in_default-clause-answer : goal.returns-in_default-clause-answer
 returns-in_default-clause-answer c =
     let f = c.self.inside in let k = c.self.invariant in
-    let some = kept-some f.table f.lexicals.items f.classes f.ledger.blocks k (λ full. not-true (c.if-is_full.ensures.1 full)) in
+    let some = kept-some f.table f.lexicals.items f.classes f.ledger.blocks k (λ full. false_is_not_true (c.if-is_full.ensures.1 full)) in
     subst (λ (v : Stored). (true ≡ true) × (refusal (held_of v) OpenDynamic ≡ None) × (store_of c.draw.new.self.most c.draw.new.self.words.items f.ledger.blocks ≡ held_of v)) c.self.view_is (
       refl,
       dynamic-none (store_of f.table.most f.table.words.items f.ledger.blocks) k.layout k.laid some.0 some.1 some.2,
@@ -35,7 +36,7 @@ returns-in_default-clause-grew c =
 pub invariant_of-self-2 : goal.invariant_of-self-2
 invariant_of-self-2 c =
     let f = c.self.inside in
-    dynamic-kept f.table f.lexicals.items f.classes f.ledger.blocks c.self.invariant c.draw.new.self c.in-Ok.page c.in-Ok.ensures.draws (λ full. not-true (c.if-is_full.ensures.1 full))
+    dynamic-kept f.table f.lexicals.items f.classes f.ledger.blocks c.self.invariant c.draw.new.self c.in-Ok.page c.in-Ok.ensures.draws (λ full. false_is_not_true (c.if-is_full.ensures.1 full))
     c.with-self-inside.result.blocks c.with-self-inside.ensures _ (record { most = refl; words = refl; live = refl; free = refl; rows = refl })
 
 pub returns-clause-answer : goal.returns-clause-answer
@@ -43,4 +44,4 @@ returns-clause-answer c =
     let f = c.self.inside in
     subst (λ (v : Stored). Serves (held_of v) OpenDynamic (Opened (handle_of_page c.in-Ok.page)) (store_of c.draw.new.self.most c.draw.new.self.words.items c.with-self-inside.result.blocks)) c.self.view_is
     (dynamic-serves f.table f.lexicals.items f.classes f.ledger.blocks c.self.invariant c.draw.new.self c.in-Ok.page c.in-Ok.ensures.draws
-    (λ full. not-true (c.if-is_full.ensures.1 full)) c.with-self-inside.result.blocks c.with-self-inside.ensures)
+    (λ full. false_is_not_true (c.if-is_full.ensures.1 full)) c.with-self-inside.result.blocks c.with-self-inside.ensures)
