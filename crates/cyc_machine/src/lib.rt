@@ -14,6 +14,7 @@ mod operation;
 mod phase;
 mod registers;
 mod results;
+mod service;
 mod start;
 mod text;
 
