@@ -1,14 +1,15 @@
 -- Masks: what a set of chosen slots has, bit by bit.
-use Rattle.std.proofs.Common.{◌≡◌, ◌≢◌, ℕ, zero, suc, ◌+◌, ◌*◌, ◌^◌, ◌%◌, ◌<◌, ◌≤◌, true, false, List, [], ◌∷◌, ◌++◌, length, refl, sym, ap, subst, ◌∙◌, arith, max, min, inl, inr}
+use Rattle.std.proofs.Common.{◌≡◌, ◌≢◌, ℕ, zero, suc, ◌+◌, ◌-◌, ◌*◌, ◌/◌, ◌^◌, ◌%◌, ◌<◌, ◌≤◌, true, false, List, [], ◌∷◌, ◌++◌, length, refl, sym, ap, subst, ◌∙◌, arith, max, min, inl, inr}
 use Rattle.std.specs.Prelude.{bit_and, bit_or, bit_xor, nat_le, nat_lt, slice_index_or}
 use Rattle.std.specs.Int.{bit_at}
 use Rattle.std.proofs.lemmas.Nat.{one_shl}
-use Rattle.std.proofs.lemmas.Nat.Bits.{bit_at_and, bit_at_or, bit_at_xor, bit_at-lt, bit_at-zero, bit_at_ones, bit_at-pow_same, bit_at-pow_other}
-use Rattle.std.proofs.lemmas.Bool.{and_parts, and_from, leb-true, ltb-true, le-leb, lt-ltb, both_ways, cases_lt, cases_eq}
+use Rattle.std.proofs.lemmas.Nat.Bits.{bit_at_and, bit_at_or, bit_at_xor, bit_at-lt, bit_at-zero, bit_at-suc, bit_at_lowest, bit_at_ones, bit_at-pow_same, bit_at-pow_other}
+use Rattle.std.proofs.lemmas.Bool.{and_parts, and_from, leb-true, ltb-true, le-leb, lt-ltb, eqb-true, both_ways, cases_lt, cases_eq}
 use Rattle.cyc_plain.specs.inside.Program.{Program, Routine, routine_at, no_routine}
 use Rattle.cyc_plain.specs.inside.Uses.{is_among}
 use Rattle.cyc_registers.specs.declared.liveness.TheConstants.{ALL_NUMBERS, MOST_CHOSEN}
 use Rattle.cyc_registers.specs.inside.Masks.{mask_at, HasBit, AreMasks, range_mask}
+use Rattle.cyc_registers.specs.inside.Sharing.{is_single}
 
 -- ---- bits
 
@@ -42,6 +43,44 @@ pub apart_bits : (a b j : ℕ) → bit_and a b ≡ 0 → bit_at b j ≡ 1 → bi
 apart_bits a b j none second first =
     let e : 1 ≡ 0 = sym (bit_both a b j first second) ∙ (ap (λ (n : ℕ). bit_at n j) none ∙ bit_at-zero j) in
     omega (arith, e)
+
+pub bit_between : (a b j : ℕ) → bit_at (bit_and a b) j ≡ 1 → bit_at b j ≡ 1
+bit_between a b j is = let e : min (bit_at a j) (bit_at b j) ≡ 1 = sym (bit_at_and a b j) ∙ is in least (bit_at a j) (bit_at b j) (bit_at-lt b j) e
+  where
+    least : (x y : ℕ) → y < 2 → min x y ≡ 1 → y ≡ 1
+    least x y small e = omega (arith, small, e)
+
+-- ---- sets of one slot
+
+-- where there is a lower bit, one less does not change the higher one
+higher_bit : (i j x : ℕ) → i < j → bit_at x i ≡ 1 → bit_at x j ≡ 1 → bit_at (x - 1) j ≡ 1
+higher_bit zero zero x below low high = absurd (omega (arith, below))
+higher_bit zero (suc j) x below low high =
+    let odd : x % 2 ≡ 1 = sym (bit_at_lowest x) ∙ low in
+    let half : (x - 1) / 2 ≡ x / 2 = omega (arith, odd) in
+    bit_at-suc (x - 1) j ∙ (ap (λ (n : ℕ). bit_at n j) half ∙ (sym (bit_at-suc x j) ∙ high))
+higher_bit (suc i) zero x below low high = absurd (omega (arith, below))
+higher_bit (suc i) (suc j) x below low high = bit_at-suc (x - 1) j ∙ elim (cases_lt (x % 2) 1) [
+  | inl even ↦
+      let half : (x - 1) / 2 ≡ x / 2 - 1 = omega (arith, even) in
+      ap (λ (n : ℕ). bit_at n j) half
+      ∙ higher_bit i j (x / 2) (omega (arith, below)) (sym (bit_at-suc x i) ∙ low) (sym (bit_at-suc x j) ∙ high)
+  | inr odd ↦
+      let half : (x - 1) / 2 ≡ x / 2 = omega (arith, odd) in
+      ap (λ (n : ℕ). bit_at n j) half ∙ (sym (bit_at-suc x j) ∙ high)
+]
+
+two_bits : (x i j : ℕ) → is_single x ≡ true → i < j → bit_at x i ≡ 1 → bit_at x j ≡ 1 → ⊥
+two_bits x i j single below low high = apart_bits x (x - 1) j (eqb-true (bit_and x (x - 1)) 0 single) (higher_bit i j x below low high) high
+
+pub one_alone : (x i j : ℕ) → is_single x ≡ true → bit_at x i ≡ 1 → bit_at x j ≡ 1 → i ≡ j
+one_alone x i j single first second = elim (cases_lt i j) [
+  | inl below ↦ absurd (two_bits x i j single below first second)
+  | inr not_below ↦ elim (cases_lt j i) [
+    | inl above ↦ absurd (two_bits x j i single above second first)
+    | inr not_above ↦ omega (arith, not_below, not_above)
+  ]
+]
 
 -- ---- ranges
 

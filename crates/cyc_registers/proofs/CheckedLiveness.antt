@@ -37,7 +37,7 @@ either_bit live index to next j led is = elim (or_cases (suc index == next) (to 
   | inr same ↦ bit_right (mask_at live (index + 1)) (mask_at live to) j (to_bit live to next j same is)
 ]
 
-led_bit : (i : Instruction) (index next j : ℕ) (live : List ℕ) → leads i index next ≡ true → bit_at (mask_at live next) j ≡ 1
+pub led_bit : (i : Instruction) (index next j : ℕ) (live : List ℕ) → leads i index next ≡ true → bit_at (mask_at live next) j ≡ 1
     → bit_at (behind_mask i index live) j ≡ 1
 led_bit (instructions.Jump target) index next j live led is = to_bit live target next j led is
 led_bit (instructions.Branch comparison left right target) index next j live led is = either_bit live index target next j led is
@@ -108,6 +108,32 @@ module _ (masks : List ℕ) (slot j : ℕ) (has : HasBit masks slot j) where
   bar_bit (instructions.Try first handler) is = among_bit masks first RECORD_WORDS slot j is has
   bar_bit (instructions.Leave first) is = among_bit masks first RECORD_WORDS slot j is has
   bar_bit i is = absurd (false≢true is)
+
+  request_written_bit : (request : Request) → request_writes request slot ≡ true → bit_at (request_write_mask masks request) j ≡ 1
+  request_written_bit (requests.OpenLexical destination) is = among_bit masks destination 2 slot j is has
+  request_written_bit (requests.CloseTo mark) is = absurd (false≢true is)
+  request_written_bit (requests.OpenDynamic destination) is = slot_bit destination is
+  request_written_bit (requests.CloseDynamic handle) is = absurd (false≢true is)
+  request_written_bit (requests.Allocate destination handle words) is = slot_bit destination is
+  request_written_bit (requests.Free address) is = absurd (false≢true is)
+
+  -- or writes it, and does not bar it
+  pub written_bit : (program : Program) (i : Instruction) → (bars i slot ≡ true → ⊥) → writes program i slot ≡ true → bit_at (write_mask masks program i) j ≡ 1
+  written_bit program (instructions.Move destination source) free is = slot_bit destination is
+  written_bit program (instructions.MoveWords destination source count) free is = among_bit masks destination count slot j is has
+  written_bit program (instructions.Unary operator destination operand) free is = slot_bit destination is
+  written_bit program (instructions.Binary operator destination left right) free is = slot_bit destination is
+  written_bit program (instructions.Call function arguments count result) free is =
+      among_bit masks result (routine_at program function).results slot j is has
+  written_bit program (instructions.ReadByte destination) free is = slot_bit destination is
+  written_bit program (instructions.AddressOf destination taken count) free is = slot_bit destination is
+  written_bit program (instructions.LoadGlobal destination global) free is = slot_bit destination is
+  written_bit program (instructions.Load destination address offset) free is = slot_bit destination is
+  written_bit program (instructions.LoadByte destination address offset) free is = slot_bit destination is
+  written_bit program (instructions.Ask request) free is = request_written_bit request is
+  written_bit program (instructions.CountLexical destination) free is = slot_bit destination is
+  written_bit program (instructions.Try first handler) free is = absurd (free is)
+  written_bit program i free is = absurd (false≢true is)
 
   -- and that of what it writes has no bit of a slot that it does not write
   module _ (program : Program) (next : ℕ) (are : AreMasks masks next) where

@@ -1,7 +1,8 @@
 -- The places that are said to fill slots may.
 use Rattle.std.proofs.Common.{◌≡◌, ℕ, suc, ◌+◌, ◌<◌, Bool, false, true, List, length, [], Option, None, Some, sym, ap, subst, ◌∙◌, arith, inl, inr}
-use Rattle.std.specs.Prelude.{◌==◌, ◌&&◌, not, nat_lt, if◌then◌else◌, bit_and, slice_get, slice_set, replicate}
-use Rattle.std.proofs.lemmas.Bool.{and_parts, or_cases, cases_eq, cases_lt, cases_Bool, ltb-true, lt-ltb, eqb-true, false≢true, not-true}
+use Rattle.std.specs.Prelude.{◌==◌, ◌&&◌, not, nat_lt, if◌then◌else◌, bit_and, bit_or, slice_get, slice_set, replicate}
+use Rattle.std.specs.Int.{bit_at}
+use Rattle.std.proofs.lemmas.Bool.{cases_eq, cases_lt, cases_Bool, lt-ltb, eqb-true, false≢true}
 use Rattle.std.proofs.lemmas.List.{get_or-set_same, get_or-set_other, set_past, length-set, length-replicate}
 use Rattle.cyc_words.proofs.Items.{below_from_slice_get}
 use Rattle.cyc_plain.specs.declared.instruction.Comparison.{Comparison}
@@ -13,14 +14,14 @@ use Rattle.cyc_plain.specs.inside.Uses.{writes}
 use Rattle.cyc_registers.specs.declared.home.Home.{Home}
 use Rattle.cyc_registers.specs.declared.home.Home.TheVariants as homes
 use Rattle.cyc_registers.specs.declared.liveness.TheConstants.{MOST_CHOSEN}
-use Rattle.cyc_registers.specs.inside.Assignment.{HaveOwnRegisters}
 use Rattle.cyc_registers.specs.inside.Fills.{AreFillable, fills_at}
-use Rattle.cyc_registers.specs.inside.FillPlaces.{AreLeft, barring, has_register, is_free, may_fill}
+use Rattle.cyc_registers.specs.inside.FillPlaces.{AreLeft, barring, holders_of, is_free, may_fill}
 use Rattle.cyc_registers.specs.inside.Interference.{HasRegister, register_of, home_of}
 use Rattle.cyc_registers.specs.inside.Liveness.{IsLiveAt}
 use Rattle.cyc_registers.specs.inside.LivenessTable.{IsSound}
 use Rattle.cyc_registers.specs.inside.Masks.{AreMasks, mask_at}
-use Rattle.cyc_registers.proofs.Bits.{apart_bits}
+use Rattle.cyc_registers.specs.inside.Sharing.{AreHolders}
+use Rattle.cyc_registers.proofs.Bits.{apart_bits, bit_within}
 use Rattle.cyc_registers.proofs.CheckedLiveness.{live_bit}
 
 pub none_fillable : (program : Program) (r : Routine) (hs : List Home) → AreFillable program r hs []
@@ -28,16 +29,16 @@ none_fillable program r hs index target d a k comparison left right i at there w
 
 -- ---- one by one
 
-pub none_barred : (masks live : List ℕ) (hs : List Home) (code : List Instruction) → AreLeft masks live hs code 0 (replicate (length code) true)
-none_barred masks live hs code = record {
+pub none_barred : (holders live : List ℕ) (hs : List Home) (code : List Instruction) → AreLeft holders live hs code 0 (replicate (length code) true)
+none_barred holders live hs code = record {
   as_many = length-replicate (length code) true;
   each = λ index target comparison left right i below at there fills. absurd (omega (arith, below));
 }
 
-module _ (masks live : List ℕ) (hs : List Home) (code : List Instruction) (count : ℕ) (fills : List Bool) (left_so_far : AreLeft masks live hs code count fills) where
+module _ (holders live : List ℕ) (hs : List Home) (code : List Instruction) (count : ℕ) (fills : List Bool) (left_so_far : AreLeft holders live hs code count fills) where
   -- the instruction bars nothing, or its target alone
-  length-barring : (last : Instruction) → length (barring masks live hs code count last fills) ≡ length code
-  length-barring (instructions.Branch comparison left right target) = go (nat_lt target (length fills) && not (may_fill masks live hs count (slice_get code target)))
+  length-barring : (last : Instruction) → length (barring holders live hs code count last fills) ≡ length code
+  length-barring (instructions.Branch comparison left right target) = go (nat_lt target (length fills) && not (may_fill holders live hs count (slice_get code target)))
     where
       go : (b : Bool) → length (if b then slice_set fills target false else fills) ≡ length code
       go true = length-set fills target false ∙ left_so_far.as_many
@@ -57,72 +58,68 @@ module _ (masks live : List ℕ) (hs : List Home) (code : List Instruction) (cou
 
   -- and the target of the instruction is not one of these, where it may not fill
   barred_here : (index target : ℕ) (comparison : Comparison) (left right : Operand) (i : Instruction) → slice_get code target ≡ Some i
-      → fills_at (barring masks live hs code count (instructions.Branch comparison left right target) fills) target ≡ true → may_fill masks live hs count (Some i) ≡ true
-  barred_here index target comparison left right i there is = elim (cases_Bool (may_fill masks live hs count (Some i))) [
+      → fills_at (barring holders live hs code count (instructions.Branch comparison left right target) fills) target ≡ true → may_fill holders live hs count (Some i) ≡ true
+  barred_here index target comparison left right i there is = elim (cases_Bool (may_fill holders live hs count (Some i))) [
     | inl fine ↦ fine
     | inr refused ↦
         let inside : target < length fills = omega (arith, below_from_slice_get code target i there, left_so_far.as_many) in
-        let barred : (nat_lt target (length fills) && not (may_fill masks live hs count (slice_get code target))) ≡ true =
-        ap (λ (b : Bool). b && not (may_fill masks live hs count (slice_get code target))) (lt-ltb target (length fills) inside)
-        ∙ (ap (λ (o : Option Instruction). not (may_fill masks live hs count o)) there ∙ ap not refused) in
+        let barred : (nat_lt target (length fills) && not (may_fill holders live hs count (slice_get code target))) ≡ true =
+        ap (λ (b : Bool). b && not (may_fill holders live hs count (slice_get code target))) (lt-ltb target (length fills) inside)
+        ∙ (ap (λ (o : Option Instruction). not (may_fill holders live hs count o)) there ∙ ap not refused) in
         absurd (false≢true (sym (get_or-set_same fills target false false inside)
         ∙ (sym (ap (λ (b : Bool). fills_at (if b then slice_set fills target false else fills) target) barred) ∙ is)))
   ]
 
   -- an instruction more
-  pub more_barred : (last : Instruction) → slice_get code count ≡ Some last → AreLeft masks live hs code (count + 1) (barring masks live hs code count last fills)
+  pub more_barred : (last : Instruction) → slice_get code count ≡ Some last → AreLeft holders live hs code (count + 1) (barring holders live hs code count last fills)
   more_barred last at_last = record {
     as_many = length-barring last;
     each = λ index target comparison left right i below at there is. elim (cases_eq index count) [
       | inl same ↦
           let its : last ≡ instructions.Branch comparison left right target = (let e : Some last ≡ Some (instructions.Branch comparison left right target) = sym at_last ∙ (ap (slice_get code) (sym same) ∙ at) in cc) in
-          subst (λ (n : ℕ). may_fill masks live hs n (Some i) ≡ true) (sym same)
-          (barred_here index target comparison left right i there (subst (λ (j : Instruction). fills_at (barring masks live hs code count j fills) target ≡ true) its is))
+          subst (λ (n : ℕ). may_fill holders live hs n (Some i) ≡ true) (sym same)
+          (barred_here index target comparison left right i there (subst (λ (j : Instruction). fills_at (barring holders live hs code count j fills) target ≡ true) its is))
       | inr other ↦ left_so_far.each index target comparison left right i (omega (arith, below, other)) at there (earlier last target is)
     ];
   }
     where
-      earlier : (j : Instruction) (target : ℕ) → fills_at (barring masks live hs code count j fills) target ≡ true → fills_at fills target ≡ true
+      earlier : (j : Instruction) (target : ℕ) → fills_at (barring holders live hs code count j fills) target ≡ true → fills_at fills target ≡ true
       earlier (instructions.Branch comparison left right to) target is = fills_before target to _ is
       earlier j target is = is
 
 -- ---- by the table
 
-no_register : (home : Home) (k : ℕ) → has_register home ≡ false → register_of home ≡ Some k → ⊥
-no_register homes.Memory k none has = absurd (let e : None ≡ Some k = has in cc)
-no_register (homes.Both register) k none has = absurd (false≢true (sym none))
-no_register (homes.Register register) k none has = absurd (false≢true (sym none))
+holds : (holders : List ℕ) (home : Home) (k : ℕ) → register_of home ≡ Some k → holders_of holders home ≡ mask_at holders k
+holds holders homes.Memory k has = absurd (let e : None ≡ Some k = has in cc)
+holds holders (homes.Both register) k has = ap (mask_at holders) (let e : Some register ≡ Some k = has in cc)
+holds holders (homes.Register register) k has = ap (mask_at holders) (let e : Some register ≡ Some k = has in cc)
 
-module _ (program : Program) (r : Routine) (masks live : List ℕ) (calls clauses barred : ℕ) (sound : IsSound program r masks live calls clauses barred)
-    (are : AreMasks masks MOST_CHOSEN) (hs : List Home) (own : HaveOwnRegisters hs) where
-  -- a slot of a register that is not live, or has none
-  free : (index slot a k : ℕ) → is_free masks live hs index slot ≡ true → HasRegister hs slot k → HasRegister hs a k → IsLiveAt program r a (suc index) → ⊥
+module _ (program : Program) (r : Routine) (masks live holders : List ℕ) (calls clauses barred : ℕ) (sound : IsSound program r masks live calls clauses barred)
+    (are : AreMasks masks MOST_CHOSEN) (hs : List Home) (right : AreHolders masks holders hs) where
+  -- a slot of whose register no slot is live, or that has none
+  free : (index slot a k : ℕ) → is_free holders live hs index slot ≡ true → HasRegister hs slot k → HasRegister hs a k → IsLiveAt program r a (suc index) → ⊥
   free index slot a k is has has_a wanted =
-      let dead : Bool = bit_and (mask_at live (index + 1)) (mask_at masks slot) == 0 in
-      elim (or_cases (not (has_register (home_of hs slot))) (nat_lt 0 (mask_at masks slot) && dead) is) [
-        | inl without ↦ no_register (home_of hs slot) k (not-true (has_register (home_of hs slot)) without) has
-        | inr by_table ↦
-            let parts = and_parts (nat_lt 0 (mask_at masks slot)) dead by_table in
-            let (j, bit) = are.some slot (ltb-true 0 (mask_at masks slot) parts.0) in
-            let same : a ≡ slot = own a slot k has_a has in
-            let live_slot : IsLiveAt program r slot (index + 1) =
-            subst (λ (n : ℕ). IsLiveAt program r slot n) (let e : suc index ≡ index + 1 = omega arith in e) (subst (λ (n : ℕ). IsLiveAt program r n (suc index)) same wanted) in
-            apart_bits (mask_at live (index + 1)) (mask_at masks slot) j
-            (eqb-true (bit_and (mask_at live (index + 1)) (mask_at masks slot)) 0 parts.1) bit
-            (live_bit program r masks live calls clauses barred sound slot j are bit (index + 1) live_slot)
-      ]
+      let (j, bit) = are.some a (right a k has_a).0 in
+      let held : bit_at (mask_at holders k) j ≡ 1 =
+      bit_within (mask_at masks a) (mask_at holders k) j (eqb-true (bit_or (mask_at masks a) (mask_at holders k)) (mask_at holders k) (right a k has_a).1) bit in
+      let none : bit_and (mask_at live (index + 1)) (mask_at holders k) ≡ 0 =
+      ap (bit_and (mask_at live (index + 1))) (sym (holds holders (home_of hs slot) k has))
+      ∙ eqb-true (bit_and (mask_at live (index + 1)) (holders_of holders (home_of hs slot))) 0 is in
+      let live_a : IsLiveAt program r a (index + 1) = subst (IsLiveAt program r a) (let e : suc index ≡ index + 1 = omega arith in e) wanted in
+      apart_bits (mask_at live (index + 1)) (mask_at holders k) j none held
+      (live_bit program r masks live calls clauses barred sound a j are bit (index + 1) live_a)
 
-  free_at : (destination index d a k : ℕ) → is_free masks live hs index destination ≡ true → (destination == d) ≡ true → HasRegister hs d k → HasRegister hs a k → IsLiveAt program r a (suc index) → ⊥
+  free_at : (destination index d a k : ℕ) → is_free holders live hs index destination ≡ true → (destination == d) ≡ true → HasRegister hs d k → HasRegister hs a k → IsLiveAt program r a (suc index) → ⊥
   free_at destination index d a k is written has has_a wanted =
       free index destination a k is (subst (λ (n : ℕ). HasRegister hs n k) (sym (eqb-true destination d written)) has) has_a wanted
 
   -- what is written by an instruction that may fill
-  free_of : (i : Instruction) (index d a k : ℕ) → may_fill masks live hs index (Some i) ≡ true → writes program i d ≡ true → HasRegister hs d k → HasRegister hs a k → IsLiveAt program r a (suc index) → ⊥
+  free_of : (i : Instruction) (index d a k : ℕ) → may_fill holders live hs index (Some i) ≡ true → writes program i d ≡ true → HasRegister hs d k → HasRegister hs a k → IsLiveAt program r a (suc index) → ⊥
   free_of (instructions.Move destination source) index d a k is written has has_a wanted = free_at destination index d a k is written has has_a wanted
   free_of (instructions.Unary operator destination operand) index d a k is written has has_a wanted = free_at destination index d a k is written has has_a wanted
   free_of (instructions.Binary operator destination left right) index d a k is written has has_a wanted = free_at destination index d a k is written has has_a wanted
   free_of i index d a k is written has has_a wanted = absurd (false≢true is)
 
-  pub fillable : (fills : List Bool) → AreLeft masks live hs r.code (length r.code) fills → AreFillable program r hs fills
+  pub fillable : (fills : List Bool) → AreLeft holders live hs r.code (length r.code) fills → AreFillable program r hs fills
   fillable fills left_at_end index target d a k comparison left right i at there written is has has_a wanted =
       free_of i index d a k (left_at_end.each index target comparison left right i (below_from_slice_get r.code index (instructions.Branch comparison left right target) at) at there is) written has has_a wanted

@@ -1,6 +1,6 @@
 -- The places that are said to be idle are.
 use Rattle.std.proofs.Common.{◌≡◌, ◌≢◌, ℕ, zero, suc, ◌+◌, Bool, false, true, List, [], ◌∷◌, ◌++◌, length, Some, length-append, refl, sym, ap, subst, ◌∙◌, arith, inl, inr}
-use Rattle.std.specs.Prelude.{◌==◌, ◌&&◌, not, nat_lt, bit_and, slice_get}
+use Rattle.std.specs.Prelude.{◌==◌, ◌&&◌, ◌||◌, not, nat_lt, bit_and, slice_get}
 use Rattle.std.proofs.lemmas.Bool.{and_parts, or_cases, cases_eq, ltb-true, eqb-true, false≢true, not_from_true, not-true}
 use Rattle.cyc_plain.specs.declared.instruction.Comparison.{Comparison}
 use Rattle.cyc_plain.specs.declared.instruction.Comparison.TheVariants as comparisons
@@ -11,10 +11,11 @@ use Rattle.cyc_plain.specs.declared.instruction.Operand.TheVariants as operands
 use Rattle.cyc_plain.specs.inside.Program.{Routine, Program}
 use Rattle.cyc_plain.specs.inside.Uses.{At, is_slot}
 use Rattle.cyc_registers.specs.declared.home.Home.{Home}
+use Rattle.cyc_registers.specs.declared.home.Home.TheVariants as homes
 use Rattle.cyc_registers.specs.declared.liveness.TheConstants.{MOST_CHOSEN}
-use Rattle.cyc_registers.specs.inside.Interference.{is_kept, home_of}
-use Rattle.cyc_registers.specs.inside.Idle.{always_has_result, AreIdle, IsIdle, IsUnused, NeverHolds, idle_at}
-use Rattle.cyc_registers.specs.inside.IdlePlaces.{is_idle, is_unused, never_holds}
+use Rattle.cyc_registers.specs.inside.Interference.{is_kept, home_of, register_of}
+use Rattle.cyc_registers.specs.inside.Idle.{always_has_result, AreIdle, IsIdle, IsThere, IsUnused, NeverHolds, idle_at}
+use Rattle.cyc_registers.specs.inside.IdlePlaces.{is_idle, is_there, is_unused, never_holds, shares_register}
 use Rattle.cyc_registers.specs.inside.LivenessTable.{IsSound}
 use Rattle.cyc_registers.specs.inside.Masks.{AreMasks, mask_at}
 use Rattle.cyc_registers.proofs.Bits.{apart_bits}
@@ -51,13 +52,28 @@ module _ (program : Program) (r : Routine) (masks live : List ℕ) (calls clause
             (subst (IsLiveAt program r slot) (let e : suc index ≡ index + 1 = omega arith in e) wanted)),
       )
 
+  there : (slot : ℕ) (operand : Operand) → is_there hs slot operand ≡ true → IsThere hs slot operand
+  there slot (operands.Slot number) is = of_homes (home_of hs slot) (home_of hs number) is refl refl
+    where
+      of_homes : (home other : Home) → shares_register home other ≡ true → home_of hs slot ≡ home → home_of hs number ≡ other
+          → IsThere hs slot (operands.Slot number)
+      of_homes (homes.Register register) (homes.Register other) same at at_other =
+          (register, at, (ap register_of at_other ∙ ap Some (sym (eqb-true register other same))))
+      of_homes (homes.Register register) (homes.Both other) same at at_other =
+          (register, at, (ap register_of at_other ∙ ap Some (sym (eqb-true register other same))))
+      of_homes home other same at at_other = absurd (false≢true same)
+  there slot (operands.Word word) is = absurd (false≢true is)
+
   next_index : (target : ℕ) → (target == index + 1) ≡ true → target ≡ suc index
   next_index target is = omega (arith, eqb-true target (index + 1) is)
 
   pub idle : (i : Instruction) → is_idle masks live hs index i ≡ true → IsIdle program r hs index i
-  idle (instructions.Move destination source) is = elim (or_cases (is_unused masks live hs index destination) (is_slot source destination) is) [
+  idle (instructions.Move destination source) is = elim (or_cases (is_unused masks live hs index destination) (is_slot source destination || is_there hs destination source) is) [
     | inl never ↦ inr (inl (unused destination never))
-    | inr same ↦ inl (same_slot source destination same)
+    | inr moved ↦ elim (or_cases (is_slot source destination) (is_there hs destination source) moved) [
+      | inl same ↦ inl (same_slot source destination same)
+      | inr shared ↦ inr (inr (there destination source shared))
+    ]
   ]
   idle (instructions.Unary operator destination operand) is = unused destination is
   idle (instructions.Binary operator destination left right) is =

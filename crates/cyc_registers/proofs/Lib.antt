@@ -3,6 +3,6 @@ pub mod Bits
 pub mod CheckedLiveness
 -- homes of slots are right
 pub mod InMemory
-pub mod AssignedHomes
+pub mod CheckedHomes
 pub mod IdleCode
 pub mod FillCode

@@ -9,4 +9,4 @@ pub mod Masks
 pub mod LivenessTable
 pub mod IdlePlaces
 pub mod FillPlaces
-pub mod Assignment
+pub mod Sharing

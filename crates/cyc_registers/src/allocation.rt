@@ -1,16 +1,18 @@
 //! Register allocation: spill costs and liveness, and by these the assignment of registers, and what is idle then.
-ghost use Rattle.std.specs.Prelude.{◌≤◌, IfOk};
+ghost use Rattle.std.specs.Prelude.{◌≡◌, ◌≤◌, IfOk};
 ghost use Rattle.cyc_plain.specs.inside.Program.{routine_of};
 ghost use Rattle.cyc_registers.specs.inside.Interference.{AreHomes};
 ghost use Rattle.cyc_registers.specs.inside.Idle.{AreIdle};
 ghost use Rattle.cyc_registers.specs.inside.Fills.{AreFillable};
 
-use crate::assignment::{homes_in, in_memory, masks_of};
-use crate::choice::taken_of;
+use crate::choice::choose;
 use crate::fills::fills_of;
 use crate::home::{Home, MOST_SAVED};
 use crate::idle::idle_places;
+use crate::interference::interference_of;
 use crate::liveness::{is_sound, liveness_of};
+use crate::numbering::masks_of;
+use crate::sharing::{are_right, groups_of, holders_of};
 use crate::spill_costs::spill_costs_of;
 use cyc_plain::{Function, Plain};
 use std::alloc::{AllocError, Global};
@@ -29,9 +31,33 @@ pub struct Allocation {
     pub fills: Vec<bool>,
 }
 
-/// A home for each slot of a function, and the places that are idle by them. Those slots that cost most in memory get registers,
-/// in order, while there are some. Of those that calls preserve slots have so many at most.
+/// Every slot in memory.
+#[tactic(auto, using(crate::proofs::InMemory::memory_homes))]
+fn in_memory(alloc: Global, plain: &Plain, function: &Function) -> Result<Vec<Home>, AllocError>
+    ensures { IfOk result (λ homes. AreHomes plain.now (routine_of function.now) 0 homes.items) }
+{
+    Ok(vec![in alloc; Home::Memory; function.slots]?)
+}
+
+/// Every slot in memory, no place idle and none that fills slots: that is right whatever the code does.
 #[tactic(auto, using(crate::proofs::IdleCode::none_idle, crate::proofs::FillCode::none_fillable))]
+fn memory_alone(alloc: Global, plain: &Plain, function: &Function) -> Result<Allocation, AllocError>
+    ensures homes { IfOk result (λ given. AreHomes plain.now (routine_of function.now) given.saved given.homes.items) }
+    ensures saved { IfOk result (λ given. given.saved ≡ 0) }
+    ensures fills { IfOk result (λ given. AreFillable plain.now (routine_of function.now) given.homes.items given.fills.items) }
+    ensures idle { IfOk result (λ given. AreIdle plain.now (routine_of function.now) given.homes.items given.idle.items) }
+{
+    Ok(Allocation {
+        homes: in_memory(alloc, plain, function)?,
+        saved: 0,
+        idle: Vec::new(alloc),
+        fills: Vec::new(alloc),
+    })
+}
+
+/// A home for each slot of a function, and the places that are idle by them. Those slots that cost most in memory get registers,
+/// while there are some, which they share where they are never live at once. Of those that calls preserve slots have so many at
+/// most.
 pub fn allocate(
     alloc: Global,
     plain: &Plain,
@@ -48,20 +74,24 @@ pub fn allocate(
     let masks = masks_of(alloc, &costs.chosen(alloc)?)?;
     let lives = liveness_of(alloc, plain, function, &masks, &costs.backward)?;
     if !is_sound(plain, function, &masks, &lives) {
-        return Ok(Allocation {
-            homes: in_memory(alloc, plain, function)?,
-            saved: 0,
-            idle: Vec::new(alloc),
-            fills: Vec::new(alloc),
-        });
+        return memory_alone(alloc, plain, function);
     }
-    let taken = taken_of(alloc, &costs, &masks, &lives, function.parameters, most)?;
-    let assigned = homes_in(alloc, plain, function, &masks, &lives, taken, most)?;
-    let idle = idle_places(alloc, plain, function, &masks, &lives, &assigned.homes)?;
-    let fills = fills_of(alloc, plain, function, &masks, &lives, &assigned.homes)?;
+    let interference = interference_of(alloc, plain, function, &masks, &lives)?;
+    let chosen = choose(alloc, function, &costs, &masks, &lives, &interference, most)?;
+    let homes = &chosen.homes;
+    let holders = holders_of(alloc, &masks, homes)?;
+    let groups = groups_of(alloc, &holders)?;
+    let saved = chosen.saved;
+    if !are_right(
+        plain, function, &masks, &lives, &holders, &groups, saved, homes,
+    ) {
+        return memory_alone(alloc, plain, function);
+    }
+    let idle = idle_places(alloc, plain, function, &masks, &lives, homes)?;
+    let fills = fills_of(alloc, plain, function, &masks, &lives, &holders, homes)?;
     Ok(Allocation {
-        homes: assigned.homes,
-        saved: assigned.saved,
+        homes: chosen.homes,
+        saved,
         idle,
         fills,
     })

@@ -1,9 +1,16 @@
-//! The choice of slots that get registers, and of which kind. Nothing is promised of it: homes are right whatever is chosen.
-use crate::home::MOST_BOTH;
-use crate::liveness::{Lives, MOST_CHOSEN, MOST_LOST};
+//! The choice of slots that get registers, and of which ones. Nothing is promised of it: homes are checked, whatever is chosen.
+ghost use Rattle.std.specs.Prelude.{◌≤◌, IfOk};
+
+use crate::home::{FIRST_PRESERVED, FIRST_REGISTER, Home, MOST_BOTH, MOST_SAVED, REGISTERS_END};
+use crate::interference::Interference;
+use crate::liveness::{ALL_NUMBERS, Lives, MOST_CHOSEN, may_have};
 use crate::masks::mask_at;
 use crate::spill_costs::SpillCosts;
+use cyc_plain::Function;
 use std::alloc::{AllocError, Global};
+
+/// How many registers slots may have of those that calls lose.
+const MOST_LOST: usize = (FIRST_PRESERVED - FIRST_REGISTER) as usize;
 
 /// What a register that calls preserve costs: it is saved and restored once for each call of the function, and other functions
 /// find fewer that they need not save.
@@ -12,52 +19,67 @@ const PRESERVED_PRICE: u64 = 4;
 /// What it costs more for a parameter, which comes in memory and is loaded from there.
 const ARRIVAL_PRICE: u64 = 2;
 
-/// The slots that are taken for registers, as masks.
-#[derive(Clone, Copy)]
-pub(crate) struct Taken {
-    /// Those that get one that calls lose.
-    pub(crate) lost: u32,
-    /// Those that get one that calls preserve.
-    pub(crate) preserved: u32,
-}
+/// How often a slot is looked at at most: once for each kind of register, and once more.
+const MOST_LOOKS: u32 = 4;
 
-/// A slot that is looked at, by its mask, and what a register of each kind would save.
+/// A slot that is looked at, and what a register of each kind would save.
 #[derive(Clone, Copy)]
 struct Candidate {
+    slot: usize,
     mask: u32,
+    /// Those that it meets.
+    meets: u32,
+    /// Those that are moved to it, or it to them.
+    moves: u32,
     /// One that calls lose.
     lost: u64,
     /// Whether that one would stand beside memory.
     is_both: bool,
-    /// One that calls preserve.
+    /// One that calls preserve, and that is saved for another slot already.
     preserved: u64,
-}
-
-/// How many registers of each kind are free, and how many slots may still have one beside memory.
-#[derive(Clone, Copy)]
-struct Room {
-    lost: usize,
-    both: usize,
-    preserved: usize,
-}
-
-/// A slot that may be taken, and another that then changes to a register of the other kind, by their masks, and what is gained.
-#[derive(Clone, Copy)]
-struct Choice {
-    mask: u32,
-    is_preserved: bool,
-    moved: u32,
+    /// Whether it wants a register that calls lose, and may find none to share.
+    is_wide: bool,
+    /// What is to be gained at most, as far as is known; once it has a home, nothing.
     gain: u64,
 }
 
-/// A slot that would change to a register of the other kind, and what that costs.
+/// A home that a slot may have, and what that would save.
 #[derive(Clone, Copy)]
-struct Change {
-    mask: u32,
-    cost: u64,
+struct Offer {
+    home: Home,
+    register: u8,
+    gain: u64,
 }
 
-fn better(first: Choice, second: Choice) -> Choice {
+/// The registers that are given so far.
+#[derive(Drop)]
+struct Registers {
+    /// The slots of each, by its number.
+    slots: Vec<u32>,
+    /// How many of those that calls preserve are given: the first of them.
+    saved: usize,
+    /// How many there may be.
+    most: usize,
+    /// How many slots have one beside memory.
+    both: usize,
+    /// How many are left that may find none to share, for which free ones are kept.
+    wide: usize,
+}
+
+/// Homes, and how many registers are to be saved for them.
+#[derive(Drop)]
+pub(crate) struct Chosen {
+    pub(crate) homes: Vec<Home>,
+    pub(crate) saved: usize,
+}
+
+const NO_OFFER: Offer = Offer {
+    home: Home::Memory,
+    register: 0,
+    gain: 0,
+};
+
+fn better(first: Offer, second: Offer) -> Offer {
     if second.gain > first.gain {
         second
     } else {
@@ -65,17 +87,11 @@ fn better(first: Choice, second: Choice) -> Choice {
     }
 }
 
-fn cheaper(first: Option<Change>, second: Change) -> Option<Change> {
-    match first {
-        Some(change) if change.cost <= second.cost => first,
-        _ => Some(second),
-    }
-}
-
 impl Candidate {
     fn of(
         costs: &SpillCosts,
         lives: &Lives,
+        interference: &Interference,
         slot: usize,
         parameters: usize,
         mask: u32,
@@ -83,180 +99,239 @@ impl Candidate {
         let most = costs.most_at(slot);
         let is_both = mask & (lives.calls | lives.clauses) != 0;
         let arrival = if slot < parameters { ARRIVAL_PRICE } else { 0 };
+        let meets = interference.meets(mask) | mask;
+        let lost = if is_both { costs.beside_at(slot) } else { most };
+        let preserved = if mask & lives.clauses != 0 {
+            0
+        } else {
+            most.saturating_sub(arrival)
+        };
         Candidate {
+            slot,
             mask,
-            lost: if is_both { costs.beside_at(slot) } else { most },
-            is_both,
-            preserved: if mask & lives.clauses != 0 {
-                0
-            } else {
-                most.saturating_sub(PRESERVED_PRICE.saturating_add(arrival))
-            },
-        }
-    }
-
-    /// Whether one of those that calls lose is free for it.
-    fn may_be_lost(self, room: Room) -> bool {
-        self.lost > 0 && room.lost > 0 && (!self.is_both || room.both > 0)
-    }
-
-    /// Whether one of those that calls preserve is.
-    fn may_be_preserved(self, room: Room) -> bool {
-        self.preserved > 0 && room.preserved > 0
-    }
-
-    /// What taking it for one of those that calls lose would gain: a free one, or that of a slot that changes.
-    fn lost_choice(self, room: Room, change: Option<Change>) -> Choice {
-        let mut choice = Choice {
-            mask: self.mask,
-            is_preserved: false,
-            moved: 0,
-            gain: 0,
-        };
-        if self.may_be_lost(room) {
-            choice.gain = self.lost;
-        } else if room.lost == 0 && (!self.is_both || room.both > 0) {
-            if let Some(change) = change {
-                choice.moved = change.mask;
-                choice.gain = self.lost.saturating_sub(change.cost);
-            }
-        }
-        choice
-    }
-
-    /// The same of those that calls preserve.
-    fn preserved_choice(self, room: Room, change: Option<Change>) -> Choice {
-        let mut choice = Choice {
-            mask: self.mask,
-            is_preserved: true,
-            moved: 0,
-            gain: 0,
-        };
-        if self.may_be_preserved(room) {
-            choice.gain = self.preserved;
-        } else if room.preserved == 0 {
-            if let Some(change) = change {
-                choice.moved = change.mask;
-                choice.gain = self.preserved.saturating_sub(change.cost);
-            }
-        }
-        choice
-    }
-}
-
-/// The slot that would change at least cost from a register that calls lose to one that they preserve.
-fn to_preserved(candidates: &[Candidate], taken: Taken, room: Room) -> Option<Change> {
-    let mut least = None;
-    for candidate in candidates {
-        if candidate.mask & taken.lost != 0 && candidate.may_be_preserved(room) {
-            let cost = candidate.lost.saturating_sub(candidate.preserved);
-            least = cheaper(
-                least,
-                Change {
-                    mask: candidate.mask,
-                    cost,
-                },
-            );
-        }
-    }
-    least
-}
-
-/// And the other way.
-fn to_lost(candidates: &[Candidate], taken: Taken, room: Room) -> Option<Change> {
-    let mut least = None;
-    for candidate in candidates {
-        if candidate.mask & taken.preserved != 0 && candidate.may_be_lost(room) {
-            let cost = candidate.preserved.saturating_sub(candidate.lost);
-            least = cheaper(
-                least,
-                Change {
-                    mask: candidate.mask,
-                    cost,
-                },
-            );
-        }
-    }
-    least
-}
-
-/// The choice among the slots that are not taken yet that would gain most. Where none would gain anything, no slot's.
-fn best(candidates: &[Candidate], taken: Taken, room: Room) -> Choice {
-    let from_lost = to_preserved(candidates, taken, room);
-    let from_preserved = to_lost(candidates, taken, room);
-    let mut best = Choice {
-        mask: 0,
-        is_preserved: false,
-        moved: 0,
-        gain: 0,
-    };
-    for candidate in candidates {
-        if candidate.mask & (taken.lost | taken.preserved) == 0 {
-            best = better(best, candidate.lost_choice(room, from_lost));
-            best = better(best, candidate.preserved_choice(room, from_preserved));
-        }
-    }
-    best
-}
-
-/// What is free where these are taken.
-fn room_beside(candidates: &[Candidate], taken: Taken, saved: usize) -> Room {
-    let mut both: u32 = 0;
-    for candidate in candidates {
-        if candidate.is_both {
-            both = both | candidate.mask;
-        }
-    }
-    Room {
-        lost: MOST_LOST.saturating_sub(taken.lost.count_ones() as usize),
-        both: MOST_BOTH.saturating_sub((taken.lost & both).count_ones() as usize),
-        preserved: saved.saturating_sub(taken.preserved.count_ones() as usize),
-    }
-}
-
-/// What is taken once this choice is made.
-fn taken_with(taken: Taken, choice: Choice) -> Taken {
-    let lost = taken.lost & !choice.moved | taken.preserved & choice.moved;
-    let preserved = taken.preserved & !choice.moved | taken.lost & choice.moved;
-    if choice.is_preserved {
-        Taken {
+            meets,
+            moves: interference.moves(mask),
             lost,
-            preserved: preserved | choice.mask,
-        }
-    } else {
-        Taken {
-            lost: lost | choice.mask,
+            is_both,
             preserved,
+            is_wide: if is_both {
+                lost > preserved
+            } else {
+                meets.count_ones() as usize > MOST_LOST
+            },
+            gain: most,
         }
     }
 }
 
-/// The masks of those of the chosen slots that gain most, of a function with so many parameters, which may save so many registers.
-pub(crate) fn taken_of(
+impl Registers {
+    /// One of these that others have, none of which the slot meets: one of a slot to which it is moved, or else that whose slots
+    /// are fewest, since instructions on one register cannot change places.
+    fn shared(&self, first: u8, end: u8, candidate: Candidate) -> Option<u8> {
+        let mut found = None;
+        let mut least = MOST_CHOSEN;
+        for register in first..end {
+            let slots = mask_at(&self.slots, register as usize);
+            if slots != 0 && slots & candidate.meets == 0 {
+                if slots & candidate.moves != 0 {
+                    return Some(register);
+                }
+                let count = slots.count_ones();
+                if count < least {
+                    least = count;
+                    found = Some(register);
+                }
+            }
+        }
+        found
+    }
+
+    /// Whether there are more free registers than are kept.
+    fn is_ample(&self) -> bool {
+        let mut free: usize = 0;
+        for register in FIRST_REGISTER..FIRST_PRESERVED {
+            if mask_at(&self.slots, register as usize) == 0 {
+                free = free.saturating_add(1);
+            }
+        }
+        free > self.wide
+    }
+
+    /// One of those that calls lose for a slot that is not in memory too. It shares one where it is moved, or where no more are
+    /// free than are kept.
+    fn alone(&self, candidate: Candidate) -> Option<u8> {
+        match self.shared(FIRST_REGISTER, FIRST_PRESERVED, candidate) {
+            Some(register) => {
+                let slots = mask_at(&self.slots, register as usize);
+                if slots & candidate.moves == 0 && self.is_ample() {
+                    self.free()
+                } else {
+                    Some(register)
+                }
+            }
+            None => self.free(),
+        }
+    }
+
+    /// One of those that calls lose which no slot has.
+    fn free(&self) -> Option<u8> {
+        for register in FIRST_REGISTER..FIRST_PRESERVED {
+            if mask_at(&self.slots, register as usize) == 0 {
+                return Some(register);
+            }
+        }
+        None
+    }
+
+    /// One of those that calls lose: one that others have, or a free one. What is live behind a call shares none of them.
+    fn lost_offer(&self, candidate: Candidate) -> Offer {
+        if candidate.is_both {
+            return match self.free() {
+                Some(register) if self.both < MOST_BOTH => Offer {
+                    home: Home::Both { register },
+                    register,
+                    gain: candidate.lost,
+                },
+                _ => NO_OFFER,
+            };
+        }
+        match self.alone(candidate) {
+            Some(register) => Offer {
+                home: Home::Register { register },
+                register,
+                gain: candidate.lost,
+            },
+            None => NO_OFFER,
+        }
+    }
+
+    /// One of those that calls preserve: one that is saved for another slot already, or the next one.
+    fn preserved_offer(&self, candidate: Candidate) -> Offer {
+        let next = FIRST_PRESERVED + self.saved.min(MOST_SAVED) as u8;
+        match self.shared(FIRST_PRESERVED, next, candidate) {
+            Some(register) => Offer {
+                home: Home::Register { register },
+                register,
+                gain: candidate.preserved,
+            },
+            None if self.saved < self.most => Offer {
+                home: Home::Register { register: next },
+                register: next,
+                gain: candidate.preserved.saturating_sub(PRESERVED_PRICE),
+            },
+            None => NO_OFFER,
+        }
+    }
+
+    fn take(&mut self, candidate: Candidate, offer: Offer) {
+        if let Some(slots) = self.slots.get_mut(offer.register as usize) {
+            if offer.register >= FIRST_PRESERVED && *slots == 0 {
+                self.saved = self.saved.saturating_add(1);
+            }
+            *slots = *slots | candidate.mask;
+            if let Home::Both { .. } = offer.home {
+                self.both = self.both.saturating_add(1);
+                *slots = ALL_NUMBERS;
+            }
+        }
+    }
+
+    /// Gives a slot the best home that is left, if that is as good as was hoped. Answers what it might gain still.
+    fn settle(&mut self, homes: &mut Vec<Home>, candidate: Candidate) -> u64 {
+        let offer = better(self.lost_offer(candidate), self.preserved_offer(candidate));
+        if offer.gain < candidate.gain {
+            return offer.gain;
+        }
+        self.take(candidate, offer);
+        if candidate.is_wide {
+            self.wide = self.wide.saturating_sub(1);
+        }
+        if let Some(home) = homes.get_mut(candidate.slot) {
+            *home = offer.home;
+        }
+        0
+    }
+}
+
+/// The place of the slot that would gain most.
+fn next_of(candidates: &[Candidate]) -> usize {
+    let mut next = 0;
+    let mut gain = 0;
+    for place in 0..candidates.len() {
+        if candidates[place].gain > gain {
+            gain = candidates[place].gain;
+            next = place;
+        }
+    }
+    next
+}
+
+/// The slots of a function that may have a register.
+fn candidates_of(
     alloc: Global,
+    function: &Function,
     costs: &SpillCosts,
     masks: &[u32],
     lives: &Lives,
-    parameters: usize,
-    saved: usize,
-) -> Result<Taken, AllocError> {
+    interference: &Interference,
+) -> Result<Vec<Candidate>, AllocError> {
     let mut candidates = Vec::new(alloc);
     for slot in 0..masks.len() {
-        let mask = mask_at(masks, slot);
-        if mask != 0 && mask & lives.barred == 0 {
-            candidates.push(Candidate::of(costs, lives, slot, parameters, mask))?;
+        if may_have(function, masks, lives, slot) {
+            let mask = mask_at(masks, slot);
+            candidates.push(Candidate::of(
+                costs,
+                lives,
+                interference,
+                slot,
+                function.parameters,
+                mask,
+            ))?;
         }
     }
-    let mut taken = Taken {
-        lost: 0,
-        preserved: 0,
+    Ok(candidates)
+}
+
+fn wide_in(candidates: &[Candidate]) -> usize {
+    let mut wide: usize = 0;
+    for candidate in candidates {
+        if candidate.is_wide {
+            wide = wide.saturating_add(1);
+        }
+    }
+    wide
+}
+
+/// Homes for the slots of a function, which may save so many registers: those that gain most come first.
+pub(crate) fn choose(
+    alloc: Global,
+    function: &Function,
+    costs: &SpillCosts,
+    masks: &[u32],
+    lives: &Lives,
+    interference: &Interference,
+    most: usize,
+) -> Result<Chosen, AllocError>
+    ensures { IfOk result (λ chosen. chosen.saved ≤ most) }
+{
+    let mut candidates = candidates_of(alloc, function, costs, masks, lives, interference)?;
+    let mut registers = Registers {
+        slots: vec![in alloc; 0; REGISTERS_END as usize]?,
+        saved: 0,
+        most,
+        both: 0,
+        wide: wide_in(&candidates),
     };
-    for _ in 0..MOST_CHOSEN {
-        let choice = best(&candidates, taken, room_beside(&candidates, taken, saved));
-        if choice.gain == 0 {
+    let mut homes = vec![in alloc; Home::Memory; function.slots]?;
+    for _ in 0..MOST_CHOSEN * MOST_LOOKS {
+        let next = next_of(&candidates);
+        if next >= candidates.len() || candidates[next].gain == 0 {
             break;
         }
-        taken = taken_with(taken, choice);
+        candidates[next].gain = registers.settle(&mut homes, candidates[next]);
     }
-    Ok(taken)
+    Ok(Chosen {
+        homes,
+        saved: registers.saved.min(most),
+    })
 }

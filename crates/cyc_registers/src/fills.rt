@@ -1,12 +1,11 @@
 //! Places whose words may be made in front of the branches that lead there.
 ghost use Rattle.std.specs.Prelude.{◌≡◌, ◌<◌, length, slice_get, IfOk};
 ghost use Rattle.cyc_plain.specs.inside.Program.{routine_of};
-ghost use Rattle.cyc_registers.specs.inside.Assignment.{HaveOwnRegisters};
 ghost use Rattle.cyc_registers.specs.inside.Fills.{AreFillable};
 ghost use Rattle.cyc_registers.specs.inside.FillPlaces as checks;
-ghost use Rattle.cyc_registers.specs.inside.Interference as right;
 ghost use Rattle.cyc_registers.specs.inside.LivenessTable.{IsSound};
 ghost use Rattle.cyc_registers.specs.inside.Masks.{AreMasks};
+ghost use Rattle.cyc_registers.specs.inside.Sharing.{AreHolders};
 
 use crate::home::Home;
 use crate::liveness::{Lives, MOST_CHOSEN};
@@ -14,27 +13,22 @@ use crate::masks::mask_at;
 use cyc_plain::{Function, Instruction, Plain};
 use std::alloc::{AllocError, Global};
 
-fn has_register(homes: &[Home], slot: usize) -> bool
-    ensures { result ≡ checks.has_register (right.home_of homes.now slot) }
+/// Whether a slot has no register, or none is live behind this place that has the same.
+fn is_free(holders: &[u32], live: &[u32], homes: &[Home], index: usize, slot: usize) -> bool
+    requires { index < length live.now }
+    ensures { result ≡ checks.is_free holders.now live.now homes.now index slot }
 {
     match homes.get(slot) {
-        Some(Home::Both { .. }) | Some(Home::Register { .. }) => true,
-        _ => false,
+        Some(Home::Both { register }) | Some(Home::Register { register }) => {
+            mask_at(live, index + 1) & mask_at(holders, *register as usize) == 0
+        }
+        _ => true,
     }
-}
-
-/// Whether a slot has no register, or is not live behind this place.
-fn is_free(masks: &[u32], live: &[u32], homes: &[Home], index: usize, slot: usize) -> bool
-    requires { index < length live.now }
-    ensures { result ≡ checks.is_free masks.now live.now homes.now index slot }
-{
-    let mask = mask_at(masks, slot);
-    !has_register(homes, slot) || (0 < mask && mask_at(live, index + 1) & mask == 0)
 }
 
 /// Whether a word that is made at this target may be made in front of the branch of this index.
 fn may_fill(
-    masks: &[u32],
+    holders: &[u32],
     live: &[u32],
     homes: &[Home],
     code: &[Instruction],
@@ -42,13 +36,13 @@ fn may_fill(
     target: usize,
 ) -> bool
     requires { index < length live.now }
-    ensures { result ≡ checks.may_fill masks.now live.now homes.now index (slice_get code.now target) }
+    ensures { result ≡ checks.may_fill holders.now live.now homes.now index (slice_get code.now target) }
 {
     match code.get(target) {
         Some(Instruction::Move { destination, .. })
         | Some(Instruction::Unary { destination, .. })
         | Some(Instruction::Binary { destination, .. }) => {
-            is_free(masks, live, homes, index, *destination)
+            is_free(holders, live, homes, index, *destination)
         }
         _ => false,
     }
@@ -56,7 +50,7 @@ fn may_fill(
 
 /// Bars the target of the instruction of this index, where it is a branch whose slot may not be filled from there.
 fn bar(
-    masks: &[u32],
+    holders: &[u32],
     live: &[u32],
     homes: &[Home],
     code: &[Instruction],
@@ -65,10 +59,10 @@ fn bar(
     fills: &mut Vec<bool>,
 )
     requires { index < length live.now }
-    ensures { fills.new.items ≡ checks.barring masks.now live.now homes.now code.now index instruction fills.old.items }
+    ensures { fills.new.items ≡ checks.barring holders.now live.now homes.now code.now index instruction fills.old.items }
 {
     if let Instruction::Branch { target, .. } = instruction {
-        if target < fills.len() && !may_fill(masks, live, homes, code, index, target) {
+        if target < fills.len() && !may_fill(holders, live, homes, code, index, target) {
             fills[target] = false;
         }
     }
@@ -82,19 +76,20 @@ pub(crate) fn fills_of(
     function: &Function,
     masks: &[u32],
     lives: &Lives,
+    holders: &[u32],
     homes: &[Home],
 ) -> Result<Vec<bool>, AllocError>
     requires numbered { AreMasks masks.now MOST_CHOSEN }
     requires sound { IsSound plain.now (routine_of function.now) masks.now lives.now.live.items lives.now.calls lives.now.clauses lives.now.barred }
     requires table { length lives.now.live.items ≡ length function.now.code.items }
-    requires own { HaveOwnRegisters homes.now }
+    requires holders { AreHolders masks.now holders.now homes.now }
     ensures { IfOk result (λ fills. AreFillable plain.now (routine_of function.now) homes.now fills.items) }
 {
     let mut fills = vec![in alloc; true; function.code.len()]?;
     for index in 0..function.code.len() {
         let instruction = function.code[index];
         bar(
-            masks,
+            holders,
             &lives.live,
             homes,
             &function.code,

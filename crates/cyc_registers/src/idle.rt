@@ -57,6 +57,36 @@ fn is_unused(masks: &[u32], live: &[u32], homes: &[Home], index: usize, slot: us
     0 < mask && (mask_at(live, index + 1) & mask == 0 && is_unkept(homes, slot))
 }
 
+/// Whether the first home is a register alone, which is the second one's too.
+fn shares_register(home: Home, other: Home) -> bool
+    ensures { result ≡ checks.shares_register home other }
+{
+    match (home, other) {
+        (Home::Register { register }, Home::Register { register: other }) => register == other,
+        (Home::Register { register }, Home::Both { register: other }) => register == other,
+        _ => false,
+    }
+}
+
+fn home_at(homes: &[Home], slot: usize) -> Home
+    ensures { result ≡ right.home_of homes.now slot }
+{
+    match homes.get(slot) {
+        Some(home) => *home,
+        None => Home::Memory,
+    }
+}
+
+/// Whether what is moved is in the register that the slot has alone.
+fn is_there(homes: &[Home], slot: usize, source: Operand) -> bool
+    ensures { result ≡ checks.is_there homes.now slot source }
+{
+    match source {
+        Operand::Slot { number } => shares_register(home_at(homes, slot), home_at(homes, number)),
+        Operand::Word { .. } => false,
+    }
+}
+
 fn is_idle(
     masks: &[u32],
     live: &[u32],
@@ -71,7 +101,8 @@ fn is_idle(
         Instruction::Move {
             destination,
             source,
-        } => is_unused(masks, live, homes, index, destination) || is_slot(source, destination),
+        } => is_unused(masks, live, homes, index, destination)
+            || (is_slot(source, destination) || is_there(homes, destination, source)),
         Instruction::Unary { destination, .. } => is_unused(masks, live, homes, index, destination),
         Instruction::Binary {
             operator,

@@ -2,14 +2,16 @@
 #![tactic(auto)]
 
 mod allocation;
-mod assignment;
 mod choice;
 mod fills;
 mod home;
 mod idle;
+mod interference;
 mod liveness;
 mod masks;
 mod moves;
+mod numbering;
+mod sharing;
 mod spill_costs;
 
 pub use allocation::{Allocation, allocate};

@@ -3,7 +3,6 @@ ghost use Rattle.std.specs.Prelude.{◌≡◌, ◌<◌, ◌≤◌, length, true,
 ghost use Rattle.cyc_plain.specs.inside.Program.{routine_of};
 ghost use Rattle.cyc_registers.specs.inside.LivenessTable as checks;
 
-use crate::home::{FIRST_PRESERVED, FIRST_REGISTER};
 use crate::masks::{bar_mask, mask_at, read_mask, write_mask};
 use cyc_plain::{Function, Instruction, Plain};
 use std::alloc::{AllocError, Global};
@@ -11,17 +10,14 @@ use std::alloc::{AllocError, Global};
 /// So many slots of a function are chosen at most, to be looked at: a mask has so many bits.
 pub(crate) const MOST_CHOSEN: u32 = 32;
 
-/// How many registers slots may have of those that calls lose.
-pub(crate) const MOST_LOST: usize = (FIRST_PRESERVED - FIRST_REGISTER) as usize;
-
 /// The mask of all numbers that a slot may be chosen as.
-const ALL_NUMBERS: u32 = 0xffff_ffff;
+pub(crate) const ALL_NUMBERS: u32 = 0xffff_ffff;
 
 /// How often the table is gone through once more at most. Each loop that stands in another takes one round.
 const ROUNDS: usize = 16;
 
 /// What the table has where the run may stand behind an instruction.
-fn behind_mask(instruction: Instruction, index: usize, live: &[u32]) -> u32
+pub(crate) fn behind_mask(instruction: Instruction, index: usize, live: &[u32]) -> u32
     requires { index < length live.now }
     ensures { result ≡ checks.behind_mask instruction index live.now }
 {
@@ -89,7 +85,7 @@ fn clause_mask(instruction: Instruction, live: &[u32]) -> u32
     }
 }
 
-fn is_within(part: u32, whole: u32) -> bool
+pub(crate) fn is_within(part: u32, whole: u32) -> bool
     ensures { result ≡ checks.is_within part whole }
 {
     part | whole == whole
@@ -223,20 +219,13 @@ pub(crate) fn liveness_of(
     Ok(lives)
 }
 
-/// Whether a slot that is taken may have a register: nothing bars it, and where the function begins it is not live, or is
-/// a parameter.
-pub(crate) fn may_have(
-    function: &Function,
-    masks: &[u32],
-    lives: &Lives,
-    taken: u32,
-    slot: usize,
-) -> bool
-    ensures { result ≡ checks.may_have masks.now lives.now.live.items taken lives.now.barred function.now.parameters slot }
+/// Whether a slot may have a register: it is chosen, nothing bars it, and where the function begins it is not live, or is a
+/// parameter.
+pub(crate) fn may_have(function: &Function, masks: &[u32], lives: &Lives, slot: usize) -> bool
+    ensures { result ≡ checks.may_have masks.now lives.now.live.items lives.now.barred function.now.parameters slot }
 {
     let mask = mask_at(masks, slot);
     0 < mask
-        && (0 < mask & taken
-            && (lives.barred & mask == 0
-                && (slot < function.parameters || mask_at(&lives.live, 0) & mask == 0)))
+        && (lives.barred & mask == 0
+            && (slot < function.parameters || mask_at(&lives.live, 0) & mask == 0))
 }

@@ -38,7 +38,7 @@ fn mask_behind(masks: &[u32], first: usize, offset: usize) -> u32
 }
 
 #[tactic(auto, using(crate::proofs::Bits::range_more))]
-fn range_mask(masks: &[u32], first: usize, count: usize) -> u32
+pub(crate) fn range_mask(masks: &[u32], first: usize, count: usize) -> u32
     ensures { result ≡ masks_of.range_mask masks.now first count }
 {
     let mut mask = 0;

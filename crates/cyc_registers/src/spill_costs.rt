@@ -43,7 +43,7 @@ fn target_of(instruction: Instruction) -> Option<usize> {
 }
 
 /// Whether the code may go on behind an instruction.
-fn goes_on(instruction: Instruction) -> bool {
+pub(crate) fn goes_on(instruction: Instruction) -> bool {
     match instruction {
         Instruction::Jump { .. }
         | Instruction::Return { .. }

@@ -1,5 +1,5 @@
 -- Which places are taken to fill slots, by homes and by a table of where chosen slots are live.
-use Rattle.std.specs.Prelude.{◌≡◌, ℕ, ◌+◌, ◌<◌, Bool, true, false, ◌==◌, ◌&&◌, ◌||◌, not, nat_lt, if◌then◌else◌, List, length, Option, Some, slice_get, slice_set, bit_and}
+use Rattle.std.specs.Prelude.{◌≡◌, ℕ, ◌+◌, ◌<◌, Bool, true, false, ◌==◌, ◌&&◌, not, nat_lt, if◌then◌else◌, List, length, Option, Some, slice_get, slice_set, bit_and}
 use Rattle.cyc_plain.specs.declared.instruction.Comparison.{Comparison}
 use Rattle.cyc_plain.specs.declared.instruction.Instruction.{Instruction}
 use Rattle.cyc_plain.specs.declared.instruction.Instruction.TheVariants as instructions
@@ -10,38 +10,37 @@ use Rattle.cyc_registers.specs.inside.Fills.{fills_at}
 use Rattle.cyc_registers.specs.inside.Interference.{home_of}
 use Rattle.cyc_registers.specs.inside.Masks.{mask_at}
 
-abbrev pub has_register : Home → Bool
-has_register homes.Memory = false
-has_register (homes.Both register) = true
-has_register (homes.Register register) = true
+-- the slots that have the register of this home, of which `holders` has those of each
+abbrev pub holders_of : (holders : List ℕ) → Home → ℕ
+holders_of holders homes.Memory = 0
+holders_of holders (homes.Both register) = mask_at holders register
+holders_of holders (homes.Register register) = mask_at holders register
 
--- the slot has no register, or is one of those in the table, which does not have it behind the instruction of this index
-abbrev pub is_free : (masks live : List ℕ) → List Home → (index slot : ℕ) → Bool
-is_free masks live hs index slot =
-    not (has_register (home_of hs slot))
-    || nat_lt 0 (mask_at masks slot) && bit_and (mask_at live (index + 1)) (mask_at masks slot) == 0
+-- the slot has no register, or none that has it is in the table behind the instruction of this index
+abbrev pub is_free : (holders live : List ℕ) → List Home → (index slot : ℕ) → Bool
+is_free holders live hs index slot = bit_and (mask_at live (index + 1)) (holders_of holders (home_of hs slot)) == 0
 
 -- an instruction to which the branch of this index leads
-abbrev pub may_fill : (masks live : List ℕ) → List Home → (index : ℕ) → Option Instruction → Bool
-may_fill masks live hs index (Some (instructions.Move destination source)) = is_free masks live hs index destination
-may_fill masks live hs index (Some (instructions.Unary operator destination operand)) =
-    is_free masks live hs index destination
-may_fill masks live hs index (Some (instructions.Binary operator destination left right)) =
-    is_free masks live hs index destination
-may_fill masks live hs index other = false
+abbrev pub may_fill : (holders live : List ℕ) → List Home → (index : ℕ) → Option Instruction → Bool
+may_fill holders live hs index (Some (instructions.Move destination source)) = is_free holders live hs index destination
+may_fill holders live hs index (Some (instructions.Unary operator destination operand)) =
+    is_free holders live hs index destination
+may_fill holders live hs index (Some (instructions.Binary operator destination left right)) =
+    is_free holders live hs index destination
+may_fill holders live hs index other = false
 
 -- The places that are left when the instruction of this index has barred its target, where that may not fill its slot.
-abbrev pub barring : (masks live : List ℕ) → List Home → List Instruction → (index : ℕ) → Instruction
+abbrev pub barring : (holders live : List ℕ) → List Home → List Instruction → (index : ℕ) → Instruction
     → (fills : List Bool) → List Bool
-barring masks live hs code index (instructions.Branch comparison left right target) fills =
-    if nat_lt target (length fills) && not (may_fill masks live hs index (slice_get code target))
+barring holders live hs code index (instructions.Branch comparison left right target) fills =
+    if nat_lt target (length fills) && not (may_fill holders live hs index (slice_get code target))
     then slice_set fills target false
     else fills
-barring masks live hs code index i fills = fills
+barring holders live hs code index i fills = fills
 
 -- what is left of all places when so many instructions have barred theirs
-pub record AreLeft (masks live : List ℕ) (hs : List Home) (code : List Instruction) (count : ℕ) (fills : List Bool) : Type 0 where
+pub record AreLeft (holders live : List ℕ) (hs : List Home) (code : List Instruction) (count : ℕ) (fills : List Bool) : Type 0 where
   pub as_many : length fills ≡ length code
   pub each : (index target : ℕ) (comparison : Comparison) (left right : Operand) (i : Instruction) → index < count
       → slice_get code index ≡ Some (instructions.Branch comparison left right target) → slice_get code target ≡ Some i
-      → fills_at fills target ≡ true → may_fill masks live hs index (Some i) ≡ true
+      → fills_at fills target ≡ true → may_fill holders live hs index (Some i) ≡ true

@@ -8,6 +8,7 @@ use Rattle.cyc_plain.specs.declared.instruction.Operand.{Operand}
 use Rattle.cyc_plain.specs.declared.instruction.Operand.TheVariants as operands
 use Rattle.cyc_plain.specs.inside.Uses.{is_slot}
 use Rattle.cyc_registers.specs.declared.home.Home.{Home}
+use Rattle.cyc_registers.specs.declared.home.Home.TheVariants as homes
 use Rattle.cyc_registers.specs.inside.Interference.{is_kept, home_of}
 use Rattle.cyc_registers.specs.inside.Idle.{always_has_result}
 use Rattle.cyc_registers.specs.inside.Masks.{mask_at}
@@ -17,15 +18,26 @@ abbrev pub never_holds : Comparison → (left right : Operand) → Bool
 never_holds comparisons.NotEqual (operands.Word left) (operands.Word right) = left == right
 never_holds comparison left right = false
 
+-- the first home is a register alone, which is the second one's too
+abbrev pub shares_register : (home other : Home) → Bool
+shares_register (homes.Register register) (homes.Register other) = register == other
+shares_register (homes.Register register) (homes.Both other) = register == other
+shares_register home other = false
+
 -- the slot is one of those in the table, which does not have it behind the instruction of this index
 abbrev pub is_unused : (masks live : List ℕ) → List Home → (index slot : ℕ) → Bool
 is_unused masks live hs index slot =
     nat_lt 0 (mask_at masks slot)
     && (bit_and (mask_at live (index + 1)) (mask_at masks slot) == 0 && not (is_kept (home_of hs slot)))
 
+-- what is moved is in the register that the slot has alone
+abbrev pub is_there : List Home → (slot : ℕ) → Operand → Bool
+is_there hs slot (operands.Slot number) = shares_register (home_of hs slot) (home_of hs number)
+is_there hs slot (operands.Word word) = false
+
 abbrev pub is_idle : (masks live : List ℕ) → List Home → (index : ℕ) → Instruction → Bool
 is_idle masks live hs index (instructions.Move destination source) =
-    is_unused masks live hs index destination || is_slot source destination
+    is_unused masks live hs index destination || (is_slot source destination || is_there hs destination source)
 is_idle masks live hs index (instructions.Unary operator destination operand) = is_unused masks live hs index destination
 is_idle masks live hs index (instructions.Binary operator destination left right) =
     is_unused masks live hs index destination && always_has_result operator

@@ -55,9 +55,8 @@ abbrev pub IsSound : Program → Routine → (masks live : List ℕ) → (calls 
 IsSound program r masks live calls clauses barred =
     (index : ℕ) (i : Instruction) → At r index i → is_sound_at program r.results masks i index live calls clauses barred ≡ true
 
--- A slot that is taken may have a register: nothing bars it, and where the function begins it is not live, or is a parameter.
-abbrev pub may_have : (masks live : List ℕ) → (taken barred parameters slot : ℕ) → Bool
-may_have masks live taken barred parameters slot =
+-- A slot may have a register: it is chosen, nothing bars it, and where the function begins it is not live, or is a parameter.
+abbrev pub may_have : (masks live : List ℕ) → (barred parameters slot : ℕ) → Bool
+may_have masks live barred parameters slot =
     nat_lt 0 (mask_at masks slot)
-    && (nat_lt 0 (bit_and (mask_at masks slot) taken)
-    && (bit_and barred (mask_at masks slot) == 0 && (nat_lt slot parameters || bit_and (mask_at live 0) (mask_at masks slot) == 0)))
+    && (bit_and barred (mask_at masks slot) == 0 && (nat_lt slot parameters || bit_and (mask_at live 0) (mask_at masks slot) == 0))

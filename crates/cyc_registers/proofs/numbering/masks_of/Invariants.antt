@@ -1,7 +1,7 @@
 use Rattle.std.proofs.Common.{◌≤◌}
 use Rattle.cyc_registers.specs.declared.liveness.TheConstants.{MOST_CHOSEN}
 use Rattle.cyc_registers.specs.inside.Masks.{AreMasks}
-use Rattle.cyc_registers.proofs.assignment.masks_of.Given as goal
+use Rattle.cyc_registers.proofs.numbering.masks_of.Given as goal
 
 -- the masks so far, and the next number
 abbrev pub invariant-loop-is_chosen : goal.invariant-loop-is_chosen

@@ -1,0 +1,35 @@
+//! The numbers of the slots that are looked at, as masks.
+ghost use Rattle.std.specs.Prelude.{◌≤◌, IfOk};
+ghost use Rattle.cyc_registers.specs.inside.Masks.{AreMasks};
+
+use crate::liveness::MOST_CHOSEN;
+use std::alloc::{AllocError, Global};
+
+/// A mask for one slot more: where it is chosen the bit of the next number, while there is one. Answers the number after it.
+#[tactic(auto, using(crate::proofs::Bits::no_mask_more, crate::proofs::Bits::one_mask_more, crate::proofs::Bits::one_bit))]
+fn number(masks: &mut Vec<u32>, next: u32, is_chosen: bool) -> Result<u32, AllocError>
+    requires numbered { AreMasks masks.old.items next }
+    requires few { next ≤ MOST_CHOSEN }
+    ensures numbered { IfOk result (λ after. AreMasks masks.new.items after) }
+    ensures few { IfOk result (λ after. after ≤ MOST_CHOSEN) }
+{
+    if !is_chosen || next >= MOST_CHOSEN {
+        masks.push(0)?;
+        return Ok(next);
+    }
+    masks.push(1 << next)?;
+    Ok(next + 1)
+}
+
+/// The masks of slots: those that are chosen get numbers in order, while there are some.
+#[tactic(auto, using(crate::proofs::Bits::no_masks, crate::proofs::Bits::fewer_masks))]
+pub(crate) fn masks_of(alloc: Global, chosen: &[bool]) -> Result<Vec<u32>, AllocError>
+    ensures { IfOk result (λ masks. AreMasks masks.items MOST_CHOSEN) }
+{
+    let mut masks = Vec::new(alloc);
+    let mut next = 0;
+    for is_chosen in chosen {
+        next = number(&mut masks, next, *is_chosen)?;
+    }
+    Ok(masks)
+}
