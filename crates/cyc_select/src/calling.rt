@@ -60,7 +60,7 @@ impl Emitter {
         ensures { AddsLines result self.old self.new (ordinary (pass caller.now (coming callee.now) source slot)) }
     {
         match passed_from(caller, callee, source, slot) {
-            Some(register) => self.give_coming(callee, register, slot),
+            Some(register) => self.hand_coming(callee, register, slot),
             None => {
                 let offset = offset_of(MOST_FRAME_WORDS) + offset_of(caller.first_slot + source);
                 self.ordinary(&[load(comes_by(callee, slot), offset)])?;

@@ -13,7 +13,7 @@ use crate::globals::reach_count;
 use crate::hoisting::branch_count;
 use crate::memory::address_count;
 use crate::operands::{
-    arrival_count, give_coming_count, give_count, is_kept, keep_coming_count, keep_count,
+    arrival_count, give_count, hand_coming_count, is_kept, keep_coming_count, keep_count,
     load_count, move_count, operand_count, passed_from, reload_count, word_count,
 };
 use crate::operators::{Parts, is_tested, plan_count};
@@ -137,7 +137,7 @@ fn pass_count(caller: &Frame, callee: &Frame, source: usize, slot: usize) -> usi
     ensures few { result ≤ 2 }
 {
     match passed_from(caller, callee, source, slot) {
-        Some(_) => give_coming_count(callee, slot),
+        Some(register) => hand_coming_count(callee, register, slot),
         None => keep_coming_count(callee, slot) + 1,
     }
 }

@@ -2,7 +2,7 @@
 ghost use Rattle.std.specs.Prelude.{◌≡◌, ◌≤◌, length, OnOk};
 ghost use Rattle.cyc_registers.specs.inside.Interference.{home_of, both_count, saved_count};
 ghost use Rattle.cyc_registers.specs.declared.home.TheConstants.{MOST_BOTH, MOST_SAVED};
-ghost use Rattle.cyc_select.specs.inside.Selection.{coming, coming_home, arriving_home, arriving, arrivals, ordinary, value_register, is_kept, made_in, keep_code, keep_count, give_code, give_count, bring_code, bring_all, is_taken, passed_from, move_count, reload, reloads, reload_count, arrival_count, word_code, load_code, operand_code, operand_register, word_count, load_count, operand_count};
+ghost use Rattle.cyc_select.specs.inside.Selection.{coming, coming_home, arriving_home, arriving, arrivals, ordinary, value_register, is_kept, made_in, keep_code, keep_count, give_code, give_count, is_own, hand_code, hand_count, bring_code, bring_all, is_taken, passed_from, move_count, reload, reloads, reload_count, arrival_count, word_code, load_code, operand_code, operand_register, word_count, load_count, operand_count};
 ghost use Rattle.cyc_select.specs.inside.Emission.{AddsLines, IsReached, AreReached, IsFound};
 
 use crate::constants::{FIRST, ZERO};
@@ -203,7 +203,28 @@ pub(crate) fn keep_coming_count(callee: &Frame, slot: usize) -> usize
     if is_kept_coming(callee, slot) { 1 } else { 0 }
 }
 
-pub(crate) fn give_coming_count(callee: &Frame, slot: usize) -> usize
+fn is_own_coming(callee: &Frame, source: u8, slot: usize) -> bool
+    ensures { result ≡ is_own (value_register (coming callee.now) slot) source }
+{
+    match register_coming(callee, slot) {
+        Some(own) => own == source,
+        None => false,
+    }
+}
+
+/// The lines that bring a register's word to an argument's slot.
+pub(crate) fn hand_coming_count(callee: &Frame, source: u8, slot: usize) -> usize
+    ensures value { result ≡ hand_count (coming callee.now) source slot }
+    ensures few { result ≤ 2 }
+{
+    if is_own_coming(callee, source, slot) {
+        keep_coming_count(callee, slot)
+    } else {
+        give_coming_count(callee, slot)
+    }
+}
+
+fn give_coming_count(callee: &Frame, slot: usize) -> usize
     ensures value { result ≡ give_count (coming callee.now) slot }
     ensures few { result ≤ 2 }
 {
@@ -443,12 +464,7 @@ impl Emitter {
     }
 
     /// A register's word comes to an argument's slot.
-    pub(crate) fn give_coming(
-        &mut self,
-        callee: &Frame,
-        source: u8,
-        slot: usize,
-    ) -> Result<(), AllocError>
+    fn give_coming(&mut self, callee: &Frame, source: u8, slot: usize) -> Result<(), AllocError>
         requires { IsReached callee.now slot }
         ensures { AddsLines result self.old self.new (ordinary (give_code (coming callee.now) source slot)) }
     {
@@ -459,6 +475,22 @@ impl Emitter {
             }
             None => self.ordinary(&[store_slot(callee, source, slot)]),
         }
+    }
+
+    /// The same, where the register may be the one that the argument comes in: then its word is there already.
+    pub(crate) fn hand_coming(
+        &mut self,
+        callee: &Frame,
+        source: u8,
+        slot: usize,
+    ) -> Result<(), AllocError>
+        requires { IsReached callee.now slot }
+        ensures { AddsLines result self.old self.new (ordinary (hand_code (coming callee.now) source slot)) }
+    {
+        if is_own_coming(callee, source, slot) {
+            return self.keep_coming(callee, slot);
+        }
+        self.give_coming(callee, source, slot)
     }
 
     /// The register of a home is read again, where it stands beside memory.

@@ -27,7 +27,7 @@ use Rattle.cyc_select.specs.declared.plan.Test.{Test}
 use Rattle.cyc_select.specs.declared.plan.Test.TheVariants as tests
 use Rattle.cyc_select.specs.inside.Plans.{arithmetic_plan, immediate_plan, immediate_or, zero_plan, differs_plan, equal_plan, unary_plan, binary_plan}
 use Rattle.cyc_select.specs.inside.Numbers.{fits_signed, negated_half, is_word, is_zero_word}
-use Rattle.cyc_select.specs.inside.Selection.{value_register, is_kept, fetch_from, fetch_count, keep_code, keep_count, give_to, give_code, give_count_to, give_count, bring_code, bring_all, gives_count, move_to, move_count_to, move_count, moves_count, move_words_count, is_taken, passed_from, spill_from, spill, spills, spill_count_from, spill_count, spills_count, pass_from, pass, copies, pass_count_from, pass_count, copies_count, load_words, load_all, store_all, moves, all_moved, moved_code, result_registers, argument_code, argument_count, service_number, answer_code, small, or_immediate, load_upper, constant, is_tested, word_code, load_code, operand_code, operand_register, made_in, operation_code, outcome_code, operands_code, operation_of, computed_code, plan_code, test_code, divided_code, store_slot, add_immediate, minus, word_count, load_count, operand_count, far_plan, address_code, address_count, operation_count, outcome_count, count_of_operation, plan_count, test_count, divide_count, operator_count, regions_code, regions_count, is_near, upper_of_global, reach_code, reach_count, at_global, global_code, with_hoisted, hoisted_count}
+use Rattle.cyc_select.specs.inside.Selection.{value_register, is_kept, fetch_from, fetch_count, keep_code, keep_count, give_to, give_code, give_count_to, give_count, bring_code, bring_all, gives_count, move_to, move_count_to, move_count, moves_count, move_words_count, is_taken, passed_from, spill_from, spill, spills, spill_count_from, spill_count, spills_count, pass_from, pass, copies, pass_count_from, pass_count, copies_count, load_words, load_all, store_all, moves, all_moved, moved_code, result_registers, argument_code, argument_count, service_number, answer_code, small, or_immediate, load_upper, constant, is_tested, word_code, load_code, operand_code, operand_register, made_in, operation_code, outcome_code, operands_code, operation_of, computed_code, plan_code, test_code, divided_code, store_slot, add_immediate, minus, word_count, load_count, operand_count, far_plan, address_code, address_count, operation_count, outcome_count, count_of_operation, plan_count, test_count, divide_count, operator_count, regions_code, regions_count, is_near, upper_of_global, reach_code, reach_count, at_global, global_code, with_hoisted, hoisted_count, is_own}
 use Rattle.cyc_select.proofs.relation.Values.{memory_kept}
 use Rattle.cyc_isa.specs.declared.instr.MemoryOp.{MemoryOp}
 
@@ -450,7 +450,11 @@ length_copies caller callee source slot (suc count) =
   where
     one : (o : Option ℕ) → length (pass_from o caller callee source slot) ≡ pass_count_from o callee slot
     one None = let e : suc (length (keep_code callee slot)) ≡ keep_count callee slot + 1 = omega (arith, length_keep callee slot) in e
-    one (Some register) = length_give callee register slot
+    one (Some register) = handed (is_own (value_register callee slot) register)
+      where
+        handed : (b : Bool) → length (if b then keep_code callee slot else give_code callee register slot) ≡ (if b then keep_count callee slot else give_count callee slot)
+        handed true = length_keep callee slot
+        handed false = length_give callee register slot
 
 pub copies_few : (caller callee : Frame) (source slot count : ℕ) → copies_count caller callee source slot count ≤ 2 * count
 copies_few caller callee source slot zero = omega arith
@@ -458,7 +462,11 @@ copies_few caller callee source slot (suc count) = omega (arith, one (passed_fro
   where
     one : (o : Option ℕ) → pass_count_from o callee slot ≤ 2
     one None = omega (arith, keep_few callee slot)
-    one (Some register) = give_small callee slot
+    one (Some register) = handed (is_own (value_register callee slot) register)
+      where
+        handed : (b : Bool) → (if b then keep_count callee slot else give_count callee slot) ≤ 2
+        handed true = omega (arith, keep_few callee slot)
+        handed false = give_small callee slot
 
 -- one argument more
 pub copies_next : (caller callee : Frame) (source count word : ℕ) → word < count

@@ -1,7 +1,7 @@
 -- Arguments on their way from a caller, by registers or from its frame, to the slots of the frame below it.
 use Rattle.std.proofs.Common.{◌≡◌, ◌≢◌, ℕ, zero, suc, ◌+◌, ◌%◌, ◌^◌, ◌<◌, ◌≤◌, Bool, true, false, List, [], ◌∷◌, ◌++◌, Option, Some, None, refl, sym, ap, subst, ◌∙◌, arith, inl, inr}
 use Rattle.std.specs.Prelude.{◌⊎◌, ◌==◌, if◌then◌else◌}
-use Rattle.std.proofs.lemmas.Bool.{cases_eq, eqb-false, ne_eqb, false≢true, or_parts}
+use Rattle.std.proofs.lemmas.Bool.{cases_eq, eqb-false, eqb-true, ne_eqb, false≢true, or_parts}
 use Rattle.cyc_words.specs.Word.{IsWord, add_of}
 use Rattle.cyc_plain.specs.declared.limits.TheConstants.{MOST_FRAME_WORDS}
 use Rattle.cyc_isa.specs.declared.instr.Instr.{Instr}
@@ -11,7 +11,7 @@ use Rattle.cyc_plain.specs.inside.State.{Words, put}
 use Rattle.cyc_plain.proofs.SlotLaws.{put-same, put-other}
 use Rattle.cyc_frame.specs.inside.Layout.{slot_word}
 use Rattle.cyc_frame.specs.inside.Frame.{Frame}
-use Rattle.cyc_select.specs.inside.Selection.{value_register, or_else, is_kept, made_in, slot_offset, load, store_slot, copy, keep_code, give_to, is_taken, free_register, passed_from, pass_from, pass, copies}
+use Rattle.cyc_select.specs.inside.Selection.{value_register, or_else, is_kept, made_in, slot_offset, load, store_slot, copy, keep_code, give_to, is_taken, free_register, passed_from, pass_from, pass, copies, is_own, give_code}
 use Rattle.cyc_select.proofs.values.Blocks.{safe_append}
 use Rattle.cyc_select.proofs.relation.Cells.{IsCell}
 use Rattle.cyc_select.proofs.values.Operations.{address_at}
@@ -179,13 +179,36 @@ module _ (globals stack : ℕ) (caller callee : Frame) (caller_slots callee_slot
           (ap (λ (n : ℕ). put q (n % 32) (add_of (q (k % 32)) (q 0))) (sym made)) refl
           (ap (add_of (q (k % 32))) zero_is ∙ (ap (λ (x : ℕ). add_of x 0) (ap q whole ∙ is) ∙ sum_is value fits))
 
+      -- where the register is its own already
+      is_there : (o : Option ℕ) (k : ℕ) → is_own o k ≡ true → o ≡ Some k
+      is_there None k own = absurd (false≢true own)
+      is_there (Some register) k own = ap Some (eqb-true register k own)
+
+      handed : (b : Bool) (k : ℕ) → is_own (value_register callee slot) k ≡ b → (k < 24) × (q k ≡ value) × IsWord value
+          → Passes (if b then keep_code callee slot else give_code callee k slot) slot q m value
+      handed true k own (high, is, fits) =
+          let has : value_register callee slot ≡ Some k = is_there (value_register callee slot) k own in
+          let made : made_in callee slot ≡ k = made_in_is callee slot k has in
+          let whole : k % 32 ≡ k = omega (arith, high) in
+          let st = is_stored (is_kept callee slot) (made_in callee slot) slot q m value is_low slot_below (ap (λ (n : ℕ). q (n % 32)) made ∙ (ap q whole ∙ is)) in
+          record {
+            safe = st.safe;
+            kept = λ n aside. ap (λ (x : Words). x n) st.registers;
+            made = λ j also. ap (λ (x : Words). x j) st.registers ∙ (ap q (let e : j ≡ k = (let f : Some j ≡ Some k = sym also ∙ has in cc) in e) ∙ is);
+            others = λ n n_high other. ap (λ (x : Words). x n) st.registers;
+            outside = st.outside;
+            inside = st.inside;
+            store = st.store;
+          }
+      handed false k own held_there = given (value_register callee slot) k refl held_there
+
       go : (o : Option ℕ) → passed_from caller callee source slot ≡ o → Passes (pass_from o caller callee source slot) slot q m value
       go None none =
           let from = from_caller q source is_low source_below in
           through (load (made_in callee slot) (frame_size + slot_offset caller source)) slot q m value (m.words (memory_address (q FRAME) (frame_size + slot_offset caller source))) is_low slot_below
           ((ne_eqb (made_in callee slot % 32) 0 (λ e. absurd (omega (arith, e, (made_range slot).0))), subst (IsCell globals stack) (sym from) (caller_cell source source_below)), tt)
           refl refl (ap m.words from ∙ there none)
-      go (Some k) some = let (k_low, high, is, fits) = held k some in given (value_register callee slot) k refl (high, is, fits)
+      go (Some k) some = let (k_low, high, is, fits) = held k some in handed (is_own (value_register callee slot) k) k refl (high, is, fits)
 
   -- ---- all of them
 

@@ -166,7 +166,17 @@ give_to (Some register) frame source slot = copy register source ∷ keep_code f
 abbrev pub give_code : Frame → (source slot : ℕ) → List Instr
 give_code frame source slot = give_to (value_register frame slot) frame source slot
 
--- The same, where registers that stand beside memory are read again behind it: such a slot gets the word in memory alone.
+-- the slot has this register
+abbrev pub is_own : Option ℕ → (register : ℕ) → Bool
+is_own None register = false
+is_own (Some own) register = own == register
+
+-- the same, where the register may be the slot's own: then its word is there already
+abbrev pub hand_code : Frame → (source slot : ℕ) → List Instr
+hand_code frame source slot =
+    if is_own (value_register frame slot) source then keep_code frame slot else give_code frame source slot
+
+-- The same as `give_code`, where registers that stand beside memory are read again behind it: such a slot gets the word in memory alone.
 abbrev pub bring_code : (again : Bool) → Frame → (source slot : ℕ) → List Instr
 bring_code again frame source slot =
     if again && is_kept frame slot then store_slot frame source slot ∷ [] else give_code frame source slot
@@ -423,6 +433,10 @@ give_count_to (Some register) frame slot = keep_count frame slot + 1
 abbrev pub give_count : Frame → (slot : ℕ) → ℕ
 give_count frame slot = give_count_to (value_register frame slot) frame slot
 
+abbrev pub hand_count : Frame → (source slot : ℕ) → ℕ
+hand_count frame source slot =
+    if is_own (value_register frame slot) source then keep_count frame slot else give_count frame slot
+
 -- what brings words into the slots from this one on
 abbrev pub gives_count : Frame → (slot count : ℕ) → ℕ
 gives_count frame slot zero = 0
@@ -579,7 +593,7 @@ spills_count caller callee source slot (suc count) =
 abbrev pub pass_from : Option ℕ → (caller callee : Frame) → (source slot : ℕ) → List Instr
 pass_from None caller callee source slot =
     load (made_in callee slot) (4 * MOST_FRAME_WORDS + slot_offset caller source) ∷ keep_code callee slot
-pass_from (Some register) caller callee source slot = give_code callee register slot
+pass_from (Some register) caller callee source slot = hand_code callee register slot
 
 abbrev pub pass : (caller callee : Frame) → (source slot : ℕ) → List Instr
 pass caller callee source slot = pass_from (passed_from caller callee source slot) caller callee source slot
@@ -591,7 +605,7 @@ copies caller callee source slot (suc count) =
 
 abbrev pub pass_count_from : Option ℕ → (callee : Frame) → (slot : ℕ) → ℕ
 pass_count_from None callee slot = keep_count callee slot + 1
-pass_count_from (Some register) callee slot = give_count callee slot
+pass_count_from (Some register) callee slot = hand_count callee register slot
 
 abbrev pub pass_count : (caller callee : Frame) → (source slot : ℕ) → ℕ
 pass_count caller callee source slot = pass_count_from (passed_from caller callee source slot) callee slot
