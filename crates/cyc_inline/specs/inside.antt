@@ -4,3 +4,4 @@ pub mod Inlined
 pub mod Opened
 pub mod Sites
 pub mod Emission
+pub mod Changes

@@ -1,18 +1,20 @@
-//! Functions that stand for those of a program: with some of their calls opened, or as they are.
-ghost use Rattle.std.specs.Prelude.{◌≡◌, ◌+◌, ◌<◌, ◌≤◌, length, IfOk, IfSome};
+//! Functions that stand for those of a program, with some of their calls opened.
+ghost use Rattle.std.specs.Prelude.{◌+◌, ◌<◌, ◌≤◌, length, IfOk, IfSome};
 ghost use Rattle.cyc_plain.specs.inside.Program.{routine_at, routine_of, size};
 ghost use Rattle.cyc_plain.specs.inside.WellFormed.{IsPlain};
 ghost use Rattle.cyc_inline.specs.inside.Emission.{AreChosen, AreLeafs, IsMade};
+ghost use Rattle.cyc_inline.specs.inside.Changes.{IsChange};
 
 use crate::caller::{Caller, opened_places};
 use crate::choice::{Choice, choose, larger};
 use crate::emission::Emission;
 use crate::origin::Origin;
 use crate::sizes::code_size;
-use cyc_plain::{Function, LAYOUT_WORDS, MOST_SIZE, Plain};
+use crate::tables::place_in;
+use cyc_plain::{Function, Instruction, LAYOUT_WORDS, MOST_SIZE, Plain};
 use std::alloc::{AllocError, Global};
 
-/// A function that stands for one of a program.
+/// A function that stands for one of a program, with calls opened.
 #[derive(Drop)]
 pub(crate) struct Made {
     pub(crate) function: Function,
@@ -20,36 +22,6 @@ pub(crate) struct Made {
     pub(crate) origins: Vec<Origin>,
     /// By how many words the functions behind it may become larger.
     pub(crate) spare: usize,
-}
-
-/// The function as it is.
-fn copied(alloc: Global, plain: &Plain, number: usize, spare: usize) -> Result<Made, AllocError>
-    requires plain { IsPlain plain.now }
-    requires number { number < length plain.now.functions }
-    ensures made { IfOk result (λ made. IsMade plain.now number (routine_of made.function) made.origins.items) }
-    ensures size { IfOk result (λ made. size (routine_of made.function) + made.spare ≤ size (routine_at plain.now number) + spare) }
-{
-    let function = plain.function(number);
-    let mut origins = Vec::with_capacity(alloc, function.code.len())?;
-    for index in 0..function.code.len() {
-        origins.push(Origin {
-            function: number,
-            index,
-        })?;
-    }
-    let code = Vec::from_slice(alloc, &function.code)?;
-    Ok(Made {
-        function: Function {
-            name: function.name,
-            parameters: function.parameters,
-            results: function.results,
-            slots: function.slots,
-            frame_count: function.frame_count,
-            code,
-        },
-        origins,
-        spare,
-    })
 }
 
 /// The function with these calls opened.
@@ -106,27 +78,43 @@ fn spare_behind(given: &Function, made: &Function, spare: usize) -> Option<usize
     Some(most - behind)
 }
 
-/// A function that stands for the one of this number: with calls opened, if it has such calls and there is room for their code.
+/// Whether a function calls one that may be opened.
+fn has_site(function: &Function, leafs: &[usize]) -> bool {
+    for instruction in &function.code {
+        if let Instruction::Call { function, .. } = *instruction {
+            if place_in(leafs, function) > 0 {
+                return true;
+            }
+        }
+    }
+    false
+}
+
+/// A function that stands for the one of this number, with calls opened, if it has such calls and there is room for their
+/// code. Where there is none, the one of this number stands for itself.
 pub(crate) fn make(
     alloc: Global,
     plain: &Plain,
     leafs: &[usize],
     number: usize,
     spare: usize,
-) -> Result<Made, AllocError>
+) -> Result<Option<Made>, AllocError>
     requires plain { IsPlain plain.now }
     requires leafs { AreLeafs plain.now leafs.now }
     requires number { number < length plain.now.functions }
-    ensures made { IfOk result (λ made. IsMade plain.now number (routine_of made.function) made.origins.items) }
-    ensures size { IfOk result (λ made. size (routine_of made.function) + made.spare ≤ size (routine_at plain.now number) + spare) }
+    ensures { IfOk result (IsChange plain.now number spare) }
 {
+    let function = plain.function(number);
+    if !has_site(function, leafs) {
+        return Ok(None);
+    }
     let choice = choose(alloc, plain, leafs, number)?;
     if choice.growth > 0 {
         let mut made = opened(alloc, plain, number, &choice, spare)?;
         if let Some(left) = spare_behind(plain.function(number), &made.function, spare) {
             made.spare = left;
-            return Ok(made);
+            return Ok(Some(made));
         }
     }
-    copied(alloc, plain, number, spare)
+    Ok(None)
 }

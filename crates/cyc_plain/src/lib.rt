@@ -12,4 +12,4 @@ pub use limits::{
     GLOBALS_BASE, GREATEST_VALUE, LAYOUT_WORDS, MOST_FRAME_WORDS, MOST_GLOBALS, MOST_SIZE,
     RECORD_WORDS,
 };
-pub use program::{Function, Plain, well_formed};
+pub use program::{Function, Parts, Plain, well_formed};

@@ -32,6 +32,14 @@ pub struct Plain {
     main: usize,
 }
 
+/// What a plain program is made of.
+#[derive(Drop)]
+pub struct Parts {
+    pub functions: Vec<Function>,
+    pub globals: Vec<u32>,
+    pub main: usize,
+}
+
 impl Model for Plain {
     ghost use Rattle.cyc_plain.specs.inside.Program.{Program, program_of};
     ghost use Rattle.cyc_plain.specs.inside.WellFormed.{IsPlain};
@@ -54,6 +62,18 @@ impl Plain {
             functions,
             globals,
             main,
+        }
+    }
+
+    /// What the program is made of, for another one to be made of it.
+    pub fn into_parts(self) -> Parts
+        ensures value { program_of result.functions.items result.globals.items result.main ≡ self }
+        ensures plain { IsPlain self }
+    {
+        Parts {
+            functions: self.functions,
+            globals: self.globals,
+            main: self.main,
         }
     }
 

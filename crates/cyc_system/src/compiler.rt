@@ -79,7 +79,7 @@ fn lower_improved(alloc: Global, program: &Flowed) -> Result<Plain, Fault>
     ensures { Decides (IsAccepted (view_program program.now.tree)) IsProgramOf (HasTooMany (view_program program.now.tree)) (HasTooMany (view_program program.now.tree)) result }
 {
     let plain = lower(alloc, program)?;
-    let inlined = inline(alloc, &plain, room_for(&program.tree))?;
+    let inlined = inline(alloc, plain, room_for(&program.tree))?;
     let simplified = simplify(alloc, &inlined.plain)?;
     Ok(simplified)
 }

@@ -173,11 +173,29 @@ fn span_of(marks: &Marks, mark: usize, name: Span) -> Span {
     }
 }
 
-/// What was lowered: the functions, and the marks of each.
+/// What was lowered: the functions, which stand beside what was made of them, and the marks of each.
 #[derive(Clone, Copy)]
 struct Lowered<'a> {
-    functions: &'a [Function],
+    inlined: &'a Inlined,
     marks: &'a [Marks],
+}
+
+impl<'a> Lowered<'a> {
+    /// The function of this number as it was lowered.
+    fn function(&self, number: usize) -> Option<&'a Function> {
+        match self.inlined.opened.get(number)? {
+            Some(opened) => Some(&opened.given),
+            None => self.inlined.plain.functions().get(number),
+        }
+    }
+
+    /// The instruction from which this one is made, in the function of that number.
+    fn origin(&self, function: usize, index: usize) -> Option<Origin> {
+        match self.inlined.opened.get(function)? {
+            Some(opened) => opened.origins.get(index).copied(),
+            None => Some(Origin { function, index }),
+        }
+    }
 }
 
 /// What the instruction of this number is made from, in the function of that number.
@@ -202,7 +220,7 @@ fn source_of(
 /// What an inlined instruction is made from, which stands in the place of a call.
 fn inlined_cause(lowered: Lowered<'_>, origin: Origin, site: Site) -> Cause {
     let (Some(function), Some(marks)) = (
-        lowered.functions.get(origin.function),
+        lowered.function(origin.function),
         lowered.marks.get(origin.function),
     ) else {
         return own_cause(Source::Start);
@@ -279,9 +297,8 @@ impl Sites {
 struct Lines<'a> {
     /// The number of the function.
     number: usize,
-    /// Its code with what is inlined, and what each instruction is made of.
+    /// Its code with what is inlined.
     code: &'a [Instruction],
-    origins: &'a [Origin],
     /// The first line of each of them, and the line behind them all.
     lines: &'a [usize],
     end: usize,
@@ -295,8 +312,7 @@ fn add_function(
     made: Lines<'_>,
 ) -> Result<(), AllocError> {
     let number = made.number;
-    let (Some(function), Some(marks)) = (lowered.functions.get(number), lowered.marks.get(number))
-    else {
+    let (Some(function), Some(marks)) = (lowered.function(number), lowered.marks.get(number)) else {
         return Ok(());
     };
     let name = function.name;
@@ -315,7 +331,10 @@ fn add_function(
         left: 0,
     };
     let mut mark = 0;
-    for (index, origin) in made.origins.iter().enumerate() {
+    for index in 0..made.code.len() {
+        let Some(origin) = lowered.origin(number, index) else {
+            return Ok(());
+        };
         let cause = if origin.function == number {
             mark = mark_at(marks, mark, origin.index);
             if let Some(Instruction::Enter { function: callee }) = made.code.get(index) {
@@ -324,12 +343,12 @@ fn add_function(
                     function: number,
                     span,
                 };
-                sites.note(site, lowered.functions.get(*callee))?;
+                sites.note(site, lowered.function(*callee))?;
             }
             own_cause(source_of(&function.code, marks, mark, number, origin.index, name))
         } else {
-            match sites.site_at(made.origins.len().saturating_sub(index)) {
-                Some(site) => inlined_cause(lowered, *origin, site),
+            match sites.site_at(made.code.len().saturating_sub(index)) {
+                Some(site) => inlined_cause(lowered, origin, site),
                 None => entry,
             }
         };
@@ -343,18 +362,13 @@ fn add_function(
 fn causes_of_lines(
     alloc: Global,
     lowered: Lowered<'_>,
-    inlined: &Inlined,
     lines: &[FunctionLines],
     count: usize,
 ) -> Result<Vec<Cause>, AllocError> {
-    let functions = inlined.plain.functions();
+    let functions = lowered.inlined.plain.functions();
     let mut causes = Vec::new(alloc);
-    for number in 0..lowered.functions.len() {
-        let (Some(function), Some(origins), Some(own)) = (
-            functions.get(number),
-            inlined.origins.get(number),
-            lines.get(number),
-        ) else {
+    for number in 0..functions.len() {
+        let (Some(function), Some(own)) = (functions.get(number), lines.get(number)) else {
             return Ok(causes);
         };
         fill(&mut causes, own.first, own_cause(Source::Start))?;
@@ -365,7 +379,6 @@ fn causes_of_lines(
         let made = Lines {
             number,
             code: &function.code,
-            origins,
             lines: &own.lines,
             end,
         };
@@ -413,19 +426,19 @@ fn places_of(alloc: Global, program: &Flowed, exceptions: Vec<Declared>) -> Resu
 {
     let plain = lower(alloc, program)?;
     let marks = marks_of(alloc, program)?;
-    let inlined = inline(alloc, &plain, room_for(&program.tree))?;
+    let inlined = inline(alloc, plain, room_for(&program.tree))?;
     let simplified = simplify(alloc, &inlined.plain)?;
     let frames = layout(alloc, &simplified)?;
     let lines = lines_of(alloc, &simplified, &frames)?;
     let code = select(alloc, &simplified, &frames)?;
     let numbers = sources(alloc, &code)?;
     let lowered = Lowered {
-        functions: plain.functions(),
+        inlined: &inlined,
         marks: &marks,
     };
-    let causes = causes_of_lines(alloc, lowered, &inlined, &lines, code.lines().len())?;
+    let causes = causes_of_lines(alloc, lowered, &lines, code.lines().len())?;
     let mut functions = Vec::new(alloc);
-    for function in plain.functions() {
+    for function in inlined.plain.functions() {
         functions.push(function.name)?;
     }
     Ok(Places {

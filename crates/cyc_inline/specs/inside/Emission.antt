@@ -1,15 +1,13 @@
 -- The code of a function, some of whose calls are opened, as the crate makes it, and which may be.
-use Rattle.std.specs.Prelude.{◌≡◌, All, ℕ, suc, ◌+◌, ◌<◌, ◌≤◌, ◌^◌, ◌⊎◌, Bool, true, false, List, [], ◌∷◌, ◌++◌, length, Result, OnOk, Option, Some, None, slice_get, slice_index_or, drop, map, max, sum_by, if◌then◌else◌}
+use Rattle.std.specs.Prelude.{◌≡◌, All, ℕ, suc, ◌+◌, ◌<◌, ◌≤◌, ◌^◌, ◌⊎◌, Bool, true, false, List, [], ◌∷◌, ◌++◌, length, Result, OnOk, Option, Some, None, slice_get, slice_index_or, if◌then◌else◌}
 use Rattle.std.specs.List.{AllByRecursion}
 use Rattle.std.specs.declared.alloc.AllocError.{AllocError}
-use Rattle.std.specs.declared.alloc.Global.{Global}
-use Rattle.std.specs.declared.vec.Vec.{Vec}
 use Rattle.cyc_plain.specs.declared.instruction.Instruction.{Instruction}
 use Rattle.cyc_plain.specs.declared.instruction.Instruction.TheVariants as instructions
 use Rattle.cyc_plain.specs.declared.instruction.Operand.{Operand}
 use Rattle.cyc_plain.specs.declared.instruction.Operand.TheVariants as operands
-use Rattle.cyc_plain.specs.declared.limits.TheConstants.{GREATEST_VALUE, LAYOUT_WORDS, MOST_FRAME_WORDS, MOST_SIZE}
-use Rattle.cyc_plain.specs.inside.Program.{Routine, Program, no_routine, routine_at, size}
+use Rattle.cyc_plain.specs.declared.limits.TheConstants.{GREATEST_VALUE, LAYOUT_WORDS, MOST_FRAME_WORDS}
+use Rattle.cyc_plain.specs.inside.Program.{Routine, Program, no_routine, routine_at}
 use Rattle.cyc_plain.specs.inside.Straight.{At}
 use Rattle.cyc_plain.specs.inside.WellFormed.{leaves, IsRoutine, IsPlain, HasWord}
 use Rattle.cyc_inline.specs.declared.caller.Caller.{Caller}
@@ -206,18 +204,3 @@ pub record AreFirstMade (program : Program) (count : ℕ) (routines : List Routi
   pub as_many : length routines ≡ count
   pub as_many_origins : length origins ≡ count
   pub each : (k : ℕ) → k < count → IsMade program k (slice_index_or routines k no_routine) (origins_of origins k)
-
--- what a vector of vectors holds
-abbrev pub told : List (Vec Origin Global) → List (List Origin)
-told vectors = map (λ (v : Vec Origin Global). v.items) vectors
-
--- Of each instruction of a program it is told what it is made of.
-pub record AreTold (inlined : Program) (origins : List (List Origin)) : Type 0 where
-  pub as_many : length origins ≡ length inlined.functions
-  pub each : (k : ℕ) → k < length inlined.functions → length (origins_of origins k) ≡ length (routine_at inlined k).code
-
--- The first functions of a program have been made, so many of them, and so much larger may the others become than they are.
-pub record AreBegun (program : Program) (room count : ℕ) (routines : List Routine) (origins : List (List Origin)) (spare : ℕ) : Type 0 where
-  pub made : AreFirstMade program count routines origins
-  pub most : (sum_by size routines + sum_by size (drop count program.functions) + spare ≤ max (sum_by size program.functions) room)
-      × (sum_by size routines + sum_by size (drop count program.functions) + spare ≤ MOST_SIZE)

@@ -1,0 +1,97 @@
+-- A program some of whose functions have others in their place.
+use Rattle.std.specs.Prelude.{◌≡◌, ℕ, zero, suc, ◌+◌, ◌<◌, ◌≤◌, List, [], ◌∷◌, length, Option, Some, None, slice_index_or, max, sum_by}
+use Rattle.cyc_plain.specs.declared.limits.TheConstants.{MOST_SIZE}
+use Rattle.cyc_plain.specs.declared.program.Function.{Function}
+use Rattle.cyc_plain.specs.inside.Program.{Routine, Program, routine_of, routine_at, size}
+use Rattle.cyc_inline.specs.declared.making.Made.{Made}
+use Rattle.cyc_inline.specs.declared.origin.Origin.{Origin}
+use Rattle.cyc_inline.specs.declared.replacing.Opened.{Opened}
+use Rattle.cyc_inline.specs.inside.Opened.{origin_at}
+use Rattle.cyc_inline.specs.inside.Emission.{IsMade}
+
+-- ---- what is said of each function: another that stands for it, or nothing
+
+abbrev pub first_of : {X : Type 0} → List (Option X) → Option X
+first_of [] = None
+first_of (x ∷ xs) = x
+
+abbrev pub others : {X : Type 0} → List (Option X) → List (Option X)
+others [] = []
+others (x ∷ xs) = xs
+
+abbrev pub change_at : List (Option Made) → ℕ → Option Made
+change_at changes k = slice_index_or changes k None
+
+-- ---- functions, and what they are made from
+
+abbrev pub function_of : Function → Option Made → Function
+function_of given (Some made) = made.function
+function_of given None = given
+
+abbrev pub note_of : Function → Option Made → Option Opened
+note_of given (Some made) = Some (record { given = given; origins = made.origins })
+note_of given None = None
+
+abbrev pub replaced : List Function → List (Option Made) → List Function
+replaced [] changes = []
+replaced (f ∷ functions) changes = function_of f (first_of changes) ∷ replaced functions (others changes)
+
+abbrev pub noted : List Function → List (Option Made) → List (Option Opened)
+noted [] changes = []
+noted (f ∷ functions) changes = note_of f (first_of changes) ∷ noted functions (others changes)
+
+-- the same of routines
+abbrev pub routine_made : Routine → Option Made → Routine
+routine_made r (Some made) = routine_of made.function
+routine_made r None = r
+
+abbrev pub changed : List Routine → List (Option Made) → List Routine
+changed [] changes = []
+changed (r ∷ routines) changes = routine_made r (first_of changes) ∷ changed routines (others changes)
+
+-- Instructions from an index on, so many, each made of itself.
+abbrev pub own_origins : (number index count : ℕ) → List Origin
+own_origins number index zero = []
+own_origins number index (suc count) = origin_at number index ∷ own_origins number (suc index) count
+
+-- What the instructions of a function are made of, which stands for one of so many instructions.
+abbrev pub origins_made : (number count : ℕ) → Option Made → List Origin
+origins_made number count (Some made) = made.origins.items
+origins_made number count None = own_origins number 0 count
+
+abbrev pub all_origins : (number : ℕ) → List Routine → List (Option Made) → List (List Origin)
+all_origins number [] changes = []
+all_origins number (r ∷ routines) changes = origins_made number (length r.code) (first_of changes) ∷ all_origins (suc number) routines (others changes)
+
+-- ---- how it is made
+
+-- what is made for a function stands for it
+abbrev pub IsMadeFor : Program → (number : ℕ) → Option Made → Type 0
+IsMadeFor program number (Some made) = IsMade program number (routine_of made.function) made.origins.items
+IsMadeFor program number None = Unit {0}
+
+abbrev pub left_of : Option Made → (spare : ℕ) → ℕ
+left_of (Some made) spare = made.spare
+left_of None spare = spare
+
+-- And the others may then become larger by so many words as are left.
+pub record IsChange (program : Program) (number spare : ℕ) (change : Option Made) : Type 0 where
+  pub made : IsMadeFor program number change
+  pub fits : size (routine_made (routine_at program number) change) + left_of change spare ≤ size (routine_at program number) + spare
+
+-- What stands for the first functions of a program has been made, and so much larger may the others become than they are.
+pub record AreBegun (program : Program) (room : ℕ) (changes : List (Option Made)) (spare : ℕ) : Type 0 where
+  pub each : (k : ℕ) → k < length changes → IsMadeFor program k (change_at changes k)
+  pub most : (sum_by size (changed program.functions changes) + spare ≤ max (sum_by size program.functions) room)
+      × (sum_by size (changed program.functions changes) + spare ≤ MOST_SIZE)
+
+-- ---- what is told of it
+
+-- A function of the program that is made: the one given, or another, of each of whose instructions it is told what it is made of.
+abbrev pub IsTold : (r s : Routine) → Option Opened → Type 0
+IsTold r s (Some opened) = (routine_of opened.given ≡ r) × (length opened.origins.items ≡ length s.code)
+IsTold r s None = s ≡ r
+
+pub record AreTold (program inlined : Program) (opened : List (Option Opened)) : Type 0 where
+  pub as_many : length opened ≡ length program.functions
+  pub each : (k : ℕ) → k < length program.functions → IsTold (routine_at program k) (routine_at inlined k) (slice_index_or opened k None)

@@ -1,0 +1,85 @@
+//! The functions of a program, of which some have others in their place.
+ghost use Rattle.std.specs.Prelude.{◌≡◌, IfOk, length};
+ghost use Rattle.std.specs.Vec.Iter.{into_iter_items, into_iter_len};
+ghost use Rattle.cyc_inline.specs.inside.Changes.{first_of, function_of, note_of, noted, others, replaced};
+
+use crate::making::Made;
+use crate::origin::Origin;
+use cyc_plain::Function;
+use std::alloc::{AllocError, Global};
+use std::vec::IntoIter;
+
+/// What a function with calls that were opened was made from.
+#[derive(Drop)]
+pub struct Opened {
+    /// The function that was given.
+    pub given: Function,
+    /// What each instruction of the one that stands for it is made of.
+    pub origins: Vec<Origin>,
+}
+
+/// A function that stands in a program, and what it was made from, if it is not the one given.
+#[derive(Drop)]
+struct Placed {
+    function: Function,
+    opened: Option<Opened>,
+}
+
+/// Functions that stand in a program, and for each what it was made from, if it is not the one given.
+#[derive(Drop)]
+pub(crate) struct Replaced {
+    pub(crate) functions: Vec<Function>,
+    pub(crate) opened: Vec<Option<Opened>>,
+}
+
+fn next_change(changes: &mut IntoIter<Option<Made>, Global>) -> Option<Made>
+    requires { into_iter_len changes.old ≡ length (into_iter_items changes.old) }
+    ensures value { result ≡ first_of (into_iter_items changes.old) }
+    ensures rest { into_iter_items changes.new ≡ others (into_iter_items changes.old) }
+    ensures count { into_iter_len changes.new ≡ length (into_iter_items changes.new) }
+{
+    match changes.next() {
+        Some(change) => change,
+        None => None,
+    }
+}
+
+fn place(given: Function, change: Option<Made>) -> Placed
+    ensures function { result.function ≡ function_of given change }
+    ensures opened { result.opened ≡ note_of given change }
+{
+    match change {
+        Some(made) => Placed {
+            function: made.function,
+            opened: Some(Opened {
+                given,
+                origins: made.origins,
+            }),
+        },
+        None => Placed {
+            function: given,
+            opened: None,
+        },
+    }
+}
+
+/// The functions, with those that were made in the place of the ones they stand for.
+pub(crate) fn replace(
+    alloc: Global,
+    given: Vec<Function>,
+    changes: Vec<Option<Made>>,
+) -> Result<Replaced, AllocError>
+    ensures functions { IfOk result (λ made. made.functions.items ≡ replaced given.items changes.items) }
+    ensures opened { IfOk result (λ made. made.opened.items ≡ noted given.items changes.items) }
+{
+    let mut functions = Vec::with_capacity(alloc, given.len())?;
+    let mut opened = Vec::with_capacity(alloc, given.len())?;
+    let mut changes = changes.into_iter();
+    for function in given {
+        let change = next_change(&mut changes);
+        let placed = place(function, change);
+        functions.push(placed.function)?;
+        opened.push(placed.opened)?;
+    }
+    Ok(Replaced { functions, opened })
+}
