@@ -10,20 +10,19 @@ use Rattle.cyc_plain.specs.declared.program.Function.{Function}
 use Rattle.cyc_plain.specs.inside.Program.{Routine, Program, no_routine, routine_of, routine_at, program_of, size}
 use Rattle.cyc_plain.specs.inside.WellFormed.{IsPlain}
 use Rattle.cyc_inline.specs.declared.making.Made.{Made}
-use Rattle.cyc_inline.specs.declared.origin.Origin.{Origin}
 use Rattle.cyc_inline.specs.declared.replacing.Opened.{Opened}
-use Rattle.cyc_inline.specs.inside.Changes.{first_of, others, change_at, function_of, note_of, replaced, noted, routine_made, changed, own_origins, origins_made, all_origins, IsMadeFor, left_of, IsChange, AreBegun, IsTold, AreTold}
+use Rattle.cyc_inline.specs.inside.Changes.{first_of, others, change_at, function_of, note_of, replaced, noted, routine_made, changed, own_origins, origins_made, all_origins, IsMadeFor, left_of, IsChange, AreBegun, note, notes_of, IsTold, AreTold}
 use Rattle.cyc_inline.specs.inside.Emission.{IsMade, AreOwn, AreFirstMade}
 use Rattle.cyc_inline.specs.inside.Inlined.{IsInlined}
 use Rattle.cyc_inline.specs.inside.Opened.{origin_at, origins_of}
 use Rattle.cyc_inline.proofs.RangesCopied.{copied_is_made}
 use Rattle.cyc_inline.proofs.Whole.{is_plain, are_inlined}
 
-first_at : {X : Type 0} (xs : List (Option X)) → first_of xs ≡ slice_index_or xs 0 None
+pub first_at : {X : Type 0} (xs : List (Option X)) → first_of xs ≡ slice_index_or xs 0 None
 first_at [] = refl
 first_at (x ∷ xs) = refl
 
-others_at : {X : Type 0} (xs : List (Option X)) (k : ℕ) → slice_index_or (others xs) k None ≡ slice_index_or xs (suc k) None
+pub others_at : {X : Type 0} (xs : List (Option X)) (k : ℕ) → slice_index_or (others xs) k None ≡ slice_index_or xs (suc k) None
 others_at [] k = refl
 others_at (x ∷ xs) k = refl
 
@@ -168,7 +167,7 @@ routines_are : (fs : List Function) (cs : List (Option Made)) → map routine_of
 routines_are [] cs = refl
 routines_are (f ∷ fs) cs = λ i. routine_is f (first_of cs) i ∷ routines_are fs (others cs) i
 
-length_noted : (fs : List Function) (cs : List (Option Made)) → length (noted fs cs) ≡ length fs
+length_noted : (fs : List Function) (cs : List (Option Made)) → length (notes_of (noted fs cs)) ≡ length fs
 length_noted [] cs = refl
 length_noted (f ∷ fs) cs = ap suc (length_noted fs (others cs))
 
@@ -180,12 +179,12 @@ has_origins : (program : Program) (number : ℕ) (change : Option Made) → IsMa
 has_origins program number (Some made) is = is.opened.as_many
 has_origins program number None is = tt
 
-told_first : (f : Function) (change : Option Made) → HasOrigins change → IsTold (routine_of f) (routine_made (routine_of f) change) (note_of f change)
+told_first : (f : Function) (change : Option Made) → HasOrigins change → IsTold (routine_of f) (routine_made (routine_of f) change) (note (note_of f change))
 told_first f (Some made) has = (refl, has)
 told_first f None has = refl
 
 told_at : (fs : List Function) (cs : List (Option Made)) → ((j : ℕ) → j < length fs → HasOrigins (change_at cs j)) → (k : ℕ) → k < length fs
-    → IsTold (slice_index_or (map routine_of fs) k no_routine) (slice_index_or (changed (map routine_of fs) cs) k no_routine) (slice_index_or (noted fs cs) k None)
+    → IsTold (slice_index_or (map routine_of fs) k no_routine) (slice_index_or (changed (map routine_of fs) cs) k no_routine) (slice_index_or (notes_of (noted fs cs)) k None)
 told_at [] cs has k below = absurd (omega (arith, below))
 told_at (f ∷ fs) cs has zero below = told_first f (first_of cs) (subst HasOrigins (sym (first_at cs)) (has 0 (omega arith)))
 told_at (f ∷ fs) cs has (suc k) below =
@@ -225,12 +224,12 @@ module _ (program : Program) (room : ℕ) (given functions : List Function) (cha
   long : length given ≡ length program.functions
   long = sym (length-map given routine_of) ∙ ap (λ (rs : List Routine). length rs) given_are
 
-  pub whole_told : AreTold program (program_of functions globals main) opened
+  pub whole_told : AreTold program (program_of functions globals main) (notes_of opened)
   whole_told = record {
-    as_many = ap (λ (os : List (Option Opened)). length os) told ∙ length_noted given changes ∙ long;
+    as_many = ap (λ (os : List (Option Opened)). length (notes_of os)) told ∙ length_noted given changes ∙ long;
     each = λ k below.
-        subst (λ (os : List (Option Opened)). IsTold (routine_at program k) (slice_index_or (map routine_of functions) k no_routine) (slice_index_or os k None)) (sym told)
-        (subst (λ (rs : List Routine). IsTold (routine_at program k) (slice_index_or rs k no_routine) (slice_index_or (noted given changes) k None)) (sym functions_are)
-        (subst (λ (rs : List Routine). IsTold (slice_index_or rs k no_routine) (slice_index_or (changed rs changes) k no_routine) (slice_index_or (noted given changes) k None)) given_are
+        subst (λ (os : List (Option Opened)). IsTold (routine_at program k) (slice_index_or (map routine_of functions) k no_routine) (slice_index_or (notes_of os) k None)) (sym told)
+        (subst (λ (rs : List Routine). IsTold (routine_at program k) (slice_index_or rs k no_routine) (slice_index_or (notes_of (noted given changes)) k None)) (sym functions_are)
+        (subst (λ (rs : List Routine). IsTold (slice_index_or rs k no_routine) (slice_index_or (changed rs changes) k no_routine) (slice_index_or (notes_of (noted given changes)) k None)) given_are
         (told_at given changes (λ j lower. has_origins program j (change_at changes j) (begun.each j (omega (arith, lower, long, many)))) k (omega (arith, below, long)))));
   }

@@ -36,3 +36,7 @@ pub mod RangesCopied
 -- it is a plain program
 pub mod Whole
 pub mod EmissionPrograms
+-- where functions that nothing leads to have no code
+pub mod EmptiedSteps
+pub mod EmptiedProgram
+pub mod EmptiedFunctions

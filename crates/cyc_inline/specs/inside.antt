@@ -5,3 +5,4 @@ pub mod Opened
 pub mod Sites
 pub mod Emission
 pub mod Changes
+pub mod Emptied

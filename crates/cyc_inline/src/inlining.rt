@@ -2,9 +2,10 @@
 ghost use Rattle.std.specs.Prelude.{◌≡◌, ◌+◌, ◌≤◌, ◌⊎◌, IfOk, length, max, sum_by};
 ghost use Rattle.cyc_plain.specs.declared.limits.TheConstants as limits;
 ghost use Rattle.cyc_plain.specs.inside.Program.{size};
-ghost use Rattle.cyc_inline.specs.inside.Changes.{AreBegun, AreTold, left_of};
+ghost use Rattle.cyc_inline.specs.inside.Changes.{AreBegun, AreTold, left_of, notes_of};
 ghost use Rattle.cyc_inline.specs.inside.Inlined.{IsInlined};
 
+use crate::emptying::empty;
 use crate::leaf::leafs_of;
 use crate::making::{Made, make};
 use crate::replacing::{Opened, replace};
@@ -68,12 +69,11 @@ fn changes_of(alloc: Global, plain: &Plain, room: usize) -> Result<Vec<Option<Ma
     Ok(changes)
 }
 
-/// The program with small functions that call nothing in the place of their calls. It has at most so many words of size as
-/// there is room for, or as it had before.
-pub fn inline(alloc: Global, plain: Plain, room: usize) -> Result<Inlined, AllocError>
+/// The program with small functions that call nothing in the place of their calls.
+fn open_calls(alloc: Global, plain: Plain, room: usize) -> Result<Inlined, AllocError>
     ensures inlined { IfOk result (λ made. IsInlined plain made.plain) }
     ensures size { IfOk result (λ made. sum_by size made.plain.functions ≤ max (sum_by size plain.functions) room) }
-    ensures told { IfOk result (λ made. AreTold plain made.plain made.opened.items) }
+    ensures told { IfOk result (λ made. AreTold plain made.plain (notes_of made.opened.items)) }
 {
     let changes = changes_of(alloc, &plain, room)?;
     let parts = plain.into_parts();
@@ -82,4 +82,16 @@ pub fn inline(alloc: Global, plain: Plain, room: usize) -> Result<Inlined, Alloc
         plain: Plain::new(replaced.functions, parts.globals, parts.main),
         opened: replaced.opened,
     })
+}
+
+/// The program with small functions that call nothing in the place of their calls, and with no code of functions that
+/// nothing calls then. It has at most so many words of size as there is room for, or as it had before.
+pub fn inline(alloc: Global, plain: Plain, room: usize) -> Result<Inlined, AllocError>
+    ensures inlined { IfOk result (λ made. IsInlined plain made.plain) }
+    ensures size { IfOk result (λ made. sum_by size made.plain.functions ≤ max (sum_by size plain.functions) room) }
+    ensures told { IfOk result (λ made. AreTold plain made.plain (notes_of made.opened.items)) }
+{
+    let inlined = open_calls(alloc, plain, room)?;
+    let emptied = empty(alloc, inlined)?;
+    Ok(emptied)
 }

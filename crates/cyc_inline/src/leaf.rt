@@ -4,6 +4,7 @@ ghost use Rattle.std.specs.List.{AllByRecursion};
 ghost use Rattle.cyc_plain.specs.inside.Program.{routine_at, routine_of};
 ghost use Rattle.cyc_plain.specs.inside.WellFormed.{leaves};
 ghost use Rattle.cyc_inline.specs.inside.Emission.{AreLeafs, IsLeaf};
+ghost use Rattle.cyc_inline.specs.inside.Emptied.{returns};
 ghost use Rattle.cyc_inline.specs.inside.Opened.{is_of_leaf};
 
 use crate::limits::MOST_LEAF_CODE;
@@ -53,7 +54,10 @@ fn is_leaving(instruction: Instruction) -> bool
     }
 }
 
-fn is_return(instruction: Instruction) -> bool {
+/// Whether a function returns at an instruction.
+pub(crate) fn returns(instruction: Instruction) -> bool
+    ensures { result ≡ returns instruction }
+{
     match instruction {
         Instruction::Return { .. } | Instruction::Finish { .. } => true,
         _ => false,
@@ -86,7 +90,7 @@ pub fn line_of(code: &[Instruction]) -> usize
 {
     let mut line = code.len();
     for index in 0..code.len() {
-        if is_return(code[index]) {
+        if returns(code[index]) {
             let is_dead = index > 0 && is_leaving(code[index - 1]) && !is_target(code, index);
             if !is_dead {
                 line = index + 1;

@@ -4,6 +4,7 @@
 mod caller;
 mod choice;
 mod emission;
+mod emptying;
 mod inlining;
 mod leaf;
 mod limits;

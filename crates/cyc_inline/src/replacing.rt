@@ -9,7 +9,7 @@ use cyc_plain::Function;
 use std::alloc::{AllocError, Global};
 use std::vec::IntoIter;
 
-/// What a function with calls that were opened was made from.
+/// What a function was made from that stands in the place of the one given.
 #[derive(Drop)]
 pub struct Opened {
     /// The function that was given.
@@ -20,9 +20,9 @@ pub struct Opened {
 
 /// A function that stands in a program, and what it was made from, if it is not the one given.
 #[derive(Drop)]
-struct Placed {
-    function: Function,
-    opened: Option<Opened>,
+pub(crate) struct Placed {
+    pub(crate) function: Function,
+    pub(crate) opened: Option<Opened>,
 }
 
 /// Functions that stand in a program, and for each what it was made from, if it is not the one given.

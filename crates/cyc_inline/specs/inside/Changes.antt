@@ -1,5 +1,5 @@
 -- A program some of whose functions have others in their place.
-use Rattle.std.specs.Prelude.{◌≡◌, ℕ, zero, suc, ◌+◌, ◌<◌, ◌≤◌, List, [], ◌∷◌, length, Option, Some, None, slice_index_or, max, sum_by}
+use Rattle.std.specs.Prelude.{◌≡◌, ℕ, zero, suc, ◌+◌, ◌<◌, ◌≤◌, List, [], ◌∷◌, length, map, Option, Some, None, slice_index_or, max, sum_by}
 use Rattle.cyc_plain.specs.declared.limits.TheConstants.{MOST_SIZE}
 use Rattle.cyc_plain.specs.declared.program.Function.{Function}
 use Rattle.cyc_plain.specs.inside.Program.{Routine, Program, routine_of, routine_at, size}
@@ -87,11 +87,23 @@ pub record AreBegun (program : Program) (room : ℕ) (changes : List (Option Mad
 
 -- ---- what is told of it
 
+-- the function that was given, and of how many instructions it is told what they are made of
+pub record Note : Type 0 where
+  pub given : Routine
+  pub count : ℕ
+
+abbrev pub note : Option Opened → Option Note
+note (Some opened) = Some (record { given = routine_of opened.given; count = length opened.origins.items })
+note None = None
+
+abbrev pub notes_of : List (Option Opened) → List (Option Note)
+notes_of opened = map note opened
+
 -- A function of the program that is made: the one given, or another, of each of whose instructions it is told what it is made of.
-abbrev pub IsTold : (r s : Routine) → Option Opened → Type 0
-IsTold r s (Some opened) = (routine_of opened.given ≡ r) × (length opened.origins.items ≡ length s.code)
+abbrev pub IsTold : (r s : Routine) → Option Note → Type 0
+IsTold r s (Some told) = (told.given ≡ r) × (told.count ≡ length s.code)
 IsTold r s None = s ≡ r
 
-pub record AreTold (program inlined : Program) (opened : List (Option Opened)) : Type 0 where
-  pub as_many : length opened ≡ length program.functions
-  pub each : (k : ℕ) → k < length program.functions → IsTold (routine_at program k) (routine_at inlined k) (slice_index_or opened k None)
+pub record AreTold (program inlined : Program) (notes : List (Option Note)) : Type 0 where
+  pub as_many : length notes ≡ length program.functions
+  pub each : (k : ℕ) → k < length program.functions → IsTold (routine_at program k) (routine_at inlined k) (slice_index_or notes k None)

@@ -1,42 +1,23 @@
-use Rattle.std.proofs.Common.{◌≡◌, ◌≤◌, max, sym, subst}
+use Rattle.std.proofs.Common.{◌≤◌, max, sym, subst, arith}
 use Rattle.std.specs.Prelude.{sum_by}
 use Rattle.cyc_plain.specs.inside.Program.{Program, size}
-use Rattle.cyc_inline.specs.inside.Changes.{AreTold}
 use Rattle.cyc_inline.specs.inside.Inlined.{IsInlined}
-use Rattle.cyc_inline.proofs.EmissionPrograms.{whole_plain, whole_inlined, whole_small, whole_told}
+use Rattle.cyc_inline.proofs.EmptiedProgram.{emptied_small, still_inlined}
 use Rattle.cyc_inline.proofs.inlining.inline.Goals as goal
-
-pub new-requires : goal.new-requires
-new-requires c =
-    let parts = c.into_parts-parts.result in
-    let made = c.in_ok-replaced.replaced in
-    whole_plain c.args.plain c.args.room parts.functions.items made.functions.items c.in_ok-changes.changes.items made.opened.items parts.globals.items parts.main
-    c.into_parts-parts.ensures.plain c.into_parts-parts.ensures.value c.in_ok-changes.ensures.as_many c.in_ok-changes.ensures.made
-    c.in_ok-replaced.ensures.functions c.in_ok-replaced.ensures.opened
 
 pub returns-clause-inlined : goal.returns-clause-inlined
 returns-clause-inlined c =
-    let parts = c.into_parts-parts.result in
-    let made = c.in_ok-replaced.replaced in
-    subst (IsInlined c.args.plain) (sym c.new.ensures)
-    (whole_inlined c.args.plain c.args.room parts.functions.items made.functions.items c.in_ok-changes.changes.items made.opened.items parts.globals.items parts.main
-    c.into_parts-parts.ensures.plain c.into_parts-parts.ensures.value c.in_ok-changes.ensures.as_many c.in_ok-changes.ensures.made
-    c.in_ok-replaced.ensures.functions c.in_ok-replaced.ensures.opened)
+    let by = c.in_ok-inlined.ensures.inlined in
+    let is = c.in_ok-emptied.ensures in
+    subst (IsInlined c.args.plain) (sym is.is) (still_inlined c.in_ok-inlined.inlined.plain is.reached by.plain is.are c.args.plain by)
 
 pub returns-clause-size : goal.returns-clause-size
 returns-clause-size c =
-    let parts = c.into_parts-parts.result in
-    let made = c.in_ok-replaced.replaced in
-    subst (λ (made : Program). sum_by size made.functions ≤ max (sum_by size c.args.plain.functions) c.args.room) (sym c.new.ensures)
-    (whole_small c.args.plain c.args.room parts.functions.items made.functions.items c.in_ok-changes.changes.items made.opened.items parts.globals.items parts.main
-    c.into_parts-parts.ensures.plain c.into_parts-parts.ensures.value c.in_ok-changes.ensures.as_many c.in_ok-changes.ensures.made
-    c.in_ok-replaced.ensures.functions c.in_ok-replaced.ensures.opened)
+    let by = c.in_ok-inlined.ensures.inlined in
+    let is = c.in_ok-emptied.ensures in
+    let less = emptied_small c.in_ok-inlined.inlined.plain is.reached by.plain is.are in
+    let small = c.in_ok-inlined.ensures.size in
+    subst (λ (made : Program). sum_by size made.functions ≤ max (sum_by size c.args.plain.functions) c.args.room) (sym is.is) (omega (arith, less, small))
 
 pub returns-clause-told : goal.returns-clause-told
-returns-clause-told c =
-    let parts = c.into_parts-parts.result in
-    let made = c.in_ok-replaced.replaced in
-    subst (λ (made : Program). AreTold c.args.plain made c.in_ok-replaced.replaced.opened.items) (sym c.new.ensures)
-    (whole_told c.args.plain c.args.room parts.functions.items made.functions.items c.in_ok-changes.changes.items made.opened.items parts.globals.items parts.main
-    c.into_parts-parts.ensures.plain c.into_parts-parts.ensures.value c.in_ok-changes.ensures.as_many c.in_ok-changes.ensures.made
-    c.in_ok-replaced.ensures.functions c.in_ok-replaced.ensures.opened)
+returns-clause-told c = c.in_ok-emptied.ensures.told c.args.plain c.in_ok-inlined.ensures.inlined.as_many c.in_ok-inlined.ensures.told
