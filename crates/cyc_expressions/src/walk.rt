@@ -228,7 +228,7 @@ fn check_values(scope: &mut Scope<'_>, expressions: &[Expr]) -> Result<Vec<typed
     ensures gives { Gives (λ v. map value_in v.items) result (run (rule_all scope.old (expressions_of expressions.now))) }
     ensures same { OnOk result (scope.new ≡ scope.old) }
 {
-    let mut values = Vec::new(scope.alloc());
+    let mut values = Vec::with_capacity(scope.alloc(), expressions.len())?;
     for expression in expressions {
         let value = check_expression(scope, expression)?;
         push_value(&mut values, value)?;

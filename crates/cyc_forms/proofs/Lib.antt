@@ -5,6 +5,7 @@ pub mod Settling
 pub mod Handed
 -- calls
 pub mod Instances
+pub mod FittedValues
 pub mod PassedValues
 -- new structs
 pub mod NewStructs

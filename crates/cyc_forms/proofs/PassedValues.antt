@@ -70,21 +70,6 @@ passes c = record {
     no_types (MoreExpressions e es) [] = refl
     no_types (MoreExpressions e es) (a ∷ as') = refl
 
--- the same, to the types of parameters where their variables are these regions
-abbrev pub one_passed_at : RegionContext → List Region → Expression → typed.Expression → Ty → List Demand
-one_passed_at c m e a t = conversion c (type_of a) (substituted_ty m t) (place_of e)
-
-abbrev pub passed_demanded_at : RegionContext → List Region → Expressions → List typed.Expression → List Ty → List Demand
-passed_demanded_at c m es as' ts = passed_demanded c es as' (map (substituted_ty m) ts)
-
-pub passes_at : (c : RegionContext) (m : List Region) → Asks (one_passed_at c m) (passed_demanded_at c m)
-passes_at c m = record {
-  no_expressions = λ as' ts. refl;
-  no_values = λ es ts. (passes c).no_values es (map (substituted_ty m) ts);
-  no_types = λ es as'. (passes c).no_types es as';
-  step = λ e es a as' t ts. refl;
-}
-
 -- that no region variable stands for the region of unique pointers
 abbrev pub one_variable : Expression → typed.Expression → Ty → List Demand
 one_variable e a t = demand codes.RegionOrKeyMisused (place_of e) (not (list_any is_unique_for_variable (paired_argument t (type_of a)))) ∷ []

@@ -1,10 +1,13 @@
 -- Demands that are settled in two places.
-use Rattle.std.proofs.Common.{◌≡◌, Bool, true, false, cond, nat_lt, List, [], ◌∷◌, ◌++◌, Option, Some, None, refl, sym, ap, ◌∙◌}
+use Rattle.std.proofs.Common.{◌≡◌, Bool, true, false, cond, nat_lt, List, [], ◌∷◌, ◌++◌, Option, Some, None, Err, refl, sym, ap, ◌∙◌}
 use Rattle.cyc_words.specs.declared.fault.Fault.{Fault}
 use Rattle.cyc_words.specs.Fault.{number_of}
 use Rattle.cyc_words.proofs.Numbers.{nat_lt-trans, nat_lt-false_trans}
-use Rattle.cyc_types.specs.Rules.{Demand, fault_of, lesser, noted, settled}
+use Rattle.cyc_types.specs.Rules.{Demand, fault_of, lesser, noted, settled, unless}
 use Rattle.cyc_types.proofs.RuleLaws.{settled_append}
+use Rattle.cyc_scope.specs.declared.stop.Stop.{Stop}
+use Rattle.cyc_scope.specs.declared.stop.Stop.TheVariants.{Memory, Refused}
+use Rattle.cyc_scope.specs.inside.Code.{Stops, Ends}
 use Rattle.cyc_forms.specs.inside.Forms.{merged}
 
 -- with these behind demands that are settled
@@ -15,12 +18,15 @@ settled_behind known ds es h = settled_append None ds es ∙ ap (λ o. settled o
 pub settled_further : (known k l : Option Fault) (d : Demand) (ds es : List Demand) → k ≡ settled known ds → l ≡ settled (noted k d) es → l ≡ settled known (ds ++ (d ∷ es))
 settled_further known k l d ds es h i = i ∙ ap (λ o. settled o (d ∷ es)) h ∙ sym (settled_append known ds (d ∷ es))
 
--- four lists, one after the other
-pub settled_four : (known k l m n : Option Fault) (as' bs cs ds : List Demand) → k ≡ settled known as' → l ≡ settled k bs → m ≡ settled l cs → n ≡ settled m ds
-    → n ≡ settled known (as' ++ (bs ++ (cs ++ ds)))
-settled_four known k l m n as' bs cs ds h i j e =
-    e ∙ ap (λ o. settled o ds) j ∙ sym (settled_append l cs ds) ∙ ap (λ o. settled o (cs ++ ds)) i ∙ sym (settled_append k bs (cs ++ ds))
-    ∙ ap (λ o. settled o (bs ++ (cs ++ ds))) h ∙ sym (settled_append known as' (bs ++ (cs ++ ds)))
+-- three lists, one after the other
+pub settled_three : (known k l m : Option Fault) (as' bs cs : List Demand) → k ≡ settled known as' → l ≡ settled k bs → m ≡ settled l cs → m ≡ settled known (as' ++ (bs ++ cs))
+settled_three known k l m as' bs cs h i j =
+    j ∙ ap (λ o. settled o cs) i ∙ sym (settled_append k bs cs) ∙ ap (λ o. settled o (bs ++ cs)) h ∙ sym (settled_append known as' (bs ++ cs))
+
+-- the stop where a fault is known
+pub stops_at : {Y : Type 0} (e : Stop) (known : Option Fault) (y : Y) → Ends (Err e) known → Stops e (unless known y)
+stops_at Memory known y h = absurd h
+stops_at (Refused f) known y h = ap (λ o. unless o y) h
 
 -- ---- what two lists of demands settle to, each by itself
 

@@ -1,14 +1,13 @@
 -- The equality of types, as the code computes it and as a test; and what tests say of the type of a parameter at a call.
-use Rattle.std.proofs.Common.{◌≡◌, ℕ, suc, Bool, true, false, ◌&&◌, nat_eq, IsTrue, ◌↔◌, not, ◌≤◌, List, [], ◌∷◌, map, drop, length, refl, ap, subst, ◌∙◌}
+use Rattle.std.proofs.Common.{◌≡◌, Bool, true, ◌&&◌, nat_eq, IsTrue, ◌↔◌, List, [], ◌∷◌, refl, subst}
 use Rattle.std.proofs.lemmas.Bool.{eq-eqb, and_from}
-use Rattle.std.proofs.lemmas.List.{drop_all}
 use Rattle.cyc_words.proofs.Booleans.{same_tests}
 use Rattle.cyc_syntax.specs.declared.tree.PointerKind.{PointerKind}
 use Rattle.cyc_syntax.specs.declared.tree.PointerKind.TheVariants.{Nullable, NonNull, Fat}
 use Rattle.cyc_types.specs.declared.region.Region.{Region}
-use Rattle.cyc_types.specs.Types.{region_eq, Ty, Int, Char, Pointer, Handle, Key, Struct, ValueType, Void, Null, Value, substituted_ty}
+use Rattle.cyc_types.specs.Types.{region_eq, Ty, Int, Char, Pointer, Handle, Key, Struct, substituted_ty}
 use Rattle.cyc_types.specs.typing.Tests.{mark_eq, regions_eq, ty_eq, is_pointer, is_non_null, kind_of}
-use Rattle.cyc_types.specs.typing.Expressions.{is_convertible, is_null_allowed}
+use Rattle.cyc_types.specs.typing.Expressions.{is_convertible}
 use Rattle.cyc_types.proofs.RegionLemmas.{region_eq-refl}
 use Rattle.cyc_types.proofs.typing.TestLemmas.{ty_eq-true}
 
@@ -54,11 +53,6 @@ module _ (m : List Region) where
   non_null_at (Key r) = refl
   non_null_at (Struct n rs) = refl
 
-  pub null_at : (v : ValueType) (t : Ty) → is_null_allowed v (substituted_ty m t) ≡ is_null_allowed v t
-  null_at Void t = refl
-  null_at Null t = ap not (non_null_at t)
-  null_at (Value u) t = refl
-
   pub kind_at : (t : Ty) → kind_of (substituted_ty m t) ≡ kind_of t
   kind_at Int = refl
   kind_at Char = refl
@@ -82,21 +76,3 @@ module _ (m : List Region) where
   char_at (Handle r) = refl
   char_at (Key r) = refl
   char_at (Struct n rs) = refl
-
--- ---- the arguments of two structs
-
-module _ (f : Region → Region) where
-  -- not as many
-  pub unlike_lengths : (rs ss : List Region) → (length rs ≡ length ss → ⊥) → regions_eq rs (map f ss) ≡ false
-  unlike_lengths [] [] n = absurd (n refl)
-  unlike_lengths [] (s ∷ ss) n = refl
-  unlike_lengths (r ∷ rs) [] n = refl
-  unlike_lengths (r ∷ rs) (s ∷ ss) n = behind (region_eq r (f s)) (unlike_lengths rs ss (λ e. n (ap suc e)))
-    where
-      behind : (b : Bool) → regions_eq rs (map f ss) ≡ false → (b && regions_eq rs (map f ss)) ≡ false
-      behind true h = h
-      behind false h = refl
-
-  -- where both end
-  pub alike_past : (rs ss : List Region) (i : ℕ) → length rs ≤ i → length ss ≤ i → regions_eq (drop i rs) (map f (drop i ss)) ≡ true
-  alike_past rs ss i le ge = ap (λ xs. regions_eq xs (map f (drop i ss))) (drop_all i rs le) ∙ ap (λ xs. regions_eq [] (map f xs)) (drop_all i ss ge)

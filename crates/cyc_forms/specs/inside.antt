@@ -4,4 +4,6 @@ pub mod Forms
 pub mod Comparisons
 -- calls
 pub mod Instances
+pub mod Fitting
+pub mod Calls
 pub mod Passing

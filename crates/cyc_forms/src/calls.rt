@@ -1,5 +1,5 @@
 //! Calls: what a call asks, where its region variables are what the arguments say, and its node.
-ghost use Rattle.std.specs.Prelude.{◌≡◌, map, option_map, None, Ok};
+ghost use Rattle.std.specs.Prelude.{◌≡◌, map, option_map, None, Ok, IfOk, IfSome};
 ghost use Rattle.cyc_syntax.specs.inside.TreeView.{place_of_span, view_name, expressions_of};
 ghost use Rattle.cyc_types.specs.Types as types;
 ghost use Rattle.cyc_types.specs.Types.{substituted_region};
@@ -14,18 +14,22 @@ ghost use Rattle.cyc_types.specs.typing.Expressions.{constraints_demanded, effec
 ghost use Rattle.cyc_scope.specs.inside.Code.{Ends, Gives};
 ghost use Rattle.cyc_forms.specs.inside.Forms.{view_boxed, value_in};
 ghost use Rattle.cyc_forms.specs.inside.Instances.{instance_in};
+ghost use Rattle.cyc_forms.specs.inside.Fitting.{FitsCall};
+ghost use Rattle.cyc_forms.specs.inside.Calls.{regions_demanded, instance_wanted};
 ghost use Rattle.cyc_forms.specs.inside.Passing.{all_with_kinds};
 
-use crate::at_call::{region_at, result_at};
-use crate::instance::instance_of;
+use crate::at_call::{region_at, result_at, signature_at};
+use crate::fitting::fits;
+use crate::instance::{instance_of, no_places};
 use crate::nodes::boxed;
-use crate::passing::{demand_count, demand_variables, pass_at, set_all_kinds};
+use crate::passing::{demand_count, demand_variables, pass, set_all_kinds};
 use cyc_scope::{Meaning, Scope, Settled, Stop, refused};
 use cyc_syntax::{Expr, Ident};
 use cyc_types::typed::{Callee, Converted, ValueType};
 use cyc_types::{Region, Signature, Ty, typed};
 use cyc_words::{Code, Span};
-use std::alloc::Global;
+use smallvec::SmallVec;
+use std::alloc::{AllocError, Global};
 
 /// Settles that constraints hold at this place, where this table has the regions of the call.
 #[tactic(auto, using(std::proofs::lemmas::List::drop_more))]
@@ -61,8 +65,37 @@ fn demand_effect(
     }
 }
 
-/// Whether a call is well typed, of a signature whose regions at this call are in a table: there are as many arguments as parameters, each
-/// is converted, no region variable stands for the region of unique pointers, the constraints hold, and the effect is live.
+/// Settles what a signature asks of regions at this place, where this table has those of the call: the constraints hold, and the effect is live.
+fn demand_regions(
+    so_far: &mut Settled,
+    scope: &Scope<'_>,
+    table: &[Option<Region>],
+    span: Span,
+    signature: &Signature,
+)
+    ensures { so_far.new.known ≡ settled so_far.old.known (regions_demanded scope.now (place_of_span span) (instance_in table.now) (view_signature signature.now)) }
+{
+    demand_constraints(so_far, scope, table, span, &signature.constraints);
+    demand_effect(so_far, scope, table, span, &signature.effect);
+}
+
+/// Whether a call is well typed whose values fit the parameters.
+fn fitting_call_wanted(
+    scope: &Scope<'_>,
+    table: &[Option<Region>],
+    span: Span,
+    signature: &Signature,
+) -> Result<(), Stop>
+    ensures { Ends result (settled None (regions_demanded scope.now (place_of_span span) (instance_in table.now) (view_signature signature.now))) }
+{
+    let mut settled = Settled::new();
+    demand_regions(&mut settled, scope, table, span, signature);
+    settled.end()
+}
+
+/// Whether a call is well typed, of a signature whose regions at this call are in a table, and that is the second one there: there are as many
+/// arguments as parameters, each is converted, no region variable stands for the region of unique pointers, the constraints hold, and the effect
+/// is live.
 fn call_wanted(
     scope: &Scope<'_>,
     table: &[Option<Region>],
@@ -70,17 +103,54 @@ fn call_wanted(
     expressions: &[Expr],
     values: &[Converted],
     signature: &Signature,
+    here: &Signature,
 ) -> Result<(), Stop>
+    requires { view_signature here.now ≡ instantiated (instance_in table.now) (view_signature signature.now) }
     ensures { Ends result (settled None (call_demanded scope.now (place_of_span span) (expressions_of expressions.now) (map value_in values.now) (view_signature signature.now) (instantiated (instance_in table.now) (view_signature signature.now)))) }
 {
     let mut settled = Settled::new();
     let parameters = &signature.parameters;
     demand_count(&mut settled, span, values, parameters);
-    pass_at(&mut settled, scope, table, expressions, values, parameters);
+    pass(&mut settled, scope, expressions, values, &here.parameters);
     demand_variables(&mut settled, expressions, values, parameters);
-    demand_constraints(&mut settled, scope, table, span, &signature.constraints);
-    demand_effect(&mut settled, scope, table, span, &signature.effect);
+    demand_regions(&mut settled, scope, table, span, signature);
     settled.end()
+}
+
+/// What the region variables of a signature are at a call whose values fit its parameters.
+#[tactic(auto, using(crate::proofs::FittedValues::fitting_refilled))]
+fn fitted(
+    scope: &Scope<'_>,
+    signature: &Signature,
+    values: &[Converted],
+) -> Result<Option<SmallVec<Option<Region>, 5>>, AllocError>
+    ensures { IfOk result (λ fitted. IfSome fitted (λ table. FitsCall scope.now.regions (view_signature signature.now) (map value_in values.now) table.items)) }
+{
+    let mut table = no_places(scope.alloc(), signature.variables)?;
+    if !fits(scope, &mut table, &signature.parameters, values) {
+        return Ok(None);
+    }
+    Ok(Some(table))
+}
+
+/// What the region variables of a signature are at a call that is well typed.
+fn instance_wanted(
+    scope: &Scope<'_>,
+    span: Span,
+    expressions: &[Expr],
+    values: &[Converted],
+    signature: &Signature,
+) -> Result<SmallVec<Option<Region>, 5>, Stop>
+    ensures { Gives (λ table. instance_in table.items) result (run (instance_wanted scope.now (place_of_span span) (expressions_of expressions.now) (map value_in values.now) (view_signature signature.now))) }
+{
+    if let Some(table) = fitted(scope, signature, values)? {
+        fitting_call_wanted(scope, &table, span, signature)?;
+        return Ok(table);
+    }
+    let table = instance_of(scope.alloc(), signature, values)?;
+    let here = signature_at(scope.alloc(), &table, signature)?;
+    call_wanted(scope, &table, span, expressions, values, signature, &here)?;
+    Ok(table)
 }
 
 fn result_type(returned: Option<Ty>) -> ValueType
@@ -143,8 +213,7 @@ fn called_by(
 ) -> Result<Box<typed::Expr>, Stop>
     ensures { Gives view_boxed result (run (called_by scope.now callee (place_of_span span) (expressions_of expressions.now) (map value_in values.items) (view_signature signature.now) (instantiated (rules.instance_of (view_signature signature.now) (map value_in values.items)) (view_signature signature.now)))) }
 {
-    let table = instance_of(scope.alloc(), signature, &values)?;
-    call_wanted(scope, &table, span, expressions, &values, signature)?;
+    let table = instance_wanted(scope, span, expressions, &values, signature)?;
     let returned = result_at(scope.alloc(), &table, &signature.result)?;
     call_with(
         scope.alloc(),

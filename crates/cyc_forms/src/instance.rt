@@ -113,7 +113,10 @@ fn note_arguments(table: &mut [Option<Region>], parameters: &[Ty], values: &[Con
 }
 
 /// A table of so many variables, of which none has a place yet. None has the number 0.
-fn no_places(alloc: Global, variables: usize) -> Result<SmallVec<Option<Region>, 5>, AllocError>
+pub(crate) fn no_places(
+    alloc: Global,
+    variables: usize,
+) -> Result<SmallVec<Option<Region>, 5>, AllocError>
     ensures { IfOk result (λ table. table.items ≡ Some regions.Heap ∷ replicate variables None) }
 {
     let Some(length) = variables.checked_add(1) else {
@@ -162,7 +165,7 @@ fn has_unique_argument(variables: &[Region], regions: &[Region]) -> bool
     false
 }
 
-#[tactic(auto, using(cyc_words::proofs::Searches::any-push_turned))]
+#[tactic(auto, using(crate::proofs::Instances::any_turned))]
 fn has_unique_in(parameter: &Ty, given: &Ty) -> bool
     ensures { result ≡ list_any is_unique_for_variable (paired (view_ty parameter.now) (view_ty given.now)) }
 {

@@ -23,6 +23,7 @@ mod calls;
 mod comparisons;
 mod conversion;
 mod fields;
+mod fitting;
 mod given;
 mod instance;
 mod nodes;

@@ -2,16 +2,13 @@
 ghost use Rattle.std.specs.Prelude.{◌≡◌, [], ◌∷◌, ◌++◌, nat_eq, length, map, slice_get, OnOk, IfErr};
 ghost use Rattle.cyc_words.specs.declared.fault.Code.TheVariants as codes;
 ghost use Rattle.cyc_syntax.specs.inside.TreeView.{place_of_span, expressions_of};
-ghost use Rattle.cyc_types.specs.Types.{substituted_ty};
 ghost use Rattle.cyc_types.specs.TypeView.{view_ty};
 ghost use Rattle.cyc_types.specs.Rules.{demand, noted, settled};
 ghost use Rattle.cyc_types.specs.typing.Expressions.{passed_demanded, variables_demanded};
 ghost use Rattle.cyc_scope.specs.declared.stop.Stop.TheVariants as stops;
 ghost use Rattle.cyc_forms.specs.inside.Forms.{view_boxed, value_in};
-ghost use Rattle.cyc_forms.specs.inside.Instances.{instance_in};
 ghost use Rattle.cyc_forms.specs.inside.Passing.{with_kinds, with_kinds_at, all_with_kinds};
 
-use crate::at_call::convert_at;
 use crate::conversion::convert;
 use crate::given::Given;
 use crate::instance::has_unique;
@@ -20,7 +17,7 @@ use crate::types::kind_of;
 use cyc_scope::{Scope, Settled, Stop};
 use cyc_syntax::Expr;
 use cyc_types::typed::{Converted, Kind};
-use cyc_types::{Region, Ty, typed};
+use cyc_types::{Ty, typed};
 use cyc_words::{Code, Span};
 
 /// Puts a value behind the others. What it is converted from and to is not known yet.
@@ -87,26 +84,6 @@ pub(crate) fn pass(
         };
         let given = Given::by(&value.value);
         convert(so_far, scope, given, &types[i], span_of(expression));
-    }
-}
-
-/// Settles that each value is converted to the parameter's type at its place, where this table has the regions of the call.
-pub(crate) fn pass_at(
-    so_far: &mut Settled,
-    scope: &Scope<'_>,
-    table: &[Option<Region>],
-    expressions: &[Expr],
-    values: &[Converted],
-    types: &[Ty],
-)
-    ensures { so_far.new.known ≡ settled so_far.old.known (passed_demanded scope.now.regions (expressions_of expressions.now) (map value_in values.now) (map (substituted_ty (instance_in table.now)) (map view_ty types.now))) }
-{
-    for i in 0..types.len() {
-        let (Some(expression), Some(value)) = (expressions.get(i), values.get(i)) else {
-            return;
-        };
-        let given = Given::by(&value.value);
-        convert_at(so_far, scope, table, given, &types[i], span_of(expression));
     }
 }
 

@@ -212,49 +212,24 @@ pub fn indexed(
     )?)
 }
 
-/// The number of the field of this name, or the one behind all.
-fn field_number(fields: &[Field], name: usize) -> usize
-    ensures { result ≡ field_number (map view_field fields.now) name }
+/// The number of the field of this name with its type. Where there is none, the number is that behind all.
+fn find_field(fields: &[Field], name: usize) -> (usize, Option<&Ty>)
+    ensures number { result.0 ≡ field_number (map view_field fields.now) name }
+    ensures of_type { option_map (λ t. view_ty t.now) result.1 ≡ field_among (map view_field fields.now) name }
 {
     for i in 0..fields.len() {
         if fields[i].name == name {
-            return i;
+            return (i, Some(&fields[i].of_type));
         }
     }
-    fields.len()
+    (fields.len(), None)
 }
 
-/// The type of the field of this name.
-fn field_among(fields: &[Field], name: usize) -> Option<&Ty>
-    ensures { option_map (λ t. view_ty t.now) result ≡ field_among (map view_field fields.now) name }
+/// The type of a field in a struct with these arguments. Where no field is known, it is that of ints.
+fn field_type(alloc: Global, arguments: &[Region], known: Option<&Ty>) -> Result<Ty, AllocError>
+    ensures { IfOk result (λ t. view_ty t ≡ field_type arguments.now (option_map (λ k. view_ty k.now) known.entry)) }
 {
-    for field in fields {
-        if field.name == name {
-            return Some(&field.of_type);
-        }
-    }
-    None
-}
-
-fn has_field(fields: &[Field], name: usize) -> bool
-    ensures { result ≡ is_some (field_among (map view_field fields.now) name) }
-{
-    match field_among(fields, name) {
-        Some(_) => true,
-        None => false,
-    }
-}
-
-/// The type of the field of this name, in a struct with these arguments. Where no field is known, it is that of ints.
-fn field_type(
-    alloc: Global,
-    arguments: &[Region],
-    fields: &[Field],
-    name: usize,
-) -> Result<Ty, AllocError>
-    ensures { IfOk result (λ t. view_ty t ≡ field_type arguments.now (field_among (map view_field fields.now) name)) }
-{
-    match field_among(fields, name) {
+    match known {
         Some(of_type) => of_type.substituted(alloc, arguments),
         None => Ok(Ty::Int),
     }
@@ -274,17 +249,16 @@ pub fn selected(
     let base = given.target()?;
     let number = struct_of(&base);
     let fields = scope.fields(number);
-    let name = field.name.number;
+    let (place, known) = find_field(fields, field.name.number);
     let mut settled = Settled::new();
     let has_members = given.has_members();
     settled.demand(Code::TypeMismatch, span, has_members);
-    let is_known = !has_members || has_field(fields, name);
+    let is_known = !has_members || known.is_some();
     settled.demand(Code::UnknownName, field.span, is_known);
     live_wanted(&mut settled, scope, given, span);
     let region = given.region();
     let kind = given.pointer_kind();
-    let of_type = field_type(scope.alloc(), arguments_of(&base), fields, name)?;
-    let place = field_number(fields, name);
+    let of_type = field_type(scope.alloc(), arguments_of(&base), known)?;
     let cell = member(
         scope.alloc(),
         field.span,

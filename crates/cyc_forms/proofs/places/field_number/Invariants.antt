@@ -1,8 +1,0 @@
-use Rattle.std.proofs.Common.{◌≡◌, ◌+◌, map, drop}
-use Rattle.cyc_types.specs.typing.Expressions.{field_number}
-use Rattle.cyc_scope.specs.inside.Entries.{view_field}
-use Rattle.cyc_forms.proofs.places.field_number.Given as goal
-
-abbrev pub invariant-loop-i : goal.invariant-loop-i
-invariant-loop-i l =
-    field_number (map view_field l.fields) l.name ≡ l.i + field_number (map view_field (drop l.i l.fields)) l.name
