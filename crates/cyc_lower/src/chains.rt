@@ -12,7 +12,7 @@ use crate::marks::place_of_operation;
 use crate::operands::{index_of, slot_behind};
 use crate::operators::{binary_operator, left_kind, pointer_operator, test_jump};
 use crate::starts::Starts;
-use cyc_plain::{BinaryOperator, Instruction, Operand, UnaryOperator};
+use cyc_plain::{BinaryOperator, Instruction, Operand};
 use cyc_types::typed::{Expr, Kind, Operation, Operator, PointerOperator};
 use std::alloc::AllocError;
 
@@ -55,16 +55,11 @@ impl Emitter {
     fn make_truth(&mut self, free: usize, slot: usize) -> Result<(), AllocError>
         ensures { Appends result self.old self.new (truth_code free slot) }
     {
-        let operand = Operand::Slot { number: free };
-        self.emit(Instruction::Unary {
-            operator: UnaryOperator::Not,
-            destination: free,
-            operand,
-        })?;
-        self.emit(Instruction::Unary {
-            operator: UnaryOperator::Not,
+        self.emit(Instruction::Binary {
+            operator: BinaryOperator::NotEqual,
             destination: slot,
-            operand,
+            left: Operand::Slot { number: free },
+            right: Operand::Word { word: 0 },
         })
     }
 

@@ -349,14 +349,14 @@ module _ (code : List Instruction) (b : Numbering) where
         let front = test_code o operand p next t in
         let back = operations_code (starts_of types) os (p + length front) (operands.Slot next) d t in
         let (jump, inner) = has_front code p front back has in
-        let (first, (second, none)) = has_back code (p + 1) operand (truth_code t next) inner in
-        let long : length front ≡ 1 + (length operand + 2) = omega (arith, length-append operand (truth_code t next)) in (
+        let (first, none) = has_back code (p + 1) operand (truth_code t next) inner in
+        let long : length front ≡ 1 + (length operand + 1) = omega (arith, length-append operand (truth_code t next)) in (
           p + 1 + length operand,
           p + length front,
           left,
           jump,
           expression_stands types raised a t t (p + 1) (p + 1 + length operand) numbered refl (has_front code (p + 1) operand (truth_code t next) inner),
-          (first, second, omega (arith, long)),
+          (first, omega (arith, long)),
           operations_stand types raised os (operands.Slot next) d t (p + length front) q (words_of ty) ty rest (next_left code b types raised os d t) (cut p q front back end) (has_back code p front back has),
         )
     operations_stand types raised (ThenPointer o a os) l d t p q words ty (wide, numbered, rest) left end has =

@@ -264,8 +264,8 @@ count_words (operands.Word n) p d = (omega arith, tt)
 count_words (operands.Slot n) p d = ((tt, omega arith), ((tt, tt), ((tt, tt), (tt, (omega arith, tt)))))
 
 pub test_words : (o : LogicalOperator) (operand : List Instruction) (p d t : ℕ) → HaveWords operand → HaveWords (test_code o operand p d t)
-test_words logical.AndThen operand p d t all = ((tt, omega arith), append operand (truth_code t d) all (tt, (tt, tt)))
-test_words logical.OrElse operand p d t all = ((tt, omega arith), append operand (truth_code t d) all (tt, (tt, tt)))
+test_words logical.AndThen operand p d t all = ((tt, omega arith), append operand (truth_code t d) all ((tt, omega arith), tt))
+test_words logical.OrElse operand p d t all = ((tt, omega arith), append operand (truth_code t d) all ((tt, omega arith), tt))
 
 store_words : (kind : Kind) (address : Operand) (offset : ℕ) (o : Operand) → IsOfWord address → IsWord offset → IsOfWord o → IsMade (store_of kind address offset o)
 store_words kinds.Char address offset o first second third = (first, second, third)

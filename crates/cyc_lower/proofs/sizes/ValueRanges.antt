@@ -472,10 +472,10 @@ module _ (program : PlainProgram) (r : Routine) (b : Numbering) (types : Types) 
   pub test_in : (o : LogicalOperator) (operand : List Instruction) (p d t : ℕ) → d < r.slots → t < r.slots → p + length (test_code o operand p d t) < length r.code → AreIn operand → AreIn (test_code o operand p d t)
   test_in logical.AndThen operand p d t few room short inside =
       let long = length-append operand (truth_code t d) in
-      ((room, tt, omega (arith, short, long)), append operand (truth_code t d) inside ((room, room), ((few, room), tt)))
+      ((room, tt, omega (arith, short, long)), append operand (truth_code t d) inside ((few, room, tt), tt))
   test_in logical.OrElse operand p d t few room short inside =
       let long = length-append operand (truth_code t d) in
-      ((room, tt, omega (arith, short, long)), append operand (truth_code t d) inside ((room, room), ((few, room), tt)))
+      ((room, tt, omega (arith, short, long)), append operand (truth_code t d) inside ((few, room, tt), tt))
 
   -- a word of a value comes to a cell, and from there
   store_in : (kind : Kind) (address : Operand) (offset : ℕ) (o : Operand) → IsOperand r address → IsOperand r o → IsIn program r types.locals (store_of kind address offset o)

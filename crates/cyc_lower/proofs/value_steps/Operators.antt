@@ -19,6 +19,7 @@ use Rattle.cyc_plain.specs.declared.instruction.Operand.{Operand}
 use Rattle.cyc_plain.specs.declared.instruction.Operand.TheVariants as operands
 use Rattle.cyc_plain.specs.declared.instruction.Instruction.{Instruction}
 use Rattle.cyc_plain.specs.declared.instruction.Instruction.TheVariants as instructions
+use Rattle.cyc_plain.specs.declared.instruction.BinaryOperator.TheVariants as plain_binary
 use Rattle.cyc_plain.specs.declared.instruction.UnaryOperator.TheVariants as plain_unary
 use Rattle.cyc_plain.specs.inside.Operators.{truth, compares}
 use Rattle.cyc_plain.specs.inside.Operators as plain_operators
@@ -51,7 +52,7 @@ use Rattle.cyc_lower.proofs.object_steps.Handles.{kept_holds}
 use Rattle.cyc_lower.proofs.relation.contents.Data.{height-least, Holds-same, Is-same}
 use Rattle.cyc_lower.proofs.relation.contents.HandlerData.{data_written}
 use Rattle.cyc_lower.proofs.relation.simulation.Accesses.{IsWell}
-use Rattle.cyc_lower.proofs.relation.simulation.Matched.{silently, by_one, by_two, by_three, shared_way, shared_within}
+use Rattle.cyc_lower.proofs.relation.simulation.Matched.{silently, by_one, by_two}
 use Rattle.cyc_lower.proofs.handler_steps.Handling.{raised}
 use Rattle.cyc_lower.proofs.pointer_steps.PointerSteps.{right_follows}
 use Rattle.cyc_lower.proofs.value_steps.Beginnings.{only_computed}
@@ -286,39 +287,16 @@ module _ (source : Program) (pages calls : ℕ) where
 
   -- ---- truth values
 
-  truth_twice : (b : Bool) → truth (truth b == 0) ≡ truth (not b)
-  truth_twice true = refl
-  truth_twice false = refl
-
-  abbrev negated : Configuration → List Entry → Configuration
-  negated c k = advanced (with_slots c (put c.active.slots (top source c.active.function k) (truth (c.active.slots (top source c.active.function k) == 0))))
-
-  -- where a word was negated once, a second time gives 0 or 1
-  negated_twice : (t d : ℕ) (k : List Entry) (e : Environment) (w : World) (c : Configuration) (q : ℕ) → t ≡ truth (not (c.active.slots (top source c.active.function k) == 0))
-      → (shared : SharedAt source pages calls k e w c) → DataIn source shared.tables c.active.slots k e w c
-      → Holds shared.tables c.active.slots (floor source c.active.function k) (held k) → c.active.next + 1 + 1 ≡ q → LandsStack source c.active.function e.locals kinds.Int d q c.frames k
-      → Related source pages calls (Given (int_of t)) k e w
-      (advanced (with_slots (negated c k) (put (negated c k).active.slots d (truth ((negated c k).active.slots (top source c.active.function k) == 0)))))
-  negated_twice t d k e w c q t_is shared facts holds end lands =
-      let free = top source c.active.function k in
-      let base = floor source c.active.function k in
-      let x = truth (c.active.slots free == 0) in
-      let slots = put c.active.slots free x in
-      landed_word source pages calls t (truth (slots free == 0)) d k e w (negated c k) q
-      (ap (λ y. truth (y == 0)) (put-same c.active.slots free x) ∙ truth_twice (c.active.slots free == 0) ∙ sym t_is)
-      shared (data_written source shared.tables c.active.function c.active.base w.objects e.locals k c.active.slots slots c.active.handlers c.globals c.frames free 1 (height-least base (held k)) (λ m out. put_elsewhere c.active.slots free x 1 m (omega arith) out) facts)
-      (Holds-same shared.tables c.active.slots slots base (held k) (λ m below. put_elsewhere c.active.slots free x 1 m (omega arith) (inl below)) holds) end lands
-
   pub decides_truth : (v : Kinded) (o : Operand) (k : List Entry) (e : Environment) (w : World) (c : Configuration) → IsWell (step source (Running (Given v) (Needs Decide ∷ k) e w)) → Stands source pages calls v o k e w c
       → ValueStack source c.active.function e.locals v.kind o c.active.next c.frames (Needs Decide ∷ k) → GoesBehind source pages calls v (Needs Decide ∷ k) e w c
   decides_truth v o k e w c well (shared, facts, is, holds) (to_jump stack) =
       tested_given source pages calls v o (Needs Decide ∷ k) e w c (λ none. well (ap (λ z. status_in (status_of (computed kinds.Int (truth_of z) k e w))) none)) shared facts is holds stack
-  decides_truth v o k e w c well (shared, facts, is, holds) (to_slot (d, q, there, (first, second, end), lands)) =
+  decides_truth v o k e w c well (shared, facts, is, holds) (to_slot (d, q, there, (test, end), lands)) =
       let x = c.active.slots (top source c.active.function k) in
       let is_x : IsIn shared.tables v c.active.slots (operands.Slot (top source c.active.function k)) = subst (IsIn shared.tables v c.active.slots) there is in
-      by_two source pages calls (negated c k)
-      (ap (λ z. computed kinds.Int (truth_of z) k e w) (zero_is shared.tables v c.active.slots (operands.Slot (top source c.active.function k)) (λ none. well (ap (λ z. status_in (status_of (computed kinds.Int (truth_of z) k e w))) none)) is_x)) shared shared first (λ choice. refl) second (λ equal. omega (arith, equal))
-      (λ choice. negated_twice (truth (not (x == 0))) d k e w c q refl shared facts holds end lands)
+      by_one source pages calls
+      (ap (λ z. computed kinds.Int (truth_of z) k e w) (zero_is shared.tables v c.active.slots (operands.Slot (top source c.active.function k)) (λ none. well (ap (λ z. status_in (status_of (computed kinds.Int (truth_of z) k e w))) none)) is_x)) shared test
+      (λ choice. landed_word source pages calls (truth (not (x == 0))) (truth (not (x == 0))) d k e w c q refl shared facts holds end lands)
 
   -- ---- chains
 
@@ -336,24 +314,20 @@ module _ (source : Program) (pages calls : ℕ) where
   decided_at_once : (u : LogicalOperator) (b : Expression) (os : Operations) (v : Kinded) (f : Bool) (k : List Entry) (e : Environment) (w : World) (c : Configuration) (i : Instruction) (d m r : ℕ)
       → step source (Running (Given v) (Needs (Chain (ThenTest u b os)) ∷ k) e w) ≡ Running (Given (int_of (if f then 0 else 1))) (Needs (Chain os) ∷ k) e w
       → At (code_of source c.active.function) c.active.next i → ((choice : Choice) → plain_step.performed (lower_program source) choice c i ≡ plain.Running (at c m))
-      → ((x : ℕ) → i ≢ instructions.Unary plain_unary.Not x (operands.Slot (top source c.active.function k)))
+      → i ≢ instructions.Binary plain_binary.NotEqual d (operands.Slot (top source c.active.function k)) (operands.Word 0)
       → (c.active.slots (top source c.active.function k) == 0) ≡ f
       → (shared : SharedAt source pages calls k e w c) → DataIn source shared.tables c.active.slots k e w c
       → Holds shared.tables c.active.slots (floor source c.active.function k) (held k)
       → TruthAt (code_of source c.active.function) (bounds_at source c.active.function) (types_on source c.active.function k) (top source c.active.function k) d m r
       → LandsStack source c.active.function e.locals kinds.Int d r c.frames (Needs (Chain os) ∷ k)
       → GoesBehind source pages calls v (Needs (Chain (ThenTest u b os)) ∷ k) e w c
-  decided_at_once u b os v f k e w c i d m r does here jumps other told shared facts holds (first, second, end) lands =
+  decided_at_once u b os v f k e w c i d m r does here jumps other told shared facts holds (test, end) lands =
       let code = code_of source c.active.function in
       let free = top source c.active.function k in
       let there = at c m in
-      by_three source pages calls there (negated there k) does shared
-      (shared_within source pages calls k e w there shared) (shared_way source pages calls (Given v) (Needs (Chain (ThenTest u b os)) ∷ k) e w there shared)
-      (shared_within source pages calls k e w (negated there k) shared) (shared_way source pages calls (Given v) (Needs (Chain (ThenTest u b os)) ∷ k) e w (negated there k) shared)
-      here jumps first (λ choice. refl) second
-      (other_place code c.active.next m i (instructions.Unary plain_unary.Not free (operands.Slot free)) here first (other free))
-      (other_place code c.active.next (m + 1) i (instructions.Unary plain_unary.Not d (operands.Slot free)) here second (other d)) (λ equal. omega (arith, equal))
-      (λ choice. negated_twice (if f then 0 else 1) d (Needs (Chain os) ∷ k) e w there r (opposite f told) shared facts holds end lands)
+      by_two source pages calls there does shared shared here jumps test
+      (other_place code c.active.next m i (instructions.Binary plain_binary.NotEqual d (operands.Slot free) (operands.Word 0)) here test other)
+      (λ choice. landed_word source pages calls (if f then 0 else 1) (truth (not (c.active.slots free == 0))) d (Needs (Chain os) ∷ k) e w there r (sym (opposite f told)) shared facts holds end lands)
     where
       opposite : (b : Bool) → (c.active.slots (top source c.active.function k) == 0) ≡ b → (if b then 0 else 1) ≡ truth (not (c.active.slots (top source c.active.function k) == 0))
       opposite true same = ap (λ x. truth (not x)) (sym same)
@@ -368,7 +342,7 @@ module _ (source : Program) (pages calls : ℕ) where
   tests logical.AndThen b os v true k e w c d q well told (shared, facts, is, holds) (m, r, there, jump, at_b, truths, ops) lands =
       let does = ap (λ (x : Option Bool). tested x logical.AndThen b os k e w) (zero_is shared.tables v c.active.slots (operands.Slot (top source c.active.function k)) (λ none. well (ap (λ x. status_in (status_of (tested x logical.AndThen b os k e w))) none)) is ∙ ap Some told) in
       decided_at_once logical.AndThen b os v true k e w c _ (next_slot os d (top source c.active.function k)) m r does jump (λ choice. ap (λ x. plain_step.branches c x m) told)
-      (λ x same. let f : jump_if_zero _ m ≡ instructions.Unary plain_unary.Not x _ = same in cc) told shared facts holds truths
+      (λ same. let f : jump_if_zero _ m ≡ instructions.Binary plain_binary.NotEqual _ _ _ = same in cc) told shared facts holds truths
       (chain_lands os kinds.Int c.active.function e.locals d r q c.frames k ops lands)
   tests logical.AndThen b os v false k e w c d q well told (shared, facts, is, holds) (m, r, there, jump, at_b, truths, ops) lands =
       let free = top source c.active.function k in
@@ -385,7 +359,7 @@ module _ (source : Program) (pages calls : ℕ) where
   tests logical.OrElse b os v false k e w c d q well told (shared, facts, is, holds) (m, r, there, jump, at_b, truths, ops) lands =
       let does = ap (λ (x : Option Bool). tested x logical.OrElse b os k e w) (zero_is shared.tables v c.active.slots (operands.Slot (top source c.active.function k)) (λ none. well (ap (λ x. status_in (status_of (tested x logical.OrElse b os k e w))) none)) is ∙ ap Some told) in
       decided_at_once logical.OrElse b os v false k e w c _ (next_slot os d (top source c.active.function k)) m r does jump (λ choice. ap (λ x. plain_step.branches c (not x) m) told)
-      (λ x same. let f : jump_if_nonzero _ m ≡ instructions.Unary plain_unary.Not x _ = same in cc) told shared facts holds truths
+      (λ same. let f : jump_if_nonzero _ m ≡ instructions.Binary plain_binary.NotEqual _ _ _ = same in cc) told shared facts holds truths
       (chain_lands os kinds.Int c.active.function e.locals d r q c.frames k ops lands)
 
   -- the left operand fits

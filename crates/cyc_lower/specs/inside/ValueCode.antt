@@ -337,10 +337,7 @@ count_code (operands.Word n) p d = instructions.Move d (operands.Word 0) ∷ []
 
 -- 0 stays 0, and any other word becomes 1
 abbrev pub truth_code : (t d : ℕ) → List Instruction
-truth_code t d =
-    instructions.Unary plain_unary.Not t (operands.Slot t)
-    ∷ instructions.Unary plain_unary.Not d (operands.Slot t)
-    ∷ []
+truth_code t d = instructions.Binary plain_binary.NotEqual d (operands.Slot t) (operands.Word 0) ∷ []
 
 -- an operator with its right operand
 abbrev pub compute_code : Starts → Operator → (l r : Operand) → (operand : List Instruction) → (d : ℕ) → List Instruction

@@ -232,9 +232,7 @@ module _ (code : List Instruction) (bounds : Numbering) (types : Types) where
   CountAt (operands.Word n) d p q = At code p (instructions.Move d (operands.Word 0)) × (p + 1 ≡ q)
 
   abbrev pub TruthAt : (t d p q : ℕ) → Type 0
-  TruthAt t d p q =
-      At code p (instructions.Unary plain_unary.Not t (operands.Slot t)) × At code (p + 1) (instructions.Unary plain_unary.Not d (operands.Slot t))
-      × (p + 1 + 1 ≡ q)
+  TruthAt t d p q = At code p (instructions.Binary plain_binary.NotEqual d (operands.Slot t) (operands.Word 0)) × (p + 1 ≡ q)
 
   abbrev pub LoadAt : (words : ℕ) → Lvalue → (d p q : ℕ) → Type 0
   LoadAt words (Local w n) d p q = At code p (move_of words d (operands.Slot (slot_of (starts_of types) n))) × (p + 1 ≡ q)
