@@ -16,6 +16,7 @@ import re
 import tempfile
 
 import suite  # first: it says where the references and the generators are
+import machine
 import reference
 import texts
 from language import placed, runs
@@ -31,6 +32,9 @@ MISTAKES = (
     "{ int ?planted = new {for planted_at < 0 - 1 : 0}; }",
     "throw new Array_bounds;",
 )
+# What brings an exception to its handler: lw $31, 8($25); lw $29, 4($25); jr $31; lw $25, 0($25). Behind the first three of these the way
+# back, and then the frame, are the handler's, and the run stands in the function that it leaves.
+WAY_OUT = [0x8F3F0008, 0x8F3D0004, 0x03E00008, 0x8F390000]
 CALL = re.compile(r"main\.cyc:(\d+):(\d+): called here, in (\w+)")
 STOP = re.compile(r"main\.cyc:(\d+):(\d+): .*, in (\w+)")
 
@@ -144,18 +148,21 @@ class Tried:
         wanted = end.lines(), end.line
         return None if got == wanted else suite.difference(f"{end.text}\non {end.given}, {end.calls} calls", wanted, got)
 
-    def is_passing_on(self, subject, steps):
-        """Whether an exception is on its way out here: three instructions further on at most, the run stands in a function with a handler."""
-        for further in range(steps + 1, steps + 4):
-            lines, last = self.said(subject.given, "--steps", str(further))
-            stops = STOP.fullmatch(lines[0]) if lines and last == "budget spent" else None
-            if stops and (stops[3] == "main" or (CALL.fullmatch(lines[-1]) or stops)[3] == "main"):
-                return "try" in subject.text
-        return False
+    def has_left(self, subject, steps):
+        """Whether the last of so many instructions is one of these three."""
+        with open(self.at("main.elf"), "rb") as file:
+            run = machine.Run(machine.Image(file.read()), subject.given, steps=steps - 1)
+        try:
+            run.end()
+        except machine.Open:
+            return False
+        text = run.segment(run.at)
+        begins = [run.at - 4 * behind for behind in range(len(WAY_OUT) - 1) if text.address <= run.at - 4 * behind]
+        return any([text.word(begin + 4 * number) for number in range(len(WAY_OUT))] == WAY_OUT for begin in begins)
 
     def spent(self, subject):
         """What is wrong with what is told of a budget that is spent: each call stands at its place, by the name of the function inside. Where
-        an exception is on its way out, the last calls have been left already."""
+        an exception has left its calls for the handler, they are told up to the one that it left."""
         if self.compile(subject.text) != (b"", "done", 0):
             return f"{subject.text}\nis not compiled"
         steps = self.numbers.randint(1, 2000)
@@ -171,7 +178,7 @@ class Tried:
             if number and not re.match(rf"{inside}\s*\(", text[row - 1][column - 1 :]):
                 return f"{subject.text}\nhas no call of {inside} at {row}:{column}"
             inside = function
-        if not lines or inside == "main" or self.is_passing_on(subject, steps):
+        if not lines or inside == "main" or self.has_left(subject, steps):
             return None
         return f"{subject.text}\nis told up to {inside}"
 
