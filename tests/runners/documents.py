@@ -7,14 +7,18 @@ Outside of tables and programs a line of a document has at most 120 characters, 
 in a code span that begins with a folder of the repository leads to a file or a folder. In the document of a crate all
 paths do, those from the crate's own folders and names of files that stand behind a path among them (`places.py`). What
 documents have from data, tables and numbers, is that of the data (`facts.py`). --write puts it there, fills the lines
-of the documents up to 120 characters, so that no code span is broken, and looks for nothing. The last line is
-`N passed, M failed`, of documents, of the list of crates, and of the sources that definitions name.
+of the documents up to 120 characters, so that no code span is broken, and looks for nothing. Beside the documents it is
+asked whether crates stand on others for nothing, whether definitions name their sources, whether each name of a lemma
+has one statement (`lemmas.py`), and whether the lines of imports can be read (`house.py`). The last line is `N passed,
+M failed`, of the documents and of these.
 """
 import argparse
 import os
 import re
 
 import facts
+import house
+import lemmas
 import places
 import suite
 from facts import content
@@ -147,6 +151,7 @@ def main():
     else:
         things = [(path, lambda path=path: faults_of(path, content(path))) for path in documents()]
         things += [("crates.txt", facts.faults_of_crates), ("the sources of definitions", facts.faults_of_sources)]
+        things += [("the names of lemmas", lemmas.faults), ("the lines of imports", house.long_imports)]
         suite.try_each(things, lambda thing: thing[0], lambda thing: thing[1]())
 
 

@@ -8,7 +8,6 @@ import functools
 import os
 import re
 
-import lemmas as of_proofs
 import suite
 
 LONG_FILE, LONG_IMPORT = 600, 300
@@ -160,9 +159,10 @@ def long_files():
     return [path for path, text in sources().items() if text.count("\n") > LONG_FILE]
 
 
-def long_imports():
-    return sum(len(line) > LONG_IMPORT for text in sources().values() for line in text.split("\n")
-               if re.match(r"(ghost )?use ", line))
+def long_imports(files=None):
+    """A line for each file, of these or of all, with an import that is too long to be read: its names may stand in two of the same module."""
+    return [f"{path}: an import has more than {LONG_IMPORT} characters" for path, text in (files or sources()).items()
+            if any(len(line) > LONG_IMPORT for line in text.split("\n") if re.match(r"(pub |ghost )*use ", line))]
 
 
 def files_with(word):
@@ -185,9 +185,7 @@ def rows_of_changes():
 
 def rows():
     yield f"files above {LONG_FILE} lines", f"{len(long_files()):,}"
-    yield f"imports above {LONG_IMPORT} characters", f"{long_imports():,}"
     yield "lemmas of the library alone, outside `cyc_words`", f"{len(lemmas_of_std()):,}"
-    yield "names of lemmas that have more than one statement (`tests/runners/lemmas.py`)", f"{len(of_proofs.ambiguous()):,}"
     yield "lemmas that nothing names", f"{len(lemmas_that_nothing_names()):,}"
     yield "public items without a comment", f"{len(items_without_words()):,}"
     yield "hints to the prover beside functions", f"{hints():,}"

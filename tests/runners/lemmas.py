@@ -3,9 +3,9 @@
 
     python3 tests/runners/lemmas.py [CRATE ..]
 
-A lemma is what stands at the left margin of a file in `proofs` with its statement behind a colon, but for the answers and the invariants of
+There are none: `documents.py` asks for that. A lemma is what stands at the left margin of a file in `proofs` with its statement behind a colon, but for the answers and the invariants of
 functions, whose names the prover gives, and for definitions. Two statements are the same where they are the same words. With crates named,
-those names are listed that a lemma of theirs has. How many names there are stands in docs/FIGURES.md (`house.py`).
+those names are listed that a lemma of theirs has.
 """
 import collections
 import os
@@ -51,11 +51,16 @@ def ambiguous(root=os.path.join(suite.ROOT, "crates")):
     return {name: statements for name, statements in meanings(root).items() if len(statements) > 1}
 
 
+def faults(crates=(), root=os.path.join(suite.ROOT, "crates")):
+    """A line for each such name that a lemma of these crates has, or of any."""
+    found = {name: sorted(path for files in statements.values() for path in files) for name, statements in sorted(ambiguous(root).items())}
+    return [f"{name}: {len(meanings(root)[name])} statements, in {', '.join(paths)}"
+            for name, paths in found.items() if not crates or any(path.split(os.sep)[0] in crates for path in paths)]
+
+
 def main():
-    for name, statements in sorted(ambiguous().items()):
-        paths = sorted(path for files in statements.values() for path in files)
-        if not sys.argv[1:] or any(path.split(os.sep)[0] in sys.argv[1:] for path in paths):
-            print(f"{name}: {len(statements)} statements, in {', '.join(paths)}")
+    for fault in faults(sys.argv[1:]):
+        print(fault)
 
 
 if __name__ == "__main__":

@@ -28,6 +28,7 @@ import documents
 import facts
 import gate_table
 import growth
+import house
 import images
 import in_trees
 import interactive
@@ -909,10 +910,21 @@ def are_lemmas_told_apart(folder):
         os.makedirs(os.path.dirname(os.path.join(root, path)), exist_ok=True)
         with open(os.path.join(root, path), "w", encoding="utf-8") as file:
             file.write(text)
-    found = lemmas.ambiguous(root)
-    if list(found) != ["other"]:
-        print(f"the names of lemmas with more than one statement are {list(found)}")
-    return list(found) == ["other"]
+    wanted = ["other: 2 statements, in one/proofs/First.antt, two/proofs/topic/Second.antt"]
+    found = [lemmas.faults(crates, root) for crates in ((), ("two",), ("three",))]
+    if found != [wanted, wanted, []]:
+        print(f"the names of lemmas with more than one statement are {found}")
+    return found == [wanted, wanted, []]
+
+
+def are_long_imports_found():
+    """Whether just the file with an import of more characters than can be read is found, and no other line of that length."""
+    names = ", ".join(["name"] * 50)
+    lines = {"short": "use Rattle.words.{name}\n", "long": f"ghost use Rattle.words.{{{names}}};\n", "comment": f"-- use {names}\n"}
+    found = [fault.split(":")[0] for fault in house.long_imports(lines)]
+    if found != ["long"]:
+        print(f"the files with imports that are too long are {found}")
+    return found == ["long"]
 
 
 # Lines that a session shows, and lines that are printed, with whether these are those.
@@ -1308,6 +1320,7 @@ def main():
         right += [is_library_made(folder), is_first_run_kept(), is_refusal_kept(folder), is_judge_right()]
         right += [are_pairs_right(folder), are_dialogs_judged(folder), are_drifts_found(), are_sessions_tried(folder), is_gate_published()]
         right.append(are_lemmas_told_apart(folder))
+        right.append(are_long_imports_found())
         right += [is_reading_watched(folder), is_growth_judged(folder)]
         right += needs.tried(folder, os.path.join(folder, "stand_in"))
         right.append(reference.with_room(lambda: is_shrinker_right(folder)))

@@ -32,7 +32,8 @@ use Rattle.cyc_types.proofs.TypedTreeViewLemmas.{view_typed_call, view_typed_bin
 use Rattle.cyc_meaning.specs.Values.{behind}
 use Rattle.cyc_bound.specs.declared.costs.Measure.{Measure}
 use Rattle.cyc_bound.specs.declared.costs.Site.{Site}
-use Rattle.cyc_bound.specs.Costs.{too_many, step_cost, most_elements, array_cost, loop_cost, callee_cost, expression_cost, site_of, written_length, placement_cost, initial_cost, fields_made_cost, fields_cost, converted_cost, arguments_cost, operations_cost, caught_cost, statement_cost, item_cost, items_cost, clauses_cost}
+use Rattle.cyc_bound.specs.Costs.{too_many, step_cost, most_elements, array_cost, loop_cost, callee_cost, expression_cost, site_of, written_length, placement_cost, initial_cost}
+use Rattle.cyc_bound.specs.Costs.{fields_made_cost, fields_cost, converted_cost, arguments_cost, operations_cost, caught_cost, statement_cost, item_cost, items_cost, clauses_cost}
 use Rattle.cyc_bound.specs.inside.ItemCosts.{operation_cost, clauses_then}
 
 -- ---- lists

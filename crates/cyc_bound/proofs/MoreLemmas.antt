@@ -4,11 +4,15 @@ use Rattle.std.specs.Prelude.{map}
 use Rattle.cyc_types.specs.declared.typed.Kind.{Kind}
 use Rattle.cyc_types.specs.declared.typed.Callee.{Callee}
 use Rattle.cyc_types.specs.declared.typed.Callee.TheVariants as callees
-use Rattle.cyc_types.specs.TypedTrees.{Expression, Number, NullPointer, HeapRegion, Counter, Copy, Move, Peek, Load, AddressOf, AddressOfCell, NumberOfElements, FreeUnique, FreeKey, Call, Unary, Binary, Assign, Store, New, Dereference, Target, Member, Element, Placement, OnHeap, AsUnique, ByHandle, Initial, Plain, Fields, Array, Converted, Convert, Arguments, NoArguments, MoreArguments, Operations, NoOperations, ThenCompute, ThenTest, ThenPointer, ThenPointerPeek, Side, VariableSide, CellSide, Statement, Block, Empty, Evaluate, Swap, If, While, Return, Break, Continue, Throw, Try, Item, Items, NoItems, MoreItems, Execute, Declare, DeclareRegion, OpenRegion, DeclareAlias, DeclareKey, Clauses, NoClauses, Default, Case, Function, Program}
+use Rattle.cyc_types.specs.TypedTrees.{Expression, Number, NullPointer, HeapRegion, Counter, Copy, Move, Peek, Load, AddressOf, AddressOfCell, NumberOfElements, FreeUnique, FreeKey, Call, Unary, Binary, Assign, Store}
+use Rattle.cyc_types.specs.TypedTrees.{New, Dereference, Target, Member, Element, Placement, OnHeap, AsUnique, ByHandle, Initial, Plain, Fields, Array, Converted, Convert, Arguments, NoArguments, MoreArguments}
+use Rattle.cyc_types.specs.TypedTrees.{Operations, NoOperations, ThenCompute, ThenTest, ThenPointer, ThenPointerPeek, Side, VariableSide, CellSide, Statement, Block, Empty, Evaluate, Swap, If, While, Return, Break}
+use Rattle.cyc_types.specs.TypedTrees.{Continue, Throw, Try, Item, Items, NoItems, MoreItems, Execute, Declare, DeclareRegion, OpenRegion, DeclareAlias, DeclareKey, Clauses, NoClauses, Default, Case, Function, Program}
 use Rattle.cyc_meaning.specs.Values.{behind}
 use Rattle.cyc_bound.specs.declared.costs.Measure.{Measure}
 use Rattle.cyc_bound.specs.declared.costs.Site.{Site}
-use Rattle.cyc_bound.specs.Costs.{too_many, step_cost, most_elements, elements_cost, array_cost, callee_cost, expression_cost, site_of, written_length, place_cost, placement_cost, initial_cost, fields_cost, converted_cost, arguments_cost, operations_cost, value_cost, thrown_cost, side_cost, loop_cost, caught_cost, statement_cost, item_cost, items_cost, clauses_cost, function_cost, next_costs, Below}
+use Rattle.cyc_bound.specs.Costs.{too_many, step_cost, most_elements, elements_cost, array_cost, callee_cost, expression_cost, site_of, written_length, place_cost, placement_cost, initial_cost, fields_cost, converted_cost}
+use Rattle.cyc_bound.specs.Costs.{arguments_cost, operations_cost, value_cost, thrown_cost, side_cost, loop_cost, caught_cost, statement_cost, item_cost, items_cost, clauses_cost, function_cost, next_costs, Below}
 
 loop_more : (m n : ℕ) → m ≤ n → loop_cost m ≤ loop_cost n
 loop_more zero n less = omega arith

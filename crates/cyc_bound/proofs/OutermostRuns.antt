@@ -8,7 +8,8 @@ use Rattle.cyc_types.specs.declared.typed.Callee.TheVariants as callees
 use Rattle.cyc_types.specs.TypedTrees.{Items, MoreItems, DeclareRegion, GlobalVariable, Function, Program, Constant, Word}
 use Rattle.cyc_types.specs.TypedTrees as typed
 use Rattle.cyc_meaning.specs.Values.{Cell, kind_of, block_size}
-use Rattle.cyc_meaning.specs.State.{Sort, Lexical, Region, Owner, InRegion, Unique, World, Access, Found, Closed, Missing, region_at, new_region, opened_as, constant_value, global_object, no_locals, first_world, Environment, Entry, Rest, CloseLexical, Main, Focus, Proceeding, Calling, Entering, State, Running, Ended, Dead, Wrong}
+use Rattle.cyc_meaning.specs.State.{Sort, Lexical, Region, Owner, InRegion, Unique, World, Access, Found, Closed, Missing, region_at, new_region, opened_as, constant_value, global_object}
+use Rattle.cyc_meaning.specs.State.{no_locals, first_world, Environment, Entry, Rest, CloseLexical, Main, Focus, Proceeding, Calling, Entering, State, Running, Ended, Dead, Wrong}
 use Rattle.cyc_meaning.specs.Objects.{made_in, made_unique, created_in, created}
 use Rattle.cyc_meaning.specs.Parts.{wrong}
 use Rattle.cyc_meaning.specs.Step.{called, step, stepped}

@@ -10,7 +10,8 @@ use Rattle.cyc_words.specs.Ending.{Full}
 use Rattle.cyc_words.proofs.Numbers.{quotient_monotone}
 use Rattle.cyc_types.specs.TypedTrees.{Function, Program}
 use Rattle.cyc_meaning.specs.Values.{block_size}
-use Rattle.cyc_meaning.specs.State.{Sort, Heap, Globals, Stack, Lexical, Dynamic, Region, Owner, InRegion, Unique, Object, World, first_world, first_classes, has_pages, counted, Main, no_locals, Environment, Entry, Focus, Given, Entering, State, HasEnded, GoesOn, Running, Ended, Dead, Wrong, output_of, input_of, demand, depth}
+use Rattle.cyc_meaning.specs.State.{Sort, Heap, Globals, Stack, Lexical, Dynamic, Region, Owner, InRegion, Unique, Object, World, first_world, first_classes, has_pages, counted, Main}
+use Rattle.cyc_meaning.specs.State.{no_locals, Environment, Entry, Focus, Given, Entering, State, HasEnded, GoesOn, Running, Ended, Dead, Wrong, output_of, input_of, demand, depth}
 use Rattle.cyc_meaning.specs.Objects.{class_of_cells, is_live_in, live_in}
 use Rattle.cyc_meaning.specs.Parts.{wrong}
 use Rattle.cyc_meaning.specs.Step.{called, step}

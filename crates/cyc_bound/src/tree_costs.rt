@@ -1,7 +1,8 @@
 //! What a typed tree costs: a walk that adds up the costs of its parts, by what functions cost.
 ghost use Rattle.std.specs.Prelude.{◌≡◌, ◌≤◌, min, option_map};
 ghost use Rattle.cyc_types.specs.TypedTreeView.{view_expression, view_dereference, view_placement, view_initial, view_converted, view_side, view_statement, view_item, view_function, arguments_of, operations_of, items_of, default_of};
-ghost use Rattle.cyc_bound.specs.Costs.{too_many, callee_cost, expression_cost, place_cost, site_of, placement_cost, initial_cost, fields_cost, converted_cost, arguments_cost, operations_cost, written_length, value_cost, thrown_cost, side_cost, statement_cost, item_cost, items_cost, clauses_cost, function_cost};
+ghost use Rattle.cyc_bound.specs.Costs.{too_many, callee_cost, expression_cost, place_cost, site_of, placement_cost, initial_cost, fields_cost, converted_cost, arguments_cost};
+ghost use Rattle.cyc_bound.specs.Costs.{operations_cost, written_length, value_cost, thrown_cost, side_cost, statement_cost, item_cost, items_cost, clauses_cost, function_cost};
 ghost use Rattle.cyc_bound.specs.inside.ItemCosts.{operation_cost, clauses_then};
 
 use crate::costs::{

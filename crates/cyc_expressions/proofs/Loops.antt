@@ -1,5 +1,5 @@
 -- A list that the code walks in a loop: what was made of its front, and what is made of the rest.
-use Rattle.std.proofs.Common.{◌≡◌, zero, suc, List, [], ◌∷◌, ◌++◌, Ok, Err, refl, sym, ap}
+use Rattle.std.proofs.Common.{◌≡◌, List, [], ◌∷◌, ◌++◌, Ok, Err, refl, sym, ap}
 use Rattle.cyc_types.specs.Rules.{Checked, and_then}
 
 module _ {X Y B : Type 0} (view : X → Y) (add : Y → B → B) where

@@ -1,8 +1,7 @@
 -- Values that fit the parameters of a signature: what one walk over both has noted and found.
-use Rattle.std.proofs.Common.{◌≡◌, ℕ, zero, suc, ◌+◌, ◌<◌, ◌≤◌, Bool, true, false, ◌&&◌, ◌||◌, nat_eq, not, List, [], ◌∷◌, ◌++◌, length, map, drop, get_or, slice_get, slice_set, replicate, Option, Some, None, Ok, refl, sym, ap, subst, ◌∙◌, arith}
+use Rattle.std.proofs.Common.{◌≡◌, ℕ, zero, suc, ◌+◌, ◌<◌, ◌≤◌, Bool, true, false, ◌&&◌, ◌||◌, nat_eq, not, List, [], ◌∷◌, ◌++◌, length, map, drop, get_or, slice_get, slice_set, replicate, Option, Some, None, Ok, refl, sym, ap, subst, ◌∙◌}
 use Rattle.std.specs.List.{list_any, refill}
 use Rattle.std.proofs.lemmas.Bool.{and_from, eq-eqb}
-use Rattle.std.proofs.lemmas.List.Folds.{list_any-append}
 use Rattle.std.proofs.lemmas.List.{drop_all, drop_more}
 use Rattle.cyc_words.proofs.Lists.{drop_read}
 use Rattle.cyc_words.specs.declared.fault.Fault.{Fault}
@@ -15,7 +14,7 @@ use Rattle.cyc_types.specs.declared.region.Region.{Region}
 use Rattle.cyc_types.specs.declared.region.Region.TheVariants.{Heap, Unique, Variable}
 use Rattle.cyc_types.specs.Outlives.{RegionContext}
 use Rattle.cyc_types.specs.Closure.{is_outliving}
-use Rattle.cyc_types.specs.Types.{region_eq, substituted_region, Ty, Int, Char, Pointer, Handle, Key, Struct, ValueType, Void, Null, Value, substituted_ty}
+use Rattle.cyc_types.specs.Types.{region_eq, substituted_region, Ty, Int, Char, Pointer, Handle, Key, Struct, Null, Value, substituted_ty}
 use Rattle.cyc_types.specs.declared.ty.Ty.{Ty as TyCode}
 use Rattle.cyc_types.specs.declared.typed.Converted.{Converted as ConvertedCode}
 use Rattle.cyc_types.specs.TypeView.{view_ty}
@@ -24,7 +23,7 @@ use Rattle.cyc_types.specs.TypedTrees as typed
 use Rattle.cyc_types.specs.Rules.{Demand, AllKept, demand, noted, settled, unless, run}
 use Rattle.cyc_types.specs.typing.Scopes.{Scope}
 use Rattle.cyc_types.specs.typing.Tests.{mark_eq, regions_eq, ty_eq, is_pointer, is_non_null}
-use Rattle.cyc_types.specs.typing.Expressions.{is_convertible, is_alike, is_null_allowed, is_outlived, conversion, passed_demanded, all_paired, paired, paired_argument, paired_arguments, is_unique_for_variable, variables_demanded, instance_of, instantiated, call_demanded}
+use Rattle.cyc_types.specs.typing.Expressions.{is_convertible, conversion, passed_demanded, all_paired, paired, paired_argument, paired_arguments, is_unique_for_variable, variables_demanded, instance_of, instantiated, call_demanded}
 use Rattle.cyc_types.proofs.RuleLaws.{kept_settled, settled_append, from_ok, ok_is_no_err}
 use Rattle.cyc_forms.specs.inside.Forms.{value_in}
 use Rattle.cyc_forms.specs.inside.Instances.{noted_at, noted_place, noted_places, instance_in}
@@ -41,56 +40,56 @@ Places = List (Region × Region)
 
 -- ---- what is noted stays
 
-set_here : (table : Table) (n : ℕ) (o p : Option Region) → slice_get table n ≡ Some o → slice_get (slice_set table n p) n ≡ Some p
-set_here [] n o p h = absurd (cc)
-set_here (x ∷ xs) zero o p h = refl
-set_here (x ∷ xs) (suc n) o p h = set_here xs n o p h
+noted_here : (table : Table) (n : ℕ) (o p : Option Region) → slice_get table n ≡ Some o → slice_get (slice_set table n p) n ≡ Some p
+noted_here [] n o p h = absurd (cc)
+noted_here (x ∷ xs) zero o p h = refl
+noted_here (x ∷ xs) (suc n) o p h = noted_here xs n o p h
 
-behind : (o : Option Region) (os : Table) (k : Option (Option Region)) (m : ℕ) (r : Region) → noted_at k (suc m) r (o ∷ os) ≡ o ∷ noted_at k m r os
-behind o os None m r = refl
-behind o os (Some None) m r = refl
-behind o os (Some (Some s)) m r = refl
+noted_behind : (o : Option Region) (os : Table) (k : Option (Option Region)) (m : ℕ) (r : Region) → noted_at k (suc m) r (o ∷ os) ≡ o ∷ noted_at k m r os
+noted_behind o os None m r = refl
+noted_behind o os (Some None) m r = refl
+noted_behind o os (Some (Some s)) m r = refl
 
 stays_at : (table : Table) (m n : ℕ) (r s : Region) → slice_get table n ≡ Some (Some s) → slice_get (noted_at (slice_get table m) m r table) n ≡ Some (Some s)
 stays_at [] m n r s h = absurd (cc)
 stays_at (Some q ∷ os) zero n r s h = h
 stays_at (None ∷ os) zero zero r s h = absurd (cc)
 stays_at (None ∷ os) zero (suc n) r s h = h
-stays_at (o ∷ os) (suc m) zero r s h = ap (λ t. slice_get t 0) (behind o os (slice_get os m) m r) ∙ h
-stays_at (o ∷ os) (suc m) (suc n) r s h = ap (λ t. slice_get t (suc n)) (behind o os (slice_get os m) m r) ∙ stays_at os m n r s h
+stays_at (o ∷ os) (suc m) zero r s h = ap (λ t. slice_get t 0) (noted_behind o os (slice_get os m) m r) ∙ h
+stays_at (o ∷ os) (suc m) (suc n) r s h = ap (λ t. slice_get t (suc n)) (noted_behind o os (slice_get os m) m r) ∙ stays_at os m n r s h
 
 stays_one : (table : Table) (p : Region × Region) (n : ℕ) (s : Region) → slice_get table n ≡ Some (Some s) → slice_get (noted_place table p) n ≡ Some (Some s)
 stays_one table (Heap, r) n s h = h
 stays_one table (Unique, r) n s h = h
 stays_one table (Variable m, r) n s h = stays_at table m n r s h
 
-stays : (table : Table) (ps : Places) (n : ℕ) (s : Region) → slice_get table n ≡ Some (Some s) → slice_get (noted_places table ps) n ≡ Some (Some s)
-stays table [] n s h = h
-stays table (p ∷ ps) n s h = stays (noted_place table p) ps n s (stays_one table p n s h)
+noted_stays : (table : Table) (ps : Places) (n : ℕ) (s : Region) → slice_get table n ≡ Some (Some s) → slice_get (noted_places table ps) n ≡ Some (Some s)
+noted_stays table [] n s h = h
+noted_stays table (p ∷ ps) n s h = noted_stays (noted_place table p) ps n s (stays_one table p n s h)
 
 -- so a variable whose region is noted is that region from then on
 found_later : (table : Table) (n : ℕ) (s : Region) → slice_get table n ≡ Some (Some s) → (later : Places) → substituted_region (instance_later table later) (Variable n) ≡ s
-found_later table n s h later = instance_at (noted_places table later) n (Some s) (Variable n) (stays table later n s h)
+found_later table n s h later = instance_at (noted_places table later) n (Some s) (Variable n) (noted_stays table later n s h)
 
 -- ---- one region
 
-not_unique : (n : ℕ) (s : Region) → region_eq s Unique ≡ false → is_unique_for_variable (Variable n, s) ≡ false
-not_unique n s h = h
+usual_variable : (n : ℕ) (s : Region) → region_eq s Unique ≡ false → is_unique_for_variable (Variable n, s) ≡ false
+usual_variable n s h = h
 
 -- a variable whose region is known
 pub stands_known : (table : Table) (n : ℕ) (s known : Region) → slice_get table n ≡ Some (Some known) → region_eq s Unique ≡ false → Stands table table (Variable n) s known
 stands_known table n s known h other = record {
   noted = sym (ap (λ o. noted_at o n s table) h);
   found = found_later table n known h;
-  usual = not_unique n s other;
+  usual = usual_variable n s other;
 }
 
 -- its first place
-pub stands_first : (table : Table) (n : ℕ) (s : Region) → slice_get table n ≡ Some None → region_eq s Unique ≡ false → Stands table (slice_set table n (Some s)) (Variable n) s s
-stands_first table n s h other = record {
+pub first_stands : (table : Table) (n : ℕ) (s : Region) → slice_get table n ≡ Some None → region_eq s Unique ≡ false → Stands table (slice_set table n (Some s)) (Variable n) s s
+first_stands table n s h other = record {
   noted = sym (ap (λ o. noted_at o n s table) h);
-  found = found_later (slice_set table n (Some s)) n s (set_here table n None (Some s) h);
-  usual = not_unique n s other;
+  found = found_later (slice_set table n (Some s)) n s (noted_here table n None (Some s) h);
+  usual = usual_variable n s other;
 }
 
 pub stands_heap : (table : Table) (s : Region) → Stands table table Heap s Heap

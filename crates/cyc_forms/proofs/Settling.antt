@@ -24,9 +24,9 @@ settled_three known k l m as' bs cs h i j =
     j ∙ ap (λ o. settled o cs) i ∙ sym (settled_append k bs cs) ∙ ap (λ o. settled o (bs ++ cs)) h ∙ sym (settled_append known as' (bs ++ cs))
 
 -- the stop where a fault is known
-pub stops_at : {Y : Type 0} (e : Stop) (known : Option Fault) (y : Y) → Ends (Err e) known → Stops e (unless known y)
-stops_at Memory known y h = absurd h
-stops_at (Refused f) known y h = ap (λ o. unless o y) h
+pub stops_unless : {Y : Type 0} (e : Stop) (known : Option Fault) (y : Y) → Ends (Err e) known → Stops e (unless known y)
+stops_unless Memory known y h = absurd h
+stops_unless (Refused f) known y h = ap (λ o. unless o y) h
 
 -- ---- what two lists of demands settle to, each by itself
 

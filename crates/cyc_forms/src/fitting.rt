@@ -18,7 +18,7 @@ use cyc_types::{Region, Ty};
 
 /// The region that one of a parameter's type is at the call: a variable is the one that is noted for it, and this one is noted where there is
 /// none yet. There is none where a variable would be the region of unique pointers.
-#[tactic(auto, using(crate::proofs::FittedValues::stands_known, crate::proofs::FittedValues::stands_first, crate::proofs::FittedValues::stands_heap, crate::proofs::FittedValues::stands_unique))]
+#[tactic(auto, using(crate::proofs::FittedValues::stands_known, crate::proofs::FittedValues::first_stands, crate::proofs::FittedValues::stands_heap, crate::proofs::FittedValues::stands_unique))]
 fn region_for(table: &mut [Option<Region>], wanted: Region, region: Region) -> Option<Region>
     ensures { IfSome result (λ known. Stands table.old table.new wanted region known) }
 {

@@ -5,7 +5,8 @@ ghost use Rattle.cyc_types.specs.TypedTrees.{NoClauses, type_of_place, type_of};
 ghost use Rattle.cyc_types.specs.TypeView.{view_ty, view_value_type};
 ghost use Rattle.cyc_types.specs.TypedTreeView.{view_expression, view_dereference, view_placement, view_initial, view_converted, view_side, view_statement, view_function, arguments_of, operations_of, items_of, clauses_of, default_of};
 ghost use Rattle.cyc_meaning.specs.Values.{words_of_kind};
-ghost use Rattle.cyc_meaning.specs.FrameCount.{result_words, operand_words, converted_words, handle_words, expression_need, dereference_need, handle_need, initial_value_need, converted_need, operations_need, argument_words, initial_need, thrown_need, side_need, statement_need, items_need, clauses_need, kept_by, kept_by_items, kept_by_clauses, words_of_all, frame_count};
+ghost use Rattle.cyc_meaning.specs.FrameCount.{result_words, operand_words, converted_words, handle_words, expression_need, dereference_need, handle_need, initial_value_need, converted_need, operations_need};
+ghost use Rattle.cyc_meaning.specs.FrameCount.{argument_words, initial_need, thrown_need, side_need, statement_need, items_need, clauses_need, kept_by, kept_by_items, kept_by_clauses, words_of_all, frame_count};
 ghost use Rattle.cyc_frame_count.specs.inside.Needs.{most_frame_count, operands_need, operation_need, item_need, kept_by_item};
 
 use cyc_types::Ty;

@@ -3,12 +3,16 @@
 use Rattle.std.proofs.Common.{◌≡◌, ℕ, Bool, false, not, List, [], ◌∷◌, ◌++◌, Option, Some, None, sym, subst}
 use Rattle.std.proofs.lemmas.Bool.{and_parts}
 use Rattle.cyc_types.specs.Types.{ValueType, Void, Null, Value}
-use Rattle.cyc_types.specs.TypedTrees.{Lvalue, Local, Global, Expression, Number, NullPointer, HeapRegion, Counter, Copy, Move, Peek, Load, AddressOf, AddressOfCell, NumberOfElements, FreeUnique, FreeKey, Call, Unary, Binary, Assign, Store, New, Dereference, Target, Member, Element, Placement, OnHeap, AsUnique, ByHandle, Initial, Plain, Fields, Array, Converted, Convert, Arguments, NoArguments, MoreArguments, Operations, NoOperations, ThenCompute, ThenTest, ThenPointer, ThenPointerPeek, Side, VariableSide, CellSide, Statement, Block, Empty, Evaluate, Swap, If, While, Return, Break, Continue, Throw, Try, Items, NoItems, MoreItems, Item, Execute, Declare, DeclareRegion, OpenRegion, DeclareAlias, DeclareKey, Clauses, NoClauses, Default, Case}
+use Rattle.cyc_types.specs.TypedTrees.{Lvalue, Local, Global, Expression, Number, NullPointer, HeapRegion, Counter, Copy, Move, Peek, Load, AddressOf, AddressOfCell, NumberOfElements, FreeUnique, FreeKey, Call, Unary}
+use Rattle.cyc_types.specs.TypedTrees.{Binary, Assign, Store, New, Dereference, Target, Member, Element, Placement, OnHeap, AsUnique, ByHandle, Initial, Plain, Fields, Array, Converted, Convert, Arguments, NoArguments}
+use Rattle.cyc_types.specs.TypedTrees.{MoreArguments, Operations, NoOperations, ThenCompute, ThenTest, ThenPointer, ThenPointerPeek, Side, VariableSide, CellSide, Statement, Block, Empty, Evaluate, Swap, If, While}
+use Rattle.cyc_types.specs.TypedTrees.{Return, Break, Continue, Throw, Try, Items, NoItems, MoreItems, Item, Execute, Declare, DeclareRegion, OpenRegion, DeclareAlias, DeclareKey, Clauses, NoClauses, Default, Case}
 use Rattle.cyc_types.specs.Rules.{Derives}
 use Rattle.cyc_types.specs.flow.States.{State, Unreached, Full, meet, fullness, with_each, is_locked}
-use Rattle.cyc_types.specs.flow.Touched.{and_local, and_assigned, touched, touched_place, touched_placement, touched_initial, touched_converted, touched_arguments, touched_operations, touched_side, touched_value, touched_thrown, touched_declaration, touched_statement, touched_items, touched_item, touched_clauses}
+use Rattle.cyc_types.specs.flow.Touched.{and_local, and_assigned, touched, touched_place, touched_placement, touched_initial, touched_converted, touched_arguments, touched_operations}
+use Rattle.cyc_types.specs.flow.Touched.{touched_side, touched_value, touched_thrown, touched_declaration, touched_statement, touched_items, touched_item, touched_clauses}
 use Rattle.cyc_types.specs.flow.Expressions.{and_peeked, peek_of, peek_behind, used, stored, is_free, rule, rule_place, rule_placement, rule_initial, rule_converted, rule_arguments, rule_operations}
-use Rattle.cyc_types.specs.flow.Statements.{Around, Known, at, in_loop, left_loop, rule_value, rule_thrown, rule_side, peeked_side, rule_swapped, locked_by, locks_of, rule_declared, caught, with_caught, or_clause, rule_statement, rule_items, rule_item, rule_clauses}
+use Rattle.cyc_types.specs.flow.Statements.{Around, Known, at, in_loop, left_loop, rule_value, rule_side, peeked_side, rule_swapped, locked_by, locks_of, rule_declared, caught, with_caught, or_clause, rule_statement, rule_items, rule_item, rule_clauses}
 use Rattle.cyc_types.specs.flow.Statements as published
 use Rattle.cyc_guard.specs.inside.Held.{IsAtLeast, Guard}
 use Rattle.cyc_guard.specs.inside.Statements.{behind_item}

@@ -2,12 +2,16 @@
 use Rattle.std.proofs.Common.{◌≡◌, ℕ, Bool, true, false, cond, not, ◌&&◌, ◌||◌, nat_eq, List, [], ◌∷◌, ◌++◌, Option, Some, None, get_or, refl, sym, ap, subst, ◌∙◌}
 use Rattle.std.proofs.lemmas.Bool.{and_parts, not-true}
 use Rattle.cyc_words.proofs.Booleans.{or_false_right, or_true_right}
-use Rattle.cyc_types.specs.TypedTrees.{Lvalue, Local, Global, Expression, Number, NullPointer, HeapRegion, Counter, Copy, Move, Peek, Load, AddressOf, AddressOfCell, NumberOfElements, FreeUnique, FreeKey, Call, Unary, Binary, Assign, Store, New, Dereference, Target, Member, Element, Placement, OnHeap, AsUnique, ByHandle, Initial, Plain, Fields, Array, Converted, Convert, Arguments, NoArguments, MoreArguments, Operations, NoOperations, ThenCompute, ThenTest, ThenPointer, ThenPointerPeek, Side, VariableSide, CellSide, Statement, Block, Empty, Evaluate, Swap, If, While, Return, Break, Continue, Throw, Try, Items, NoItems, MoreItems, Item, Execute, Declare, DeclareRegion, OpenRegion, DeclareAlias, DeclareKey, Clauses, NoClauses, Default, Case}
+use Rattle.cyc_types.specs.TypedTrees.{Lvalue, Local, Global, Expression, Number, NullPointer, HeapRegion, Counter, Copy, Move, Peek, Load, AddressOf, AddressOfCell, NumberOfElements, FreeUnique, FreeKey, Call, Unary}
+use Rattle.cyc_types.specs.TypedTrees.{Binary, Assign, Store, New, Dereference, Target, Member, Element, Placement, OnHeap, AsUnique, ByHandle, Initial, Plain, Fields, Array, Converted, Convert, Arguments, NoArguments}
+use Rattle.cyc_types.specs.TypedTrees.{MoreArguments, Operations, NoOperations, ThenCompute, ThenTest, ThenPointer, ThenPointerPeek, Side, VariableSide, CellSide, Statement, Block, Empty, Evaluate, Swap, If, While}
+use Rattle.cyc_types.specs.TypedTrees.{Return, Break, Continue, Throw, Try, Items, NoItems, MoreItems, Item, Execute, Declare, DeclareRegion, OpenRegion, DeclareAlias, DeclareKey, Clauses, NoClauses, Default, Case}
 use Rattle.cyc_types.specs.Rules.{Demand, Derives, AllKept}
 use Rattle.cyc_types.specs.flow.States.{Fullness, State, Unreached, Reached, Vacant, Locked, Full, meet, fullness, with_fullness, with_each, is_vacant, is_locked, emptied}
 use Rattle.cyc_types.specs.flow.Touched.{and_local, touched, touched_place, touched_placement, touched_initial, touched_converted, touched_arguments, touched_operations, touched_side, touched_value, touched_thrown, touched_declaration, touched_statement, touched_items, touched_item, touched_clauses}
 use Rattle.cyc_types.specs.flow.Expressions.{and_peeked, peek_of, peek_behind, used, stored, is_free, rule, rule_place, rule_placement, rule_initial, rule_converted, rule_arguments, rule_operations}
-use Rattle.cyc_types.specs.flow.Statements.{Loop, Around, Known, at, in_loop, left_loop, continue_demanded, rule_value, rule_thrown, rule_side, peeked_side, side_demanded, rule_swapped, locked_by, locks_of, rule_declared, caught, with_caught, or_clause, rule_statement, rule_items, rule_item, rule_clauses}
+use Rattle.cyc_types.specs.flow.Statements.{Loop, Around, Known, at, in_loop, left_loop, continue_demanded, rule_value, rule_thrown, rule_side, peeked_side, side_demanded}
+use Rattle.cyc_types.specs.flow.Statements.{rule_swapped, locked_by, locks_of, rule_declared, caught, with_caught, or_clause, rule_statement, rule_items, rule_item, rule_clauses}
 use Rattle.cyc_types.specs.flow.Statements as published
 use Rattle.cyc_guard.specs.inside.Held.{Held, IsAtLeast, with_held, and_held, Guard, peeking, relying, IsSeen, IsUsable, IsAssignable, IsSpared, IsReliable, at_catch}
 use Rattle.cyc_guard.specs.inside.Expressions.{KeepsUse, KeepsAssignment, Keeps, KeepsPlace, KeepsPlacement, KeepsInitial, KeepsConverted, KeepsArguments, KeepsOperations}
@@ -16,7 +20,8 @@ use Rattle.cyc_guard.proofs.Bools.{has, has_append, has_last}
 use Rattle.cyc_guard.proofs.States.{is_full, held_of, at_least_same, at_least_trans, meet_left, meet_right, tested, filled_at_least, emptied_at_least, lent_at_least, emptied_one, emptied_never, Emptied, emptied_at}
 use Rattle.cyc_guard.proofs.Fitting.{FitsAt, Fits, Rests, not_locked, not_relied, fits_meet, emptied_fits, Leaves, leaves_none, leaves_append, unlocked, unlocked_at_least, peeking_fits, peeking_rests}
 use Rattle.cyc_guard.proofs.Numbers.{IsFresh, AreFresh, IsFreshItem, AreFreshClauses}
-use Rattle.cyc_guard.proofs.Followed.{rests_back, before, before_initial, before_converted, before_arguments, before_operations, before_assigned, before_side, before_statement, before_items, before_clauses, behind_rests, followed, followed_place, followed_placement, followed_converted, followed_side, BothFit, ItemFits, ItemsFit, caught_fits, followed_statement, followed_items, followed_item, falls, falls_items, falls_clauses}
+use Rattle.cyc_guard.proofs.Followed.{rests_back, before, before_initial, before_converted, before_arguments, before_operations, before_assigned, before_side, before_statement, before_items, before_clauses, behind_rests, followed}
+use Rattle.cyc_guard.proofs.Followed.{followed_place, followed_placement, followed_converted, followed_side, BothFit, ItemFits, ItemsFit, caught_fits, followed_statement, followed_items, followed_item, falls, falls_items, falls_clauses}
 use Rattle.cyc_guard.proofs.Never.{never_items}
 
 -- a peek waits of just what the guard says

@@ -135,8 +135,8 @@ module _ (reached : List Bool) (price : CodePlace → ℕ) where
         paid_from (suc function) rs (other_flags bs) (λ k. ap (is_reached reached) (let e : suc function + k ≡ function + suc k = omega arith in e) ∙ same (suc k) ∙ sym (flags_other bs k)),
       )
 
-alone : (P : Instruction → Type 0) (i : Instruction) → P i → All P (i ∷ [])
-alone P i holds = All_by_number P (i ∷ []) here
+all_of_one : (P : Instruction → Type 0) (i : Instruction) → P i → All P (i ∷ [])
+all_of_one P i holds = All_by_number P (i ∷ []) here
   where
     here : (k : ℕ) (j : Instruction) → slice_get (i ∷ []) k ≡ Some j → P j
     here zero j at = subst P (let e : Some i ≡ Some j = at in cc) holds
@@ -192,7 +192,7 @@ module _ (program : Program) (reached : List Bool) (plain : IsPlain program) (ar
             results = is.results;
             frame = is.frame;
             instructions =
-                alone (IsInRange (emptied program reached) (record r { code = i ∷ [] })) i
+                all_of_one (IsInRange (emptied program reached) (record r { code = i ∷ [] })) i
                 (alone_in_range r i returned (All_at (IsInRange program r) r.code (first_return r.code) i is.instructions at));
             last = leaves_at_return i returned;
           }
@@ -208,7 +208,7 @@ module _ (program : Program) (reached : List Bool) (plain : IsPlain program) (ar
   words b r all = go (stub_of b r.code) (stub_is b r.code)
     where
       go : (stub : Option Instruction) → ((i : Instruction) → stub ≡ Some i → IsStub r.code i) → All HasWord (routine_with stub r).code
-      go (Some i) stubs = (let (at, returned) = stubs i refl in alone HasWord i (All_at HasWord r.code (first_return r.code) i all at))
+      go (Some i) stubs = (let (at, returned) = stubs i refl in all_of_one HasWord i (All_at HasWord r.code (first_return r.code) i all at))
       go None stubs = all
 
   at_kept : (P : Routine → Type 0) → ((k : ℕ) → k < length program.functions → P (routine_kept (is_reached reached k) (routine_at program k))) → All P below.functions

@@ -1,11 +1,13 @@
 -- The words that decode are the instances of the rows.
 use Rattle.std.proofs.Common.{◌≡◌, ℕ, Some, arith, eq-eqb}
 use Rattle.cyc_words.proofs.Members.{Any-one_to, Any-map_to}
-use Rattle.cyc_isa.specs.Table.{Row, groups, immediate_row, load_upper_row, memory_row, branch_row, branch_zero_row, jump_row, shift_row, shift_variable_row, jump_register_row, jump_register_link_row, exception_row, move_from_row, multiply_divide_row, arithmetic_row, immediate_ops, memory_ops, branch_ops, branch_zero_ops, jump_ops, shift_ops, exception_ops, move_from_ops, multiply_divide_ops, arithmetic_ops}
+use Rattle.cyc_isa.specs.Table.{Row, groups, immediate_row, load_upper_row, memory_row, branch_row, branch_zero_row, jump_row, shift_row, shift_variable_row, jump_register_row, jump_register_link_row, exception_row}
+use Rattle.cyc_isa.specs.Table.{move_from_row, multiply_divide_row, arithmetic_row, immediate_ops, memory_ops, branch_ops, branch_zero_ops, jump_ops, shift_ops, exception_ops, move_from_ops, multiply_divide_ops, arithmetic_ops}
 use Rattle.cyc_isa.specs.Encoding.{word_of, IsInstance, IsInstruction}
 use Rattle.cyc_isa.specs.Decoding.{decode_of, immediate_in, load_upper_in, memory_in, branch_in, branch_zero_in, jump_in, shift_in, shift_variable_in, jump_register_in, jump_register_link_in, exception_in, move_from_in, multiply_divide_in, arithmetic_in}
 use Rattle.cyc_isa.proofs.AnyLemmas.{Any-joined}
-use Rattle.cyc_isa.proofs.Selected.{selected_of-immediate, selected_of-load_upper, selected_of-memory, selected_of-branch, selected_of-branch_zero, selected_of-jump, selected_of-shift, selected_of-shift_variable, selected_of-jump_register, selected_of-jump_register_link, selected_of-exception, selected_of-move_from, selected_of-multiply_divide, selected_of-arithmetic}
+use Rattle.cyc_isa.proofs.Selected.{selected_of-immediate, selected_of-load_upper, selected_of-memory, selected_of-branch, selected_of-branch_zero, selected_of-jump, selected_of-shift, selected_of-shift_variable}
+use Rattle.cyc_isa.proofs.Selected.{selected_of-jump_register, selected_of-jump_register_link, selected_of-exception, selected_of-move_from, selected_of-multiply_divide, selected_of-arithmetic}
 use Rattle.cyc_isa.specs.declared.instr.Instr.{Instr}
 use Rattle.cyc_isa.specs.declared.instr.ImmediateOp.{ImmediateOp}
 use Rattle.cyc_isa.specs.declared.instr.MemoryOp.{MemoryOp}

@@ -2,10 +2,12 @@
 use Rattle.std.proofs.Common.{ℕ, ◌<◌, ◌^◌, ◌++◌, List, [], ◌∷◌, Contains, Any, refl, lit<, arith}
 use Rattle.cyc_words.proofs.Members.{Any-first, Any-map_from}
 use Rattle.cyc_isa.specs.Field.{Field, HasFields}
-use Rattle.cyc_isa.specs.Table.{Row, groups, immediate_row, load_upper_row, memory_row, branch_row, branch_zero_row, jump_row, shift_row, shift_variable_row, jump_register_row, jump_register_link_row, exception_row, move_from_row, multiply_divide_row, arithmetic_row, immediate_ops, memory_ops, branch_ops, branch_zero_ops, jump_ops, shift_ops, exception_ops, move_from_ops, multiply_divide_ops, arithmetic_ops}
+use Rattle.cyc_isa.specs.Table.{Row, groups, immediate_row, load_upper_row, memory_row, branch_row, branch_zero_row, jump_row, shift_row, shift_variable_row, jump_register_row, jump_register_link_row, exception_row}
+use Rattle.cyc_isa.specs.Table.{move_from_row, multiply_divide_row, arithmetic_row, immediate_ops, memory_ops, branch_ops, branch_zero_ops, jump_ops, shift_ops, exception_ops, move_from_ops, multiply_divide_ops, arithmetic_ops}
 use Rattle.cyc_isa.specs.Encoding.{row_of, operands_of, word_of, IsEncodable, IsInstance, IsInstruction}
 use Rattle.cyc_isa.proofs.AnyLemmas.{Any-joined_from}
-use Rattle.cyc_isa.proofs.Numbers.{immediate-number_fits, memory-number_fits, branch-number_fits, branch_zero-number_fits, jump-number_fits, shift-number_fits, exception-number_fits, move_from-number_fits, multiply_divide-number_fits, arithmetic-number_fits, shift_variable-number_fits, branch_zero-rt_fits}
+use Rattle.cyc_isa.proofs.Numbers.{immediate-number_fits, memory-number_fits, branch-number_fits, branch_zero-number_fits, jump-number_fits, shift-number_fits, exception-number_fits}
+use Rattle.cyc_isa.proofs.Numbers.{move_from-number_fits, multiply_divide-number_fits, arithmetic-number_fits, shift_variable-number_fits, branch_zero-rt_fits}
 use Rattle.cyc_isa.proofs.RoundTrip.{fields-word_of}
 use Rattle.cyc_isa.specs.declared.instr.Instr.{Instr}
 use Rattle.cyc_isa.specs.declared.instr.Instr.TheVariants.{Immediate, LoadUpper, Memory, Branch, BranchZero, Jump, Shift, ShiftVariable, JumpRegister, JumpRegisterLink, Exception, MoveFrom, MultiplyDivide, Arithmetic}

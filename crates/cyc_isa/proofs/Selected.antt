@@ -2,7 +2,8 @@
 use Rattle.std.proofs.Common.{◌≡◌, ℕ, ◌==◌, false, Some, refl}
 use Rattle.cyc_isa.specs.Field.{Opcode, Rt, Function, field_of}
 use Rattle.cyc_isa.specs.Table.{immediate, memory, branch, branch_zero, jump, shift, shift_variable, exception, move_from, multiply_divide, arithmetic}
-use Rattle.cyc_isa.specs.Decoding.{opcodes, sign_branches, functions, entry_at, selected_of, immediate_in, load_upper_in, memory_in, branch_in, branch_zero_in, jump_in, shift_in, shift_variable_in, jump_register_in, jump_register_link_in, exception_in, move_from_in, multiply_divide_in, arithmetic_in}
+use Rattle.cyc_isa.specs.Decoding.{opcodes, sign_branches, functions, entry_at, selected_of, immediate_in, load_upper_in, memory_in, branch_in, branch_zero_in, jump_in}
+use Rattle.cyc_isa.specs.Decoding.{shift_in, shift_variable_in, jump_register_in, jump_register_link_in, exception_in, move_from_in, multiply_divide_in, arithmetic_in}
 use Rattle.cyc_isa.specs.declared.instr.ImmediateOp.{ImmediateOp}
 use Rattle.cyc_isa.specs.declared.instr.MemoryOp.{MemoryOp}
 use Rattle.cyc_isa.specs.declared.instr.BranchOp.{BranchOp}

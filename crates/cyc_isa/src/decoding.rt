@@ -3,7 +3,8 @@
 ghost use Rattle.std.specs.Prelude.{◌≡◌, ◌↔◌, IsSome, IfSome};
 ghost use Rattle.cyc_isa.specs.Field.{Opcode, Rt, Function, Half, Sa, Target, Trap, field_of};
 ghost use Rattle.cyc_isa.specs.Encoding.{word_of, IsInstruction};
-ghost use Rattle.cyc_isa.specs.Decoding.{rs_of, rt_of, rd_of, shift_amount_of, jump_index_of, trap_code_of, immediate_in, load_upper_in, memory_in, branch_in, branch_zero_in, jump_in, shift_in, shift_variable_in, jump_register_in, jump_register_link_in, exception_in, move_from_in, multiply_divide_in, arithmetic_in, opcodes, sign_branches, functions, entry_at, selected_of, decode_of};
+ghost use Rattle.cyc_isa.specs.Decoding.{rs_of, rt_of, rd_of, shift_amount_of, jump_index_of, trap_code_of, immediate_in, load_upper_in, memory_in, branch_in, branch_zero_in, jump_in, shift_in, shift_variable_in};
+ghost use Rattle.cyc_isa.specs.Decoding.{jump_register_in, jump_register_link_in, exception_in, move_from_in, multiply_divide_in, arithmetic_in, opcodes, sign_branches, functions, entry_at, selected_of, decode_of};
 
 use crate::encoding::encode;
 use crate::instr::{

@@ -7,7 +7,8 @@ use Rattle.cyc_types.specs.declared.typed.Callee.TheVariants.{Function as Calls}
 use Rattle.cyc_types.specs.declared.typed.UnaryOperator.TheVariants as unary
 use Rattle.cyc_types.specs.declared.typed.Operator.TheVariants.{Add, Multiply}
 use Rattle.cyc_types.specs.Types.{Ty, Int, Char, Pointer, Struct, Value}
-use Rattle.cyc_types.specs.TypedTrees.{Lvalue, Local, Global, Expression, Number, Copy, Load, AddressOf, Call, Unary, Assign, Store, New, Dereference, Target, Member, OnHeap, Fields, Converted, Convert, NoArguments, MoreArguments, NoOperations, ThenCompute, CellSide, Statement, Evaluate, Swap, Items, NoItems, MoreItems, Declare, Word, GlobalVariable, StructType, Function, Program}
+use Rattle.cyc_types.specs.TypedTrees.{Lvalue, Local, Global, Expression, Number, Copy, Load, AddressOf, Call, Unary, Assign, Store, New, Dereference, Target, Member, OnHeap, Fields, Converted, Convert, NoArguments}
+use Rattle.cyc_types.specs.TypedTrees.{MoreArguments, NoOperations, ThenCompute, CellSide, Statement, Evaluate, Swap, Items, NoItems, MoreItems, Declare, Word, GlobalVariable, StructType, Function, Program}
 use Rattle.cyc_types.specs.declared.region.Region.TheVariants.{Heap}
 use Rattle.cyc_syntax.specs.declared.tree.PointerKind.TheVariants.{Nullable, NonNull, Fat}
 use Rattle.cyc_plain.specs.declared.instruction.Operand.TheVariants.{Slot, Word as Constant}

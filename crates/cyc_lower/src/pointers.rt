@@ -3,7 +3,8 @@
 ghost use Rattle.std.specs.Prelude.{◌≡◌, ◌+◌, ◌≤◌, ◌∷◌, length};
 ghost use Rattle.cyc_types.specs.TypedTreeView.{view_lvalue};
 ghost use Rattle.cyc_meaning.specs.Values.{is_thin};
-ghost use Rattle.cyc_lower.specs.inside.ValueCode.{address_of_code, address_of_global, last_byte_code, bounded_code, count_code, past_bounded, thinned_code, followed_code, followed_operand, loaded_code, reached_code, reached_operand, scaled_code, stepped_code, summed_code, bounds_code, widened_code, inside_code};
+ghost use Rattle.cyc_lower.specs.inside.ValueCode.{address_of_code, address_of_global, last_byte_code, bounded_code, count_code, past_bounded, thinned_code, followed_code, followed_operand};
+ghost use Rattle.cyc_lower.specs.inside.ValueCode.{loaded_code, reached_code, reached_operand, scaled_code, stepped_code, summed_code, bounds_code, widened_code, inside_code};
 ghost use Rattle.cyc_lower.specs.inside.ObjectCode.{saved_code};
 ghost use Rattle.cyc_types.specs.declared.typed.Kind.TheVariants as kinds;
 ghost use Rattle.cyc_plain.specs.declared.instruction.BinaryOperator.TheVariants as plain_binary;

@@ -13,7 +13,7 @@ use Rattle.cyc_types.specs.TypedTrees as typed
 use Rattle.cyc_meaning.specs.Values.{Int as Word}
 use Rattle.cyc_meaning.specs.State.{InRegion, HasEnded, IsWrong, Running, Beginning, Throwing, no_locals, first_world}
 use Rattle.cyc_meaning.specs.Allocation.{makes_array}
-use Rattle.cyc_meaning.proofs.ExampleTrees.{here, int, local, two, assign, print, execute, return, declare, function, program, program_with, end, long_end, long_printed, convert, variable, define}
+use Rattle.cyc_meaning.proofs.ExampleTrees.{here, int, local, two, print, execute, return, declare, function, program, program_with, end, long_end, long_printed, convert, variable, define}
 
 -- ---- trees
 

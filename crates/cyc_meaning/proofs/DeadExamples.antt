@@ -8,7 +8,7 @@ use Rattle.cyc_types.specs.declared.typed.Kind.TheVariants as kinds
 use Rattle.cyc_types.specs.declared.typed.Callee.TheVariants as callees
 use Rattle.cyc_types.specs.declared.typed.PointerOperator.TheVariants as pointers
 use Rattle.cyc_types.specs.Types.{Int, Pointer, Handle, Key, Value}
-use Rattle.cyc_types.specs.TypedTrees.{Expression, Number, NullPointer, Counter, Call, MoreArguments, NoArguments, Load, AddressOf, AddressOfCell, FreeUnique, FreeKey, AsUnique, OnHeap, ByHandle, Placement, Swap, CellSide, Execute, Declare, DeclareRegion, DeclareAlias, OpenRegion, DeclareKey, Program}
+use Rattle.cyc_types.specs.TypedTrees.{Number, NullPointer, Counter, Call, MoreArguments, NoArguments, Load, AddressOf, AddressOfCell, FreeUnique, FreeKey, AsUnique, OnHeap, ByHandle, Placement, Swap, CellSide, Execute, Declare, DeclareRegion, DeclareAlias, OpenRegion, DeclareKey, Program}
 use Rattle.cyc_types.specs.TypedTrees as typed
 use Rattle.cyc_meaning.specs.State.{HasEnded, IsDead, IsWrong}
 use Rattle.cyc_meaning.proofs.ExampleTrees.{here, local, execute, return, declare, block, while, function, procedure, call_void, program, program_with, end, long_end, star, at, fat, own, own_fat, convert, null_as, variable, move, peek, target, element, put, set, new, array, apply, define, side}

@@ -9,7 +9,8 @@ use Rattle.cyc_types.specs.declared.typed.Operator.{Operator}
 use Rattle.cyc_types.specs.declared.typed.LogicalOperator.TheVariants as logical
 use Rattle.cyc_types.specs.declared.typed.PointerOperator.{PointerOperator}
 use Rattle.cyc_types.specs.Types.{Ty, Int, Pointer, Void, Value}
-use Rattle.cyc_types.specs.TypedTrees.{Expression, Number, NullPointer, Counter, Copy, Move, Peek, Load, AddressOf, Call, Unary, Binary, Assign, New, Dereference, Target, Member, Element, Placement, OnHeap, AsUnique, ByHandle, Initial, Plain, Fields, Array, Converted, Convert, Arguments, NoArguments, MoreArguments, Operations, NoOperations, ThenCompute, ThenTest, ThenPointer, Side, VariableSide, CellSide, Statement, Block, Empty, Evaluate, Swap, If, Return, Throw, Try, Clauses, NoClauses, Default, Case, Items, NoItems, MoreItems, Execute, Declare, GlobalVariable, Function, Program}
+use Rattle.cyc_types.specs.TypedTrees.{Expression, NullPointer, Copy, Move, Peek, Call, Binary, Assign, New, Dereference, Target, Element, Placement, Plain, Array, Converted, Convert, Arguments, NoArguments, MoreArguments, NoOperations}
+use Rattle.cyc_types.specs.TypedTrees.{ThenCompute, ThenTest, ThenPointer, Side, VariableSide, Statement, Block, Empty, Evaluate, If, Return, Throw, Try, Clauses, Default, Case, Items, NoItems, MoreItems, Execute, Declare, Function, Program}
 use Rattle.cyc_types.specs.TypedTrees as typed
 use Rattle.cyc_meaning.specs.Values.{kind_of}
 use Rattle.cyc_meaning.specs.State.{Status, output_of, status_of}

@@ -7,12 +7,13 @@ use Rattle.cyc_types.specs.declared.typed.UnaryOperator.TheVariants as unary
 use Rattle.cyc_types.specs.declared.typed.Operator.TheVariants as operators
 use Rattle.cyc_types.specs.declared.typed.LogicalOperator.TheVariants as logical
 use Rattle.cyc_types.specs.Types.{Int, Void}
-use Rattle.cyc_types.specs.TypedTrees.{Expression, Number, Copy, Call, Unary, Binary, Assign, Converted, Convert, Arguments, NoArguments, MoreArguments, Operations, NoOperations, ThenCompute, ThenTest, Statement, Block, Empty, Evaluate, If, While, Return, Break, Continue, Items, NoItems, MoreItems, Execute, Declare, Word, GlobalVariable, Function, Program}
+use Rattle.cyc_types.specs.TypedTrees.{Expression, Number, Call, Unary, Binary, NoOperations, ThenCompute, ThenTest, Empty, Evaluate, If, Return, Break, Continue, Execute, Declare, Word, Function, Program}
 use Rattle.cyc_types.specs.TypedTrees as typed
 use Rattle.std.specs.Prelude.{suc, if◌then◌else◌}
 use Rattle.cyc_meaning.specs.State.{Region, State, Running, Ended, Dead, Wrong, Status, GoesOn, HasEnded, IsDead, IsWrong, output_of, input_of, status_of, depth, demand}
 use Rattle.cyc_meaning.specs.Run.{start, run}
-use Rattle.cyc_meaning.proofs.ExampleTrees.{int, local, global, two, both, either, assign, assign_global, print, read_byte, arguments, call, execute, return, declare, block, while, function, program_with, program, end, printed, long_end, long_printed, limited_end, limited_printed, end_on, printed_on}
+use Rattle.cyc_meaning.proofs.ExampleTrees.{int, local, global, two, both, either, assign, assign_global, print, read_byte, arguments, call, execute, return, declare, block}
+use Rattle.cyc_meaning.proofs.ExampleTrees.{while, function, program_with, program, end, printed, long_end, long_printed, limited_end, limited_printed, end_on, printed_on}
 
 -- what a program does that returns the value of one expression
 abbrev value : Expression → Status

@@ -5,10 +5,11 @@ use Rattle.cyc_words.specs.Ending.{Returned, Uncaught, Full}
 use Rattle.cyc_types.specs.declared.typed.UnaryOperator.TheVariants as unary
 use Rattle.cyc_types.specs.declared.typed.Operator.TheVariants as operators
 use Rattle.cyc_types.specs.Types.{Int}
-use Rattle.cyc_types.specs.TypedTrees.{Expression, Number, Counter, Unary, If, Evaluate, Block, Empty, Throw, Load, Case, OnHeap, NoClauses, Items, Execute, Function, Program}
+use Rattle.cyc_types.specs.TypedTrees.{Number, Counter, Unary, If, Evaluate, Empty, Throw, Load, Case, OnHeap, NoClauses, Execute, Function, Program}
 use Rattle.cyc_types.specs.TypedTrees as typed
 use Rattle.cyc_meaning.specs.State.{HasEnded}
-use Rattle.cyc_meaning.proofs.ExampleTrees.{int, local, two, assign, print, call, items, execute, return, declare, block, while, function, program, program_with, end, printed, long_end, long_printed, end_within, printed_within, star, at, fat, convert, null_as, variable, target, new, array, define, when, try_to, case, otherwise, throw}
+use Rattle.cyc_meaning.proofs.ExampleTrees.{int, local, two, assign, print, call, items, execute, return, declare, block, while, function, program, program_with, end, printed, long_end}
+use Rattle.cyc_meaning.proofs.ExampleTrees.{long_printed, end_within, printed_within, star, at, fat, convert, null_as, variable, target, new, array, define, when, try_to, case, otherwise, throw}
 
 -- int m = -2147483647 - 1; int d = -1; int z = 0; if (m / d == m) putchar(65); if (m % d == 0) putchar(66);
 -- try putchar(1 / z); catch { case &Div_zero: putchar(67); } return 0;

@@ -4,7 +4,7 @@ use Rattle.cyc_types.specs.declared.region.Region.TheVariants.{Heap}
 use Rattle.cyc_types.specs.declared.typed.PointerOperator.TheVariants as pointers
 use Rattle.cyc_types.specs.declared.typed.UnaryOperator.TheVariants as unary
 use Rattle.cyc_types.specs.Types.{Ty, Int, Char, Handle, Key}
-use Rattle.cyc_types.specs.TypedTrees.{Expression, Number, NullPointer, Counter, Load, AddressOf, AddressOfCell, NumberOfElements, FreeKey, Unary, New, OnHeap, AsUnique, ByHandle, Array, CellSide, Swap, Evaluate, Throw, NoClauses, DeclareRegion, OpenRegion, Function}
+use Rattle.cyc_types.specs.TypedTrees.{Number, NullPointer, Counter, Load, AddressOf, AddressOfCell, NumberOfElements, FreeKey, Unary, OnHeap, AsUnique, ByHandle, CellSide, Swap, Throw, NoClauses, DeclareRegion, OpenRegion}
 use Rattle.cyc_types.specs.TypedTrees as typed
 use Rattle.cyc_meaning.specs.FrameCount.{expression_need, statement_need, frame_count}
 use Rattle.cyc_meaning.proofs.ExampleTrees.{here, local, assign, procedure, at, fat, own, convert, variable, move, target, element, put, set, new, array, apply, side, try_to, case}

@@ -9,7 +9,7 @@ use Rattle.cyc_types.specs.declared.typed.PointerOperator.TheVariants as pointer
 use Rattle.cyc_types.specs.Types.{Ty, Int, Pointer, Struct, Value}
 use Rattle.cyc_syntax.specs.declared.tree.PointerKind.TheVariants as marks
 use Rattle.cyc_types.specs.declared.region.Region.TheVariants.{Heap}
-use Rattle.cyc_types.specs.TypedTrees.{Expression, Number, NullPointer, Counter, Call, Load, AddressOf, AddressOfCell, NumberOfElements, Unary, New, Member, OnHeap, Fields, Array, Convert, MoreArguments, NoArguments, Element, StructType, Program, NoClauses}
+use Rattle.cyc_types.specs.TypedTrees.{Expression, Number, NullPointer, Counter, Call, Load, AddressOf, AddressOfCell, NumberOfElements, Unary, New, Member, OnHeap, Fields, Array, MoreArguments, NoArguments, Element, Program, NoClauses}
 use Rattle.cyc_types.specs.TypedTrees as typed
 use Rattle.cyc_meaning.specs.Values.{Int as Word}
 use Rattle.cyc_meaning.specs.State.{InRegion, HasEnded, IsWrong, Running, Beginning, Throwing, no_locals, first_world, status_of}

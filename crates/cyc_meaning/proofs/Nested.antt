@@ -5,7 +5,8 @@ use Rattle.std.specs.Prelude.{slice_get}
 use Rattle.cyc_words.specs.Ending.{Uncaught}
 use Rattle.cyc_words.specs.Word.{signed}
 use Rattle.cyc_types.specs.TypedTrees.{Program}
-use Rattle.cyc_meaning.specs.State.{Region, World, Access, Found, Closed, Missing, region_at, closed, first_world, Environment, Entry, Needs, NeedsPlace, Discard, Rest, Join, Loop, CloseRegion, CloseLexical, EndLoan, Handler, Caller, Main, Focus, Throwing, State, Running, Ended, Dead, Wrong, GoesOn, HasEnded, IsDead, IsWrong, status_of}
+use Rattle.cyc_meaning.specs.State.{Region, World, Access, Found, Closed, Missing, region_at, closed, first_world, Environment, Entry, Needs, NeedsPlace, Discard, Rest, Join, Loop, CloseRegion}
+use Rattle.cyc_meaning.specs.State.{CloseLexical, EndLoan, Handler, Caller, Main, Focus, Throwing, State, Running, Ended, Dead, Wrong, GoesOn, HasEnded, IsDead, IsWrong, status_of}
 use Rattle.cyc_meaning.specs.Parts.{closing}
 use Rattle.cyc_meaning.specs.Regions.{closing_lexical}
 use Rattle.cyc_meaning.specs.Step.{step, stepped}

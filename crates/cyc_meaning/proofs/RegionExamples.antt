@@ -6,10 +6,11 @@ use Rattle.cyc_types.specs.declared.typed.Callee.TheVariants as callees
 use Rattle.cyc_types.specs.declared.typed.Operator.TheVariants as operators
 use Rattle.cyc_types.specs.declared.typed.PointerOperator.TheVariants as pointers
 use Rattle.cyc_types.specs.Types.{Int, Handle, Key, Value}
-use Rattle.cyc_types.specs.TypedTrees.{Expression, Number, NullPointer, HeapRegion, AddressOf, Call, MoreArguments, NoArguments, Load, FreeKey, If, Throw, Empty, Evaluate, Block, Case, NoClauses, ByHandle, Placement, Execute, DeclareRegion, OpenRegion, DeclareKey, Function, Program}
+use Rattle.cyc_types.specs.TypedTrees.{Expression, Number, NullPointer, HeapRegion, AddressOf, Call, MoreArguments, NoArguments, Load, FreeKey, If, Throw, Empty, Evaluate, Case, NoClauses, ByHandle, Placement, Execute, DeclareRegion, OpenRegion, DeclareKey, Function, Program}
 use Rattle.cyc_types.specs.TypedTrees as typed
 use Rattle.cyc_meaning.specs.State.{HasEnded}
-use Rattle.cyc_meaning.proofs.ExampleTrees.{here, local, two, assign, print, call, items, execute, return, declare, block, while, function, program, program_with, end, long_end, long_printed, end_within, star, at, convert, null_as, variable, move, target, put, set, new, apply, define, when, try_to, case, otherwise}
+use Rattle.cyc_meaning.proofs.ExampleTrees.{here, local, two, assign, print, call, items, execute, return, declare, block, while, function, program, program_with, end, long_end}
+use Rattle.cyc_meaning.proofs.ExampleTrees.{long_printed, end_within, star, at, convert, null_as, variable, move, target, put, set, new, apply, define, when, try_to, case, otherwise}
 
 abbrev handle : ℕ → Expression
 handle number = variable number (Handle Heap)

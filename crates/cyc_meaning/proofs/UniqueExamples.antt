@@ -7,13 +7,14 @@ use Rattle.cyc_types.specs.declared.typed.Operator.TheVariants as operators
 use Rattle.cyc_syntax.specs.declared.tree.PointerKind.TheVariants as marks
 use Rattle.cyc_types.specs.declared.region.Region.TheVariants.{Heap}
 use Rattle.cyc_types.specs.Types.{Ty, Int, Pointer, Void, Value}
-use Rattle.cyc_types.specs.TypedTrees.{Expression, Number, NullPointer, Counter, Call, MoreArguments, NoArguments, New, Plain, Load, FreeUnique, NumberOfElements, Assign, AsUnique, OnHeap, Swap, VariableSide, CellSide, Null, Execute, DeclareAlias, Function, Program}
+use Rattle.cyc_types.specs.TypedTrees.{Number, Counter, Call, MoreArguments, NoArguments, New, Plain, Load, FreeUnique, Assign, AsUnique, OnHeap, Swap, VariableSide, CellSide, Null, Execute, DeclareAlias, Function}
 use Rattle.cyc_types.specs.TypedTrees as typed
 use Rattle.std.specs.Prelude.{Option, slice_get}
 use Rattle.cyc_meaning.specs.State.{HasEnded, Object, World, Running, Proceeding, no_locals, first_world, demand}
 use Rattle.cyc_meaning.specs.Objects.{made_unique, freed}
 use Rattle.cyc_meaning.specs.Allocation.{blanks}
-use Rattle.cyc_meaning.proofs.ExampleTrees.{here, local, two, print, call, execute, return, declare, block, function, procedure, program, program_with, end, long_end, printed, star, at, fat, own_star, own, own_fat, convert, null_as, variable, move, peek, target, element, put, new, array, define, side, call_void}
+use Rattle.cyc_meaning.proofs.ExampleTrees.{here, local, two, print, call, execute, return, declare, block, function, procedure, program, program_with, end, long_end, printed, star}
+use Rattle.cyc_meaning.proofs.ExampleTrees.{at, fat, own_star, own, own_fat, convert, null_as, variable, move, peek, target, element, put, new, array, define, side, call_void}
 
 -- void eat(int @`U p){ ufree(p); }
 abbrev eat : Function

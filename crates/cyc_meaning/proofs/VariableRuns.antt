@@ -5,7 +5,8 @@ use Rattle.std.proofs.lemmas.Bool.{cases_lt}
 use Rattle.std.proofs.lemmas.List.{length-map}
 use Rattle.cyc_types.specs.TypedTrees.{MoreItems, Declare, GlobalVariable, Function, Program}
 use Rattle.cyc_types.specs.typing.WellTyped.{IsWellTypedProgram}
-use Rattle.cyc_meaning.specs.State.{Region, Object, found_region, World, first_world, globals_number, global_object, no_locals, Environment, Initialise, Entry, Needs, Rest, CloseRegion, CloseLexical, Caller, Main, Focus, Evaluating, Locating, Given, GivenPlace, Executing, Proceeding, Calling, Entering, Binding, Naming, Writing, Beginning, Repeating, Swapping, Breaking, Continuing, Returning, Throwing, Catching, State, Running, Ended, Dead, Wrong}
+use Rattle.cyc_meaning.specs.State.{Region, Object, found_region, World, first_world, globals_number, global_object, no_locals, Environment, Initialise, Entry, Needs, Rest, CloseRegion, CloseLexical, Caller, Main, Focus, Evaluating, Locating}
+use Rattle.cyc_meaning.specs.State.{Given, GivenPlace, Executing, Proceeding, Calling, Entering, Binding, Naming, Writing, Beginning, Repeating, Swapping, Breaking, Continuing, Returning, Throwing, Catching, State, Running, Ended, Dead, Wrong}
 use Rattle.cyc_meaning.specs.inside.Nesting.{ends_of, IsFound, AreBelow, IsNested, Nests}
 use Rattle.cyc_meaning.specs.Step.{wrong, called, step, stepped}
 use Rattle.cyc_meaning.specs.Run.{start, steps, run, limited_step}
@@ -16,7 +17,8 @@ use Rattle.cyc_meaning.proofs.Nested.{nests_step, nests_start, nests_run}
 use Rattle.cyc_meaning.proofs.VariableLemmas.{lives_once, lives_below}
 use Rattle.cyc_meaning.proofs.VariableChanges.{local_here}
 use Rattle.cyc_meaning.proofs.VariableDeclared.{former_left}
-use Rattle.cyc_meaning.proofs.VariableSteps.{low_less, Stays, Goes, Ends, Dies, Fails, Begins, sooner, none_low, named_evaluating, named_locating, named_given, named_given_place, named_executing, named_proceeding, named_calling, named_entering, named_binding, named_naming, named_writing, named_beginning, named_repeating, named_swapping_values, named_breaking, named_continuing, named_returning, named_throwing, named_catching}
+use Rattle.cyc_meaning.proofs.VariableSteps.{low_less, Stays, Goes, Ends, Dies, Fails, Begins, sooner, none_low, named_evaluating, named_locating, named_given, named_given_place, named_executing, named_proceeding, named_calling, named_entering}
+use Rattle.cyc_meaning.proofs.VariableSteps.{named_binding, named_naming, named_writing, named_beginning, named_repeating, named_swapping_values, named_breaking, named_continuing, named_returning, named_throwing, named_catching}
 use Rattle.cyc_meaning.proofs.Rising.{functions_rise}
 
 -- ---- a step

@@ -10,22 +10,29 @@ use Rattle.cyc_types.specs.declared.typed.LogicalOperator.{LogicalOperator}
 use Rattle.cyc_types.specs.declared.typed.PointerOperator.{PointerOperator}
 use Rattle.cyc_types.specs.declared.typed.PointerOperator.TheVariants as pointers
 use Rattle.cyc_types.specs.Types.{Ty}
-use Rattle.cyc_types.specs.TypedTrees.{Item, Lvalue, Expression, Number, NullPointer, HeapRegion, Counter, Copy, Move, Peek, Load, AddressOf, AddressOfCell, NumberOfElements, FreeUnique, FreeKey, Call, Unary, Binary, Assign, New, Dereference, Target, Member, Element, Placement, OnHeap, AsUnique, ByHandle, Initial, Plain, Fields, Array, Converted, Convert, Arguments, NoArguments, MoreArguments, Operations, NoOperations, ThenCompute, ThenTest, ThenPointer, ThenPointerPeek, Side, VariableSide, CellSide, Statement, Block, Empty, Evaluate, Swap, If, While, Break, Continue, Throw, Try, Items, NoItems, MoreItems, Execute, Declare, DeclareRegion, OpenRegion, DeclareAlias, DeclareKey, Clauses, NoClauses, Default, Case, StructType, Function, Program}
+use Rattle.cyc_types.specs.TypedTrees.{Expression, Number, NullPointer, HeapRegion, Counter, Copy, Move, Peek, Load, AddressOf, AddressOfCell, NumberOfElements, FreeUnique, FreeKey, Call, Unary, Binary, Assign, New, Dereference, Target, Member, Element, OnHeap}
+use Rattle.cyc_types.specs.TypedTrees.{AsUnique, ByHandle, Initial, Plain, Fields, Array, Converted, Convert, Arguments, NoArguments, MoreArguments, Operations, NoOperations, ThenCompute, ThenTest, ThenPointer, ThenPointerPeek, Side, VariableSide, CellSide, Statement}
+use Rattle.cyc_types.specs.TypedTrees.{Block, Empty, Evaluate, Swap, If, While, Break, Continue, Throw, Try, Items, NoItems, MoreItems, Execute, Declare, DeclareRegion, OpenRegion, DeclareAlias, DeclareKey, Clauses, NoClauses, Default, Case, StructType, Function}
+use Rattle.cyc_types.specs.TypedTrees.{Program}
 use Rattle.cyc_types.specs.TypedTrees as typed
 use Rattle.cyc_meaning.specs.Values.{Value, Int, Null, Thin, Fat, Handle, Key, Operand, kind_of, is_kind, bytes_of_kind, words_for}
 use Rattle.cyc_meaning.specs.Operators.{Result, Gives, Raises, Misfits, is_zero, binary_result, unary_result, unary_kind, truth_of, decides}
 use Rattle.cyc_meaning.specs.Pointers.{element_count, pointer_result, result_kind, takes_kind, Reach, At, Stops, Nowhere, followed}
 use Rattle.cyc_meaning.specs.Conversion.{conversion}
-use Rattle.cyc_meaning.specs.State.{opened, Sort, Stack, Lexical, Dynamic, Region, Owner, InRegion, Unique, Object, World, Access, Found, Closed, Missing, region_at, Located, cell_at, Environment, no_locals, Awaiting, ConvertTo, Operate, Chain, Apply, ApplyPointer, Decide, Store, StoreCell, Pass, Follow, FollowMember, Index, Advance, CountElements, FreeObject, CloseByKey, PlaceBy, BesideHandle, MakePlain, MakeFields, MakeArray, FillElement, Initialise, Choose, Test, Return, ThrowWith, OpenBy, AliasOf, LoadFrom, TakeAddress, StoreTo, SwapLeft, SwapRight, Entry, Needs, NeedsPlace, Discard, Rest, Join, Loop, CloseRegion, CloseLexical, EndLoan, Handler, Caller, Main, Write, Focus, Given, Executing, Proceeding, Entering, Binding, Naming, Writing, Repeating, Breaking, Continuing, Returning, Throwing, Catching, State, Running, Ended, Dead, Wrong, closed, written}
+use Rattle.cyc_meaning.specs.State.{opened, Sort, Stack, Lexical, Dynamic, Region, Owner, InRegion, Unique, Object, World, Access, Found, Closed, Missing, region_at, Located, cell_at, Environment, no_locals, Awaiting, ConvertTo, Operate, Chain}
+use Rattle.cyc_meaning.specs.State.{Apply, ApplyPointer, Decide, Store, StoreCell, Pass, Follow, FollowMember, Index, Advance, CountElements, FreeObject, CloseByKey, PlaceBy, BesideHandle, MakePlain, MakeFields, MakeArray, FillElement, Initialise}
+use Rattle.cyc_meaning.specs.State.{Choose, Test, Return, ThrowWith, OpenBy, AliasOf, LoadFrom, TakeAddress, StoreTo, SwapLeft, SwapRight, Entry, Needs, NeedsPlace, Discard, Rest, Join, Loop, CloseRegion, CloseLexical, EndLoan, Handler, Caller}
+use Rattle.cyc_meaning.specs.State.{Main, Write, Focus, Given, Executing, Proceeding, Entering, Binding, Naming, Writing, Repeating, Breaking, Continuing, Returning, Throwing, Catching, State, Running, Ended, Dead, Wrong, closed, written}
 use Rattle.cyc_meaning.specs.Objects.{compared, created_in}
-use Rattle.cyc_meaning.specs.Parts.{gives, computed, leads_to, object_of, read, loaded, loaded_from, stored, stored_at, step_writing, declared, inside, region_end, closing}
+use Rattle.cyc_meaning.specs.Parts.{computed, leads_to, object_of, read, loaded, loaded_from, stored, stored_at, step_writing, declared, inside, region_end, closing}
 use Rattle.cyc_meaning.specs.Parts as parts
 use Rattle.cyc_meaning.specs.Places.{arrives, follows, follows_member, member_of, indexes, locates_member, step_locating, loaded_at, step_given_place}
 use Rattle.cyc_meaning.specs.Swaps.{finds_right_object, finds_right, finds_left_object, swaps, swap_content, swap_loaded, swap_loaded_at, step_swapping}
 use Rattle.cyc_meaning.specs.Allocation.{blanks_of, filled, makes_of, makes_plain, blanks, begun, makes_array, step_beginning, step_repeating, fills_element, makes, makes_by, most_words}
 use Rattle.cyc_meaning.specs.Exceptions.{throws, throws_value, catches, step_catching}
 use Rattle.cyc_meaning.specs.Regions.{is_dynamic, step_naming, closing_lexical, opened_by, opens_with, closes_dynamic, closes_with, frees_in_region, frees_owned, frees_object, frees}
-use Rattle.cyc_meaning.specs.Step.{values_of, called, step_calling, step_entering, step_binding, passes, assigned, addressed, counts, step_evaluating, decided, tested, awaits_right, chained, tells, applies_pointer, chosen, looped, converts, initialises, supplied, step_given, step_executing, declares, continues_with, step_proceeding, step_breaking, step_continuing, returned, ends_with, main_returned, step_returning, step_throwing, stepped}
+use Rattle.cyc_meaning.specs.Step.{values_of, called, step_calling, step_entering, step_binding, passes, assigned, addressed, counts, step_evaluating, decided, tested, awaits_right, chained, tells, applies_pointer}
+use Rattle.cyc_meaning.specs.Step.{chosen, looped, supplied, step_given, step_executing, declares, step_proceeding, step_breaking, step_continuing, returned, ends_with, main_returned, step_returning, step_throwing}
 use Rattle.cyc_meaning.specs.Step as steps
 use Rattle.cyc_meaning.specs.inside.Nesting.{IsNested}
 use Rattle.cyc_meaning.specs.inside.Variables.{FunctionsRise, ItemsRise, ClausesRise, Locals, IsInBlock, AreLow, Names, DeclareLater, DeclareNow, AreNamed, HasNames}

@@ -5,7 +5,7 @@ use Rattle.std.proofs.lemmas.Bool.{cases_Bool, cond-true, cond-false, le-leb}
 use Rattle.cyc_words.proofs.Numbers.{when_equal}
 use Rattle.cyc_words.proofs.Options.{same_from_some}
 use Rattle.cyc_words.proofs.Booleans.{never_true_and_false}
-use Rattle.cyc_store.specs.State.{lookup, without, AreDistinct, Block, address_of, Home, handle_of, StoreState, homes, block_in, block_at, is_lexical, lexical_count, down_to}
+use Rattle.cyc_store.specs.State.{lookup, without, AreDistinct, Block, Home, handle_of, StoreState, homes, block_in, block_at, is_lexical, lexical_count, down_to}
 use Rattle.cyc_store.specs.State as stores
 use Rattle.cyc_store.specs.Services.{CloseTo, BadMark, Choice, served, any_choice, refusal, IsAllowed}
 use Rattle.cyc_store.specs.Soundness.{IsSound}

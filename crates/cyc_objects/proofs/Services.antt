@@ -9,7 +9,7 @@ use Rattle.cyc_words.proofs.Numbers.{when_equal}
 use Rattle.cyc_words.proofs.Options.{never_none_and_some, same_from_some, same_from_some_some}
 use Rattle.cyc_words.proofs.Items.{slice_get_front, slice_get-set_cases}
 use Rattle.cyc_words.proofs.Booleans.{never_true_and_false}
-use Rattle.cyc_store.specs.State.{lookup, without, AreDistinct, Memory, Block, address_of, Home, handle_of, empty_home, StoreState, homes, block_in, block_at, room}
+use Rattle.cyc_store.specs.State.{lookup, without, AreDistinct, Memory, Block, address_of, handle_of, empty_home, StoreState, homes, block_in, block_at, room}
 use Rattle.cyc_store.specs.State as stores
 use Rattle.cyc_store.specs.Services.{OpenLexical, OpenDynamic, CloseDynamic, Free, Choice, served, names_dynamic, full_at, refusal, BadHandle, NotABlock, IsAllowed}
 use Rattle.cyc_store.specs.Services as services

@@ -15,7 +15,8 @@ use Rattle.cyc_syntax.specs.Grammar.{max_nesting, IsBody, IsDeclaration}
 use Rattle.cyc_parse.specs.inside.Parsing.{◌>>=◌, ◌>>◌, pure, next, sees, sees_terminal, starts, sign, begins_region, bind, is_word}
 use Rattle.cyc_parse.specs.inside.Types.{begins_type, written_type}
 use Rattle.cyc_parse.specs.inside.Declarations.{number_value, begins_void, begins_constructor, member, field, has_int, constructor, parameter_list, effect, constraint, constraints, parameters, value_by, value, global_value, function, typed, struct_fields, declaration_by, declaration}
-use Rattle.cyc_parse.proofs.Rules.{Front, Reads, Fits, Starts, Always, item-next, starts_append, starts_number, starting_reads, leaf_of, leaf_at, front-next, then_reads, last_reads, pure_reads, reads_before, token_reads, word_reads, sign_reads, identifier_reads, region_reads, choose_reads, advance_reads, advance_reads_at, sees_reads, unseen_reads, seen_reads, sign_deep_reads, starts_reads, unstarted_reads, yield_reads}
+use Rattle.cyc_parse.proofs.Rules.{Front, Reads, Fits, Starts, Always, item-next, starts_append, starts_number, starting_reads, leaf_of, leaf_at, front-next, then_reads, last_reads, pure_reads, reads_before, token_reads, word_reads}
+use Rattle.cyc_parse.proofs.Rules.{sign_reads, identifier_reads, region_reads, choose_reads, advance_reads, advance_reads_at, sees_reads, unseen_reads, seen_reads, sign_deep_reads, starts_reads, unstarted_reads, yield_reads}
 use Rattle.cyc_parse.proofs.Lists.{IsRead, EndsList, separated_reads, some_of_reads}
 use Rattle.cyc_parse.proofs.TypeReads.{EndsType, NoRegion, type_starts, type_reads, with_pointers_reads, optional_regions_reads}
 use Rattle.cyc_parse.proofs.RegionReads.{regions_reads}

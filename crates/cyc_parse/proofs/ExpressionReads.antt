@@ -5,13 +5,15 @@ use Rattle.cyc_syntax.specs.declared.tokens.Keyword.TheVariants as words
 use Rattle.cyc_syntax.specs.declared.tokens.Sign.TheVariants as signs
 use Rattle.cyc_syntax.specs.Symbols.{Terminal, Identifier, Word, Mark, Symbol}
 use Rattle.cyc_syntax.specs.Symbols as terminals
-use Rattle.cyc_syntax.specs.Trees.{Named, Expression, Number, Character, Null, HeapRegion, UniqueRegion, Variable, Call, Bracketed, NumberOfElements, LowByteOf, FreeUnique, FreeKey, Chained, Prefixed, New, RegionNew, Binary, Assign, Expressions, NoExpressions, MoreExpressions, Postfixes, NoPostfixes, ThenIndex, ThenField}
+use Rattle.cyc_syntax.specs.Trees.{Named, Expression, Number, Character, Null, HeapRegion, UniqueRegion, Variable, Call, Bracketed, NumberOfElements, LowByteOf, FreeUnique, FreeKey}
+use Rattle.cyc_syntax.specs.Trees.{Chained, Prefixed, New, RegionNew, Binary, Assign, Expressions, NoExpressions, MoreExpressions, Postfixes, NoPostfixes, ThenIndex, ThenField}
 use Rattle.cyc_syntax.specs.Yields.{Yield}
 use Rattle.cyc_syntax.specs.Yields as yields
 use Rattle.cyc_syntax.specs.Grammar.{max_nesting, max_items, is_primary}
 use Rattle.cyc_parse.specs.inside.Parsing.{Parser, pure, sees, sees_terminal, next, separated}
 use Rattle.cyc_parse.specs.inside.Expressions.{begins_expression, nested, group, arguments, from_name, primary, primary_by, postfixes, chained, chain_of, with_postfixes}
-use Rattle.cyc_parse.proofs.Rules.{Front, Reads, Fits, starts_append, starts_number, item-next, seen_reads, leaf_of, leaf_at, front-next, then_reads, last_reads, pure_reads, reads_before, sign_reads, identifier_reads, choose_reads, advance_reads_at, sees_reads, unseen_reads, sign_reads_item, long_leaf_reads, deep_then_reads}
+use Rattle.cyc_parse.proofs.Rules.{Front, Reads, Fits, starts_append, starts_number, item-next, seen_reads, leaf_of, leaf_at, front-next, then_reads, last_reads, pure_reads, reads_before}
+use Rattle.cyc_parse.proofs.Rules.{sign_reads, identifier_reads, choose_reads, advance_reads_at, sees_reads, unseen_reads, sign_reads_item, long_leaf_reads, deep_then_reads}
 use Rattle.cyc_parse.proofs.Lists.{IsRead, EndsList, separated_reads}
 use Rattle.cyc_parse.proofs.Stops.{Stops, stops_leaf, no_paren, no_bracket, no_arrow}
 use Rattle.cyc_parse.proofs.Starts.{expression_starts}

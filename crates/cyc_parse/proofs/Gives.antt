@@ -14,7 +14,8 @@ use Rattle.cyc_syntax.specs.Symbols.{Place, Terminal, Identifier, RegionName, Nu
 use Rattle.cyc_syntax.specs.Trees.{Named}
 use Rattle.cyc_syntax.specs.Yields.{Leaf, Yield, item_number}
 use Rattle.cyc_syntax.specs.Grammar.{IsWithin, max_nesting, max_items}
-use Rattle.cyc_parse.specs.inside.Parsing.{Parser, Outcome, Refusal, Reason, Unexpected, TooDeep, TooLong, and_then, bind, choose, next, take, same_keyword, same_sign, is_sign, is_word, identifier_name, region_of_terminal, named, only_place, sign, word, identifier, region_name, accept_if, advance, if_sees, sees, sees_terminal, refuse, refuse_item, reason_by, starts, if_starts, on_some, if_is, pure}
+use Rattle.cyc_parse.specs.inside.Parsing.{Parser, Outcome, Refusal, Reason, Unexpected, TooDeep, TooLong, and_then, bind, choose, next, take, same_keyword, same_sign, is_sign, is_word, identifier_name, region_of_terminal}
+use Rattle.cyc_parse.specs.inside.Parsing.{named, only_place, sign, word, identifier, region_name, accept_if, advance, if_sees, sees, sees_terminal, refuse, refuse_item, reason_by, starts, if_starts, on_some, if_is, pure}
 use Rattle.cyc_parse.proofs.Rules.{Front, Fits, leaf_of, leaf_at}
 use Rattle.cyc_parse.proofs.Locality.{left_of, one_refusal}
 use Rattle.cyc_parse.proofs.LocalExpressions.{WasRead, was_read}

@@ -10,9 +10,12 @@ use Rattle.cyc_syntax.specs.Yields as yields
 use Rattle.cyc_syntax.specs.Grammar.{IsExpression, IsExpressionOrNone, wants_else, IsBody, AreItems, IsItem, AreClauses, IsSomeClause, max_nesting}
 use Rattle.cyc_parse.specs.inside.Parsing.{TooDeep, next, bind, pure, inside, sees, starts, opens_low_byte, sign, word, identifier}
 use Rattle.cyc_parse.specs.inside.Expressions.{nested}
-use Rattle.cyc_parse.specs.inside.Statements.{begins_statement, begins_item, begins_clause, is_case, is_default, is_else, is_unary, ends_in_new, end_of_swap, Nested, body, expression, expression_from, swap, behind, statement_from_name, else_part, return_value, thrown, caught, clauses_in, clauses, if_statement, while_statement, throw_statement, try_statement, statement_by, statement, local_value, local, opened_key, region, alias, new_key, dynamic_region, let_by, executed, item_by, item, items_in, items, nested_statements}
+use Rattle.cyc_parse.specs.inside.Statements.{begins_statement, begins_item, begins_clause, is_case, is_default, is_else, is_unary, ends_in_new, end_of_swap, Nested, body, expression, expression_from, swap}
+use Rattle.cyc_parse.specs.inside.Statements.{behind, statement_from_name, else_part, return_value, thrown, caught, clauses_in, clauses, if_statement, while_statement, throw_statement, try_statement}
+use Rattle.cyc_parse.specs.inside.Statements.{statement_by, statement, local_value, local, opened_key, region, alias, new_key, dynamic_region, let_by, executed, item_by, item, items_in, items, nested_statements}
 use Rattle.cyc_parse.proofs.Rules.{Fits, leaf_of, leaf_at}
-use Rattle.cyc_parse.proofs.Gives.{Gives, Follows, Spells, Any, part_then, spelled_then, last_then, pure_gives, possibly, unexpected_gives, then_unexpected, begun_gives, item_refusal_gives, gives_as, gives_instead, some_place, sign_then, sign_then_at, word_then, identifier_then, advance_then, advance_bare_then, choose_gives, test_gives, sees_gives, starts_gives, bare_gives, stuck_sign, stuck_word}
+use Rattle.cyc_parse.proofs.Gives.{Gives, Follows, Spells, Any, part_then, spelled_then, last_then, pure_gives, possibly, unexpected_gives, then_unexpected, begun_gives, item_refusal_gives, gives_as, gives_instead}
+use Rattle.cyc_parse.proofs.Gives.{some_place, sign_then, sign_then_at, word_then, identifier_then, advance_then, advance_bare_then, choose_gives, test_gives, sees_gives, starts_gives, bare_gives, stuck_sign, stuck_word}
 use Rattle.cyc_parse.proofs.Openings.{named_at, IsStatementBefore, statement_opened, items_opened}
 use Rattle.cyc_parse.proofs.GivesTypes.{region_of_gives, written_type_gives}
 use Rattle.cyc_parse.proofs.GivesExpressions.{Level, NestedGive, nested_give, named_climb_gives, assignment_gives}

@@ -5,20 +5,23 @@ use Rattle.cyc_syntax.specs.declared.tokens.Sign.TheVariants as signs
 use Rattle.cyc_syntax.specs.declared.tree.PointerKind.{PointerKind}
 use Rattle.cyc_syntax.specs.declared.tree.PointerKind.TheVariants as pointers
 use Rattle.cyc_syntax.specs.Symbols.{Place, Terminal, Identifier, RegionName, Word, Mark, Symbol}
-use Rattle.cyc_syntax.specs.Trees.{Named, Pointer, BaseType, Int, Char, Struct, Handle, Key, WrittenType, Expression, Statement, Block, Labelled, Empty, Evaluate, Swap, If, IfElse, While, Return, Break, Continue, Throw, Try, Braces, Items, NoItems, MoreItems, Item, Execute, Local, Region, Alias, DynamicRegion, Clauses, NoClauses, Default, Case}
+use Rattle.cyc_syntax.specs.Trees.{Named, Pointer, BaseType, Int, Char, Struct, Handle, Key, WrittenType, Expression, Statement, Block, Labelled, Empty, Evaluate, Swap, If, IfElse, While}
+use Rattle.cyc_syntax.specs.Trees.{Return, Break, Continue, Throw, Try, Braces, Items, NoItems, MoreItems, Item, Execute, Local, Region, Alias, DynamicRegion, Clauses, NoClauses, Default, Case}
 use Rattle.cyc_syntax.specs.Yields.{Leaf, Yield, mark_sign}
 use Rattle.cyc_syntax.specs.Yields as yields
 use Rattle.cyc_syntax.specs.Grammar.{IsExpressionOrNone, wants_else, IsStatement, AreItems, IsItem, AreClauses, IsSomeClause}
 use Rattle.cyc_parse.specs.inside.Parsing.{Parser, ◌>>=◌, ◌>>◌, pure, next, inside, sees, sees_terminal, starts, opens_low_byte, sign, word, identifier, bind, choose}
 use Rattle.cyc_parse.specs.inside.Types.{begins_type, region_of}
 use Rattle.cyc_parse.specs.inside.Statements.{begins_statement, begins_item, begins_clause, is_case, is_default, is_else, nested_statements, statement, executed, item, item_by, local, local_value, opened_key, new_key, let_by, items_in, items, caught, clauses_in, clauses, body}
-use Rattle.cyc_parse.proofs.Rules.{Front, Reads, starting_reads, deep_refusal, Fits, Always, starts-next, starts_append, leaf_of, leaf_at, front-next, front-length, then_reads, last_reads, pure_reads, reads_instead, reads_before, word_reads, sign_reads, identifier_reads, choose_reads, advance_reads, sees_reads, unseen_reads, word_deep_reads, sign_deep_reads, starts_reads, unstarted_reads, deep_reads}
+use Rattle.cyc_parse.proofs.Rules.{Front, Reads, starting_reads, deep_refusal, Fits, Always, starts-next, starts_append, leaf_of, leaf_at, front-next, front-length, then_reads, last_reads, pure_reads, reads_instead}
+use Rattle.cyc_parse.proofs.Rules.{reads_before, word_reads, sign_reads, identifier_reads, choose_reads, advance_reads, sees_reads, unseen_reads, word_deep_reads, sign_deep_reads, starts_reads, unstarted_reads, deep_reads}
 use Rattle.cyc_parse.proofs.Stops.{Stops, stops_leaf}
 use Rattle.cyc_parse.proofs.TypeReads.{type_starts, type_reads, region_of_reads_any}
 use Rattle.cyc_parse.proofs.ExpressionReads.{deeper, shallow, NoParen}
 use Rattle.cyc_parse.proofs.Starts.{OpensParen}
 use Rattle.cyc_parse.proofs.StatementStarts.{statement_starts, statement_char_opens, item_starts}
-use Rattle.cyc_parse.proofs.StatementReads.{EndsStatement, EndsBlock, EndsClauses, expression_at, ReadsStatement, ReadsItems, body_reads, block_reads, labelled_reads, empty_reads, evaluate_reads, swap_reads, if_reads, if_else_reads, while_reads, return_reads, break_reads, continue_reads, throw_reads, try_reads}
+use Rattle.cyc_parse.proofs.StatementReads.{EndsStatement, EndsBlock, EndsClauses, expression_at, ReadsStatement, ReadsItems, body_reads, block_reads, labelled_reads, empty_reads}
+use Rattle.cyc_parse.proofs.StatementReads.{evaluate_reads, swap_reads, if_reads, if_else_reads, while_reads, return_reads, break_reads, continue_reads, throw_reads, try_reads}
 
 -- what may follow an item
 abbrev pub EndsItem : Item → List Symbol → Type 0

@@ -8,7 +8,8 @@ use Rattle.cyc_syntax.specs.Trees.{Named, WrittenType, Declaration}
 use Rattle.cyc_parse.specs.inside.Parsing.{Parser, TooLong, bind, pure, inside, choose, begins_region}
 use Rattle.cyc_parse.specs.inside.Types.{begins_type}
 use Rattle.cyc_parse.specs.inside.Statements.{nested_statements}
-use Rattle.cyc_parse.specs.inside.Declarations.{begins_void, begins_constructor, number_value, member, field, has_int, constructor, more_of, some_of, parameter_list, effect_regions, effect, constraint, constraints, parameters, value_by, value, global_value, function, typed, struct_fields, struct_or_typed, exceptions, declaration_by, declaration, declarations_in, program}
+use Rattle.cyc_parse.specs.inside.Declarations.{begins_void, begins_constructor, number_value, member, field, has_int, constructor, more_of, some_of, parameter_list, effect_regions, effect, constraint, constraints}
+use Rattle.cyc_parse.specs.inside.Declarations.{parameters, value_by, value, global_value, function, typed, struct_fields, struct_or_typed, exceptions, declaration_by, declaration, declarations_in, program}
 use Rattle.cyc_parse.proofs.Locality.{Local, then_runs, pure_runs, unexpected_runs, weaker_runs, take_runs, sign_runs, word_runs, identifier_runs, region_name_runs, advance_runs, choose_runs, sees_runs, starts_runs, starts_limit_runs, same_behind_read, same_first, turns_run}
 use Rattle.cyc_parse.proofs.LocalTypes.{separated_runs, regions_run, written_type_runs, with_pointers_run, optional_regions_run}
 use Rattle.cyc_parse.proofs.LocalStatements.{body_runs, nested_statements_run}

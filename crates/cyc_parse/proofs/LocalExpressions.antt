@@ -10,10 +10,13 @@ use Rattle.cyc_syntax.specs.Symbols as terminals
 use Rattle.cyc_syntax.specs.Trees.{Named, Expression, Initial, Plain, Variable, Operations, NoOperations, ThenOperation, LowByteOf}
 use Rattle.cyc_syntax.specs.Grammar.{max_items}
 use Rattle.cyc_parse.specs.inside.Parsing.{Parser, Outcome, Refusal, Unexpected, TooDeep, TooLong, and_then, bind, pure, refuse, next, is_sign, opens_regions, regions, region_list, sign, take, advance, on_some, if_sees, if_is}
-use Rattle.cyc_parse.specs.inside.Expressions.{begins_expression, begins_initial, prefix_operator, operator_at, binary_of, operations, climb, Nested, group, arguments, from_name, primary_by, primary, postfixes, with_postfixes, prefixed_by, unary_by, unary, assignment, binary, expression, more_values, values, fields, initial_from_name, array, initial_by, initial, nested}
+use Rattle.cyc_parse.specs.inside.Expressions.{begins_expression, begins_initial, prefix_operator, operator_at, binary_of, operations, climb, Nested, group, arguments, from_name, primary_by, primary, postfixes}
+use Rattle.cyc_parse.specs.inside.Expressions.{with_postfixes, prefixed_by, unary_by, unary, assignment, binary, expression, more_values, values, fields, initial_from_name, array, initial_by, initial, nested}
 use Rattle.cyc_parse.specs.inside.Statements.{ends_in_new, ends_in_name, is_variable}
 use Rattle.cyc_parse.specs.Refusals.{region_next}
-use Rattle.cyc_parse.proofs.Locality.{IsSuffix, left_of, IsLess, Differ, Beyond, reads_on, refuses_on, opens, overflows, Agrees, both_read, both_refuse, goes_on, Runs, Local, Never, Tolerates, beyond_suffix, beyond_as, open_then_runs, then_runs, tolerates_pure, tolerates_then, pure_runs, unexpected_runs, opens_as, runs_open, sign_runs, word_runs, identifier_runs, advance_runs, choose_runs, sees_runs, is_runs, is_limit_runs, sees_limit_runs, item_refusal_runs, same_behind, same_behind_read, same_first, sees_same, turns_run}
+use Rattle.cyc_parse.proofs.Locality.{IsSuffix, left_of, IsLess, Differ, Beyond, reads_on, refuses_on, opens, overflows, Agrees, both_read, both_refuse, goes_on, Runs, Local, Never, Tolerates, beyond_suffix}
+use Rattle.cyc_parse.proofs.Locality.{beyond_as, open_then_runs, then_runs, tolerates_pure, tolerates_then, pure_runs, unexpected_runs, opens_as, runs_open, sign_runs, word_runs, identifier_runs}
+use Rattle.cyc_parse.proofs.Locality.{advance_runs, choose_runs, sees_runs, is_runs, is_limit_runs, sees_limit_runs, item_refusal_runs, same_behind, same_behind_read, same_first, sees_same, turns_run}
 use Rattle.cyc_parse.proofs.LocalTypes.{separated_runs, regions_run, region_list_runs}
 
 abbrev pub Anything : {A : Type 0} → A → Type 0

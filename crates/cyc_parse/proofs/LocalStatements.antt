@@ -8,8 +8,11 @@ use Rattle.cyc_syntax.specs.Trees as trees
 use Rattle.cyc_parse.specs.inside.Parsing.{Parser, Unexpected, TooDeep, bind, pure, choose, advance, sees, sees_terminal, if_sees, if_starts, sign, identifier}
 use Rattle.cyc_parse.specs.inside.Types.{with_pointers, written_type}
 use Rattle.cyc_parse.specs.inside.Expressions.{nested, group, primary, with_postfixes, unary, climb, assignment}
-use Rattle.cyc_parse.specs.inside.Statements.{begins_statement, begins_item, begins_clause, is_case, is_default, is_else, is_unary, ends_in_new, end_of_swap, Nested, body, expression, expression_from, swap, behind, statement_from_name, else_part, return_value, thrown, caught, clauses_in, clauses, if_statement, while_statement, throw_statement, try_statement, statement_by, statement, local_value, local, opened_key, region, alias, new_key, dynamic_region, let_by, executed, char_item, item_by, item, items_in, items, nested_statements}
-use Rattle.cyc_parse.proofs.Locality.{suffix_whole, IsLess, refuses_on, Local, Never, open_then_runs, then_runs, pure_runs, unexpected_runs, sign_runs, word_runs, identifier_runs, advance_runs, runs_as, choose_runs, test_runs, sees_runs, starts_runs, starts_limit_runs, item_refusal_runs, same_behind, same_behind_read, same_first, starts_same, turns_run}
+use Rattle.cyc_parse.specs.inside.Statements.{begins_statement, begins_item, begins_clause, is_case, is_default, is_else, is_unary, ends_in_new, end_of_swap, Nested, body, expression, expression_from, swap}
+use Rattle.cyc_parse.specs.inside.Statements.{behind, statement_from_name, else_part, return_value, thrown, caught, clauses_in, clauses, if_statement, while_statement, throw_statement, try_statement, statement_by}
+use Rattle.cyc_parse.specs.inside.Statements.{statement, local_value, local, opened_key, region, alias, new_key, dynamic_region, let_by, executed, char_item, item_by, item, items_in, items, nested_statements}
+use Rattle.cyc_parse.proofs.Locality.{suffix_whole, IsLess, refuses_on, Local, Never, open_then_runs, then_runs, pure_runs, unexpected_runs, sign_runs, word_runs, identifier_runs, advance_runs}
+use Rattle.cyc_parse.proofs.Locality.{runs_as, choose_runs, test_runs, sees_runs, starts_runs, starts_limit_runs, item_refusal_runs, same_behind, same_behind_read, same_first, starts_same, turns_run}
 use Rattle.cyc_parse.proofs.LocalTypes.{with_pointers_run, written_type_runs, region_of_runs}
 use Rattle.cyc_parse.proofs.LocalExpressions.{IsOpen, nested_runs, named_run, low_byte_run, assignment_runs}
 

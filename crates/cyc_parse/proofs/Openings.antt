@@ -7,7 +7,8 @@ use Rattle.cyc_syntax.specs.declared.tokens.Sign.TheVariants as signs
 use Rattle.cyc_syntax.specs.declared.tree.PrefixOperator.{PrefixOperator}
 use Rattle.cyc_syntax.specs.Symbols.{Place, Terminal, Identifier, RegionName, Word, Mark, Symbol}
 use Rattle.cyc_syntax.specs.Symbols as terminals
-use Rattle.cyc_syntax.specs.Trees.{Named, Int, Char, Struct, Handle, Key, Expression, Number, Character, Null, HeapRegion, UniqueRegion, Variable, Bracketed, NumberOfElements, LowByteOf, FreeUnique, FreeKey, Prefixed, New, RegionNew, Binary, Assign, Plain, Array, Statement, Block, Empty, Evaluate, If, While, Return, Break, Continue, Throw, Try, Braces, NoItems, MoreItems, Execute, Local, Region, Alias, Default}
+use Rattle.cyc_syntax.specs.Trees.{Named, Int, Char, Struct, Handle, Key, Expression, Number, Character, Null, HeapRegion, UniqueRegion, Variable, Bracketed, NumberOfElements, LowByteOf, FreeUnique, FreeKey, Prefixed, New}
+use Rattle.cyc_syntax.specs.Trees.{RegionNew, Binary, Assign, Plain, Array, Statement, Block, Empty, Evaluate, If, While, Return, Break, Continue, Throw, Try, Braces, NoItems, MoreItems, Execute, Local, Region, Alias, Default}
 use Rattle.cyc_syntax.specs.Yields.{Yield, prefix_sign}
 use Rattle.cyc_syntax.specs.Yields as yields
 use Rattle.cyc_syntax.specs.Grammar.{IsExpression, IsInitial, wants_else, IsStatement, AreItems, IsItem}

@@ -13,7 +13,8 @@ use Rattle.cyc_syntax.specs.Symbols.{Place, Terminal, Identifier, RegionName, Wo
 use Rattle.cyc_syntax.specs.Trees.{Named}
 use Rattle.cyc_syntax.specs.Yields.{Leaf, Yield, item_number}
 use Rattle.cyc_syntax.specs.Grammar.{IsLeaf, max_nesting, max_items}
-use Rattle.cyc_parse.specs.inside.Parsing.{Parser, Outcome, Reason, TooDeep, TooLong, and_then, bind, choose, next, take, is_sign, is_word, identifier_name, region_of_terminal, named, only_place, sign, word, identifier, region_name, accept, accept_if, advance, if_sees, sees, sees_terminal, refuse, refuse_item, starts, if_starts, on_some, if_is, pure}
+use Rattle.cyc_parse.specs.inside.Parsing.{Parser, Outcome, Reason, TooDeep, TooLong, and_then, bind, choose, next, take, is_sign, is_word, identifier_name, region_of_terminal, named, only_place}
+use Rattle.cyc_parse.specs.inside.Parsing.{sign, word, identifier, region_name, accept, accept_if, advance, if_sees, sees, sees_terminal, refuse, refuse_item, starts, if_starts, on_some, if_is, pure}
 
 -- the symbols begin with the yield, and these follow it
 abbrev pub Front : Yield → List Symbol → List Symbol → Type 0

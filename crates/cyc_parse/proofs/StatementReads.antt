@@ -12,7 +12,8 @@ use Rattle.cyc_parse.specs.inside.Parsing.{Parser, pure, next, sees, sees_termin
 use Rattle.cyc_parse.specs.inside.Expressions.{begins_expression, nested, primary, unary}
 use Rattle.cyc_parse.specs.inside.Statements.{begins_item, begins_clause, is_else, is_unary, end_of_swap, nested_statements, body, swap, behind, return_value, thrown, statement, statement_by, clauses}
 use Rattle.cyc_parse.specs.inside.Statements as statements
-use Rattle.cyc_parse.proofs.Rules.{Front, Reads, Fits, Always, starts-next, leaf_of, leaf_at, front-next, then_reads, last_reads, nothing_reads, pure_reads, reads_instead, reads_before, word_reads, sign_reads, sign_reads_at, identifier_reads, choose_reads, advance_reads_at, sees_reads, unseen_reads, seen_reads, starts_reads, unstarted_reads, between_then}
+use Rattle.cyc_parse.proofs.Rules.{Front, Reads, Fits, Always, starts-next, leaf_of, leaf_at, front-next, then_reads, last_reads, nothing_reads, pure_reads, reads_instead, reads_before, word_reads}
+use Rattle.cyc_parse.proofs.Rules.{sign_reads, sign_reads_at, identifier_reads, choose_reads, advance_reads_at, sees_reads, unseen_reads, seen_reads, starts_reads, unstarted_reads, between_then}
 use Rattle.cyc_parse.proofs.Stops.{Stops, stops_leaf, binds_terminal}
 use Rattle.cyc_parse.proofs.Starts.{expression_starts, IsSecond, alone, goes_on, second_goes_on}
 use Rattle.cyc_parse.proofs.ExpressionReads.{deeper, shallow, NoParen}

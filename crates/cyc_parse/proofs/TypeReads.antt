@@ -11,7 +11,8 @@ use Rattle.cyc_syntax.specs.Yields as yields
 use Rattle.cyc_syntax.specs.Grammar.{max_nesting, max_items}
 use Rattle.cyc_parse.specs.inside.Parsing.{pure, next, sees, sees_terminal, starts, begins_region}
 use Rattle.cyc_parse.specs.inside.Types.{begins_type, mark_at, optional_region, pointers_of, with_pointers, optional_regions, region_of, base_by, written_type}
-use Rattle.cyc_parse.proofs.Rules.{Front, Reads, Fits, Starts, Always, leaf_of, leaf_at, then_reads, last_reads, pure_reads, sign_reads, identifier_reads, region_reads, choose_reads, advance_reads, advance_reads_at, sees_reads, unseen_reads, starts_reads, unstarted_reads, is_reads, isnt_reads, long_leaf_reads}
+use Rattle.cyc_parse.proofs.Rules.{Front, Reads, Fits, Starts, Always, leaf_of, leaf_at, then_reads, last_reads, pure_reads, sign_reads, identifier_reads, region_reads}
+use Rattle.cyc_parse.proofs.Rules.{choose_reads, advance_reads, advance_reads_at, sees_reads, unseen_reads, starts_reads, unstarted_reads, is_reads, isnt_reads, long_leaf_reads}
 use Rattle.cyc_parse.proofs.RegionReads.{region_list_reads}
 
 -- A name follows each type.

@@ -7,7 +7,8 @@ ghost use Rattle.cyc_parse.specs.inside.Code.{Gives};
 ghost use Rattle.cyc_parse.specs.inside.Parsing.{next, starts, begins_region, no_more_items, separated};
 ghost use Rattle.cyc_parse.specs.inside.Types.{begins_type};
 ghost use Rattle.cyc_parse.specs.inside.Steps.{after_comma, one_of, one_declaration};
-ghost use Rattle.cyc_parse.specs.inside.Declarations.{begins_void, begins_constructor, member, field, has_int, constructor, no_more_of, some_of, parameter_list, effect_regions, effect, constraint, constraints, parameters, value, global_value, global, function, typed, struct_fields, struct_or_typed, exceptions, declaration, program_of};
+ghost use Rattle.cyc_parse.specs.inside.Declarations.{begins_void, begins_constructor, member, field, has_int, constructor, no_more_of, some_of, parameter_list, effect_regions, effect, constraint};
+ghost use Rattle.cyc_parse.specs.inside.Declarations.{constraints, parameters, value, global_value, global, function, typed, struct_fields, struct_or_typed, exceptions, declaration, program_of};
 
 use crate::cursor::{Parser, refusal};
 use crate::growth::append;

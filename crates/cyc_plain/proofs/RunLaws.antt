@@ -21,7 +21,8 @@ use Rattle.cyc_words.specs.inside.Following.{IsLawful}
 use Rattle.cyc_plain.specs.inside.Program.{Program, routine_at}
 use Rattle.cyc_plain.specs.inside.State.{Words, AreWords, put, Handler, Open, Caught, Activation, Frame, Configuration, State, Running, Ended, Stuck, output_of, input_of, status_of, place_of, demand, depth}
 use Rattle.cyc_plain.specs.inside.Memory.{IsBelow, Range, OfGlobals, OfStore, OfSlots, range_of, global_at, slot_at, memory_at, with_global, with_slot, with_word}
-use Rattle.cyc_plain.specs.inside.Step.{Choice, IsAllowed, MayServe, MayLie, gives, operand_word, returns, loads, saves, loads_byte, saves_byte, advanced, asks, is_intact, tries, closes, lands, throws, finishes, call_in, call_of, asked, callee_of, called, performed, executed, instruction_at, step, is_within, limit_of, limit_at, limited, limited_step, Step, start, machine}
+use Rattle.cyc_plain.specs.inside.Step.{Choice, IsAllowed, MayServe, MayLie, gives, operand_word, returns, loads, saves, loads_byte, saves_byte, advanced, asks, is_intact, tries, closes, lands, throws, finishes}
+use Rattle.cyc_plain.specs.inside.Step.{call_in, call_of, asked, callee_of, called, performed, executed, instruction_at, step, is_within, limit_of, limit_at, limited, limited_step, Step, start, machine}
 use Rattle.cyc_words.proofs.Simulation.{Run-grows, Run-stays}
 
 -- an instruction that calls neither a function nor the store, and asks room for no call

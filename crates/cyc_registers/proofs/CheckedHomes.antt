@@ -41,9 +41,9 @@ get_more [] x number y is = absurd (no_number y is)
 get_more (z ∷ xs) x zero y is = is
 get_more (z ∷ xs) x (suc number) y is = get_more xs x number y is
 
-get_last : (xs : List ℕ) (x : ℕ) → slice_get (xs ++ x ∷ []) (length xs) ≡ Some x
-get_last [] x = refl
-get_last (z ∷ xs) x = get_last xs x
+pushed_last : (xs : List ℕ) (x : ℕ) → slice_get (xs ++ x ∷ []) (length xs) ≡ Some x
+pushed_last [] x = refl
+pushed_last (z ∷ xs) x = pushed_last xs x
 
 pub no_groups : (holders : List ℕ) → AreGroups holders 0 []
 no_groups holders register below = absurd (omega (arith, below))
@@ -57,7 +57,7 @@ more_groups holders groups count so_far = elim (cases_Bool (is_single (mask_at h
       ])
   | inr several ↦ subst (AreGroups holders (count + 1)) (sym (ap (λ (b : Bool). if b then groups else groups ++ mask_at holders count ∷ []) several))
       (λ register below. elim (cases_eq register count) [
-        | inl same ↦ inr (length groups, get_last groups (mask_at holders count) ∙ ap (λ (n : ℕ). Some (mask_at holders n)) (sym same))
+        | inl same ↦ inr (length groups, pushed_last groups (mask_at holders count) ∙ ap (λ (n : ℕ). Some (mask_at holders n)) (sym same))
         | inr other ↦ elim (so_far register (omega (arith, below, other))) [
           | inl single ↦ inl single
           | inr (number, is) ↦ inr (number, get_more groups (mask_at holders count) number (mask_at holders register) is)

@@ -89,10 +89,10 @@ module _ (holders live : List ℕ) (hs : List Home) (code : List Instruction) (c
 
 -- ---- by the table
 
-holds : (holders : List ℕ) (home : Home) (k : ℕ) → register_of home ≡ Some k → holders_of holders home ≡ mask_at holders k
-holds holders homes.Memory k has = absurd (let e : None ≡ Some k = has in cc)
-holds holders (homes.Both register) k has = ap (mask_at holders) (let e : Some register ≡ Some k = has in cc)
-holds holders (homes.Register register) k has = ap (mask_at holders) (let e : Some register ≡ Some k = has in cc)
+by_register : (holders : List ℕ) (home : Home) (k : ℕ) → register_of home ≡ Some k → holders_of holders home ≡ mask_at holders k
+by_register holders homes.Memory k has = absurd (let e : None ≡ Some k = has in cc)
+by_register holders (homes.Both register) k has = ap (mask_at holders) (let e : Some register ≡ Some k = has in cc)
+by_register holders (homes.Register register) k has = ap (mask_at holders) (let e : Some register ≡ Some k = has in cc)
 
 module _ (program : Program) (r : Routine) (masks live holders : List ℕ) (calls clauses barred : ℕ) (sound : IsSound program r masks live calls clauses barred)
     (are : AreMasks masks MOST_CHOSEN) (hs : List Home) (right : AreHolders masks holders hs) where
@@ -103,7 +103,7 @@ module _ (program : Program) (r : Routine) (masks live holders : List ℕ) (call
       let held : bit_at (mask_at holders k) j ≡ 1 =
       bit_within (mask_at masks a) (mask_at holders k) j (eqb-true (bit_or (mask_at masks a) (mask_at holders k)) (mask_at holders k) (right a k has_a).1) bit in
       let none : bit_and (mask_at live (index + 1)) (mask_at holders k) ≡ 0 =
-      ap (bit_and (mask_at live (index + 1))) (sym (holds holders (home_of hs slot) k has))
+      ap (bit_and (mask_at live (index + 1))) (sym (by_register holders (home_of hs slot) k has))
       ∙ eqb-true (bit_and (mask_at live (index + 1)) (holders_of holders (home_of hs slot))) 0 is in
       let live_a : IsLiveAt program r a (index + 1) = subst (IsLiveAt program r a) (let e : suc index ≡ index + 1 = omega arith in e) wanted in
       apart_bits (mask_at live (index + 1)) (mask_at holders k) j none held

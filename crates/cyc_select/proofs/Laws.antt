@@ -18,7 +18,7 @@ use Rattle.cyc_select.specs.declared.code.Line.{Line}
 use Rattle.cyc_select.specs.declared.code.Line.TheVariants as lines
 use Rattle.cyc_select.specs.inside.Labelled.{Labelled, is_ordinary}
 use Rattle.cyc_select.specs.inside.Machine as labelled
-use Rattle.cyc_select.specs.inside.Machine.{Configuration, State, Running, Stopped, world_of, settled, closed, Performs, PerformsOrdinary, Executes, ExecutesAt, Step, machine, seen_of, status_of}
+use Rattle.cyc_select.specs.inside.Machine.{Configuration, State, Running, Stopped, world_of, settled, closed, PerformsOrdinary, Executes, ExecutesAt, Step, machine, seen_of, status_of}
 
 abbrev Grows : Configuration → State → Type 0
 Grows c new = ComesTo (showing c.output c.input) (seen_of new)

@@ -1,7 +1,8 @@
 //! How the machine computes what an operator or a comparison says: by which instructions, and of which operands.
 ghost use Rattle.std.specs.Prelude.{◌≡◌};
 ghost use Rattle.cyc_select.specs.inside.Selection.{far_plan};
-ghost use Rattle.cyc_select.specs.inside.Plans.{arithmetic_plan, immediate_plan, immediate_or, shift_plan, multiply_divide_plan, product_plan, mirrored, zero_plan, equal_plan, less_plan, less_unsigned_plan, at_most_plan, compared_plan, is_mirrored, comparison_plan, unary_plan, sum_plan, difference_plan, bits_plan, operator_plan, is_swapped, binary_plan, sign_of, order_test, test_of};
+ghost use Rattle.cyc_select.specs.inside.Plans.{arithmetic_plan, immediate_plan, immediate_or, shift_plan, multiply_divide_plan, product_plan, mirrored, zero_plan, equal_plan, less_plan, less_unsigned_plan, at_most_plan};
+ghost use Rattle.cyc_select.specs.inside.Plans.{compared_plan, is_mirrored, comparison_plan, unary_plan, sum_plan, difference_plan, bits_plan, operator_plan, is_swapped, binary_plan, sign_of, order_test, test_of};
 
 use crate::numbers::{
     is_word, is_zero_word, low_half, negated_half, next_half, power_of, shift_amount, signed_half,

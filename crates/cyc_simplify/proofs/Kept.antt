@@ -9,7 +9,7 @@ use Rattle.cyc_words.proofs.Numbers.{eqb_next}
 use Rattle.cyc_words.proofs.Items.{below_from_slice_get}
 use Rattle.cyc_store.specs.State.{StoreState, lexical_count}
 use Rattle.cyc_store.specs.Services as services
-use Rattle.cyc_store.specs.Services.{Call, Refusal, refusal, answer}
+use Rattle.cyc_store.specs.Services.{Call, Refusal, refusal}
 use Rattle.cyc_plain.specs.declared.instruction.Instruction.{Instruction}
 use Rattle.cyc_plain.specs.declared.instruction.Instruction.TheVariants as instructions
 use Rattle.cyc_plain.specs.declared.instruction.Operand.{Operand}

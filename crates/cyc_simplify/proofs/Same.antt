@@ -18,7 +18,8 @@ use Rattle.cyc_plain.specs.inside.Step.{operand_word}
 use Rattle.cyc_simplify.specs.declared.fact.Fact.{Fact}
 use Rattle.cyc_simplify.specs.declared.fact.Fact.TheVariants as facts_are
 use Rattle.cyc_simplify.specs.inside.Facts.{Scene, IsTrueIn, AreTrueIn, is_same_operator, is_same_operand, is_same_word, negated}
-use Rattle.cyc_simplify.specs.inside.Replacement.{is_cheap, instead, simplified_operand, or_number, word_by, word_in, takes_word, small_or, right_operand, folded, folded_of, folded_in, negated_of, folded_unary, may_fold, folded_at, holder, or_slot, holder_in, implies, verdict, decision, or_verdict, decision_in, value_by, or_value, value_in}
+use Rattle.cyc_simplify.specs.inside.Replacement.{is_cheap, instead, simplified_operand, or_number, word_by, word_in, takes_word, small_or, right_operand, folded, folded_of, folded_in, negated_of}
+use Rattle.cyc_simplify.specs.inside.Replacement.{folded_unary, may_fold, folded_at, holder, or_slot, holder_in, implies, verdict, decision, or_verdict, decision_in, value_by, or_value, value_in}
 use Rattle.cyc_simplify.proofs.Truth.{same_operator, same_comparison, same_operand, found_same}
 
 -- ---- comparisons

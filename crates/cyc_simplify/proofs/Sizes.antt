@@ -27,7 +27,8 @@ use Rattle.cyc_plain.specs.inside.Uses.{At, is_slot}
 use Rattle.cyc_simplify.specs.declared.fact.Fact.{Fact}
 use Rattle.cyc_simplify.specs.declared.fact.Fact.TheVariants as facts_are
 use Rattle.cyc_simplify.specs.inside.Facts.{is_same_operator, is_same_operand, is_same_word, is_known, is_free, suits_operand, suits, are_suited}
-use Rattle.cyc_simplify.specs.inside.Replacement.{is_cheap, instead, simplified_operand, or_number, word_by, word_in, takes_word, small_or, right_operand, folded, folded_of, folded_in, negated_of, folded_unary, simplified_unary, may_fold, folded_at, holder, or_slot, holder_in, simplified_binary, simplified_move, decision_in, simplified_branch, value_by, or_value, value_in, simplified_load, simplified_request, simplified_instruction}
+use Rattle.cyc_simplify.specs.inside.Replacement.{is_cheap, instead, simplified_operand, or_number, word_by, word_in, takes_word, small_or, right_operand, folded, folded_of, folded_in, negated_of, folded_unary, simplified_unary, may_fold}
+use Rattle.cyc_simplify.specs.inside.Replacement.{folded_at, holder, or_slot, holder_in, simplified_binary, simplified_move, decision_in, simplified_branch, value_by, or_value, value_in, simplified_load, simplified_request, simplified_instruction}
 use Rattle.cyc_simplify.specs.inside.Simplified.{IsLike, IsSimplified}
 use Rattle.cyc_simplify.specs.inside.Table.{IsReplaced, AreReplaced}
 use Rattle.cyc_simplify.proofs.Runs.{each_replaced, follows}

@@ -21,7 +21,8 @@ use Rattle.cyc_simplify.specs.declared.fact.Touched.{Touched}
 use Rattle.cyc_simplify.specs.declared.fact.Touched.TheVariants as touches
 use Rattle.cyc_simplify.specs.declared.fact.Written.{Written}
 use Rattle.cyc_simplify.specs.declared.fact.TheConstants.{MOST_FACTS}
-use Rattle.cyc_simplify.specs.inside.Facts.{Scene, found, IsTrueIn, AreTrueIn, IsTrueIfAny, operator_number, comparison_number, is_same_operator, is_same_comparison, is_same_operand, is_same_word, is_same_fact, is_known, is_free, suits_operand, suits, are_suited, leaves_slot, leaves_operand, are_apart, is_untouched, keeps, kept, suited, remembered}
+use Rattle.cyc_simplify.specs.inside.Facts.{Scene, found, IsTrueIn, AreTrueIn, IsTrueIfAny, operator_number, comparison_number, is_same_operator, is_same_comparison, is_same_operand, is_same_word}
+use Rattle.cyc_simplify.specs.inside.Facts.{is_same_fact, is_known, is_free, suits_operand, suits, are_suited, leaves_slot, leaves_operand, are_apart, is_untouched, keeps, kept, suited, remembered}
 
 -- ---- what is the same
 

@@ -24,7 +24,8 @@ use Rattle.cyc_types.specs.flow.States.{is_reached}
 use Rattle.cyc_types.specs.flow.Programs.{end_demanded, rule_functions, IsAllowedProgram}
 use Rattle.cyc_meaning.specs.Values.{Cell}
 use Rattle.cyc_meaning.specs.Values as values
-use Rattle.cyc_meaning.specs.State.{World, Object, Environment, no_locals, first_world, global_object, constant_value, Entry, Needs, NeedsPlace, Discard, Main, Focus, Evaluating, Locating, Given, GivenPlace, Writing, Swapping, Beginning, Repeating, Executing, Proceeding, Calling, Entering, Binding, Naming, Breaking, Continuing, Returning, Throwing, Catching, State, Running, Ended, Dead, Wrong, GoesOn, HasEnded, IsDead, IsWrong, status_of}
+use Rattle.cyc_meaning.specs.State.{World, Object, Environment, no_locals, first_world, global_object, constant_value, Entry, Needs, NeedsPlace, Discard, Main, Focus, Evaluating, Locating, Given, GivenPlace, Writing, Swapping, Beginning}
+use Rattle.cyc_meaning.specs.State.{Repeating, Executing, Proceeding, Calling, Entering, Binding, Naming, Breaking, Continuing, Returning, Throwing, Catching, State, Running, Ended, Dead, Wrong, GoesOn, HasEnded, IsDead, IsWrong, status_of}
 use Rattle.cyc_meaning.specs.Parts.{wrong}
 use Rattle.cyc_meaning.specs.inside.Nesting.{IsNested, Nests}
 use Rattle.cyc_meaning.specs.Places.{step_given_place}

@@ -8,7 +8,8 @@ use Rattle.cyc_words.proofs.Booleans.{some_there}
 use Rattle.cyc_words.proofs.Numbers.{none_below, one_less, when_equal}
 use Rattle.cyc_words.proofs.Options.{never_none_and_some}
 use Rattle.cyc_store.specs.State.{lookup, without, Memory, AreWords, Block, address_of, Sort, Heap, Lexical, Dynamic, Uniques, Home, handle_of, StoreState, homes, sizes_in, start, word_at, has_saved, saved, demand, live_in, raised, opened, down_to, made_in, made_unique, room}
-use Rattle.cyc_store.specs.Services.{Call, OpenLexical, CloseTo, OpenDynamic, CloseDynamic, Allocate, Free, Refusal, BadHandle, BadSize, NotABlock, Refused, Choice, block_of, served, answer, any_choice, is_full, full_at, is_dynamic, names_dynamic, is_size, refusal, IsPlaced, IsApart, IsFresh, IsAllowed}
+use Rattle.cyc_store.specs.Services.{Call, OpenLexical, CloseTo, OpenDynamic, CloseDynamic, Allocate, Free, Refusal, BadHandle, BadSize, NotABlock, Refused, Choice, block_of}
+use Rattle.cyc_store.specs.Services.{served, answer, any_choice, is_full, full_at, is_dynamic, names_dynamic, is_size, refusal, IsPlaced, IsApart, IsFresh, IsAllowed}
 use Rattle.cyc_store.specs.Soundness.{IsSound}
 use Rattle.cyc_store.specs.Run.{Service}
 use Rattle.cyc_store.specs.Pages.{page_start, Pages, mark_of, HasChain, IsPaged}

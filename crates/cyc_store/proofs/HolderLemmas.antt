@@ -7,7 +7,8 @@ use Rattle.cyc_words.proofs.Options.{never_none_and_some, same_from_some}
 use Rattle.cyc_store.specs.State.{lookup, without, changed, AreDistinct, Block, address_of, Sort, Home, handle_of, empty_home, Holder, covers, holder_in, or_else, holder, block_in, block_at, with_block, is_lexical, down_to}
 use Rattle.cyc_store.specs.Services.{IsPlaced, IsApart}
 use Rattle.cyc_store.specs.Soundness.{AreSound}
-use Rattle.cyc_store.proofs.LookupLemmas.{when_other, IsPart, is_empty, is_left, is_kept, lookup-here, lookup-there, lookup-none, lookup-key, lookup-append_cases, AreDistinct-append, lookup-part_none, lookup-part, AreDistinct-part, IsPart-without, lookup-without, lookup-changed_same, lookup-changed_other, AreDistinct-changed}
+use Rattle.cyc_store.proofs.LookupLemmas.{when_other, IsPart, is_empty, is_left, is_kept, lookup-here, lookup-there, lookup-none, lookup-key, lookup-append_cases, AreDistinct-append}
+use Rattle.cyc_store.proofs.LookupLemmas.{lookup-part_none, lookup-part, AreDistinct-part, IsPart-without, lookup-without, lookup-changed_same, lookup-changed_other, AreDistinct-changed}
 
 -- ---- covering
 

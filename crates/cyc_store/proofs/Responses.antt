@@ -5,7 +5,8 @@ use Rattle.std.proofs.lemmas.Bool.{cases_Bool, cond-true, cond-false, le-leb, lt
 use Rattle.cyc_words.specs.Demand.{class_of}
 use Rattle.cyc_words.proofs.Numbers.{when_equal}
 use Rattle.cyc_store.specs.State.{lookup, without, Memory, AreWords, Block, address_of, Sort, Lexical, Dynamic, Uniques, Home, handle_of, Holder, StoreState, homes, holder, demand, opened, lexical_count, down_to, made_in, made_unique}
-use Rattle.cyc_store.specs.Services.{Call, OpenLexical, OpenDynamic, CloseTo, CloseDynamic, Allocate, Free, Refusal, BadMark, BadHandle, BadSize, NotABlock, Full, Refused, Done, Opened, OpenedLexical, Allocated, Choice, block_of, served, answer, any_choice, is_full, full_at, is_dynamic, names_dynamic, is_size, refusal, IsPlaced, IsApart, IsAllowed, ServesBy, Serves}
+use Rattle.cyc_store.specs.Services.{Call, OpenLexical, OpenDynamic, CloseTo, CloseDynamic, Allocate, Free, Refusal, BadMark, BadHandle, BadSize, NotABlock, Full, Refused, Done, Opened, OpenedLexical}
+use Rattle.cyc_store.specs.Services.{Allocated, Choice, block_of, served, answer, any_choice, is_full, full_at, is_dynamic, names_dynamic, is_size, refusal, IsPlaced, IsApart, IsAllowed, ServesBy, Serves}
 use Rattle.cyc_store.specs.Soundness.{IsSound}
 use Rattle.cyc_store.specs.Pages.{IsPaged}
 use Rattle.cyc_store.specs.Slots.{Layout, IsLaidOut}

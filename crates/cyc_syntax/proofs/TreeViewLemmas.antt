@@ -19,7 +19,8 @@ use Rattle.cyc_syntax.specs.declared.tree.Item.{Item as ItemCode}
 use Rattle.cyc_syntax.specs.declared.tree.Block.{Block as BlockCode}
 use Rattle.cyc_syntax.specs.declared.tree.Clause.{Clause}
 use Rattle.cyc_syntax.specs.Trees.{Call, Chained, Binary, Fields, MoreExpressions, ThenIndex, ThenField, ThenOperation, Block, Labelled, Try, Braces, Items, MoreItems, Clauses, Default, Case}
-use Rattle.cyc_syntax.specs.inside.TreeView.{place_of_span, view_name, view_expression, view_initial, view_expressions, view_postfixes, view_operations, expressions_of, postfixes_of, operations_of, view_statement, view_items, view_item, view_clauses, view_default, items_of, view_block, default_of, clauses_of}
+use Rattle.cyc_syntax.specs.inside.TreeView.{place_of_span, view_name, view_expression, view_initial, view_expressions, view_postfixes, view_operations, expressions_of, postfixes_of}
+use Rattle.cyc_syntax.specs.inside.TreeView.{operations_of, view_statement, view_items, view_item, view_clauses, view_default, items_of, view_block, default_of, clauses_of}
 
 view_expressions-items : {m : _} (row : Row_of-Expr m) → view_expressions row ≡ expressions_of (items-the_row-Expr m row)
 view_expressions-items end_of-Expr = refl

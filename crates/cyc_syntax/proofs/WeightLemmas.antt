@@ -2,10 +2,15 @@
 use Rattle.std.proofs.Common.{◌≡◌, ℕ, suc, ◌+◌, Bool, true, false, List, [], ◌∷◌, length, Option, Some, None, refl, arith, length-append}
 use Rattle.cyc_syntax.specs.Symbols.{Place, Symbol}
 use Rattle.cyc_syntax.specs.Grammar.{IsSpelled, HasTree}
-use Rattle.cyc_syntax.specs.Trees.{Named, Pointer, BaseType, Int, Char, Struct, Handle, Key, WrittenType, Expression, Number, Character, Null, HeapRegion, UniqueRegion, Variable, Call, Bracketed, NumberOfElements, LowByteOf, FreeUnique, FreeKey, Chained, Prefixed, New, RegionNew, Binary, Assign, Initial, Plain, Fields, Array, Expressions, NoExpressions, MoreExpressions, Postfixes, NoPostfixes, ThenIndex, ThenField, Operations, NoOperations, ThenOperation, Statement, Block, Labelled, Empty, Evaluate, Swap, If, IfElse, While, Return, Break, Continue, Throw, Try, Body, Braces, Items, NoItems, MoreItems, Item, Execute, Local, Region, Alias, DynamicRegion, Clauses, NoClauses, Default, Case, Member, Constructor, GlobalValue, Positive, Negative, Byte, NullPointer, Constraint, ParameterList, Void, Listed, Declaration, StructType, Exceptions, Global, Function}
+use Rattle.cyc_syntax.specs.Trees.{Named, Pointer, BaseType, Int, Char, Struct, Handle, Key, WrittenType, Expression, Number, Character, Null, HeapRegion, UniqueRegion, Variable, Call, Bracketed, NumberOfElements, LowByteOf, FreeUnique, FreeKey}
+use Rattle.cyc_syntax.specs.Trees.{Chained, Prefixed, New, RegionNew, Binary, Assign, Initial, Plain, Fields, Array, Expressions, NoExpressions, MoreExpressions, Postfixes, NoPostfixes, ThenIndex, ThenField, Operations, NoOperations, ThenOperation}
+use Rattle.cyc_syntax.specs.Trees.{Statement, Block, Labelled, Empty, Evaluate, Swap, If, IfElse, While, Return, Break, Continue, Throw, Try, Body, Braces, Items, NoItems, MoreItems, Item, Execute, Local, Region, Alias, DynamicRegion, Clauses}
+use Rattle.cyc_syntax.specs.Trees.{NoClauses, Default, Case, Member, Constructor, GlobalValue, Positive, Negative, Byte, NullPointer, Constraint, ParameterList, Void, Listed, Declaration, StructType, Exceptions, Global, Function}
 use Rattle.cyc_syntax.specs.Yields as yields
 use Rattle.cyc_syntax.specs.Yields.{Yield}
-use Rattle.cyc_syntax.specs.inside.Weight.{sum_of, separated_weight, regions_weight, region_list_weight, optional_weight, mark_weight, base_weight, type_weight, expression_weight, initial_weight, expressions_weight, more_expressions_weight, postfixes_weight, operations_weight, statement_weight, body_weight, items_weight, item_weight, clauses_weight, member_weight, int_weight, constructor_weight, value_weight, parameter_list_weight, constraints_weight, result_weight, declaration_weight, tree_weight}
+use Rattle.cyc_syntax.specs.inside.Weight.{sum_of, separated_weight, regions_weight, region_list_weight, optional_weight, mark_weight, base_weight, type_weight, expression_weight, initial_weight}
+use Rattle.cyc_syntax.specs.inside.Weight.{expressions_weight, more_expressions_weight, postfixes_weight, operations_weight, statement_weight, body_weight, items_weight, item_weight, clauses_weight}
+use Rattle.cyc_syntax.specs.inside.Weight.{member_weight, int_weight, constructor_weight, value_weight, parameter_list_weight, constraints_weight, result_weight, declaration_weight, tree_weight}
 
 pub item_number-length : (i : ℕ) (leaves : Yield) → length (yields.item_number i leaves) ≡ length leaves
 item_number-length i [] = refl

@@ -7,7 +7,9 @@ use Rattle.std.specs.Option.{IfSome}
 use Rattle.cyc_syntax.specs.declared.tree.BinaryOperator.{BinaryOperator}
 use Rattle.cyc_syntax.specs.declared.tree.BinaryOperator.TheVariants as operators
 use Rattle.cyc_syntax.specs.Symbols.{Symbol}
-use Rattle.cyc_syntax.specs.Trees.{Expression, Number, Character, Null, HeapRegion, UniqueRegion, Variable, Call, Bracketed, NumberOfElements, LowByteOf, FreeUnique, FreeKey, Chained, Prefixed, New, RegionNew, Binary, Assign, Initial, Plain, Fields, Array, Expressions, NoExpressions, MoreExpressions, Postfixes, NoPostfixes, ThenIndex, ThenField, Operations, NoOperations, ThenOperation, Statement, Block, Labelled, Empty, Evaluate, Swap, If, IfElse, While, Return, Break, Continue, Throw, Try, Body, Braces, Items, NoItems, MoreItems, Item, Execute, Local, Region, Alias, DynamicRegion, Clauses, NoClauses, Default, Case, Declaration, StructType, Exceptions, Global, Function}
+use Rattle.cyc_syntax.specs.Trees.{Expression, Number, Character, Null, HeapRegion, UniqueRegion, Variable, Call, Bracketed, NumberOfElements, LowByteOf, FreeUnique, FreeKey, Chained, Prefixed, New, RegionNew, Binary, Assign, Initial, Plain, Fields}
+use Rattle.cyc_syntax.specs.Trees.{Array, Expressions, NoExpressions, MoreExpressions, Postfixes, NoPostfixes, ThenIndex, ThenField, Operations, NoOperations, ThenOperation, Statement, Block, Labelled, Empty, Evaluate, Swap, If, IfElse, While, Return}
+use Rattle.cyc_syntax.specs.Trees.{Break, Continue, Throw, Try, Body, Braces, Items, NoItems, MoreItems, Item, Execute, Local, Region, Alias, DynamicRegion, Clauses, NoClauses, Default, Case, Declaration, StructType, Exceptions, Global, Function}
 use Rattle.cyc_syntax.specs.Yields.{Leaf, Yield, program}
 
 -- ---- levels of expressions, tightest first: 0 is an operand with its prefixes and postfixes, 1 to 10 are the chains of binary

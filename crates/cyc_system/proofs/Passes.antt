@@ -2,15 +2,14 @@
 -- and that which is simplified.
 use Rattle.std.proofs.Common.{◌≡◌, ◌⊎◌, inl, inr, ℕ, suc, ◌*◌, ◌≤◌, ◌<◌, List, [], ◌∷◌, ◌++◌, length, refl, sym, ap, subst, ◌∙◌, arith}
 use Rattle.std.specs.Prelude.{flat_map, map, max, slice_index_or, sum_by}
-use Rattle.std.specs.List.{AllByRecursion, range_with_len}
+use Rattle.std.specs.List.{range_with_len}
 use Rattle.std.proofs.lemmas.List.Sums.{sum_by-cons}
 use Rattle.cyc_words.specs.Simulation.{Machine, NeverFails}
 use Rattle.cyc_words.specs.inside.Following.{IsUnderWay, IsOver, Follows}
 use Rattle.cyc_words.proofs.Prices.{sum_by-flat_map}
 use Rattle.cyc_words.proofs.Simulation.{in_a_row, follows-never_fails}
 use Rattle.cyc_words.proofs.Lists.{flat_map-alone}
-use Rattle.cyc_store.specs.State.{StoreState, IsNew}
-use Rattle.cyc_store.specs.declared.range.TheConstants.{MOST_PAGES}
+use Rattle.cyc_store.specs.State.{StoreState}
 use Rattle.cyc_syntax.specs.Sums.{sum_of}
 use Rattle.cyc_types.specs.TypedTrees.{Function, Program}
 use Rattle.cyc_types.specs.Weight.{function_weight, program_weight}
@@ -22,7 +21,7 @@ use Rattle.cyc_plain.specs.inside.Memory.{IsBelow, slots_end}
 use Rattle.cyc_plain.specs.inside.Program.{Routine, Program as PlainProgram, CodePlace, no_routine, places_from, places_of, size}
 use Rattle.cyc_plain.specs.inside.Step as plain
 use Rattle.cyc_plain.specs.inside.Step.{machine}
-use Rattle.cyc_lower.specs.inside.Lowered.{IsLoweredFunction, AreLoweredFunctions, FollowsSource, IsLowered}
+use Rattle.cyc_lower.specs.inside.Lowered.{AreLoweredFunctions, FollowsSource, IsLowered}
 use Rattle.cyc_inline.specs.inside.Inlined as inlined
 use Rattle.cyc_inline.specs.inside.Inlined.{IsInlined}
 use Rattle.cyc_simplify.specs.inside.Simplified as simplified

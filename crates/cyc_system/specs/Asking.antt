@@ -1,6 +1,6 @@
 -- Runs of the machine that ask for no byte behind the end of their input, up to the first that does. At the end there is nothing left to be
 -- read, so what is seen of a run does not tell whether it asks there.
-use Rattle.std.specs.Prelude.{◌≡◌, ◌≢◌, ℕ, zero, suc, List, []}
+use Rattle.std.specs.Prelude.{◌≡◌, ◌≢◌, ℕ, zero, suc, []}
 use Rattle.cyc_machine.specs.declared.event.Event.{Event}
 use Rattle.cyc_machine.specs.declared.event.Event.TheVariants.{WantsByte}
 use Rattle.cyc_machine.specs.State.{State}

@@ -4,7 +4,8 @@ use Rattle.std.specs.Prelude.{◌≡◌, ℕ, ◌+◌, List, [], ◌∷◌, Some
 use Rattle.cyc_words.specs.declared.fault.Code.TheVariants as faults
 use Rattle.cyc_syntax.specs.declared.tree.BinaryOperator.TheVariants as operators
 use Rattle.cyc_syntax.specs.Symbols.{Place}
-use Rattle.cyc_syntax.specs.Trees.{Named, Int, WrittenType, Expression, Number, Null, Variable, Call, Bracketed, Binary, Assign, Expressions, NoExpressions, MoreExpressions, NoOperations, ThenOperation, Block, Empty, Evaluate, If, IfElse, While, Return, Break, Continue, Braces, Items, NoItems, MoreItems, Item, Execute, Local, Member, Positive, Negative, Void, Listed, Parameters, Declaration, Global, Function}
+use Rattle.cyc_syntax.specs.Trees.{Named, Int, WrittenType, Expression, Number, Null, Variable, Call, Bracketed, Binary, Assign, Expressions, NoExpressions, MoreExpressions, NoOperations, ThenOperation, Block, Empty, Evaluate}
+use Rattle.cyc_syntax.specs.Trees.{If, IfElse, While, Return, Break, Continue, Braces, Items, NoItems, MoreItems, Item, Execute, Local, Member, Positive, Negative, Void, Listed, Parameters, Declaration, Global, Function}
 use Rattle.cyc_syntax.specs.inside.Weight.{tree_weight}
 use Rattle.cyc_types.specs.declared.typed.Kind.TheVariants as kinds
 use Rattle.cyc_types.specs.declared.typed.Callee.TheVariants as callees

@@ -3,8 +3,10 @@ ghost use Rattle.std.specs.Prelude.{◌≡◌, ◌+◌, ◌≤◌, map, option_m
 ghost use Rattle.cyc_syntax.specs.TokenRule.{max_tokens};
 ghost use Rattle.cyc_syntax.specs.Sums.{sum_of, optional_weight};
 ghost use Rattle.cyc_types.specs.TypedTrees.{NoOperations, NoClauses};
-ghost use Rattle.cyc_types.specs.TypedTreeView.{view_expression, view_dereference, view_placement, view_initial, view_converted, view_side, view_statement, view_item, view_constant, view_global, view_function, view_program, arguments_of, then_operation, operations_of, items_of, clauses_of, default_of};
-ghost use Rattle.cyc_types.specs.Weight.{unary_weight, expression_weight, dereference_weight, placement_weight, initial_weight, converted_weight, arguments_weight, operations_weight, else_weight, side_weight, thrown_weight, caught_weight, statement_weight, items_weight, item_weight, clauses_weight, constant_weight, global_weight, function_weight, program_weight};
+ghost use Rattle.cyc_types.specs.TypedTreeView.{view_expression, view_dereference, view_placement, view_initial, view_converted, view_side, view_statement, view_item, view_constant};
+ghost use Rattle.cyc_types.specs.TypedTreeView.{view_global, view_function, view_program, arguments_of, then_operation, operations_of, items_of, clauses_of, default_of};
+ghost use Rattle.cyc_types.specs.Weight.{unary_weight, expression_weight, dereference_weight, placement_weight, initial_weight, converted_weight, arguments_weight, operations_weight, else_weight, side_weight};
+ghost use Rattle.cyc_types.specs.Weight.{thrown_weight, caught_weight, statement_weight, items_weight, item_weight, clauses_weight, constant_weight, global_weight, function_weight, program_weight};
 
 use cyc_types::TypedTree;
 use cyc_types::typed::{

@@ -3,7 +3,8 @@
 use Rattle.std.specs.Prelude.{◌≡◌, ℕ, zero, ◌≤◌, Bool, true, max, List, [], ◌∷◌, Option, None, Some}
 use Rattle.std.specs.List.{AllByRecursion}
 use Rattle.cyc_meaning.specs.Values.{Value, Handle, Key, Operand, Cell}
-use Rattle.cyc_meaning.specs.State.{Sort, Heap, Dynamic, Region, Object, World, Awaiting, Pass, MakeFields, Initialise, Choose, Test, OpenBy, AliasOf, Entry, Needs, Rest, Loop, CloseLexical, Handler, Write, Focus, Given, GivenPlace, Executing, Calling, Entering, Binding, Naming, Writing, Swapping, Returning, Catching, State, Running, Ended, Dead, Wrong}
+use Rattle.cyc_meaning.specs.State.{Sort, Heap, Dynamic, Region, Object, World, Awaiting, Pass, MakeFields, Initialise, Choose, Test, OpenBy, AliasOf, Entry, Needs, Rest, Loop, CloseLexical, Handler}
+use Rattle.cyc_meaning.specs.State.{Write, Focus, Given, GivenPlace, Executing, Calling, Entering, Binding, Naming, Writing, Swapping, Returning, Catching, State, Running, Ended, Dead, Wrong}
 use Rattle.cyc_bound.specs.declared.costs.Measure.{Measure}
 use Rattle.cyc_bound.specs.AtOnce.{statement_at_once, items_at_once, clauses_at_once}
 

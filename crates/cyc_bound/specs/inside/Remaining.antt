@@ -6,11 +6,14 @@ use Rattle.cyc_types.specs.declared.typed.Kind.{Kind}
 use Rattle.cyc_types.specs.declared.typed.Kind.TheVariants as kinds
 use Rattle.cyc_types.specs.TypedTrees.{Expression}
 use Rattle.cyc_meaning.specs.Values.{Value, Int, Operand, bytes_of_kind, behind, block_size}
-use Rattle.cyc_meaning.specs.State.{Sort, Heap, Lexical, Dynamic, Region, Owner, InRegion, Unique, Object, World, Awaiting, ConvertTo, Chain, Pass, Index, Advance, PlaceBy, MakePlain, MakeFields, MakeArray, FillElement, Initialise, Choose, Test, OpenBy, AliasOf, AwaitingPlace, StoreTo, SwapLeft, SwapRight, Entry, Needs, NeedsPlace, Rest, Loop, Handler, Focus, Evaluating, Locating, Given, Executing, Calling, Entering, Binding, Naming, Writing, Beginning, Repeating, Swapping, Breaking, Continuing, Returning, Throwing, Catching, State, Running, Ended, Dead, Wrong}
+use Rattle.cyc_meaning.specs.State.{Sort, Heap, Lexical, Dynamic, Region, Owner, InRegion, Unique, Object, World, Awaiting, ConvertTo, Chain, Pass, Index, Advance, PlaceBy, MakePlain, MakeFields, MakeArray}
+use Rattle.cyc_meaning.specs.State.{FillElement, Initialise, Choose, Test, OpenBy, AliasOf, AwaitingPlace, StoreTo, SwapLeft, SwapRight, Entry, Needs, NeedsPlace, Rest, Loop, Handler, Focus, Evaluating, Locating}
+use Rattle.cyc_meaning.specs.State.{Given, Executing, Calling, Entering, Binding, Naming, Writing, Beginning, Repeating, Swapping, Breaking, Continuing, Returning, Throwing, Catching, State, Running, Ended, Dead, Wrong}
 use Rattle.cyc_bound.specs.declared.costs.Measure.{Measure}
 use Rattle.cyc_bound.specs.declared.costs.Site.{Site}
 use Rattle.cyc_bound.specs.declared.costs.Site.TheVariants as sites
-use Rattle.cyc_bound.specs.Costs.{too_many, step_cost, opening_cost, lasting_cost, block_cost, size_of_bytes, written_length, plain_cost, elements_cost, array_cost, callee_cost, expression_cost, place_cost, initial_cost, fields_cost, converted_cost, arguments_cost, operations_cost, side_cost, loop_cost, statement_cost, items_cost, clauses_cost, function_cost}
+use Rattle.cyc_bound.specs.Costs.{too_many, step_cost, opening_cost, lasting_cost, block_cost, size_of_bytes, written_length, plain_cost, elements_cost, array_cost, callee_cost, expression_cost}
+use Rattle.cyc_bound.specs.Costs.{place_cost, initial_cost, fields_cost, converted_cost, arguments_cost, operations_cost, side_cost, loop_cost, statement_cost, items_cost, clauses_cost, function_cost}
 
 -- ---- what is known of a value before it is there
 

@@ -3,7 +3,8 @@
 use Rattle.std.specs.Prelude.{◌≡◌, ℕ, List, [], ◌∷◌, ◌++◌}
 use Rattle.std.specs.List.{AllByRecursion}
 use Rattle.cyc_types.specs.TypedTrees.{Program}
-use Rattle.cyc_meaning.specs.State.{Awaiting, Chain, Pass, Index, PlaceBy, MakeFields, MakeArray, FillElement, Initialise, Choose, Test, OpenBy, AliasOf, AwaitingPlace, StoreTo, SwapLeft, Entry, Needs, NeedsPlace, Rest, Loop, Handler, Caller, Main, Focus, Evaluating, Locating, Executing, Calling, Entering, Binding, Naming, Beginning, Repeating, Catching, State, Running, Ended, Dead, Wrong}
+use Rattle.cyc_meaning.specs.State.{Awaiting, Chain, Pass, Index, PlaceBy, MakeFields, MakeArray, FillElement, Initialise, Choose, Test, OpenBy, AliasOf, AwaitingPlace, StoreTo, SwapLeft, Entry, Needs, NeedsPlace}
+use Rattle.cyc_meaning.specs.State.{Rest, Loop, Handler, Caller, Main, Focus, Evaluating, Locating, Executing, Calling, Entering, Binding, Naming, Beginning, Repeating, Catching, State, Running, Ended, Dead, Wrong}
 use Rattle.cyc_bound.specs.Callees.{callee_of, expression_callees, dereference_callees, initial_callees, converted_callees, arguments_callees, operations_callees, side_callees, statement_callees, items_callees, clauses_callees}
 use Rattle.cyc_bound.specs.Bound.{Calls}
 

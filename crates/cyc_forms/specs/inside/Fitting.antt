@@ -1,6 +1,6 @@
 -- What the walk over values and parameters has done where it finds nothing wrong: it noted the region at each place of a region
 -- variable, and what is asked of the values holds, whatever is noted later.
-use Rattle.std.specs.Prelude.{◌≡◌, Bool, true, false, List, ◌∷◌, map, length, replicate, Option, Some, None}
+use Rattle.std.specs.Prelude.{◌≡◌, true, false, List, ◌∷◌, map, length, replicate, Option, Some, None}
 use Rattle.std.specs.List.{list_any}
 use Rattle.cyc_syntax.specs.Symbols.{Place}
 use Rattle.cyc_syntax.specs.Trees.{Expressions}

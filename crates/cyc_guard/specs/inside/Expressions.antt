@@ -2,7 +2,8 @@
 -- under a guard. They are relations by recursion on the tree, and each leaf may forget: so where branches meet, both come to one state
 -- that is no more than either.
 use Rattle.std.specs.Prelude.{true, false, Some}
-use Rattle.cyc_types.specs.TypedTrees.{Lvalue, Local, Global, Expression, Number, NullPointer, HeapRegion, Counter, Copy, Move, Peek, Load, AddressOf, AddressOfCell, NumberOfElements, FreeUnique, FreeKey, Call, Unary, Binary, Assign, Store, New, Dereference, Target, Member, Element, Placement, OnHeap, AsUnique, ByHandle, Initial, Plain, Fields, Array, Converted, Convert, Arguments, NoArguments, MoreArguments, Operations, NoOperations, ThenCompute, ThenTest, ThenPointer, ThenPointerPeek}
+use Rattle.cyc_types.specs.TypedTrees.{Lvalue, Local, Global, Expression, Number, NullPointer, HeapRegion, Counter, Copy, Move, Peek, Load, AddressOf, AddressOfCell, NumberOfElements, FreeUnique, FreeKey, Call, Unary, Binary, Assign, Store, New, Dereference, Target}
+use Rattle.cyc_types.specs.TypedTrees.{Member, Element, Placement, OnHeap, AsUnique, ByHandle, Initial, Plain, Fields, Array, Converted, Convert, Arguments, NoArguments, MoreArguments, Operations, NoOperations, ThenCompute, ThenTest, ThenPointer, ThenPointerPeek}
 use Rattle.cyc_types.specs.flow.Expressions.{peek_of, peek_behind}
 use Rattle.cyc_guard.specs.inside.Held.{Held, IsAtLeast, with_held, Guard, peeking, IsSeen, IsUsable, IsAssignable, IsSpared}
 

@@ -1,6 +1,7 @@
 -- The same of statements, of items and of clauses.
 use Rattle.std.specs.Prelude.{ℕ, Bool, true, false, Option, Some, None}
-use Rattle.cyc_types.specs.TypedTrees.{Local, Global, Expression, Converted, Side, VariableSide, CellSide, Statement, Block, Empty, Evaluate, Swap, If, While, Return, Break, Continue, Throw, Try, Items, NoItems, MoreItems, Item, Execute, Declare, DeclareRegion, OpenRegion, DeclareAlias, DeclareKey, Clauses, NoClauses, Default, Case}
+use Rattle.cyc_types.specs.TypedTrees.{Local, Global, Expression, Converted, Side, VariableSide, CellSide, Statement, Block, Empty, Evaluate, Swap, If, While, Return, Break, Continue}
+use Rattle.cyc_types.specs.TypedTrees.{Throw, Try, Items, NoItems, MoreItems, Item, Execute, Declare, DeclareRegion, OpenRegion, DeclareAlias, DeclareKey, Clauses, NoClauses, Default, Case}
 use Rattle.cyc_types.specs.flow.Statements.{peeked_side}
 use Rattle.cyc_guard.specs.inside.Held.{Held, IsAtLeast, updated, with_held, and_held, Guard, peeking, relying, IsSeen, IsUsable, IsSpared, IsReliable, at_catch}
 use Rattle.cyc_guard.specs.inside.Expressions.{Keeps, KeepsPlace, KeepsConverted}

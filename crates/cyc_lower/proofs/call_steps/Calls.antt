@@ -41,7 +41,8 @@ use Rattle.cyc_objects.specs.inside.Words.{Is}
 use Rattle.cyc_objects.specs.inside.Related.{scopes}
 use Rattle.cyc_objects.proofs.Values.{Grows-row, Grows-handle, Is-grows}
 use Rattle.cyc_lower.proofs.relation.contents.HeldValues.{IsIn, words_held, Holds, HoldsFrom, held, callers, homes, behind_records, row_of}
-use Rattle.cyc_lower.proofs.relation.simulation.Relation.{shared_seen, Shared, DataAt, DataIn, SharedAt, prints_only, gives_byte, StatementStack, LandsStack, PrintsStack, nowhere, behind_statement, Related, Matches, code_of, types_in, types_at, starts_at, parameters_in, parameters_at, bounds_in, bounds_at, called_at, returned_at, base_of, top, in_place, floor, HandlersStand, CountsBy, call_slots}
+use Rattle.cyc_lower.proofs.relation.simulation.Relation.{shared_seen, Shared, DataAt, DataIn, SharedAt, prints_only, gives_byte, StatementStack, LandsStack, PrintsStack, nowhere, behind_statement, Related, Matches, code_of}
+use Rattle.cyc_lower.proofs.relation.simulation.Relation.{types_in, types_at, starts_at, parameters_in, parameters_at, bounds_in, bounds_at, called_at, returned_at, base_of, top, in_place, floor, HandlersStand, CountsBy, call_slots}
 use Rattle.cyc_lower.proofs.relation.contents.Data.{words-reverse, Holds-rest, in_order, arguments_copied, data_declared, data_called}
 use Rattle.cyc_lower.proofs.relation.contents.HandlerData.{calls_counted}
 use Rattle.cyc_lower.proofs.relation.contents.GrowingData.{data_grows, HoldsFrom-grows}

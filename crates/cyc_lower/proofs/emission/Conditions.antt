@@ -22,7 +22,7 @@ use Rattle.cyc_lower.specs.declared.conditions.Pending.{Pending}
 use Rattle.cyc_lower.specs.declared.conditions.Tested.{Tested}
 use Rattle.cyc_lower.specs.inside.Slots.{Starts}
 use Rattle.cyc_lower.specs.inside.ValueCode.{operand_or, failing_comparison}
-use Rattle.cyc_lower.specs.inside.ControlCode.{Compared, with_zero, compared_or, compared_of, deciding_jump, failing_jump, all_test, are_tests, nulled_or, null_compared}
+use Rattle.cyc_lower.specs.inside.ControlCode.{Compared, with_zero, compared_or, compared_of, deciding_jump, failing_jump, all_test, are_tests, nulled_or}
 use Rattle.cyc_lower.specs.inside.ExpressionCode.{left_of, left_slot, value_operand}
 use Rattle.cyc_lower.specs.inside.Lowering.{first_operand, first_code, second_code, pair_code, condition_code, condition_of, others_code, last_condition, tests_code, behind_tests, choice_code, choice_of, branch_code, branch_of, compares_light, is_light_comparison}
 use Rattle.cyc_lower.specs.inside.Emission.{most_locals, is_test, failed, AreBefore, early_jumps, Aims, IsTested, IsEarly, IsBranch, IsSettled, other_code, other_condition, value_code, left_code, zero_condition, null_condition, null_operation}

@@ -26,7 +26,8 @@ use Rattle.cyc_types.specs.declared.typed.Operation.TheVariants as operation
 use Rattle.cyc_store.specs.declared.range.TheConstants.{HEAP, UNIQUE}
 use Rattle.cyc_types.specs.Types.{ValueType, Void, words_of}
 use Rattle.cyc_types.specs.TypeView.{view_value_type}
-use Rattle.cyc_types.specs.TypedTrees.{Load, New, OnHeap, AsUnique, ByHandle, FreeKey, Initial, Plain, Fields, Array, Dereference, Target, Lvalue, Local, Global, Expression, Number, Copy, Call, Unary, Binary, Assign, Converted, Convert, Arguments, Operations, NoOperations, ThenCompute, ThenTest, Move, Peek, AddressOfCell, Store, Member, Element, FreeUnique, NumberOfElements, type_of_place, AddressOf}
+use Rattle.cyc_types.specs.TypedTrees.{Load, New, OnHeap, AsUnique, ByHandle, FreeKey, Initial, Plain, Fields, Array, Dereference, Target, Lvalue, Local, Global, Expression, Number, Copy, Call, Unary, Binary, Assign}
+use Rattle.cyc_types.specs.TypedTrees.{Converted, Convert, Arguments, Operations, NoOperations, ThenCompute, ThenTest, Move, Peek, AddressOfCell, Store, Member, Element, FreeUnique, NumberOfElements, type_of_place, AddressOf}
 use Rattle.cyc_types.specs.TypedTreeView.{view_lvalue, view_initial, view_expression, view_converted, arguments_of, operations_of, view_dereference}
 use Rattle.cyc_types.specs.declared.typed.Kind.{Kind}
 use Rattle.cyc_meaning.specs.Values.{words_of_kind, kind_of, is_thin}
@@ -39,9 +40,11 @@ use Rattle.cyc_plain.specs.declared.instruction.Operand.TheVariants as operands
 use Rattle.cyc_plain.specs.declared.instruction.Instruction.{Instruction}
 use Rattle.cyc_plain.specs.declared.instruction.Instruction.TheVariants as instructions
 use Rattle.cyc_lower.specs.inside.Slots.{slot_of, Starts, global_of}
-use Rattle.cyc_lower.specs.inside.ValueCode.{passed_words, kind_passed, all_passed, kinds_passed, converts_there, converted_by, moved_by, move_of, operand_or, code_unless, left_with, low_byte, next_slot, operator_code, compute_code, test_jump, truth_code, test_code, copy_code, address_code, addressed_by, reached_code, span_of, followed_code, span_in, code_unless_slot, global_code, masked_by, masks, check_code, inside_code, scaled_code, summed_code}
+use Rattle.cyc_lower.specs.inside.ValueCode.{passed_words, kind_passed, all_passed, kinds_passed, converts_there, converted_by, moved_by, move_of, operand_or, code_unless, left_with, low_byte, next_slot, operator_code, compute_code, test_jump}
+use Rattle.cyc_lower.specs.inside.ValueCode.{truth_code, test_code, copy_code, address_code, addressed_by, reached_code, span_of, followed_code, span_in, code_unless_slot, global_code, masked_by, masks, check_code, inside_code, scaled_code, summed_code}
 use Rattle.cyc_lower.specs.inside.ObjectCode.{object_code, saved_code}
-use Rattle.cyc_lower.specs.inside.ExpressionCode.{source_of, source_slot, operand_of, left_of, slot_with, left_slot, value_operand, converted_operand, printed_operand, load_code, expression_code, value_slot, arguments_code, converted_code, converted_operand_code, printed_code, initial_code, operations_code, made_code, place_operand, place_offset, place_code, pointer_of, brought_code, is_simple}
+use Rattle.cyc_lower.specs.inside.ExpressionCode.{source_of, source_slot, operand_of, left_of, slot_with, left_slot, value_operand, converted_operand, printed_operand, load_code, expression_code, value_slot, arguments_code}
+use Rattle.cyc_lower.specs.inside.ExpressionCode.{converted_code, converted_operand_code, printed_code, initial_code, operations_code, made_code, place_operand, place_offset, place_code, pointer_of, brought_code, is_simple}
 use Rattle.cyc_lower.specs.inside.Lowering.{assignment_code, assigned_operand, discarded_code, store_address_code, store_code}
 use Rattle.cyc_lower.specs.inside.Emission.{most_locals, value_code, print_code, left_code, takes_operand, operation_code}
 use Rattle.cyc_lower.proofs.slots.Widths.{kind_positive}

@@ -13,7 +13,10 @@ use Rattle.cyc_types.specs.declared.typed.PointerOperator.{PointerOperator}
 use Rattle.cyc_types.specs.declared.typed.PointerOperator.TheVariants as pointers
 use Rattle.cyc_types.specs.declared.typed.LogicalOperator.{LogicalOperator}
 use Rattle.cyc_types.specs.declared.typed.LogicalOperator.TheVariants as logical
-use Rattle.cyc_types.specs.TypedTrees.{Load, New, OnHeap, Initial, Plain, Fields, Array, Dereference, Target, Member, Element, Lvalue, Local, Global, Expression, Copy, Call, Unary, Binary, Assign, Converted, Convert, Arguments, NoArguments, MoreArguments, Operations, NoOperations, ThenCompute, ThenTest, ThenPointer, ThenPointerPeek, Statement, Block, Empty, Evaluate, If, While, Return, Break, Continue, Items, NoItems, MoreItems, Execute, Declare, StructType, Function, Move, Peek, AddressOf, AddressOfCell, Store, AsUnique, FreeUnique, Side, VariableSide, CellSide, Swap, Throw, Try, Clauses, NoClauses, Default, Case, NumberOfElements, type_of_place, ByHandle, FreeKey, DeclareRegion, OpenRegion, DeclareAlias, DeclareKey}
+use Rattle.cyc_types.specs.TypedTrees.{Load, New, OnHeap, Initial, Plain, Fields, Array, Dereference, Target, Member, Element, Lvalue, Local, Global, Expression, Copy, Call, Unary, Binary, Assign, Converted, Convert, Arguments, NoArguments, MoreArguments, Operations}
+use Rattle.cyc_types.specs.TypedTrees.{NoOperations, ThenCompute, ThenTest, ThenPointer, ThenPointerPeek, Statement, Block, Empty, Evaluate, If, While, Return, Break, Continue, Items, NoItems, MoreItems, Execute, Declare, StructType, Function, Move, Peek, AddressOf}
+use Rattle.cyc_types.specs.TypedTrees.{AddressOfCell, Store, AsUnique, FreeUnique, Side, VariableSide, CellSide, Swap, Throw, Try, Clauses, NoClauses, Default, Case, NumberOfElements, type_of_place, ByHandle, FreeKey, DeclareRegion, OpenRegion, DeclareAlias}
+use Rattle.cyc_types.specs.TypedTrees.{DeclareKey}
 use Rattle.cyc_types.specs.Types.{Ty, words_of}
 use Rattle.cyc_plain.specs.declared.instruction.Operand.{Operand}
 use Rattle.cyc_plain.specs.declared.instruction.Operand.TheVariants as operands
@@ -21,12 +24,17 @@ use Rattle.cyc_plain.specs.declared.instruction.Instruction.{Instruction}
 use Rattle.cyc_store.specs.declared.range.TheConstants.{HEAP, UNIQUE}
 use Rattle.cyc_lower.specs.declared.statements.Exits.{Exits}
 use Rattle.cyc_lower.specs.inside.Slots.{with_counter, Starts, slot_of, global_of}
-use Rattle.cyc_lower.specs.inside.ValueCode.{first_temporary, keeps_words, kind_behind, last_byte_code, kind_passed, converts_there, passed_words, operand_or, code_unless, code_unless_slot, left_with, next_slot, converted_by, conversion_code, divisor_code, operator_code, pointer_instructions, first_two, copy_code, address_code, behind_left, checked_code, span_of, span_in, followed_operand, followed_code, conversion_by, widened_code, count_code, loaded_code, slot_or, kinds_passed, thinned_code, bounded_code, past_bounded, reached_operand, reached_code, word_by_word, load_word, global_code, masks, failing_comparison}
+use Rattle.cyc_lower.specs.inside.ValueCode.{first_temporary, keeps_words, kind_behind, last_byte_code, kind_passed, converts_there, passed_words, operand_or, code_unless, code_unless_slot, left_with, next_slot, converted_by, conversion_code}
+use Rattle.cyc_lower.specs.inside.ValueCode.{divisor_code, operator_code, pointer_instructions, first_two, copy_code, address_code, behind_left, checked_code, span_of, span_in, followed_operand, followed_code, conversion_by, widened_code}
+use Rattle.cyc_lower.specs.inside.ValueCode.{count_code, loaded_code, slot_or, kinds_passed, thinned_code, bounded_code, past_bounded, reached_operand, reached_code, word_by_word, load_word, global_code, masks, failing_comparison}
 use Rattle.cyc_lower.specs.inside.ObjectCode.{begun_code, filled_code, elements_code, ended_code, object_code, right_slot, saved_code, stores_code}
-use Rattle.cyc_lower.specs.inside.ControlCode.{outside_loops, if_code, other_place, failing_jump, holding_jump, deciding_jump, are_tests, compared_of, inside_loop, leave_code, try_code, clause_code, break_target, continue_target, kept_code, restored_code, behind_record, inside_try, inside_region, opened_code, closed_code, entry_code, entry_length, entered_code, body_target, is_nothing, over_code, over_length}
-use Rattle.cyc_lower.specs.inside.ExpressionCode.{operand_of, left_of, value_slot, slot_with, left_slot, value_operand, source_of, source_slot, converted_operand, load_code, place_operand, place_offset, expression_code, place_code, made_code, arguments_code, converted_code, converted_operand_code, printed_code, initial_code, operations_code, pointer_of, brought_code, is_simple, are_simple}
+use Rattle.cyc_lower.specs.inside.ControlCode.{outside_loops, if_code, other_place, failing_jump, holding_jump, deciding_jump, are_tests, compared_of, inside_loop, leave_code, try_code, clause_code, break_target, continue_target}
+use Rattle.cyc_lower.specs.inside.ControlCode.{kept_code, restored_code, behind_record, inside_try, inside_region, opened_code, closed_code, entry_code, entry_length, entered_code, body_target, is_nothing, over_code, over_length}
+use Rattle.cyc_lower.specs.inside.ExpressionCode.{operand_of, left_of, value_slot, slot_with, left_slot, value_operand, source_of, source_slot, converted_operand, load_code, place_operand, place_offset, expression_code}
+use Rattle.cyc_lower.specs.inside.ExpressionCode.{place_code, made_code, arguments_code, converted_code, converted_operand_code, printed_code, initial_code, operations_code, pointer_of, brought_code, is_simple, are_simple}
 use Rattle.cyc_lower.specs.declared.operands.Condition.{Condition}
-use Rattle.cyc_lower.specs.inside.Lowering.{others_code, tests_code, behind_tests, choice_code, choice_of, branch_code, branch_of, raises_of, body_code, assignment_code, discarded_code, pair_code, condition_code, return_code, declaration_code, statement_code, items_code, side_code, swap_code, thrown_code, caught_code, clauses_code, starts_with, read_side, write_side, exchange_code, is_light, compares_light, is_guard}
+use Rattle.cyc_lower.specs.inside.Lowering.{others_code, tests_code, behind_tests, choice_code, choice_of, branch_code, branch_of, raises_of, body_code, assignment_code, discarded_code, pair_code, condition_code, return_code}
+use Rattle.cyc_lower.specs.inside.Lowering.{declaration_code, statement_code, items_code, side_code, swap_code, thrown_code, caught_code, clauses_code, starts_with, read_side, write_side, exchange_code, is_light, compares_light, is_guard}
 use Rattle.cyc_plain.specs.declared.instruction.Instruction.TheVariants as instructions
 use Rattle.cyc_meaning.specs.Values.{is_thin, kind_of, words_of_kind}
 

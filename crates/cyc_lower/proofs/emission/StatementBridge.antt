@@ -7,7 +7,8 @@ use Rattle.cyc_types.specs.declared.typed.Callee.TheVariants as callees
 use Rattle.cyc_types.specs.declared.typed.UnaryOperator.TheVariants as unary
 use Rattle.cyc_types.specs.declared.typed.LogicalOperator.TheVariants as logical
 use Rattle.cyc_types.specs.Types.{Ty, words_of}
-use Rattle.cyc_types.specs.TypedTrees.{Lvalue, Local, Global, Expression, Call, Unary, Binary, Assign, Converted, Convert, Operations, NoOperations, ThenCompute, ThenTest, ThenPointer, ThenPointerPeek, type_of, Statement, Block, Empty, Evaluate, If, While, Return, Break, Continue, Items, NoItems, MoreItems, Execute, Declare, Signature, Store, Side, VariableSide, CellSide, Swap, Throw, Try, Clauses, NoClauses, Default, Case, DeclareRegion, OpenRegion, DeclareAlias, DeclareKey}
+use Rattle.cyc_types.specs.TypedTrees.{Lvalue, Local, Global, Expression, Call, Unary, Binary, Assign, Converted, Convert, Operations, NoOperations, ThenCompute, ThenTest, ThenPointer, ThenPointerPeek, type_of, Statement, Block, Empty, Evaluate, If, While}
+use Rattle.cyc_types.specs.TypedTrees.{Return, Break, Continue, Items, NoItems, MoreItems, Execute, Declare, Signature, Store, Side, VariableSide, CellSide, Swap, Throw, Try, Clauses, NoClauses, Default, Case, DeclareRegion, OpenRegion, DeclareAlias, DeclareKey}
 use Rattle.cyc_types.specs.Numbered.{Numbering, argument_count}
 use Rattle.cyc_plain.specs.declared.limits.TheConstants.{RECORD_WORDS}
 use Rattle.cyc_plain.specs.declared.instruction.Comparison.{Comparison}
@@ -21,13 +22,17 @@ use Rattle.cyc_meaning.specs.FrameCount.{operand_words}
 use Rattle.cyc_lower.specs.inside.Slots.{Types, starts_of, slot_of, global_of}
 use Rattle.cyc_lower.specs.inside.ValueCode.{passed_words, move_of, operand_or, slot_or, code_unless_slot, left_with, conversion_code, failing_comparison, address_code, span_of, global_code, kind_passed}
 use Rattle.cyc_lower.specs.inside.ObjectCode.{right_slot, saved_code, load_at}
-use Rattle.cyc_lower.specs.inside.ControlCode.{compared_or, compared_of, failing_jump, holding_jump, all_test, are_tests, break_target, continue_target, body_target, inside_loop, leave_code, other_jump, clause_code, kept_code, kept_code_in, restored_code, restored_code_in, behind_record, inside_try, closed_code, handlers_code, marks_code, try_code, opened_code, inside_region, dynamic_code, entry_code, entry_length, is_nothing, over_code, over_length, null_compared, nulled_or}
+use Rattle.cyc_lower.specs.inside.ControlCode.{compared_or, compared_of, failing_jump, holding_jump, all_test, are_tests, break_target, continue_target, body_target, inside_loop, leave_code, other_jump, clause_code, kept_code, kept_code_in, restored_code}
+use Rattle.cyc_lower.specs.inside.ControlCode.{restored_code_in, behind_record, inside_try, closed_code, handlers_code, marks_code, try_code, opened_code, inside_region, dynamic_code, entry_code, entry_length, is_nothing, over_code, over_length, null_compared}
+use Rattle.cyc_lower.specs.inside.ControlCode.{nulled_or}
 use Rattle.cyc_lower.specs.inside.ExpressionCode.{source_of, operand_of, value_slot, slot_with, value_operand, converted_operand, printed_operand, expression_code, converted_operand_code, printed_code, place_operand, place_offset, place_code, brought_code, is_simple}
-use Rattle.cyc_lower.specs.inside.Lowering.{assignment_code, assigned_operand, discarded_code, first_operand, first_code, second_code, pair_code, condition_code, condition_of, others_code, last_condition, tests_code, behind_tests, choice_code, choice_of, branch_code, branch_of, return_code, declaration_code, statement_code, items_code, results_of, side_code, read_side, write_side, exchange_code, swap_code, thrown_code, thrown_operand, caught_code, clauses_code, is_guard}
+use Rattle.cyc_lower.specs.inside.Lowering.{assignment_code, assigned_operand, discarded_code, first_operand, first_code, second_code, pair_code, condition_code, condition_of, others_code, last_condition, tests_code, behind_tests, choice_code, choice_of}
+use Rattle.cyc_lower.specs.inside.Lowering.{branch_code, branch_of, return_code, declaration_code, statement_code, items_code, results_of, side_code, read_side, write_side, exchange_code, swap_code, thrown_code, thrown_operand, caught_code, clauses_code, is_guard}
 use Rattle.cyc_lower.specs.declared.operands.Condition.{Condition}
 use Rattle.cyc_lower.specs.declared.statements.Exits.{Exits}
 use Rattle.cyc_lower.specs.declared.statements.Opened.{Opened}
-use Rattle.cyc_lower.proofs.relation.code.Stands.{PairAt, ConditionAt, ForkAt, BranchesAt, TestsAt, Ends, AssignmentAt, DiscardedAt, ReturnAt, DeclarationAt, StatementAt, ItemsAt, HasSide, SideAt, ReadAt, WriteAt, SwapAt, LeaveAt, ThrownAt, CaughtAt, ClausesAt, ExchangeAt, ClosedAt, HandlersAt, MarksAt, KeptAt, RestoredAt, OpenedAt, LeftBy, EntryAt, OverAt}
+use Rattle.cyc_lower.proofs.relation.code.Stands.{PairAt, ConditionAt, ForkAt, BranchesAt, TestsAt, Ends, AssignmentAt, DiscardedAt, ReturnAt, DeclarationAt, StatementAt, ItemsAt, HasSide, SideAt, ReadAt}
+use Rattle.cyc_lower.proofs.relation.code.Stands.{WriteAt, SwapAt, LeaveAt, ThrownAt, CaughtAt, ClausesAt, ExchangeAt, ClosedAt, HandlersAt, MarksAt, KeptAt, RestoredAt, OpenedAt, LeftBy, EntryAt, OverAt}
 use Rattle.cyc_types.specs.typing.Expressions.{type_of_side}
 use Rattle.cyc_lower.proofs.slots.Widths.{kind_of_result, type_words, HasLocal}
 use Rattle.cyc_lower.proofs.relation.code.Fitting.{FitsPlace, Fits, FitOperations, FitsConverted, FitsReturn, FitsInitial, FitsStatement, FitItems, FitsSide, FitsThrown, FitsCaught, FitClauses}

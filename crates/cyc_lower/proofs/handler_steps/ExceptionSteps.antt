@@ -25,7 +25,8 @@ use Rattle.cyc_plain.specs.inside.Step as plain_step
 use Rattle.cyc_plain.proofs.SlotLaws.{put-same, put-other, copied-inside, copied-below, copied-above}
 use Rattle.cyc_plain.specs.inside.Operators.{compares}
 use Rattle.cyc_meaning.specs.Values.{Operand as Kinded, words_of_kind}
-use Rattle.cyc_meaning.specs.State.{World, Environment, variable, made, closed, with_local, region_at, ThrowWith, Entry, Needs, NeedsPlace, Discard, Rest, Join, Loop, CloseRegion, CloseLexical, EndLoan, Handler, Caller, Main, Evaluating, Executing, Proceeding, Naming, Throwing, Catching, Running, Ended, State, Region, Access}
+use Rattle.cyc_meaning.specs.State.{World, Environment, variable, made, closed, with_local, region_at, ThrowWith, Entry, Needs, NeedsPlace, Discard, Rest, Join, Loop, CloseRegion}
+use Rattle.cyc_meaning.specs.State.{CloseLexical, EndLoan, Handler, Caller, Main, Evaluating, Executing, Proceeding, Naming, Throwing, Catching, Running, Ended, State, Region, Access}
 use Rattle.cyc_meaning.specs.inside.Nesting.{IsNested}
 use Rattle.cyc_store.specs.State.{lexical_count}
 use Rattle.cyc_meaning.specs.Regions.{closing_lexical}

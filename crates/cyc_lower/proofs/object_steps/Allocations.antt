@@ -21,8 +21,8 @@ use Rattle.cyc_plain.specs.declared.instruction.Operand.TheVariants as operands
 use Rattle.cyc_plain.specs.declared.instruction.Instruction.TheVariants as instructions
 use Rattle.cyc_plain.specs.declared.instruction.Request.TheVariants as requests
 use Rattle.cyc_plain.specs.inside.State as plain
-use Rattle.cyc_plain.specs.inside.State.{Words, put, Configuration}
-use Rattle.cyc_plain.specs.inside.Step.{Choice, advanced, operand_word, served_to, performed}
+use Rattle.cyc_plain.specs.inside.State.{Words, Configuration}
+use Rattle.cyc_plain.specs.inside.Step.{Choice, operand_word, served_to}
 use Rattle.cyc_plain.specs.inside.Step as plain_step
 use Rattle.cyc_plain.specs.inside.Straight.{At}
 use Rattle.cyc_plain.proofs.SlotLaws.{put-same, put-other}
@@ -35,7 +35,6 @@ use Rattle.cyc_meaning.specs.Step.{wrong, stored, target_by, step}
 use Rattle.cyc_objects.specs.inside.Tables.{Placed, Tables, with_row, Grows}
 use Rattle.cyc_objects.specs.inside.Words.{bytes_of_kinds, before, Points, Is, AreBlank}
 use Rattle.cyc_objects.specs.inside.Related as objects
-use Rattle.cyc_objects.specs.inside.Related.{has_home}
 use Rattle.cyc_objects.proofs.Places.{before-all, before-first, before-inside, before-joined, bytes-joined}
 use Rattle.cyc_objects.proofs.Values.{Grows-row}
 use Rattle.cyc_objects.proofs.RegionLemmas.{counted-same}

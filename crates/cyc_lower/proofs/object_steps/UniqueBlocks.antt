@@ -16,7 +16,7 @@ use Rattle.cyc_plain.specs.declared.instruction.Request.{Request}
 use Rattle.cyc_plain.specs.declared.instruction.Request.TheVariants as requests
 use Rattle.cyc_plain.specs.inside.State as plain
 use Rattle.cyc_plain.specs.inside.State.{Words, Configuration}
-use Rattle.cyc_plain.specs.inside.Step.{Choice, advanced, at, operand_word, served_to, performed}
+use Rattle.cyc_plain.specs.inside.Step.{Choice, at, operand_word, served_to, performed}
 use Rattle.cyc_plain.specs.inside.Step as plain_step
 use Rattle.cyc_plain.specs.inside.Requests as plain_requests
 use Rattle.cyc_plain.specs.inside.Straight.{At}

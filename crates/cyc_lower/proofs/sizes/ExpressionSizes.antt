@@ -5,7 +5,9 @@ use Rattle.cyc_words.proofs.Booleans.{and_left, and_right}
 use Rattle.cyc_types.specs.declared.typed.Callee.TheVariants as callees
 use Rattle.cyc_types.specs.declared.typed.UnaryOperator.TheVariants as unary
 use Rattle.cyc_types.specs.declared.typed.PointerOperator.{PointerOperator}
-use Rattle.cyc_types.specs.TypedTrees.{Load, New, OnHeap, AsUnique, ByHandle, Initial, Plain, Fields, Array, Dereference, Target, Member, Element, Lvalue, Local, Global, Expression, Number, NullPointer, HeapRegion, Counter, Copy, Call, Unary, Binary, Assign, Converted, Convert, Arguments, NoArguments, MoreArguments, Operations, NoOperations, ThenCompute, ThenTest, ThenPointer, ThenPointerPeek, Function, Move, Peek, AddressOfCell, Store, FreeUnique, NumberOfElements, type_of_place, FreeKey, AddressOf}
+use Rattle.cyc_types.specs.TypedTrees.{Load, New, OnHeap, AsUnique, ByHandle, Initial, Plain, Fields, Array, Dereference, Target, Member, Element, Lvalue, Local, Global, Expression, Number}
+use Rattle.cyc_types.specs.TypedTrees.{NullPointer, HeapRegion, Counter, Copy, Call, Unary, Binary, Assign, Converted, Convert, Arguments, NoArguments, MoreArguments, Operations, NoOperations}
+use Rattle.cyc_types.specs.TypedTrees.{ThenCompute, ThenTest, ThenPointer, ThenPointerPeek, Function, Move, Peek, AddressOfCell, Store, FreeUnique, NumberOfElements, type_of_place, FreeKey, AddressOf}
 use Rattle.cyc_types.specs.Types.{Ty, words_of}
 use Rattle.cyc_types.proofs.WeightLemmas.{some_token}
 use Rattle.cyc_types.specs.Weight.{expression_weight, dereference_weight, initial_weight, converted_weight, arguments_weight, more_arguments_weight, operations_weight}
@@ -19,14 +21,17 @@ use Rattle.cyc_store.specs.declared.range.TheConstants.{HEAP, UNIQUE}
 use Rattle.cyc_meaning.specs.Values.{kind_of, words_of_kind, is_thin}
 use Rattle.cyc_lower.proofs.slots.Widths.{kind_few, type_words}
 use Rattle.cyc_lower.proofs.slots.CellBytes.{passed_slots}
-use Rattle.cyc_lower.specs.inside.ValueCode.{converts_there, passed_words, all_passed, kinds_passed, operand_or, code_unless, code_unless_slot, next_slot, conversion_code, operator_code, low_byte, test_code, copy_code, behind_left, pointer_code, pointer_instructions, address_code, count_code, span_of, loaded_code, followed_operand, span_in, reached_operand, word_by_word, load_word, store_word, global_code, unary_instruction, last_byte_code, kind_behind, kind_passed}
+use Rattle.cyc_lower.specs.inside.ValueCode.{converts_there, passed_words, all_passed, kinds_passed, operand_or, code_unless, code_unless_slot, next_slot, conversion_code, operator_code, low_byte, test_code, copy_code, behind_left, pointer_code, pointer_instructions}
+use Rattle.cyc_lower.specs.inside.ValueCode.{address_code, count_code, span_of, loaded_code, followed_operand, span_in, reached_operand, word_by_word, load_word, store_word, global_code, unary_instruction, last_byte_code, kind_behind, kind_passed}
 use Rattle.cyc_lower.specs.inside.ObjectCode.{begun_code, filled_code, ended_code, elements_code, object_code, free_code, saved_code}
 use Rattle.cyc_lower.specs.inside.ControlCode.{closing_code}
-use Rattle.cyc_lower.specs.inside.ExpressionCode.{source_of, source_slot, operand_of, left_of, value_slot, left_slot, value_operand, converted_operand, printed_operand, load_code, expression_code, arguments_code, converted_code, converted_operand_code, printed_code, initial_code, operations_code, made_code, place_operand, place_offset, place_code, pointer_of, pointer_slot, brought_code, is_simple, are_simple}
+use Rattle.cyc_lower.specs.inside.ExpressionCode.{source_of, source_slot, operand_of, left_of, value_slot, left_slot, value_operand, converted_operand, printed_operand, load_code, expression_code, arguments_code, converted_code}
+use Rattle.cyc_lower.specs.inside.ExpressionCode.{converted_operand_code, printed_code, initial_code, operations_code, made_code, place_operand, place_offset, place_code, pointer_of, pointer_slot, brought_code, is_simple, are_simple}
 use Rattle.cyc_lower.specs.inside.Lowering.{store_address_code, is_light}
 use Rattle.cyc_meaning.specs.Sizes.{size_per_weight}
 use Rattle.cyc_lower.proofs.sizes.PieceWords.{passed_few}
-use Rattle.cyc_lower.proofs.sizes.PieceSizes.{code_size, code_size-append, cons, unless_size, conversion_size, operator_size, move_size, copy_size, copied_address_size, copied_pointer_size, address_size, brought_by_size, converted_by_size, followed_by_size, tested_by_size, initial_by_size, unary_size, pointer_size, count_size, element_by_size, test_size, saved_size, loaded_size, object_size, begun_size, last_byte_size, filled_size, more_weight}
+use Rattle.cyc_lower.proofs.sizes.PieceSizes.{code_size, code_size-append, cons, unless_size, conversion_size, operator_size, move_size, copy_size, copied_address_size, copied_pointer_size, address_size, brought_by_size, converted_by_size}
+use Rattle.cyc_lower.proofs.sizes.PieceSizes.{followed_by_size, tested_by_size, initial_by_size, unary_size, pointer_size, count_size, element_by_size, test_size, saved_size, loaded_size, object_size, begun_size, last_byte_size, filled_size, more_weight}
 
 -- ---- locals that have these first slots
 

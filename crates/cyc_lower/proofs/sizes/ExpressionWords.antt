@@ -4,7 +4,9 @@ use Rattle.cyc_words.proofs.WordLemmas.{IsWord-add_of}
 use Rattle.cyc_words.specs.Word.{IsWord, add_of, mul_of}
 use Rattle.cyc_types.specs.declared.typed.Callee.TheVariants as callees
 use Rattle.cyc_types.specs.declared.typed.UnaryOperator.TheVariants as unary
-use Rattle.cyc_types.specs.TypedTrees.{Array, Counter, Load, New, OnHeap, AsUnique, ByHandle, HeapRegion, AddressOf, FreeKey, Initial, Plain, Fields, Dereference, Target, Lvalue, Local, Global, Expression, Number, NullPointer, Copy, Call, Unary, Binary, Assign, Converted, Convert, Arguments, NoArguments, MoreArguments, Operations, NoOperations, ThenCompute, ThenTest, ThenPointer, Word, Function, Move, Peek, ThenPointerPeek, AddressOfCell, Store, Member, Element, FreeUnique, NumberOfElements, type_of_place}
+use Rattle.cyc_types.specs.TypedTrees.{Array, Counter, Load, New, OnHeap, AsUnique, ByHandle, HeapRegion, AddressOf, FreeKey, Initial, Plain, Fields, Dereference, Target, Lvalue, Local, Global}
+use Rattle.cyc_types.specs.TypedTrees.{Expression, Number, NullPointer, Copy, Call, Unary, Binary, Assign, Converted, Convert, Arguments, NoArguments, MoreArguments, Operations, NoOperations}
+use Rattle.cyc_types.specs.TypedTrees.{ThenCompute, ThenTest, ThenPointer, Word, Function, Move, Peek, ThenPointerPeek, AddressOfCell, Store, Member, Element, FreeUnique, NumberOfElements, type_of_place}
 use Rattle.cyc_plain.specs.declared.instruction.Operand.{Operand}
 use Rattle.cyc_plain.specs.declared.instruction.Operand.TheVariants as operands
 use Rattle.cyc_plain.specs.inside.WellFormed.{IsOfWord}
@@ -15,14 +17,17 @@ use Rattle.std.specs.Prelude.{◌==◌, if◌then◌else◌, ◌%◌, ◌^◌}
 use Rattle.cyc_types.specs.Types.{words_of}
 use Rattle.cyc_store.specs.declared.range.TheConstants.{HEAP, UNIQUE}
 use Rattle.cyc_meaning.specs.Values.{words_of_kind, is_thin, kind_of}
-use Rattle.cyc_lower.specs.inside.ValueCode.{converts_there, passed_words, kinds_passed, operand_or, code_unless, code_unless_slot, left_with, next_slot, conversion_code, operator_code, test_code, is_in, copy_code, behind_left, pointer_code, addressed_by, span_of, followed_operand, span_in, reached_operand, word_by_word, load_word, store_word, global_code, keeps_words, kind_behind, kind_passed, variable_bytes, masks}
+use Rattle.cyc_lower.specs.inside.ValueCode.{converts_there, passed_words, kinds_passed, operand_or, code_unless, code_unless_slot, left_with, next_slot, conversion_code, operator_code, test_code, is_in, copy_code, behind_left}
+use Rattle.cyc_lower.specs.inside.ValueCode.{pointer_code, addressed_by, span_of, followed_operand, span_in, reached_operand, word_by_word, load_word, store_word, global_code, keeps_words, kind_behind, kind_passed, variable_bytes, masks}
 use Rattle.cyc_lower.specs.inside.ObjectCode.{begun_code, filled_code, ended_code, elements_code, object_code}
 use Rattle.cyc_lower.specs.inside.ControlCode.{counter_operand}
-use Rattle.cyc_lower.specs.inside.ExpressionCode.{source_of, source_slot, operand_of, left_of, value_slot, left_slot, value_operand, converted_operand, printed_operand, load_code, expression_code, arguments_code, converted_code, converted_operand_code, printed_code, initial_code, operations_code, made_code, place_operand, place_offset, place_code, pointer_of, pointer_slot, brought_code, is_simple}
+use Rattle.cyc_lower.specs.inside.ExpressionCode.{source_of, source_slot, operand_of, left_of, value_slot, left_slot, value_operand, converted_operand, printed_operand, load_code, expression_code, arguments_code, converted_code}
+use Rattle.cyc_lower.specs.inside.ExpressionCode.{converted_operand_code, printed_code, initial_code, operations_code, made_code, place_operand, place_offset, place_code, pointer_of, pointer_slot, brought_code, is_simple}
 use Rattle.cyc_lower.specs.inside.Lowering.{store_address_code, store_code}
 use Rattle.cyc_lower.proofs.slots.Widths.{kind_few}
 use Rattle.cyc_lower.proofs.slots.CellBytes.{passed_slots}
-use Rattle.cyc_lower.proofs.sizes.PieceWords.{HaveWords, append, unless_words, conversion_words, operator_words, move_words, copy_words, address_words, field_word, converted_by_words, reached_word, followed_word, followed_by_words, element_by_words, tested_by_words, brought_by_words, initial_by_words, unary_words, pointer_words, count_words, test_words, saved_words, loaded_words, last_byte_words, object_words, begun_words, filled_words}
+use Rattle.cyc_lower.proofs.sizes.PieceWords.{HaveWords, append, unless_words, conversion_words, operator_words, move_words, copy_words, address_words, field_word, converted_by_words, reached_word, followed_word, followed_by_words, element_by_words}
+use Rattle.cyc_lower.proofs.sizes.PieceWords.{tested_by_words, brought_by_words, initial_by_words, unary_words, pointer_words, count_words, test_words, saved_words, loaded_words, last_byte_words, object_words, begun_words, filled_words}
 
 -- ---- locals that have these first slots
 

@@ -4,12 +4,16 @@ use Rattle.cyc_syntax.specs.declared.tree.PointerKind.TheVariants as marks
 use Rattle.cyc_syntax.specs.TokenRule.{max_tokens}
 use Rattle.cyc_types.specs.declared.typed.UnaryOperator.TheVariants as unary
 use Rattle.cyc_types.specs.Types.{Ty, Int, Char, Pointer, Handle, Key, Struct, words_of, ValueType, Void, Null, Value}
-use Rattle.cyc_types.specs.TypedTrees.{Expression, Number, NullPointer, HeapRegion, Counter, Copy, Move, Peek, Load, AddressOf, AddressOfCell, NumberOfElements, FreeUnique, FreeKey, Call, Unary, Binary, Assign, Store, New, Dereference, Target, Member, Element, Placement, OnHeap, AsUnique, ByHandle, Initial, Plain, Fields, Array, Converted, Convert, Arguments, NoArguments, MoreArguments, Operations, NoOperations, ThenCompute, ThenTest, ThenPointer, ThenPointerPeek, type_of, type_of_place, Side, VariableSide, CellSide, Statement, Block, Empty, Evaluate, Swap, If, While, Return, Break, Continue, Throw, Try, Items, NoItems, MoreItems, Execute, Declare, DeclareRegion, Clauses, NoClauses, Default, Case, Program}
+use Rattle.cyc_types.specs.TypedTrees.{Expression, Number, NullPointer, HeapRegion, Counter, Copy, Move, Peek, Load, AddressOf, AddressOfCell, NumberOfElements, FreeUnique, FreeKey, Call, Unary, Binary, Assign, Store, New, Dereference, Target, Member, Element}
+use Rattle.cyc_types.specs.TypedTrees.{Placement, OnHeap, AsUnique, ByHandle, Initial, Plain, Fields, Array, Converted, Convert, Arguments, NoArguments, MoreArguments, Operations, NoOperations, ThenCompute, ThenTest, ThenPointer, ThenPointerPeek, type_of}
+use Rattle.cyc_types.specs.TypedTrees.{type_of_place, Side, VariableSide, CellSide, Statement, Block, Empty, Evaluate, Swap, If, While, Return, Break, Continue, Throw, Try, Items, NoItems, MoreItems, Execute, Declare, DeclareRegion, Clauses, NoClauses, Default, Case}
+use Rattle.cyc_types.specs.TypedTrees.{Program}
 use Rattle.cyc_types.specs.Weight.{expression_weight, dereference_weight, placement_weight, initial_weight, converted_weight, arguments_weight, more_arguments_weight, operations_weight, side_weight, statement_weight, items_weight, clauses_weight, function_weight, program_weight}
 use Rattle.cyc_types.specs.typing.WellTyped.{IsWellTypedProgram}
 use Rattle.cyc_types.proofs.WeightLemmas.{some_token, else_written, function_of_program}
 use Rattle.cyc_types.proofs.typing.WeightLemmas.{function_outweighs}
-use Rattle.cyc_meaning.specs.FrameCount.{result_words, operand_words, converted_words, argument_words, handle_words, expression_need, dereference_need, handle_need, initial_value_need, converted_need, arguments_need, operations_need, side_need, statement_need, items_need, clauses_need, kept_by, kept_by_items, kept_by_clauses, words_of_all}
+use Rattle.cyc_meaning.specs.FrameCount.{result_words, operand_words, converted_words, argument_words, handle_words, expression_need, dereference_need, handle_need, initial_value_need}
+use Rattle.cyc_meaning.specs.FrameCount.{converted_need, arguments_need, operations_need, side_need, statement_need, items_need, clauses_need, kept_by, kept_by_items, kept_by_clauses, words_of_all}
 use Rattle.cyc_lower.specs.inside.Emission.{HaveFewWords}
 use Rattle.cyc_lower.proofs.slots.Widths.{kind_few}
 use Rattle.cyc_lower.proofs.sizes.RangeLemmas.{converted_few}

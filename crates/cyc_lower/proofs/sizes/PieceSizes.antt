@@ -26,7 +26,9 @@ use Rattle.cyc_plain.specs.declared.limits.TheConstants.{RECORD_WORDS}
 use Rattle.cyc_lower.specs.inside.Slots.{Starts}
 use Rattle.cyc_meaning.specs.Values.{words_of_kind, begins, behind, bytes_from, words_for}
 use Rattle.cyc_lower.proofs.slots.Widths.{kind_few}
-use Rattle.cyc_lower.specs.inside.ValueCode.{passed_words, converted_by, moved_by, move_of, binary_operator, code_unless, code_unless_slot, conversion_code, divisor_code, checked_code, operator_code, truth_code, low_byte, test_code, is_in, copy_code, jump_if_zero, jump_if_nonzero, pointer_operator, index_of, first_two, pointer_instructions, address_code, element_by, count_code, tested_code, widened_code, conversion_by, tested_by, check_code, bounds_code, stepped_code, scaled_code, summed_code, bounded_code, past_bounded, thinned_code, reached_code, followed_code, followed_by, keeps_words, load_of, store_of, unary_instruction, last_byte_code, blank_code, scale_of, masks, masked_by, inside_code}
+use Rattle.cyc_lower.specs.inside.ValueCode.{passed_words, converted_by, moved_by, move_of, binary_operator, code_unless, code_unless_slot, conversion_code, divisor_code, checked_code, operator_code, truth_code, low_byte, test_code, is_in, copy_code, jump_if_zero}
+use Rattle.cyc_lower.specs.inside.ValueCode.{jump_if_nonzero, pointer_operator, index_of, first_two, pointer_instructions, address_code, element_by, count_code, tested_code, widened_code, conversion_by, tested_by, check_code, bounds_code, stepped_code, scaled_code}
+use Rattle.cyc_lower.specs.inside.ValueCode.{summed_code, bounded_code, past_bounded, thinned_code, reached_code, followed_code, followed_by, keeps_words, load_of, store_of, unary_instruction, last_byte_code, blank_code, scale_of, masks, masked_by, inside_code}
 use Rattle.cyc_lower.specs.inside.ObjectCode.{begun_code, filled_code, stores_code, cells_code, slots_of_kinds, object_code, saved_code, measured_code, sized_code}
 use Rattle.cyc_lower.specs.inside.ControlCode.{leave_code, opened_code, closed_code, named_code, handlers_code, marks_code, kept_code_in, restored_code_in}
 use Rattle.cyc_meaning.specs.Operators.{null_exception}

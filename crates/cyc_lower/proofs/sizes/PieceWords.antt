@@ -28,7 +28,9 @@ use Rattle.std.specs.Prelude.{◌==◌, if◌then◌else◌}
 use Rattle.cyc_words.proofs.Lists.{all_append}
 use Rattle.cyc_types.specs.Types.{Ty}
 use Rattle.cyc_meaning.specs.Values.{words_of_kind, bytes_of_kind, begins, behind, bytes_from, words_for, kind_of}
-use Rattle.cyc_lower.specs.inside.ValueCode.{passed_words, converted_by, moved_by, move_of, code_unless, code_unless_slot, check_code, conversion_code, divisor_code, checked_code, operator_code, truth_code, test_code, is_in, index_of, first_two, pointer_instructions, address_code, guard_code, blocks, element_by, count_code, tested_code, widened_code, conversion_by, tested_by, bounds_code, stepped_code, scaled_code, summed_code, bounded_code, thinned_code, reached_code, followed_code, followed_operand, followed_by, reached_operand, keeps_words, scale_of, load_of, store_of, unary_instruction, last_byte_code, blank_code, masked_by, low_byte, inside_code}
+use Rattle.cyc_lower.specs.inside.ValueCode.{passed_words, converted_by, moved_by, move_of, code_unless, code_unless_slot, check_code, conversion_code, divisor_code, checked_code, operator_code, truth_code, test_code, is_in, index_of, first_two}
+use Rattle.cyc_lower.specs.inside.ValueCode.{pointer_instructions, address_code, guard_code, blocks, element_by, count_code, tested_code, widened_code, conversion_by, tested_by, bounds_code, stepped_code, scaled_code, summed_code, bounded_code}
+use Rattle.cyc_lower.specs.inside.ValueCode.{thinned_code, reached_code, followed_code, followed_operand, followed_by, reached_operand, keeps_words, scale_of, load_of, store_of, unary_instruction, last_byte_code, blank_code, masked_by, low_byte, inside_code}
 use Rattle.cyc_lower.specs.inside.ObjectCode.{begun_code, filled_code, stores_code, cells_code, slots_of_kinds, object_code, saved_code, asked_code, measured_code, sized_code, most_elements}
 use Rattle.cyc_lower.proofs.slots.Widths.{kind_few}
 use Rattle.cyc_lower.proofs.slots.CellBytes.{begins_within, behind_within, bytes_within}

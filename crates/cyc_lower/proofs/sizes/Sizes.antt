@@ -11,7 +11,9 @@ use Rattle.cyc_types.specs.declared.typed.UnaryOperator.TheVariants as unary
 use Rattle.cyc_types.specs.declared.typed.Operator.{Operator}
 use Rattle.cyc_types.specs.declared.typed.LogicalOperator.{LogicalOperator}
 use Rattle.cyc_types.specs.declared.typed.LogicalOperator.TheVariants as logical
-use Rattle.cyc_types.specs.TypedTrees.{Load, Lvalue, Local, Global, Expression, Number, Call, Unary, Binary, Assign, Converted, Convert, Operations, NoOperations, ThenCompute, ThenTest, ThenPointer, ThenPointerPeek, Statement, Block, Empty, Evaluate, If, While, Return, Break, Continue, Items, NoItems, MoreItems, Execute, Declare, StructType, Function, Store, Side, VariableSide, CellSide, Swap, Throw, Try, Clauses, NoClauses, Default, Case, DeclareRegion, OpenRegion, DeclareAlias, DeclareKey}
+use Rattle.cyc_types.specs.TypedTrees.{Load, Lvalue, Local, Global, Expression, Number, Call, Unary, Binary, Assign, Converted, Convert, Operations, NoOperations, ThenCompute, ThenTest, ThenPointer, ThenPointerPeek, Statement, Block, Empty, Evaluate, If, While}
+use Rattle.cyc_types.specs.TypedTrees.{Return, Break, Continue, Items, NoItems, MoreItems, Execute, Declare, StructType, Function, Store, Side, VariableSide, CellSide, Swap, Throw, Try, Clauses, NoClauses, Default, Case, DeclareRegion, OpenRegion, DeclareAlias}
+use Rattle.cyc_types.specs.TypedTrees.{DeclareKey}
 use Rattle.cyc_types.specs.Types.{Ty, words_of}
 use Rattle.cyc_types.specs.Weight.{expression_weight, converted_weight, operations_weight, else_weight, statement_weight, items_weight, function_weight, side_weight, clauses_weight}
 use Rattle.cyc_plain.specs.declared.instruction.Comparison.{Comparison}
@@ -26,9 +28,11 @@ use Rattle.cyc_lower.proofs.slots.Widths.{kind_few, type_words}
 use Rattle.cyc_lower.specs.inside.ValueCode.{passed_words, move_of, code_unless, slot_or, code_unless_slot, conversion_code, failing_comparison, left_with, first_temporary, blocks, span_of, word_by_word, global_code, blank_code, kind_passed}
 use Rattle.cyc_lower.specs.inside.ObjectCode.{right_slot, saved_code, load_at}
 use Rattle.cyc_lower.specs.declared.operands.Condition.{Condition}
-use Rattle.cyc_lower.specs.inside.ControlCode.{compared_or, failing_jump, holding_jump, deciding_jump, are_tests, break_target, continue_target, body_target, outside_loops, inside_loop, leave_code, tag_operand, other_jump, clause_code, opened_code, closed_code, named_code, dynamic_code, kept_code, restored_code, behind_record, inside_try, inside_region, entry_code, entry_length, is_nothing, over_code, over_length, null_compared, nulled_or}
+use Rattle.cyc_lower.specs.inside.ControlCode.{compared_or, failing_jump, holding_jump, deciding_jump, are_tests, break_target, continue_target, body_target, outside_loops, inside_loop, leave_code, tag_operand, other_jump, clause_code, opened_code}
+use Rattle.cyc_lower.specs.inside.ControlCode.{closed_code, named_code, dynamic_code, kept_code, restored_code, behind_record, inside_try, inside_region, entry_code, entry_length, is_nothing, over_code, over_length, null_compared, nulled_or}
 use Rattle.cyc_lower.specs.inside.ExpressionCode.{source_of, operand_of, value_slot, value_operand, converted_operand, printed_operand, expression_code, converted_operand_code, printed_code, slot_with, brought_code, is_simple}
-use Rattle.cyc_lower.specs.inside.Lowering.{assignment_code, discarded_code, first_code, second_code, pair_code, condition_code, condition_of, others_code, tests_code, behind_tests, choice_code, choice_of, branch_code, branch_of, return_code, declaration_code, statement_code, items_code, lower_function, store_address_code, side_code, read_side, write_side, exchange_code, swap_code, caught_code, clauses_code, starts_with, raises_of, farthest, is_guard, is_light, compares_light}
+use Rattle.cyc_lower.specs.inside.Lowering.{assignment_code, discarded_code, first_code, second_code, pair_code, condition_code, condition_of, others_code, tests_code, behind_tests, choice_code, choice_of, branch_code, branch_of, return_code, declaration_code}
+use Rattle.cyc_lower.specs.inside.Lowering.{statement_code, items_code, lower_function, store_address_code, side_code, read_side, write_side, exchange_code, swap_code, caught_code, clauses_code, starts_with, raises_of, farthest, is_guard, is_light, compares_light}
 use Rattle.cyc_meaning.specs.Sizes.{size_per_weight}
 use Rattle.cyc_lower.proofs.sizes.PieceSizes.{code_size, code_size-append, cons, taken_size, unless_size, unless_slot_size, conversion_size, move_size, brought_by_size, load_of_size, stores_size, saved_size, blank_size, closed_size, opened_size, leave_size, kept_size, restored_size}
 use Rattle.cyc_lower.proofs.sizes.ExpressionSizes.{loads_size, saves_size, global_size, expression_size, store_address_size, initial_size, converted_operand_size, printed_size, light_size}

@@ -9,7 +9,8 @@ use Rattle.cyc_types.specs.declared.typed.Kind.{Kind}
 use Rattle.cyc_types.specs.declared.typed.Kind.TheVariants as kinds
 use Rattle.cyc_types.specs.declared.typed.UnaryOperator.TheVariants as unary
 use Rattle.cyc_types.specs.Types.{Ty, ValueType, words_of}
-use Rattle.cyc_types.specs.TypedTrees.{type_of_place, Dereference, Initial, Lvalue, Local, Global, Expression, Number, Copy, Call, Unary, Binary, Assign, Convert, Arguments, NoArguments, MoreArguments, Operations, NoOperations, ThenCompute, ThenTest, ThenPointer, Function, Program, ThenPointerPeek, peeked}
+use Rattle.cyc_types.specs.TypedTrees.{type_of_place, Dereference, Initial, Lvalue, Local, Global, Expression, Number, Copy, Call, Unary, Binary, Assign, Convert, Arguments}
+use Rattle.cyc_types.specs.TypedTrees.{NoArguments, MoreArguments, Operations, NoOperations, ThenCompute, ThenTest, ThenPointer, Function, Program, ThenPointerPeek, peeked}
 use Rattle.cyc_types.specs.TypedTrees as typed
 use Rattle.cyc_plain.specs.declared.instruction.Operand.{Operand}
 use Rattle.cyc_plain.specs.declared.instruction.Operand.TheVariants as operands
@@ -23,7 +24,8 @@ use Rattle.cyc_plain.proofs.SlotLaws.{put-same}
 use Rattle.cyc_meaning.specs.Values.{Int, Null, Thin, Handle, Operand as Kinded, kind_of, words_of_kind}
 use Rattle.cyc_store.specs.declared.range.TheConstants.{HEAP, UNIQUE}
 use Rattle.cyc_meaning.specs.SourceMachine.{status_in}
-use Rattle.cyc_meaning.specs.State.{status_of, InRegion, World, heap_number, Environment, ConvertTo, Operate, Chain, Store, Pass, PlaceBy, MakePlain, MakeFields, MakeArray, LoadFrom, Entry, Needs, NeedsPlace, Focus, Evaluating, Locating, Given, Running, TakeAddress, StoreTo, Owner, Unique, FreeObject, CloseByKey, CountElements}
+use Rattle.cyc_meaning.specs.State.{status_of, InRegion, World, heap_number, Environment, ConvertTo, Operate, Chain, Store, Pass, PlaceBy, MakePlain, MakeFields, MakeArray, LoadFrom}
+use Rattle.cyc_meaning.specs.State.{Entry, Needs, NeedsPlace, Focus, Evaluating, Locating, Given, Running, TakeAddress, StoreTo, Owner, Unique, FreeObject, CloseByKey, CountElements}
 use Rattle.cyc_lower.proofs.relation.contents.Counters.{counters_hold, counters_low}
 use Rattle.cyc_meaning.specs.Step.{counts, target_by, object_of, assigned, passes, step, loaded_from, addressed}
 use Rattle.cyc_meaning.specs.Allocation.{makes}
@@ -41,7 +43,8 @@ use Rattle.cyc_lower.proofs.relation.code.Stands.{CopyBy, CopyAt, OperandBy, Ini
 use Rattle.cyc_objects.specs.inside.Tables.{Tables}
 use Rattle.cyc_objects.specs.inside.Words.{Is, Points}
 use Rattle.cyc_lower.proofs.relation.contents.HeldValues.{counters_of, Holds, held, contents, IsHandleOf, IsLow, callers}
-use Rattle.cyc_lower.proofs.relation.simulation.Relation.{types_on, starts_on, types_at, starts_at, given_at, called_at, in_temporary, in_local, drops, leaves, copies, prints_only, gives_byte, DataIn, SharedAt, CallAt, to_slot, ValueStack, DroppedStack, LandsStack, LandsMade, HandsOnStack, PrintsStack, EvaluatingAt, as_operand, into_slot, in_operand, Related, Matches, code_of, bounds_at, top, floor}
+use Rattle.cyc_lower.proofs.relation.simulation.Relation.{types_on, starts_on, types_at, starts_at, given_at, called_at, in_temporary, in_local, drops, leaves, copies, prints_only, gives_byte, DataIn, SharedAt, CallAt, to_slot}
+use Rattle.cyc_lower.proofs.relation.simulation.Relation.{ValueStack, DroppedStack, LandsStack, LandsMade, HandsOnStack, PrintsStack, EvaluatingAt, as_operand, into_slot, in_operand, Related, Matches, code_of, bounds_at, top, floor}
 use Rattle.cyc_lower.proofs.object_steps.Handles.{kept_holds}
 use Rattle.cyc_lower.proofs.relation.contents.Data.{height-least}
 use Rattle.cyc_lower.proofs.relation.contents.HandlerData.{floor-least}

@@ -22,7 +22,9 @@ use Rattle.cyc_meaning.specs.Operators.{null_exception, unary_kind}
 use Rattle.cyc_meaning.specs.Pointers.{followed}
 use Rattle.cyc_meaning.specs.Places.{arrives, member_of}
 use Rattle.cyc_meaning.specs.Allocation.{makes_by}
-use Rattle.cyc_meaning.specs.State.{Region, World, Environment, with_local, made, variable, region_at, ConvertTo, Operate, Chain, Apply, ApplyPointer, Follow, Decide, Store, Pass, MakePlain, MakeFields, MakeArray, FillElement, Initialise, Choose, Test, Return, Entry, Needs, Discard, Rest, Evaluating, Given, GivenPlace, Proceeding, Calling, Returning, Throwing, Running, FollowMember, StoreCell, FreeObject, ThrowWith, CountElements, Index, Advance, InRegion, PlaceBy, BesideHandle, CloseByKey, OpenBy, AliasOf, status_of}
+use Rattle.cyc_meaning.specs.State.{Region, World, Environment, with_local, made, variable, region_at, ConvertTo, Operate, Chain, Apply, ApplyPointer, Follow, Decide, Store, Pass, MakePlain, MakeFields}
+use Rattle.cyc_meaning.specs.State.{MakeArray, FillElement, Initialise, Choose, Test, Return, Entry, Needs, Discard, Rest, Evaluating, Given, GivenPlace, Proceeding, Calling, Returning, Throwing}
+use Rattle.cyc_meaning.specs.State.{Running, FollowMember, StoreCell, FreeObject, ThrowWith, CountElements, Index, Advance, InRegion, PlaceBy, BesideHandle, CloseByKey, OpenBy, AliasOf, status_of}
 use Rattle.cyc_meaning.specs.Step.{leads_to, wrong, stored_at, declared, passes, chosen, looped, step}
 use Rattle.cyc_meaning.specs.SourceMachine.{status_in}
 use Rattle.cyc_lower.specs.declared.statements.Exits.{Exits}
@@ -41,7 +43,8 @@ use Rattle.cyc_objects.proofs.Pointers.{pointer-word}
 use Rattle.cyc_objects.proofs.Values.{Grows-row, Is-grows}
 use Rattle.cyc_lower.proofs.relation.contents.Sharing.{shared_declared, row_declared}
 use Rattle.cyc_lower.proofs.relation.contents.HeldValues.{IsIn, with_kind, Holds, kept, callers, row_of, IsLow}
-use Rattle.cyc_lower.proofs.relation.simulation.Relation.{types_on, starts_on, types_at, starts_at, DataIn, SharedAt, ValueStack, DroppedStack, AheadStack, HandsOnStack, ReadyAt, as_right, in_operand, nowhere, ahead, decided, with_left, behind_statement, Matches, code_of, bounds_at, top, floor, PlaceStack, call_slots, BesideAt, PartsAt, in_parts, StatementStack}
+use Rattle.cyc_lower.proofs.relation.simulation.Relation.{types_on, starts_on, types_at, starts_at, DataIn, SharedAt, ValueStack, DroppedStack, AheadStack, HandsOnStack, ReadyAt, as_right, in_operand, nowhere}
+use Rattle.cyc_lower.proofs.relation.simulation.Relation.{ahead, decided, with_left, behind_statement, Matches, code_of, bounds_at, top, floor, PlaceStack, call_slots, BesideAt, PartsAt, in_parts, StatementStack}
 use Rattle.cyc_lower.proofs.object_steps.Handles.{kept_holds}
 use Rattle.cyc_lower.proofs.relation.contents.Data.{in_words, data_declared, null_is, points_in}
 use Rattle.cyc_lower.proofs.relation.contents.HandlerData.{handlers_beside}

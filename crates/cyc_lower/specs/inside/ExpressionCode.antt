@@ -3,7 +3,8 @@ use Rattle.std.specs.Prelude.{ℕ, suc, ◌+◌, Bool, true, false, ◌&&◌, is
 use Rattle.cyc_types.specs.declared.typed.Callee.TheVariants as callees
 use Rattle.cyc_types.specs.declared.typed.UnaryOperator.TheVariants as unary
 use Rattle.cyc_types.specs.Types.{words_of}
-use Rattle.cyc_types.specs.TypedTrees.{Array, Counter, Load, New, OnHeap, Initial, Plain, Fields, Dereference, Target, Lvalue, Local, Global, Expression, Number, NullPointer, Copy, Call, Unary, Binary, Assign, Converted, Convert, Arguments, NoArguments, MoreArguments, Operations, NoOperations, ThenCompute, ThenTest, ThenPointer, ThenPointerPeek, Move, Peek, AddressOfCell, Store, Member, Element, AsUnique, FreeUnique, NumberOfElements, type_of_place, HeapRegion, AddressOf, FreeKey, ByHandle}
+use Rattle.cyc_types.specs.TypedTrees.{Array, Counter, Load, New, OnHeap, Initial, Plain, Fields, Dereference, Target, Lvalue, Local, Global, Expression, Number, NullPointer, Copy, Call, Unary, Binary, Assign, Converted, Convert, Arguments, NoArguments, MoreArguments}
+use Rattle.cyc_types.specs.TypedTrees.{Operations, NoOperations, ThenCompute, ThenTest, ThenPointer, ThenPointerPeek, Move, Peek, AddressOfCell, Store, Member, Element, AsUnique, FreeUnique, NumberOfElements, type_of_place, HeapRegion, AddressOf, FreeKey, ByHandle}
 use Rattle.cyc_plain.specs.declared.instruction.Operand.{Operand}
 use Rattle.cyc_plain.specs.declared.instruction.Operand.TheVariants as operands
 use Rattle.cyc_plain.specs.declared.instruction.Instruction.{Instruction}
@@ -11,7 +12,9 @@ use Rattle.cyc_plain.specs.declared.instruction.Instruction.TheVariants as instr
 use Rattle.cyc_store.specs.declared.range.TheConstants.{HEAP, UNIQUE}
 use Rattle.cyc_meaning.specs.Values.{is_thin, kind_of}
 use Rattle.cyc_lower.specs.inside.Slots.{Starts, slot_of, with_counter, counter_of, field_of, global_of}
-use Rattle.cyc_lower.specs.inside.ValueCode.{unary_instruction, behind_left, operand_or, code_unless, slot_or, code_unless_slot, left_with, next_slot, move_of, reached_operand, followed_operand, span_in, conversion_code, span_of, count_code, low_byte, compute_code, pointer_code, test_code, copy_code, addressed_by, word_by_word, load_word, global_code, loaded_code, kind_behind, address_of_code, keeps_words, converts_there, passed_words, all_passed, kind_passed, kinds_passed, brought_by, converted_by, moved_by, followed_by, element_by, tested_by}
+use Rattle.cyc_lower.specs.inside.ValueCode.{unary_instruction, behind_left, operand_or, code_unless, slot_or, code_unless_slot, left_with, next_slot, move_of, reached_operand, followed_operand, span_in, conversion_code}
+use Rattle.cyc_lower.specs.inside.ValueCode.{span_of, count_code, low_byte, compute_code, pointer_code, test_code, copy_code, addressed_by, word_by_word, load_word, global_code, loaded_code, kind_behind, address_of_code}
+use Rattle.cyc_lower.specs.inside.ValueCode.{keeps_words, converts_there, passed_words, all_passed, kind_passed, kinds_passed, brought_by, converted_by, moved_by, followed_by, element_by, tested_by}
 use Rattle.cyc_lower.specs.inside.ObjectCode.{stored_by, object_code, array_code, free_code}
 use Rattle.cyc_lower.specs.inside.ControlCode.{closing_code, counter_operand}
 

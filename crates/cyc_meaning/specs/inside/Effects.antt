@@ -4,7 +4,8 @@ use Rattle.std.specs.Prelude.{◌≡◌, ℕ, suc, ◌+◌, ◌%◌, Bool, true,
 use Rattle.cyc_types.specs.declared.typed.Kind.{Kind}
 use Rattle.cyc_types.specs.declared.typed.Callee.TheVariants as callees
 use Rattle.cyc_meaning.specs.Values.{Value, Int, Cell, kinds_of, block_size}
-use Rattle.cyc_meaning.specs.State.{Sort, Region, Owner, InRegion, Unique, Object, World, Found, region_at, Located, cell_at, new_region, opened_as, closed, variable, made, written, State, Running, Ended, Dead, Wrong, Entry, Caller, Main, Focus, Calling, Proceeding, Returning, Throwing, has_pages, counted, calls_in}
+use Rattle.cyc_meaning.specs.State.{Sort, Region, Owner, InRegion, Unique, Object, World, Found, region_at, Located, cell_at, new_region, opened_as, closed, variable, made}
+use Rattle.cyc_meaning.specs.State.{written, State, Running, Ended, Dead, Wrong, Entry, Caller, Main, Focus, Calling, Proceeding, Returning, Throwing, has_pages, counted, calls_in}
 use Rattle.cyc_words.specs.Demand.{total, region_pages, demand_of}
 use Rattle.cyc_meaning.specs.Objects.{made_in, made_unique, freed}
 use Rattle.cyc_meaning.specs.Step.{values_of}

@@ -4,7 +4,8 @@ use Rattle.std.specs.Prelude.{◌≡◌, ℕ, ◌<◌, ◌==◌, Bool, true, fal
 use Rattle.std.specs.List.{list_any}
 use Rattle.cyc_types.specs.declared.typed.PointerOperator.TheVariants as pointers
 use Rattle.cyc_types.specs.TypedTrees.{NoArguments, Expression, Copy, Move, Peek, New, Fields, Items, MoreItems, OpenRegion, DeclareAlias}
-use Rattle.cyc_meaning.specs.State.{Sort, Lexical, Dynamic, Region, World, Access, Found, Closed, Missing, found_region, globals_number, Environment, Awaiting, ApplyPointer, Store, StoreCell, FreeObject, CloseByKey, PlaceBy, MakePlain, MakeFields, FillElement, OpenBy, LoadFrom, Entry, Needs, NeedsPlace, Rest, CloseRegion, CloseLexical, Handler, Caller, Focus, Evaluating, Given, GivenPlace, Proceeding, Writing, Beginning, Swapping, State, Running, Ended, Dead, Wrong}
+use Rattle.cyc_meaning.specs.State.{Sort, Lexical, Dynamic, Region, World, Access, Found, Closed, Missing, found_region, globals_number, Environment, Awaiting, ApplyPointer, Store, StoreCell, FreeObject, CloseByKey, PlaceBy, MakePlain, MakeFields}
+use Rattle.cyc_meaning.specs.State.{FillElement, OpenBy, LoadFrom, Entry, Needs, NeedsPlace, Rest, CloseRegion, CloseLexical, Handler, Caller, Focus, Evaluating, Given, GivenPlace, Proceeding, Writing, Beginning, Swapping, State, Running, Ended, Dead, Wrong}
 
 -- the regions that will end, innermost first, and that of the globals, which never does
 abbrev pub ends_of : List Entry → List ℕ

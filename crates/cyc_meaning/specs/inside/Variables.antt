@@ -3,7 +3,8 @@
 -- (This project's own choice.)
 use Rattle.std.specs.Prelude.{◌≡◌, ◌⊎◌, ℕ, suc, ◌+◌, ◌<◌, ◌≤◌, Bool, true, false, List, [], ◌∷◌, length, Option, Some, None, slice_get}
 use Rattle.cyc_types.specs.TypedTrees.{Statement, Block, If, While, Try, Items, NoItems, MoreItems, Execute, Declare, DeclareRegion, OpenRegion, DeclareAlias, DeclareKey, Clauses, NoClauses, Default, Case, Function, Program}
-use Rattle.cyc_meaning.specs.State.{Sort, Globals, Stack, Region, Owner, InRegion, Unique, Object, Closed, found_region, globals_number, Initialise, Choose, Test, OpenBy, AliasOf, Entry, Needs, Rest, Loop, CloseRegion, CloseLexical, EndLoan, Handler, Caller, Focus, Executing, Entering, Binding, Naming, Catching, Given, Proceeding, State, Running, Ended, Dead, Wrong}
+use Rattle.cyc_meaning.specs.State.{Sort, Globals, Stack, Region, Owner, InRegion, Unique, Object, Closed, found_region, globals_number, Initialise, Choose, Test, OpenBy, AliasOf, Entry, Needs, Rest}
+use Rattle.cyc_meaning.specs.State.{Loop, CloseRegion, CloseLexical, EndLoan, Handler, Caller, Focus, Executing, Entering, Binding, Naming, Catching, Given, Proceeding, State, Running, Ended, Dead, Wrong}
 
 -- ---- numbers in the text
 

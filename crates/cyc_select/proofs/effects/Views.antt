@@ -14,7 +14,7 @@ use Rattle.cyc_isa.specs.Effect.{immediate_result, load_upper_result, arithmetic
 use Rattle.cyc_store.specs.State.{StoreState, saved}
 use Rattle.cyc_store.specs.Services.{Answer, Refused, Done, Opened, OpenedLexical, Allocated}
 use Rattle.cyc_machine.specs.State as machines
-use Rattle.cyc_machine.specs.State.{Core, Place, InText, InGlobals, InStack, InStore, Nowhere, register, with_register, place_of, loaded, stored, data_base, stack_base, word_number}
+use Rattle.cyc_machine.specs.State.{Core, Place, InText, InGlobals, InStack, InStore, Nowhere, register, with_register, place_of, stored}
 use Rattle.cyc_machine.specs.Step.{after}
 use Rattle.cyc_machine.proofs.MemoryLaws.{length-globals-stored, length-stack-stored}
 use Rattle.cyc_plain.specs.inside.State.{Words, put}

@@ -27,10 +27,16 @@ use Rattle.cyc_select.specs.declared.plan.Test.{Test}
 use Rattle.cyc_select.specs.inside.Plans.{unary_plan, binary_plan, test_of}
 use Rattle.cyc_select.specs.inside.Labelled.{Labelled, words_of, all_words}
 use Rattle.cyc_select.specs.inside.Selected.{words_at}
-use Rattle.cyc_select.specs.inside.Selection.{arrivals, coming, product_code, quotient_code, operand_count, operand_register, slot_offset, recorded_code, caught_code, reload_count, value_register, move_to, keep_code, give_code, moved_code, reloads, opened_code, made_in, ordinary, argument_code, service_number, answer_code, unwound_code, address_code, at_address, copies, bring_all, word_code, load_code, load_count, operand_code, plan_code, test_code, condition_of, hoisted, with_hoisted, behind_hoisted, branch_code, divided_code, divide_code, is_tested, part_of, result_registers, ending_code, operator_code, body, behind, place_lines, is_idle, count_of, function_count, function_line, instruction_line, code_lines, function_lines, small, syscall, store, add_immediate, push_frame, load, regions_code, load_at, store_at, spills, spills_count, calling_code, global_code, saves_from, way_code, saving_code, restoring_code, way_count, saving_count, returning_code, routine_lines}
+use Rattle.cyc_select.specs.inside.Selection.{arrivals, coming, product_code, quotient_code, operand_count, operand_register, slot_offset, recorded_code, caught_code, reload_count, value_register, move_to, keep_code, give_code}
+use Rattle.cyc_select.specs.inside.Selection.{moved_code, reloads, opened_code, made_in, ordinary, argument_code, service_number, answer_code, unwound_code, address_code, at_address, copies, bring_all, word_code, load_code, load_count}
+use Rattle.cyc_select.specs.inside.Selection.{operand_code, plan_code, test_code, condition_of, hoisted, with_hoisted, behind_hoisted, branch_code, divided_code, divide_code, is_tested, part_of, result_registers, ending_code}
+use Rattle.cyc_select.specs.inside.Selection.{operator_code, body, behind, place_lines, is_idle, count_of, function_count, function_line, instruction_line, code_lines, function_lines, small, syscall, store, add_immediate, push_frame}
+use Rattle.cyc_select.specs.inside.Selection.{load, regions_code, load_at, store_at, spills, spills_count, calling_code, global_code, saves_from, way_code, saving_code, restoring_code, way_count, saving_count, returning_code, routine_lines}
 use Rattle.cyc_isa.specs.Decoding.{register_of}
 use Rattle.cyc_isa.specs.declared.instr.BranchOp.TheVariants as branch
-use Rattle.cyc_select.proofs.emission.Counts.{length_keep, length_give, length_move, length_moved, length_spills, spills_few, length_copies, copies_few, move_words_small, keep_few, give_small, move_small, argument_small, regions_small, gives_small, length_argument, length_answer, length_regions, length_results, length_registers, word_small, load_small, operand_small, address_small, plan_small, unary_small, test_small, length_word, length_load, length_operand, length_address, length_plan, length_test, length_divided, reach_few, length_global, length_hoisted, hoisted_few}
+use Rattle.cyc_select.proofs.emission.Counts.{length_keep, length_give, length_move, length_moved, length_spills, spills_few, length_copies, copies_few, move_words_small, keep_few, give_small, move_small, argument_small}
+use Rattle.cyc_select.proofs.emission.Counts.{regions_small, gives_small, length_argument, length_answer, length_regions, length_results, length_registers, word_small, load_small, operand_small, address_small, plan_small}
+use Rattle.cyc_select.proofs.emission.Counts.{unary_small, test_small, length_word, length_load, length_operand, length_address, length_plan, length_test, length_divided, reach_few, length_global, length_hoisted, hoisted_few}
 use Rattle.cyc_select.proofs.steps.Preserving.{length_saves}
 use Rattle.cyc_select.proofs.steps.Returns.{loaded, length_loaded}
 use Rattle.cyc_select.proofs.emission.Numbering.{ReadsFew, losing, losing_next, returning, returning_next, IsSaving, AreSaved, saved_first, saved_next}

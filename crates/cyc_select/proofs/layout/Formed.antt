@@ -53,7 +53,13 @@ use Rattle.cyc_select.specs.declared.plan.Test.TheVariants as tests
 use Rattle.cyc_select.specs.inside.Plans.{unary_plan, binary_plan, test_of}
 use Rattle.cyc_select.specs.inside.Labelled.{Labelled, IsFormed, IsFormedLine}
 use Rattle.cyc_select.specs.inside.Numbers.{fits_signed, is_zero_word}
-use Rattle.cyc_select.specs.inside.Selection.{coming, arriving, arrivals, saves_from, restores_from, saves, restores, way_code, way_count, value_register, product_code, quotient_code, passed_from, spill_from, pass_from, pass, is_kept, load_from, fetch_from, move_to, keep_code, give_to, give_code, bring_code, bring_all, load_words, reloads_from, reloads, opened_code, made_in, slot_offset, ordinary, result_registers, argument_code, service_number, answer_code, unwound_code, far_plan, address_code, near_half, at_address, copies, load_all, store_all, moves, all_moved, store_slot, pop_frame, load_upper, constant, or_immediate, is_tested, part_of, plan_count, small, syscall, add_immediate, minus, upper_of_global, word_code, load_code, load_count, operand_code, operand_register, operands_code, operation_code, outcome_code, operation_of, computed_code, plan_code, test_code, condition_of, hoisted, branch_code, behind_count, divided_code, divide_code, divide_count, ending_code, ending_count, operator_code, operator_count, body, behind, place_lines, is_idle, body_count, count_of, code_count, function_count, functions_count, function_line, instruction_line, code_lines, function_lines, start_lines, select_of, regions_code, load_at, store_at, spill, spills, spills_count, calling_code, operand_count, global_code, is_near, global_address, load, store, saving_code, restoring_code, saving_count, returning_code, routine_lines, is_own}
+use Rattle.cyc_select.specs.inside.Selection.{coming, arriving, arrivals, saves_from, restores_from, saves, restores, way_code, way_count, value_register, product_code, quotient_code, passed_from, spill_from, pass_from, pass, is_kept, load_from}
+use Rattle.cyc_select.specs.inside.Selection.{fetch_from, move_to, keep_code, give_to, give_code, bring_code, bring_all, load_words, reloads_from, reloads, opened_code, made_in, slot_offset, ordinary, result_registers, argument_code, service_number}
+use Rattle.cyc_select.specs.inside.Selection.{answer_code, unwound_code, far_plan, address_code, near_half, at_address, copies, load_all, store_all, moves, all_moved, store_slot, pop_frame, load_upper, constant, or_immediate, is_tested, part_of}
+use Rattle.cyc_select.specs.inside.Selection.{plan_count, small, syscall, add_immediate, minus, upper_of_global, word_code, load_code, load_count, operand_code, operand_register, operands_code, operation_code, outcome_code, operation_of}
+use Rattle.cyc_select.specs.inside.Selection.{computed_code, plan_code, test_code, condition_of, hoisted, branch_code, behind_count, divided_code, divide_code, divide_count, ending_code, ending_count, operator_code, operator_count, body, behind}
+use Rattle.cyc_select.specs.inside.Selection.{place_lines, is_idle, body_count, count_of, code_count, function_count, functions_count, function_line, instruction_line, code_lines, function_lines, start_lines, select_of, regions_code, load_at}
+use Rattle.cyc_select.specs.inside.Selection.{store_at, spill, spills, spills_count, calling_code, operand_count, global_code, is_near, global_address, load, store, saving_code, restoring_code, saving_count, returning_code, routine_lines, is_own}
 use Rattle.cyc_select.proofs.relation.Arriving.{length_arriving}
 use Rattle.cyc_select.proofs.layout.Lines.{line_first, line_next}
 use Rattle.cyc_select.proofs.values.Plans.{AllOfTest, all_unary, all_binary, all_test}

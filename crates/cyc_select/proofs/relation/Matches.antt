@@ -15,7 +15,7 @@ use Rattle.cyc_plain.specs.declared.instruction.Instruction.{Instruction}
 use Rattle.cyc_plain.specs.declared.instruction.Instruction.TheVariants as plain
 use Rattle.cyc_plain.specs.inside.Program.{Program, routine_at}
 use Rattle.cyc_plain.specs.inside.State as states
-use Rattle.cyc_plain.specs.inside.State.{Words, AreWords, put, copied, Configuration}
+use Rattle.cyc_plain.specs.inside.State.{Words, put, copied, Configuration}
 use Rattle.cyc_plain.specs.inside.Step.{Choice, IsAllowed, instruction_at, performed, executed, gives, step, is_within, limit_of, limit_at, limited, Step}
 use Rattle.cyc_plain.specs.inside.WellFormed.{IsWellFormed}
 use Rattle.cyc_plain.proofs.RunLaws.{limited-within, limit_free, zeros, calls_nothing, zeros_at}

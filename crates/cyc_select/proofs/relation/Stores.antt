@@ -9,7 +9,8 @@ use Rattle.cyc_words.proofs.Booleans.{and_right, and_left}
 use Rattle.cyc_words.proofs.Numbers.{when_equal}
 use Rattle.cyc_words.proofs.Lists.{all_append}
 use Rattle.cyc_words.proofs.Options.{same_from_some}
-use Rattle.cyc_store.specs.State.{lookup, changed, without, Block, address_of, Sort, Lexical, Dynamic, Home, handle_of, empty_home, down_to, StoreState, homes, covers, Holder, holder_in, or_else, holder, word_in, word_at, saved, sizes_of, sizes_in, demand, is_lexical, lexical_count, with_block, made_in, made_unique, IsNew}
+use Rattle.cyc_store.specs.State.{lookup, changed, without, Block, address_of, Sort, Lexical, Dynamic, Home, handle_of, empty_home, down_to, StoreState, homes, covers, Holder}
+use Rattle.cyc_store.specs.State.{holder_in, or_else, holder, word_in, word_at, saved, sizes_of, sizes_in, demand, is_lexical, lexical_count, with_block, made_in, made_unique, IsNew}
 use Rattle.cyc_store.specs.State as stores
 use Rattle.cyc_store.specs.Services as services
 use Rattle.cyc_store.specs.Services.{Call, OpenLexical, CloseTo, OpenDynamic, CloseDynamic, Allocate, Free, Refusal, BadMark, BadHandle, is_dynamic, names_dynamic, refusal, served, answer, made, block_of, IsPlaced, MayChoose, ServesBy}

@@ -40,7 +40,8 @@ use Rattle.cyc_select.specs.inside.Machine.{State, Running, Ended, IsReturnPoint
 use Rattle.cyc_select.specs.declared.constants.TheConstants.{HANDLERS}
 use Rattle.cyc_select.specs.declared.code.Line.{Line}
 use Rattle.cyc_select.specs.declared.code.Line.TheVariants as lines
-use Rattle.cyc_select.specs.inside.Selection.{coming, reload_count, recorded_code, caught_code, opened_code, body, behind, place_lines, is_idle, body_count, behind_count, place_count, ordinary, spills, spills_count, copies_count, calling_code, function_line, divide_code, divide_count, plan_code, plan_count, is_tested, part_of, count_of, operator_count, instruction_line, saving_code, saving_count}
+use Rattle.cyc_select.specs.inside.Selection.{coming, reload_count, recorded_code, caught_code, opened_code, body, behind, place_lines, is_idle, body_count, behind_count, place_count, ordinary, spills, spills_count, copies_count}
+use Rattle.cyc_select.specs.inside.Selection.{calling_code, function_line, divide_code, divide_count, plan_code, plan_count, is_tested, part_of, count_of, operator_count, instruction_line, saving_code, saving_count}
 use Rattle.cyc_select.proofs.emission.Counts.{length_spills}
 use Rattle.cyc_select.proofs.layout.Lines.{line_next, line_first}
 use Rattle.cyc_select.specs.inside.Numbers.{is_plain_divisor}

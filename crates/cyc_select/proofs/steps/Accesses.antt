@@ -33,7 +33,8 @@ use Rattle.cyc_select.specs.inside.Labelled.{Labelled, IsFormed}
 use Rattle.cyc_select.specs.inside.Machine as labelled
 use Rattle.cyc_select.specs.inside.Machine.{State, Running}
 use Rattle.cyc_select.specs.inside.Numbers.{fits_signed}
-use Rattle.cyc_select.specs.inside.Selection.{value_register, is_kept, made_in, keep_code, keep_count, slot_offset, load_words, store_all, result_registers, ordinary, all_moved, moves, moves_count, move_words_count, operand_code, operand_register, operation_of, far_plan, address_code, address_register, near_half, at_address, address_count, operand_count, body, body_count, instruction_line, load_at, store_at, count_of}
+use Rattle.cyc_select.specs.inside.Selection.{value_register, is_kept, made_in, keep_code, keep_count, slot_offset, load_words, store_all, result_registers, ordinary, all_moved, moves, moves_count, move_words_count, operand_code}
+use Rattle.cyc_select.specs.inside.Selection.{operand_register, operation_of, far_plan, address_code, address_register, near_half, at_address, address_count, operand_count, body, body_count, instruction_line, load_at, store_at, count_of}
 use Rattle.cyc_select.proofs.values.Blocks.{ValuesSame, all_same, lasting_same, Keeps, puts_keeps}
 use Rattle.cyc_select.proofs.relation.Cells.{IsCell}
 use Rattle.cyc_select.proofs.values.Computing.{IsHeld, operand_puts, operation_leaves, not_second, first_scratch, second_scratch, first_aside, second_aside, scratch_writable, made_scratch}

@@ -17,7 +17,7 @@ use Rattle.cyc_plain.specs.declared.instruction.Instruction.TheVariants as plain
 use Rattle.cyc_plain.specs.inside.Memory.{IsBelow}
 use Rattle.cyc_plain.specs.inside.Program.{Program, no_routine, routine_at}
 use Rattle.cyc_plain.specs.inside.State as states
-use Rattle.cyc_plain.specs.inside.State.{Words, AreWords, put, copied, Configuration}
+use Rattle.cyc_plain.specs.inside.State.{Words, put, copied, Configuration}
 use Rattle.cyc_plain.specs.inside.Step.{Choice, instruction_at, performed, executed, advanced, step, is_within, limit_of, limited, callee_of}
 use Rattle.cyc_plain.specs.inside.WellFormed.{IsWellFormed, IsCallInRange}
 use Rattle.cyc_plain.proofs.RunLaws.{zeros, limited-full, called_at}

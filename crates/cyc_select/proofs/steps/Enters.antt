@@ -14,7 +14,7 @@ use Rattle.cyc_plain.specs.declared.instruction.Instruction.TheVariants as plain
 use Rattle.cyc_plain.specs.inside.Memory.{IsBelow}
 use Rattle.cyc_plain.specs.inside.Program.{Program, routine_at}
 use Rattle.cyc_plain.specs.inside.State as states
-use Rattle.cyc_plain.specs.inside.State.{Words, AreWords, put, copied, Configuration}
+use Rattle.cyc_plain.specs.inside.State.{Words, Configuration}
 use Rattle.cyc_plain.specs.inside.Step.{Choice, instruction_at, performed, executed, IsAllowed, step, is_within, limit_of, limit_at, limited, callee_of}
 use Rattle.cyc_plain.specs.inside.WellFormed.{IsWellFormed}
 use Rattle.cyc_plain.proofs.RunLaws.{zeros, limited-full, called_at}

@@ -13,7 +13,7 @@ use Rattle.cyc_plain.specs.declared.instruction.Instruction.{Instruction}
 use Rattle.cyc_plain.specs.declared.instruction.Instruction.TheVariants as plain
 use Rattle.cyc_plain.specs.inside.Program.{Program, routine_at}
 use Rattle.cyc_plain.specs.inside.State as states
-use Rattle.cyc_plain.specs.inside.State.{Words, AreWords, put, copied, Handler, Open, Caught, Activation, Configuration}
+use Rattle.cyc_plain.specs.inside.State.{Words, AreWords, put, copied, Handler, Open, Caught, Configuration}
 use Rattle.cyc_plain.specs.inside.Step.{Choice, is_intact, opens, tries, closes, instruction_at, performed, advanced}
 use Rattle.cyc_plain.specs.inside.WellFormed.{IsTryInRange, IsWellFormed}
 use Rattle.cyc_plain.proofs.SlotLaws.{put-other, copied-below, copied-above}
@@ -27,7 +27,7 @@ use Rattle.cyc_select.specs.declared.code.Line.{Line}
 use Rattle.cyc_select.specs.declared.code.Line.TheVariants as lines
 use Rattle.cyc_select.specs.inside.Labelled.{Labelled, IsFormed, AreAddresses}
 use Rattle.cyc_select.specs.inside.Machine as labelled
-use Rattle.cyc_select.specs.inside.Machine.{State, Running, Ended, IsReturnPoint}
+use Rattle.cyc_select.specs.inside.Machine.{State, Running, IsReturnPoint}
 use Rattle.cyc_select.specs.inside.Selection.{reloads, reload_count, ordinary, load, slot_offset, store_all, recorded_code, caught_code, opened_code, body, instruction_line}
 use Rattle.cyc_select.proofs.values.Blocks.{lasting_same, safe_append}
 use Rattle.cyc_select.proofs.steps.Calls.{length_ordinary}

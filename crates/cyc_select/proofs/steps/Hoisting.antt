@@ -38,7 +38,9 @@ use Rattle.cyc_select.specs.inside.Labelled.{Labelled, is_ordinary}
 use Rattle.cyc_select.specs.inside.Machine.{Configuration, State, Running, Ended, Stopped, Step, ExecutesAt, Performs, PerformsOrdinary, settled, closed, from_world, machine_of, world_of, at, holds_of}
 use Rattle.cyc_select.specs.inside.Numbers.{fits_signed, is_zero_word}
 use Rattle.cyc_select.specs.inside.Plans.{unary_plan, binary_plan}
-use Rattle.cyc_select.specs.inside.Selection.{value_register, or_else, made_in, keep_code, small, or_immediate, load_upper, constant, copy, word_code, load_code, load_from, fetch_from, operand_code, operand_register, operation_code, outcome_code, operation_of, computed_code, plan_code, move_to, divide_code, part_of, ordinary, body, is_idle, is_tested, condition_of, word_first, slot_first, operand_first, operation_first, plan_first, copy_first, load_first, move_first, target_of, tests_register, may_write, copied_if, copied, hoisted_at, hoisted}
+use Rattle.cyc_select.specs.inside.Selection.{value_register, or_else, made_in, keep_code, small, or_immediate, load_upper, constant, copy, word_code, load_code, load_from, fetch_from, operand_code, operand_register}
+use Rattle.cyc_select.specs.inside.Selection.{operation_code, outcome_code, operation_of, computed_code, plan_code, move_to, divide_code, part_of, ordinary, body, is_idle, is_tested, condition_of, word_first}
+use Rattle.cyc_select.specs.inside.Selection.{slot_first, operand_first, operation_first, plan_first, copy_first, load_first, move_first, target_of, tests_register, may_write, copied_if, copied, hoisted_at, hoisted}
 use Rattle.cyc_select.proofs.values.Blocks.{IsScratch}
 use Rattle.cyc_select.proofs.effects.Views.{Contents, does_r, does_w, IsSafe, IsWritable, moved}
 use Rattle.cyc_select.proofs.effects.Walks.{Stands}

@@ -16,7 +16,7 @@ use Rattle.cyc_plain.specs.declared.instruction.Instruction.{Instruction}
 use Rattle.cyc_plain.specs.declared.instruction.Instruction.TheVariants as plain
 use Rattle.cyc_plain.specs.inside.Program.{Program, no_routine, routine_at}
 use Rattle.cyc_plain.specs.inside.State as states
-use Rattle.cyc_plain.specs.inside.State.{Words, AreWords, put, copied, Configuration}
+use Rattle.cyc_plain.specs.inside.State.{Words, put, copied, Configuration}
 use Rattle.cyc_plain.specs.inside.Step.{instruction_at, performed, returns, is_within, limit_of}
 use Rattle.cyc_plain.specs.inside.WellFormed.{IsWellFormed}
 use Rattle.cyc_plain.proofs.RunLaws.{zeros, zeros_at, over_within, calls_nothing, limit_free}

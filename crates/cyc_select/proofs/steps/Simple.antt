@@ -29,7 +29,7 @@ use Rattle.cyc_plain.specs.declared.instruction.Operand.TheVariants as operands
 use Rattle.cyc_plain.specs.inside.Operators.{unary_result, binary_result, compares}
 use Rattle.cyc_plain.specs.inside.Program.{Program, routine_at}
 use Rattle.cyc_plain.specs.inside.State as states
-use Rattle.cyc_plain.specs.inside.State.{Words, AreWords, put, Configuration}
+use Rattle.cyc_plain.specs.inside.State.{Words, put, Configuration}
 use Rattle.cyc_plain.specs.inside.Step.{instruction_at, operand_word, performed, gives, at}
 use Rattle.cyc_plain.specs.inside.WellFormed.{IsOperand, IsOfWord, IsWellFormed}
 use Rattle.cyc_plain.proofs.SlotLaws.{put-same, put-other}
@@ -51,7 +51,10 @@ use Rattle.cyc_select.specs.inside.Plans.{unary_plan, binary_plan, test_of}
 use Rattle.cyc_select.specs.inside.Labelled.{Labelled, IsFormed}
 use Rattle.cyc_select.specs.inside.Machine as labelled
 use Rattle.cyc_select.specs.inside.Machine.{State, Running, Ended, holds_of}
-use Rattle.cyc_select.specs.inside.Selection.{multiply_divide_of, move_from_of, product_code, quotient_code, copy, value_register, or_else, is_kept, keep_code, keep_count, give_to, give_code, give_count_to, give_count, move_to, move_count_to, move_count, divide_count, add_immediate, store_slot, slot_offset, small, ordinary, syscall, at_global, word_code, load_code, operand_code, operand_register, made_in, operands_code, operation_of, computed_code, plan_code, branch_on, condition_of, hoisted, hoisted_count, with_hoisted, behind_hoisted, branch_code, is_idle, divided_code, divide_code, word_count, load_count, operand_count, plan_count, test_count, is_tested, body, body_count, count_of, instruction_line, reach_code, reach_register, reach_half, reach_count, global_code}
+use Rattle.cyc_select.specs.inside.Selection.{multiply_divide_of, move_from_of, product_code, quotient_code, copy, value_register, or_else, is_kept, keep_code, keep_count, give_to, give_code, give_count_to, give_count, move_to}
+use Rattle.cyc_select.specs.inside.Selection.{move_count_to, move_count, divide_count, add_immediate, store_slot, slot_offset, small, ordinary, syscall, at_global, word_code, load_code, operand_code, operand_register, made_in}
+use Rattle.cyc_select.specs.inside.Selection.{operands_code, operation_of, computed_code, plan_code, branch_on, condition_of, hoisted, hoisted_count, with_hoisted, behind_hoisted, branch_code, is_idle, divided_code, divide_code}
+use Rattle.cyc_select.specs.inside.Selection.{word_count, load_count, operand_count, plan_count, test_count, is_tested, body, body_count, count_of, instruction_line, reach_code, reach_register, reach_half, reach_count, global_code}
 use Rattle.cyc_select.proofs.values.Blocks.{AreSame, all_same, lasting, lasting_same, Puts, Keeps, IsScratch, puts_keeps, keeps_append, safe_append, middle_lasts, after_both}
 use Rattle.cyc_store.specs.State.{lexical_count}
 use Rattle.cyc_select.proofs.steps.Calls.{length_ordinary}
@@ -66,7 +69,8 @@ use Rattle.cyc_select.proofs.values.Operations.{add_small}
 use Rattle.cyc_select.proofs.values.Plans.{multiply_divide_result, if_low, AllOfTest, operation_word, plan_word, unary_word, binary_word, test_taken, test_goes, all_unary, all_binary, all_test}
 use Rattle.cyc_select.proofs.relation.Values.{Caches, memory_kept, made_in_is, caches_past}
 use Rattle.cyc_select.proofs.effects.Views.{Contents, written, does_r, does_w, IsSafe, moved}
-use Rattle.cyc_select.proofs.effects.Walks.{Stands, stands_front, stands_back, stands_first, stands_behind, after_r, after_w, after_r-append, after_w-append, AreSafe, Walk, now_at, now_is, walk_end, walk_few, walk_from, walk_one, walk_block, walk_branch, walk_branch_to, at_now, walk_jump, walk_get, walk_put, walk_uncaught}
+use Rattle.cyc_select.proofs.effects.Walks.{Stands, stands_front, stands_back, stands_first, stands_behind, after_r, after_w, after_r-append, after_w-append, AreSafe, Walk, now_at}
+use Rattle.cyc_select.proofs.effects.Walks.{now_is, walk_end, walk_few, walk_from, walk_one, walk_block, walk_branch, walk_branch_to, at_now, walk_jump, walk_get, walk_put, walk_uncaught}
 use Rattle.cyc_select.proofs.relation.Standing.{Standing, based_here, lies, slot_inside, slot_cell, global_cell, standing_global, standing_registers, standing_at, stage_of}
 use Rattle.cyc_select.proofs.relation.Matches.{After, steps_to, At, Reached, reached, reached_gives, ready_by, steps_by, reached_at, within}
 use Rattle.cyc_select.proofs.steps.Hoisting.{Hoists, hoists, stands_at_head, copy_steps, pure_safe, pure_others, pure_memory, holds_beside, untested, of_value, writable, scratch}

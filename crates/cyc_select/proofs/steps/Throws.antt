@@ -17,7 +17,7 @@ use Rattle.cyc_plain.specs.declared.instruction.Instruction.TheVariants as plain
 use Rattle.cyc_plain.specs.declared.instruction.Operand.{Operand}
 use Rattle.cyc_plain.specs.inside.Program.{Program, routine_at}
 use Rattle.cyc_plain.specs.inside.State as states
-use Rattle.cyc_plain.specs.inside.State.{Words, AreWords, put, copied, Handler, Open, Caught, Activation, Configuration}
+use Rattle.cyc_plain.specs.inside.State.{Words, put, Handler, Open, Caught, Activation, Configuration}
 use Rattle.cyc_plain.specs.inside.Step.{is_intact, lands, throws, instruction_at, operand_word, performed}
 use Rattle.cyc_plain.specs.inside.WellFormed.{IsOperand, IsOfWord, IsTryInRange, IsWellFormed}
 use Rattle.cyc_plain.proofs.SlotLaws.{put-other}

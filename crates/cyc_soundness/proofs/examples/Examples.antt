@@ -9,11 +9,13 @@ use Rattle.cyc_syntax.specs.declared.tree.PointerKind.TheVariants as marks
 use Rattle.cyc_syntax.specs.declared.tree.PrefixOperator.TheVariants as prefixes
 use Rattle.cyc_syntax.specs.declared.tree.BinaryOperator.TheVariants as operators
 use Rattle.cyc_syntax.specs.Symbols.{Place}
-use Rattle.cyc_syntax.specs.Trees.{Named, BaseType, Int, Struct, Handle, Key, WrittenType, Expression, Number, Null, HeapRegion, UniqueRegion, Variable, Call, NumberOfElements, FreeUnique, FreeKey, Chained, Prefixed, New, RegionNew, Binary, Assign, Plain, Fields, Array, NoExpressions, MoreExpressions, NoPostfixes, ThenIndex, ThenField, NoOperations, ThenOperation, Block, Labelled, Evaluate, Swap, If, While, Return, Break, Try, Braces, Items, NoItems, MoreItems, Execute, Local, Region, Alias, DynamicRegion, Default, Listed, Declaration, StructType, Global, Function}
+use Rattle.cyc_syntax.specs.Trees.{Named, BaseType, Int, Struct, Handle, Key, WrittenType, Expression, Number, Null, HeapRegion, UniqueRegion, Variable, Call, NumberOfElements, FreeUnique, FreeKey, Chained, Prefixed}
+use Rattle.cyc_syntax.specs.Trees.{New, RegionNew, Binary, Assign, Plain, Fields, Array, NoExpressions, MoreExpressions, NoPostfixes, ThenIndex, ThenField, NoOperations, ThenOperation, Block, Labelled, Evaluate}
+use Rattle.cyc_syntax.specs.Trees.{Swap, If, While, Return, Break, Try, Braces, Items, NoItems, MoreItems, Execute, Local, Region, Alias, DynamicRegion, Default, Listed, Declaration, StructType, Global, Function}
 use Rattle.cyc_types.specs.TypedTrees as typed
 use Rattle.cyc_types.specs.Rules.{Checked}
 use Rattle.cyc_types.specs.typing.Programs.{rule_program, check_of, IsTypedProgram}
-use Rattle.cyc_types.specs.flow.Programs.{flow_of, IsAllowedProgram}
+use Rattle.cyc_types.specs.flow.Programs.{flow_of}
 use Rattle.cyc_types.specs.flow.Programs as flow
 use Rattle.cyc_types.proofs.RuleLaws.{answers_tree}
 use Rattle.cyc_meaning.specs.State.{Status, HasEnded, status_of}

@@ -6,13 +6,16 @@ use Rattle.std.proofs.lemmas.Bool.{not-true, and_parts, or_parts}
 use Rattle.cyc_words.proofs.Booleans.{and_false_cases}
 use Rattle.cyc_types.specs.Types.{ValueType, Void, Null, Value}
 use Rattle.cyc_types.specs.Declarations.{declared_regions, item_regions}
-use Rattle.cyc_types.specs.TypedTrees.{Local, Global, Expression, Number, NullPointer, HeapRegion, Counter, Copy, Move, Peek, Load, AddressOf, AddressOfCell, NumberOfElements, FreeUnique, FreeKey, Call, Unary, Binary, Assign, Store, New, Dereference, Target, Member, Element, Placement, OnHeap, AsUnique, ByHandle, Initial, Plain, Fields, Array, Converted, Convert, Arguments, NoArguments, MoreArguments, Operations, NoOperations, ThenCompute, ThenTest, ThenPointer, ThenPointerPeek, Lvalue, Side, VariableSide, CellSide, Statement, Block, Empty, Evaluate, Swap, If, While, Return, Break, Continue, Throw, Try, Items, NoItems, MoreItems, Execute, Declare, DeclareRegion, OpenRegion, DeclareAlias, DeclareKey, Clauses, NoClauses, Default, Case, Program}
+use Rattle.cyc_types.specs.TypedTrees.{Local, Global, Expression, Number, NullPointer, HeapRegion, Counter, Copy, Move, Peek, Load, AddressOf, AddressOfCell, NumberOfElements, FreeUnique, FreeKey, Call, Unary, Binary}
+use Rattle.cyc_types.specs.TypedTrees.{Assign, Store, New, Dereference, Target, Member, Element, Placement, OnHeap, AsUnique, ByHandle, Initial, Plain, Fields, Array, Converted, Convert, Arguments, NoArguments}
+use Rattle.cyc_types.specs.TypedTrees.{MoreArguments, Operations, NoOperations, ThenCompute, ThenTest, ThenPointer, ThenPointerPeek, Lvalue, Side, VariableSide, CellSide, Statement, Block, Empty, Evaluate, Swap, If}
+use Rattle.cyc_types.specs.TypedTrees.{While, Return, Break, Continue, Throw, Try, Items, NoItems, MoreItems, Execute, Declare, DeclareRegion, OpenRegion, DeclareAlias, DeclareKey, Clauses, NoClauses, Default, Case, Program}
 use Rattle.cyc_types.specs.Rules.{Derives}
 use Rattle.cyc_types.specs.flow.States as flow
 use Rattle.cyc_types.specs.flow.States.{Fullness, Vacant, Locked, Full, Unreached, Reached, lower, lower_each, is_reached, is_vacant, is_locked, fullness, meet, with_fullness, with_each, emptied}
 use Rattle.cyc_types.specs.flow.Touched.{touched_statement}
 use Rattle.cyc_types.specs.flow.Expressions.{is_free, stored, and_peeked, peek_of, peek_behind, rule, rule_place, rule_placement, rule_initial, rule_converted, rule_arguments, rule_operations}
-use Rattle.cyc_types.specs.flow.Statements.{Around, Known, at, at_end, in_loop, left_loop, peeked_side, rule_value, rule_thrown, rule_side, rule_swapped, rule_declared, locked_by, locks_of, caught, or_clause, rule_statement, rule_items, rule_item, rule_clauses}
+use Rattle.cyc_types.specs.flow.Statements.{Around, Known, at, in_loop, left_loop, peeked_side, rule_value, rule_thrown, rule_side, rule_declared, locks_of, caught, or_clause, rule_statement, rule_items, rule_clauses}
 use Rattle.cyc_types.specs.flow.Statements as statements
 use Rattle.cyc_guard.specs.inside.Held.{Guard, nowhere, updated}
 use Rattle.cyc_guard.proofs.Bools.{updated_true}

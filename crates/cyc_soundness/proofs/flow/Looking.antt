@@ -4,11 +4,13 @@ use Rattle.std.specs.Prelude.{get_or, nat_eq}
 use Rattle.std.specs.List.{list_any}
 use Rattle.std.proofs.lemmas.Bool.{eq-eqb, and_parts}
 use Rattle.cyc_words.proofs.Booleans.{not_or_parts}
-use Rattle.cyc_types.specs.TypedTrees.{Local, Global, Expression, Number, NullPointer, HeapRegion, Counter, Copy, Move, Peek, Load, AddressOf, AddressOfCell, NumberOfElements, FreeUnique, FreeKey, Call, Unary, Binary, Assign, Store, New, Dereference, Target, Member, Element, Placement, OnHeap, AsUnique, ByHandle, Initial, Plain, Fields, Array, Converted, Convert, Arguments, NoArguments, MoreArguments, Operations, NoOperations, ThenCompute, ThenTest, ThenPointer, ThenPointerPeek, Lvalue, Side, VariableSide, CellSide, peeked}
+use Rattle.cyc_types.specs.TypedTrees.{Local, Global, Expression, Number, NullPointer, HeapRegion, Counter, Copy, Move, Peek, Load, AddressOf, AddressOfCell, NumberOfElements, FreeUnique, FreeKey, Call}
+use Rattle.cyc_types.specs.TypedTrees.{Unary, Binary, Assign, Store, New, Dereference, Target, Member, Element, Placement, OnHeap, AsUnique, ByHandle, Initial, Plain, Fields, Array, Converted, Convert}
+use Rattle.cyc_types.specs.TypedTrees.{Arguments, NoArguments, MoreArguments, Operations, NoOperations, ThenCompute, ThenTest, ThenPointer, ThenPointerPeek, Lvalue, Side, VariableSide, CellSide, peeked}
 use Rattle.cyc_types.specs.Types.{ValueType, Void, Null, Value}
 use Rattle.cyc_types.specs.Rules.{Derives}
 use Rattle.cyc_types.specs.flow.States as flow
-use Rattle.cyc_types.specs.flow.States.{Fullness, Vacant, Full, Unreached, Reached, is_reached, meet, with_fullness, is_locked, fullness}
+use Rattle.cyc_types.specs.flow.States.{Vacant, Full, Unreached, Reached, is_reached, meet, with_fullness, is_locked, fullness}
 use Rattle.cyc_types.specs.flow.Expressions.{is_free, stored, and_peeked, peek_of, peek_behind, rule, rule_place, rule_placement, rule_initial, rule_converted, rule_arguments, rule_operations}
 use Rattle.cyc_types.specs.flow.Statements.{rule_side}
 use Rattle.cyc_soundness.specs.inside.Worlds.{IsAmong, first, later}

@@ -1,12 +1,16 @@
 -- What a `try` relies on is touched by nothing in its body: its clauses begin without what the body touches.
 use Rattle.std.proofs.Common.{◌≡◌, ℕ, zero, suc, ◌+◌, Bool, true, false, List, [], ◌∷◌, ◌++◌, Option, Some, None, refl}
 use Rattle.std.specs.Prelude.{get_or, slice_set, if◌then◌else◌}
-use Rattle.cyc_types.specs.TypedTrees.{Local, Global, Expression, Number, NullPointer, HeapRegion, Counter, Copy, Move, Peek, Load, AddressOf, AddressOfCell, NumberOfElements, FreeUnique, FreeKey, Call, Unary, Binary, Assign, Store, New, Dereference, Target, Member, Element, Placement, OnHeap, AsUnique, ByHandle, Initial, Plain, Fields, Array, Converted, Convert, Arguments, NoArguments, MoreArguments, Operations, NoOperations, ThenCompute, ThenTest, ThenPointer, ThenPointerPeek, Lvalue, Side, VariableSide, CellSide, Statement, Block, Empty, Evaluate, Swap, If, While, Return, Break, Continue, Throw, Try, Items, NoItems, MoreItems, Item, Execute, Declare, DeclareRegion, OpenRegion, DeclareAlias, DeclareKey, Clauses, NoClauses, Default, Case}
+use Rattle.cyc_types.specs.TypedTrees.{Local, Global, Expression, Number, NullPointer, HeapRegion, Counter, Copy, Move, Peek, Load, AddressOf, AddressOfCell, NumberOfElements, FreeUnique, FreeKey, Call, Unary, Binary}
+use Rattle.cyc_types.specs.TypedTrees.{Assign, Store, New, Dereference, Target, Member, Element, Placement, OnHeap, AsUnique, ByHandle, Initial, Plain, Fields, Array, Converted, Convert, Arguments, NoArguments}
+use Rattle.cyc_types.specs.TypedTrees.{MoreArguments, Operations, NoOperations, ThenCompute, ThenTest, ThenPointer, ThenPointerPeek, Lvalue, Side, VariableSide, CellSide, Statement, Block, Empty, Evaluate, Swap, If}
+use Rattle.cyc_types.specs.TypedTrees.{While, Return, Break, Continue, Throw, Try, Items, NoItems, MoreItems, Item, Execute, Declare, DeclareRegion, OpenRegion, DeclareAlias, DeclareKey, Clauses, NoClauses, Default, Case}
 use Rattle.cyc_types.specs.Types.{ValueType, Void, Null, Value}
 use Rattle.cyc_types.specs.Declarations.{declared_regions, item_regions}
 use Rattle.cyc_types.specs.flow.States as flow
 use Rattle.cyc_types.specs.flow.States.{Fullness, Vacant, Locked, Full, Unreached, Reached, is_locked, fullness, with_fullness, emptied}
-use Rattle.cyc_types.specs.flow.Touched.{and_local, and_assigned, touched, touched_place, touched_placement, touched_initial, touched_converted, touched_arguments, touched_operations, touched_side, touched_value, touched_thrown, touched_declaration, touched_statement, touched_items, touched_item, touched_clauses}
+use Rattle.cyc_types.specs.flow.Touched.{and_local, and_assigned, touched, touched_place, touched_placement, touched_initial, touched_converted, touched_arguments, touched_operations}
+use Rattle.cyc_types.specs.flow.Touched.{touched_side, touched_value, touched_thrown, touched_declaration, touched_statement, touched_items, touched_item, touched_clauses}
 use Rattle.cyc_soundness.specs.inside.Worlds.{IsAmong, first, later}
 use Rattle.cyc_soundness.specs.inside.Classes.{is_full, Relied, IsSparedBy, InExpression, InPlace, InPlacement, InInitial, InConverted, InArguments, InOperations, InValue, InThrown, InSide, InStatement, InItems, InClauses, SparesAssigned, Asked, may_end}
 use Rattle.cyc_soundness.proofs.flow.FlowLemmas.{before_last, at_last}

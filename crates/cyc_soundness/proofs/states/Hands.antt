@@ -9,11 +9,13 @@ use Rattle.cyc_words.proofs.Lists.{slice_get_last}
 use Rattle.cyc_words.proofs.Items.{slice_get-set_other, slice_get-set_same}
 use Rattle.cyc_types.specs.flow.States as flow
 use Rattle.cyc_types.specs.TypedTrees.{Program}
-use Rattle.cyc_meaning.specs.Values.{Operand, Cell}
+use Rattle.cyc_meaning.specs.Values.{Cell}
 use Rattle.cyc_meaning.specs.Values as values
 use Rattle.cyc_meaning.specs.State.{Dynamic, new_region, Region, Unique, Object, heap_number, is_open}
 use Rattle.cyc_soundness.specs.inside.Lives.{Life, OfRegion, Owned, Kept, RunTy, RunValue, Void, Null, Value, Seen, Into}
-use Rattle.cyc_soundness.specs.inside.Worlds.{Pending, Settled, Awaits, IsHiding, IsKept, IsAmong, first as newest, later as behind, ObjectType, Thing, KeyOf, PointerTo, Holder, Nobody, Hand, At, Lent, Typing, IsHeld, same_thing, thing_of, Owns, Claims, ClaimsPart, ClaimsBy, ClaimsAlone, IsLookedAt, IsSlot, IsHere, given, giving, marked, handing, AreOwned, IsUniqueObject, is_lent_by, lent_now, IsOpenIn, Stays, IsDynamic, IsOwner, IsObject, IsTyped, Grows, Standing, Here, Away, Gone, AreLent}
+use Rattle.cyc_soundness.specs.inside.Worlds.{Pending, Settled, Awaits, IsHiding, IsKept, IsAmong, first as newest, later as behind, ObjectType, Thing, KeyOf, PointerTo, Holder, Nobody, Hand, At}
+use Rattle.cyc_soundness.specs.inside.Worlds.{Lent, Typing, IsHeld, same_thing, thing_of, Owns, Claims, ClaimsPart, ClaimsBy, ClaimsAlone, IsLookedAt, IsSlot, IsHere, given, giving, marked, handing}
+use Rattle.cyc_soundness.specs.inside.Worlds.{AreOwned, IsUniqueObject, is_lent_by, lent_now, IsOpenIn, Stays, IsDynamic, IsOwner, IsObject, IsTyped, Grows, Standing, Here, Away, Gone, AreLent}
 use Rattle.cyc_soundness.specs.inside.Frames.{InScope, Variable, Names, Instance, IsOfVariable, local_type, HoldsIts, IsFullIn, AreVariables, AreSet, Holds, KnowsProgram}
 use Rattle.cyc_soundness.proofs.states.WorldLemmas.{life_grown, object_grown, globals_grown, opened_typed, typed_beside}
 

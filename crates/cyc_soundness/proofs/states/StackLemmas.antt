@@ -10,7 +10,7 @@ use Rattle.cyc_types.specs.declared.typed.PointerOperator.{PointerOperator}
 use Rattle.cyc_types.specs.declared.typed.Callee.{Callee}
 use Rattle.cyc_types.specs.declared.region.Region.{Region as Region'}
 use Rattle.cyc_types.specs.declared.region.Region.TheVariants as regions
-use Rattle.cyc_types.specs.Types.{Ty, ValueType, result_type}
+use Rattle.cyc_types.specs.Types.{Ty, ValueType}
 use Rattle.cyc_types.specs.Types as types
 use Rattle.cyc_types.specs.TypedTrees.{Operations, NoOperations, ThenCompute, ThenTest, ThenPointer, ThenPointerPeek, Arguments, Clauses, Function, Program}
 use Rattle.cyc_types.specs.typing.Tests.{is_tested, is_moved}
@@ -19,15 +19,19 @@ use Rattle.cyc_types.specs.flow.States as flow
 use Rattle.cyc_types.specs.flow.States.{Vacant, Unreached, Reached, Full, fullness, is_reached, with_fullness}
 use Rattle.cyc_meaning.specs.Values.{Operand}
 use Rattle.cyc_meaning.specs.Values as values
-use Rattle.cyc_meaning.specs.State.{Object, Owner, Pass, MakeFields, Region, Access, Found, Closed, Missing, found_region, is_open, heap_number, globals_number, World, FillElement, AwaitingPlace, SwapRight, Environment, with_local, Awaiting, ApplyPointer, StoreCell, Advance, Entry, Needs, NeedsPlace, Discard, Rest, Join, Loop, CloseRegion, CloseLexical, EndLoan, Handler, Caller, Main}
+use Rattle.cyc_meaning.specs.State.{Object, Owner, Pass, MakeFields, Region, Access, Found, Closed, Missing, found_region, is_open, heap_number, globals_number, World, FillElement, AwaitingPlace, SwapRight}
+use Rattle.cyc_meaning.specs.State.{Environment, with_local, Awaiting, ApplyPointer, StoreCell, Advance, Entry, Needs, NeedsPlace, Discard, Rest, Join, Loop, CloseRegion, CloseLexical, EndLoan, Handler, Caller, Main}
 use Rattle.cyc_meaning.specs.inside.Nesting.{ends_of, IsFound, AreOpen, IsHome, IsNested}
 use Rattle.cyc_meaning.specs.inside.Nesting as nesting
 use Rattle.cyc_soundness.specs.inside.Lives.{Life, OfRegion, Owned, Kept, heap_life, RunTy, RunValue, Void, Null, Value, Seen, Into, looked, Lives, at, value_at}
 use Rattle.cyc_soundness.specs.inside.Lives as lives
-use Rattle.cyc_soundness.specs.inside.Worlds.{OfLocal, Settled, Thing, KeyOf, ClaimsPart, IsHeld, Holder, Nobody, Hand, At, Lent, pointer_at, thing_of, Claims, ClaimsBy, IsSlot, IsHere, is_lent_by, Stays, IsOpenIn, AreOperands, ObjectType, Typing, IsTyped, IsFull, variable_type, IsEndOf, whole, behind, Outlasts, alike, heap as for_ever, globals as with_globals, stays, encloses, borrows, PointerTo, IsOpenLife, Grows, IsKnownOwner, IsHiding, Away}
-use Rattle.cyc_soundness.specs.inside.Frames.{IsAmong, first, later, Bound, InScope, Variable, Level, Home, lives_in, read, IsThere, home_of, IsHomed, IsScope, AreBelow, IsBound, AreVariables, IsLasting, AreLiveIn, home_in, LiveIn, IsInner, Within, itself, older, IsSet, AreSet, IsFullIn, Holds, IsFullAt, AreFullAt, Exits, relying, life_named, read_value, local_type, lending}
+use Rattle.cyc_soundness.specs.inside.Worlds.{OfLocal, Settled, Thing, KeyOf, ClaimsPart, IsHeld, Holder, Nobody, Hand, At, Lent, pointer_at, thing_of, Claims, ClaimsBy, IsSlot, IsHere, is_lent_by, Stays, IsOpenIn, AreOperands, ObjectType, Typing}
+use Rattle.cyc_soundness.specs.inside.Worlds.{IsTyped, IsFull, variable_type, IsEndOf, whole, behind, Outlasts, alike, heap as for_ever, globals as with_globals, stays, encloses, borrows, PointerTo, IsOpenLife, Grows, IsKnownOwner, IsHiding, Away}
+use Rattle.cyc_soundness.specs.inside.Frames.{IsAmong, first, later, Bound, InScope, Variable, Level, Home, lives_in, read, IsThere, home_of, IsHomed, IsScope, AreBelow, IsBound, AreVariables, IsLasting, AreLiveIn}
+use Rattle.cyc_soundness.specs.inside.Frames.{home_in, LiveIn, IsInner, Within, itself, older, IsSet, AreSet, IsFullIn, Holds, IsFullAt, AreFullAt, Exits, relying, life_named, read_value, local_type, lending}
 use Rattle.cyc_soundness.specs.inside.Classes.{is_full, Relied, only, and_looked, IsSparedBy, IsSpared, InOperations}
-use Rattle.cyc_soundness.specs.inside.Stacks.{IsAccepted, Part, Whole, PartOf, part, part_of_place, relied_by, relied_at, WaitsPlace, Want, Nothing, Val, PlaceOf, Go, held, Waits, place_operand, count_held, count_place, IsThrough, IsArray, IsArrayOf, AreClaimed, IsHeldPart, operands_in, Keeps, IsSpot, of_local, of_global, of_cell, IsLeftSpot, left_variable, left_cell, KeepsPlace, AreSwapped, IsStack, IsCommonLife, IsLentOut}
+use Rattle.cyc_soundness.specs.inside.Stacks.{IsAccepted, Part, Whole, PartOf, part, part_of_place, relied_by, relied_at, WaitsPlace, Want, Nothing, Val, PlaceOf, Go, held, Waits, place_operand, count_held}
+use Rattle.cyc_soundness.specs.inside.Stacks.{count_place, IsThrough, IsArray, IsArrayOf, AreClaimed, IsHeldPart, operands_in, Keeps, IsLeftSpot, left_variable, left_cell, KeepsPlace, IsStack, IsCommonLife, IsLentOut}
 use Rattle.cyc_soundness.specs.inside.Stacks as stacks
 use Rattle.cyc_soundness.proofs.flow.FlowLemmas.{other_set, other_full, full_put, reached_with}
 use Rattle.cyc_soundness.proofs.types.ValueLemmas.{ends_through}

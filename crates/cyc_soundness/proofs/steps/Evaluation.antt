@@ -16,28 +16,32 @@ use Rattle.cyc_types.specs.declared.region.Region.TheVariants as regions
 use Rattle.cyc_syntax.specs.Symbols.{Place}
 use Rattle.cyc_types.specs.Types.{Ty, ValueType, result_type, substituted_ty}
 use Rattle.cyc_types.specs.Types as types
-use Rattle.cyc_types.specs.TypedTrees.{Local, Global, Expression, Number, NullPointer, HeapRegion, Counter, Copy, Move, Peek, Load, AddressOf, AddressOfCell, NumberOfElements, FreeUnique, FreeKey, Call, Unary, Binary, Assign, New, OnHeap, AsUnique, ByHandle, type_of_place, peeked, Convert, Arguments, NoArguments, MoreArguments, Operations, NoOperations, ThenCompute, ThenTest, ThenPointer, ThenPointerPeek, GlobalVariable, Signature, Function, Program}
+use Rattle.cyc_types.specs.TypedTrees.{Local, Global, Expression, Number, NullPointer, HeapRegion, Counter, Copy, Move, Peek, Load, AddressOf, AddressOfCell, NumberOfElements, FreeUnique, FreeKey, Call, Unary, Binary, Assign, New, OnHeap, AsUnique}
+use Rattle.cyc_types.specs.TypedTrees.{ByHandle, type_of_place, peeked, Convert, Arguments, NoArguments, MoreArguments, Operations, NoOperations, ThenCompute, ThenTest, ThenPointer, ThenPointerPeek, GlobalVariable, Signature, Function, Program}
 use Rattle.cyc_types.specs.TypedTrees as typed'
 use Rattle.cyc_types.specs.Rules.{Derives}
 use Rattle.cyc_types.specs.typing.Tests.{is_moved, is_tested, is_thin_mark, is_unique, is_key}
 use Rattle.cyc_types.specs.typing.Tests as tests
 use Rattle.cyc_types.specs.typing.Expressions.{assigned_type, instantiated}
-use Rattle.cyc_types.specs.typing.WellTyped.{Context, HasLocal, AreLive, AreOutliving, IsCallee, WellTyped, IsPeek, IsPeekOf, IsLeft, ArePassed, Converts, PointerOperation, adds, subtracts, equals, differs, thin_null, thin_there, fat_null, fat_there, null_is, null_is_not, IsChain, signature_of, AreNotUnique, AreConstraints}
+use Rattle.cyc_types.specs.typing.WellTyped.{Context, HasLocal, AreLive, AreOutliving, IsCallee, WellTyped, IsPeek, IsPeekOf, IsLeft, ArePassed, Converts, PointerOperation, adds, subtracts}
+use Rattle.cyc_types.specs.typing.WellTyped.{equals, differs, thin_null, thin_there, fat_null, fat_there, null_is, null_is_not, IsChain, signature_of, AreNotUnique, AreConstraints}
 use Rattle.cyc_types.specs.flow.States as flow
-use Rattle.cyc_types.specs.flow.States.{Fullness, Vacant, Locked, Full, is_locked, meet, fullness, with_fullness, is_vacant}
+use Rattle.cyc_types.specs.flow.States.{Vacant, Full, meet, fullness, with_fullness, is_vacant}
 use Rattle.cyc_types.specs.flow.Expressions.{and_peeked, peek_of, peek_behind, rule, rule_arguments, rule_operations}
-use Rattle.cyc_meaning.specs.Values.{Operand, Cell, is_kind}
+use Rattle.cyc_meaning.specs.Values.{Operand, is_kind}
 use Rattle.cyc_meaning.specs.Values as values
 use Rattle.cyc_meaning.specs.Operators.{Gives, Raises, null_exception, array_bounds, is_zero, truth, truth_result, truth_of, decides}
 use Rattle.cyc_meaning.specs.Conversion.{conversion, thinned}
 use Rattle.cyc_meaning.specs.Pointers.{takes_kind, followed}
-use Rattle.cyc_meaning.specs.State.{InRegion, Unique, World, heap_number, cell_at, Environment, ConvertTo, Operate, Chain, Apply, ApplyPointer, Decide, Store, FreeObject, CloseByKey, Pass, CountElements, PlaceBy, LoadFrom, TakeAddress, StoreTo, Entry, Needs, NeedsPlace, Focus, Evaluating, Locating, Given, Calling, Running}
+use Rattle.cyc_meaning.specs.State.{InRegion, Unique, World, heap_number, cell_at, Environment, ConvertTo, Operate, Chain, Apply, ApplyPointer, Decide, Store, FreeObject, CloseByKey}
+use Rattle.cyc_meaning.specs.State.{Pass, CountElements, PlaceBy, LoadFrom, TakeAddress, StoreTo, Entry, Needs, NeedsPlace, Focus, Evaluating, Locating, Given, Calling, Running}
 use Rattle.cyc_meaning.specs.Parts.{target_of_value, target_by, leads_to, wrong, computed, loaded_from, stored}
 use Rattle.cyc_meaning.specs.inside.Nesting.{ends_of, AreOpen}
 use Rattle.cyc_meaning.specs.Step.{step_evaluating, addressed, counts, passes, assigned, decided, tested, awaits_right, chained, converts}
 use Rattle.cyc_soundness.specs.inside.Lives.{Life, OfRegion, Owned, Kept, heap_life, as_heap, Lives, RunTy, RunValue, Value, Into, looked, kind_at, Seen}
 use Rattle.cyc_soundness.specs.inside.Lives as lives
-use Rattle.cyc_soundness.specs.inside.Worlds.{Thing, Holder, Nobody, Hand, At, thing_of, Owns, AtStart, Claims, ClaimsPart, ClaimsBy, IsLookedAt, IsSlot, IsHere, given, marked, handing, Settled, IsOpenObject, IsPlain, HasType, Typing, IsFull, global_type, Outlasts, globals as with_globals, AgreesWith, IsResult, AreOperands, IsTyped, IsHiding, life_at, Here, Gone, Away}
+use Rattle.cyc_soundness.specs.inside.Worlds.{Thing, Holder, Nobody, Hand, At, thing_of, Owns, AtStart, Claims, ClaimsPart, ClaimsBy, IsLookedAt, IsSlot, IsHere, given, marked, handing, Settled, IsOpenObject}
+use Rattle.cyc_soundness.specs.inside.Worlds.{IsPlain, HasType, Typing, IsFull, global_type, Outlasts, globals as with_globals, AgreesWith, IsResult, AreOperands, IsTyped, IsHiding, life_at, Here, Gone, Away}
 use Rattle.cyc_soundness.specs.inside.Frames.{IsAmong, Bound, local_type, InScope, Variable, IsBound, AreVariables, LiveIn, IsSet, IsFullIn, Holds, Implies, Exits, IsContext, KnowsProgram, lives_in, read, read_value}
 use Rattle.cyc_soundness.specs.inside.Classes.{Relied, and_looked, IsSpared, InExpression, InArguments, InOperations, SparesAssigned}
 use Rattle.cyc_soundness.specs.inside.Stacks.{KeepsUnique, IsCommonLife, IsPlainValue, IsChained, Evaluates, Val, Go, turned, relied_at, IsCalled, null, IsStack, IsFocus, IsWell}
@@ -47,7 +51,8 @@ use Rattle.cyc_soundness.proofs.flow.FlowLemmas.{full_set, used_full, implies_se
 use Rattle.cyc_soundness.proofs.states.WorldLemmas.{type_grown, result_grown}
 use Rattle.cyc_soundness.proofs.states.Hands.{Changed, at_no_hand, given_now, marked_now, marked_before, marked_keeps, variables_kept, holds_kept, taken_typed, hands_globals, kept_now, gone_changed, away_not_here, marked_changed, shown_changed, variables_marked, same_grows, holds_here}
 use Rattle.cyc_soundness.proofs.types.Sharing.{keeps_by, region_common, plain_read, unique_by_type}
-use Rattle.cyc_soundness.proofs.states.StackLemmas.{emptied_other, stack_changed, comes_alone, keeps_passed, void_goes, pointer_left, bound_to, lasting_open, kept_open, object_known, among_open, among_own, place_local, among_bound, among_variable, among_live, among_level, among_set, set_stored, open_of, globals_among, settled}
+use Rattle.cyc_soundness.proofs.states.StackLemmas.{emptied_other, stack_changed, comes_alone, keeps_passed, void_goes, pointer_left, bound_to, lasting_open, kept_open, object_known, among_open}
+use Rattle.cyc_soundness.proofs.states.StackLemmas.{among_own, place_local, among_bound, among_variable, among_live, among_level, among_set, set_stored, open_of, globals_among, settled}
 use Rattle.cyc_soundness.proofs.types.ValueLemmas.{zero_is, converted_by, kind_given, lasts_itself}
 use Rattle.cyc_soundness.proofs.types.RegionLemmas.{agrees_of, there_of, cell_live, global_means, these_by, is_among, instance_is, parameters_mean, result_means}
 use Rattle.cyc_soundness.proofs.states.Cells.{lasting_common, open_object, plain_claims, pointer_plain, running, part_at, Content, content_of, reads, stored_typing, stores_marking, stores_on}

@@ -5,7 +5,7 @@ use Rattle.cyc_words.proofs.Members.{Contains-tail}
 use Rattle.cyc_types.specs.declared.typed.Kind.{Kind}
 use Rattle.cyc_types.specs.Types.{Ty, result_type}
 use Rattle.cyc_types.specs.Types as types
-use Rattle.cyc_types.specs.TypedTrees.{Expression, Convert, Side, VariableSide, CellSide, Statement, Block, Empty, Evaluate, Swap, If, While, Break, Continue, Throw, Try, Items, NoItems, MoreItems, Execute, Declare, DeclareRegion, OpenRegion, DeclareAlias, DeclareKey, Program}
+use Rattle.cyc_types.specs.TypedTrees.{Expression, Convert, Statement, Block, Empty, Evaluate, Swap, If, While, Break, Continue, Throw, Try, Items, NoItems, MoreItems, Execute, Declare, DeclareRegion, OpenRegion, DeclareAlias, DeclareKey, Program}
 use Rattle.cyc_types.specs.TypedTrees as typed
 use Rattle.cyc_types.specs.Rules.{AllKept, Derives}
 use Rattle.cyc_types.specs.Declarations.{declared_types, declared_regions}
@@ -22,7 +22,8 @@ use Rattle.cyc_types.specs.flow.Expressions.{and_peeked}
 use Rattle.cyc_types.specs.flow.Statements.{peeked_side, side_demanded, Known, locks_of, caught, rule_statement, rule_items}
 use Rattle.cyc_types.specs.flow.Statements as statements
 use Rattle.cyc_meaning.specs.Values as values
-use Rattle.cyc_meaning.specs.State.{Stack, Lexical, new_region, opened_as, CloseLexical, Naming, World, opened, Environment, ConvertTo, Initialise, Choose, Test, ThrowWith, OpenBy, AliasOf, Entry, Needs, Discard, Rest, Handler, Focus, Evaluating, Executing, Proceeding, Breaking, Continuing, Returning, Throwing, State, Running}
+use Rattle.cyc_meaning.specs.State.{Stack, Lexical, new_region, opened_as, CloseLexical, Naming, World, opened, Environment, ConvertTo, Initialise, Choose, Test, ThrowWith, OpenBy}
+use Rattle.cyc_meaning.specs.State.{AliasOf, Entry, Needs, Discard, Rest, Handler, Focus, Evaluating, Executing, Proceeding, Breaking, Continuing, Returning, Throwing, State, Running}
 use Rattle.cyc_meaning.specs.State as state
 use Rattle.cyc_meaning.specs.Parts.{target_by, loaded_from, inside, region_end}
 use Rattle.cyc_meaning.specs.Exceptions.{throws}
@@ -33,7 +34,7 @@ use Rattle.cyc_soundness.specs.inside.Lives.{Life, OfRegion, Value}
 use Rattle.cyc_soundness.specs.inside.Worlds.{IsNumber, Typing, lent_now, IsTyped}
 use Rattle.cyc_soundness.specs.inside.Frames.{InScope, Names, Home, life_named, lives_in, read, read_value, IsBound, AreVariables, LiveIn, Within, itself, older, IsSet, Holds, Implies, LoopExit, Exits, loop_of, around, lending, relying, AreBreaks, is_loop, IsContext, KnowsProgram, IsFullIn}
 use Rattle.cyc_soundness.specs.inside.Classes.{IsDeclarable, InStatement, InItems, InValue, InThrown, may_end}
-use Rattle.cyc_soundness.specs.inside.Stacks.{IsByType, Evaluates, Executes, Continues, Catches, IsLoop, Val, Go, operands_in, IsReturn, IsStack, IsFocus, IsWell}
+use Rattle.cyc_soundness.specs.inside.Stacks.{Evaluates, Executes, Continues, Catches, IsLoop, Val, Go, operands_in, IsReturn, IsStack, IsFocus, IsWell}
 use Rattle.cyc_soundness.specs.inside.Stacks as stacks
 use Rattle.cyc_soundness.proofs.types.TypeLemmas.{target_typed, kind_read, kind_meant}
 use Rattle.cyc_soundness.proofs.flow.FlowLemmas.{used_full, implies_self, implies_after, meet_first, meet_second, at_least_implies, emptied_implied, holds_implied, full_last}

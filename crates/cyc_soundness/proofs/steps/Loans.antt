@@ -23,14 +23,15 @@ use Rattle.cyc_types.proofs.typing.FormedLemmas.{known_more}
 use Rattle.cyc_meaning.specs.Values.{Operand, Cell}
 use Rattle.cyc_meaning.specs.Values as values
 use Rattle.cyc_meaning.specs.State as state
-use Rattle.cyc_meaning.specs.State.{World, Found, Closed, found_region, region_at, opened_as, Environment, Entry, EndLoan, Focus, Proceeding, Naming, closed, State, Running, Object}
+use Rattle.cyc_meaning.specs.State.{World, Found, Closed, found_region, opened_as, Environment, Entry, EndLoan, Proceeding, Naming, closed, State, Running, Object}
 use Rattle.cyc_meaning.specs.Parts.{wrong}
 use Rattle.cyc_meaning.specs.inside.Nesting.{ends_of, IsNested}
 use Rattle.cyc_meaning.specs.Regions.{is_dynamic, opened_by, opens_with, opens_dynamic, closes_dynamic, closes_with, aliased, frees_owned, frees_object, frees}
 use Rattle.cyc_meaning.specs.Objects.{freed}
 use Rattle.cyc_soundness.specs.inside.Lives.{Life, OfRegion, Kept, heap_life, Value, at, AllIn, IsKnown}
 use Rattle.cyc_soundness.specs.inside.Lives as lives
-use Rattle.cyc_soundness.specs.inside.Worlds.{OfLocal, Thing, KeyOf, PointerTo, Nobody, Hand, At, Lent, thing_of, Owns, Claims, IsSlot, IsHere, giving, given, marked, handing, variable_type, IsHeld, is_lent_by, IsOpenIn, Stays, Grows, IsFull, Typing, IsKnownLife, IsNumber, IsKeyOf, HasType, IsResult, IsTyped, IsDynamic, IsKnownOwner, Settled, Holder, lent_now, IsTarget, ObjectType, Outlasts, alike, life_at, Away, Here}
+use Rattle.cyc_soundness.specs.inside.Worlds.{OfLocal, Thing, KeyOf, PointerTo, Nobody, Hand, At, Lent, thing_of, Owns, Claims, IsSlot, IsHere, giving, given, marked, handing, variable_type, IsHeld, is_lent_by, IsOpenIn, Stays, Grows}
+use Rattle.cyc_soundness.specs.inside.Worlds.{IsFull, Typing, IsKnownLife, IsNumber, IsKeyOf, HasType, IsResult, IsTyped, IsDynamic, IsKnownOwner, Settled, Holder, lent_now, IsTarget, ObjectType, Outlasts, alike, life_at, Away, Here}
 use Rattle.cyc_soundness.specs.inside.Classes.{IsSpared, IsDeclarable}
 use Rattle.cyc_soundness.specs.inside.Frames.{IsAmong, first, later, Bound, InScope, Variable, Names, life_named, lives_in, read, IsBound, AreVariables, IsLasting, LiveIn, Within, older, IsFullIn, Holds, Implies, Exits, lending, AreKnownLocals, AreKnown, IsContext, KnowsProgram, local_type}
 use Rattle.cyc_soundness.specs.inside.Stacks.{operands_in, Continues, Go, IsStack, IsWell, IsCommonLife}
@@ -38,7 +39,8 @@ use Rattle.cyc_soundness.proofs.types.TypeLemmas.{all_in_weaker, read_alike}
 use Rattle.cyc_soundness.proofs.flow.FlowLemmas.{full_set, reached_with}
 use Rattle.cyc_soundness.proofs.types.RegionLemmas.{name_known, same_name, known_other, other_life, context_key, context_alias, context_again, region_owner}
 use Rattle.cyc_soundness.proofs.states.WorldLemmas.{globals_grown, result_grown, typed_cell}
-use Rattle.cyc_soundness.proofs.states.Hands.{Changed, at_no_hand, at_some, given_now, giving_changed, handing_changed, changed_after, variables_kept, holds_kept, freed_typed, hands_globals, with_kept, kept_grows, kept_typed, variables_more, moment_typed, moment_globals, holds_lent, lent_last, closed_by_key, lent_typed, marked_now, kept_now, also_changed, also_typed, also_lent}
+use Rattle.cyc_soundness.proofs.states.Hands.{Changed, at_no_hand, at_some, given_now, giving_changed, handing_changed, changed_after, variables_kept, holds_kept, freed_typed, hands_globals, with_kept, kept_grows}
+use Rattle.cyc_soundness.proofs.states.Hands.{kept_typed, variables_more, moment_typed, moment_globals, holds_lent, lent_last, closed_by_key, lent_typed, marked_now, kept_now, also_changed, also_typed, also_lent}
 use Rattle.cyc_soundness.proofs.states.StackLemmas.{emptied_other, stack_changed, above_globals, full_here, within_full_at, within_variables, among_bound, among_variable, among_own, among_set, set_stored, statement_relied, settled, lent_held}
 use Rattle.cyc_soundness.proofs.states.Cells.{pointer_plain, plain_claims, running}
 

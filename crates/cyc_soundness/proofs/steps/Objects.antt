@@ -26,7 +26,8 @@ use Rattle.cyc_types.specs.flow.States as flow
 use Rattle.cyc_types.specs.flow.Expressions.{rule_initial, rule_arguments}
 use Rattle.cyc_meaning.specs.Values.{Operand, Cell, blank}
 use Rattle.cyc_meaning.specs.Values as values
-use Rattle.cyc_meaning.specs.State.{Region, Owner, InRegion, Unique, Object, World, Found, Closed, found_region, region_at, cell_at, heap_number, is_open, Environment, with_counter, ConvertTo, MakePlain, MakeFields, MakeArray, FillElement, Write, Entry, Needs, Focus, Evaluating, Given, Writing, Beginning, Repeating, Throwing, Running}
+use Rattle.cyc_meaning.specs.State.{Region, Owner, InRegion, Unique, Object, World, Found, Closed, found_region, region_at, cell_at, heap_number, is_open, Environment, with_counter}
+use Rattle.cyc_meaning.specs.State.{ConvertTo, MakePlain, MakeFields, MakeArray, FillElement, Write, Entry, Needs, Focus, Evaluating, Given, Writing, Beginning, Repeating, Throwing, Running}
 use Rattle.cyc_meaning.specs.Objects.{made_in, made_unique, created_in, created}
 use Rattle.cyc_meaning.specs.Parts.{target_by, wrong, stored, step_writing}
 use Rattle.cyc_meaning.specs.Operators.{array_size}
@@ -34,7 +35,8 @@ use Rattle.cyc_meaning.specs.Allocation.{writes_from, blanks_of, filled, makes_o
 use Rattle.cyc_meaning.specs.inside.Nesting.{ends_of, AreOpen}
 use Rattle.cyc_meaning.proofs.NestingLemmas.{open_region}
 use Rattle.cyc_soundness.specs.inside.Lives.{at, Life, OfRegion, Kept, RunTy, Int, Char, Pointer, Handle, Key, Struct, Value, looked, kind_at, Owned, Lives}
-use Rattle.cyc_soundness.specs.inside.Worlds.{NoLocal, Thing, KeyOf, PointerTo, Holder, Nobody, Hand, At, Lent, pointer_at, Owns, Claims, given, giving, AreOwned, IsUniqueObject, IsOpenObject, IsNewOwner, IsAmong, IsHeld, IsKeyless, AreKeyless, IsDynamic, ObjectType, Typing, Outlasts, IsFilled, IsPart, IsTarget, HasType, IsResult, AreOperands, AreCells, IsOwner, IsObject, IsTyped, IsOpenLife, Grows, IsKnownOwner, life_at}
+use Rattle.cyc_soundness.specs.inside.Worlds.{NoLocal, Thing, KeyOf, PointerTo, Holder, Nobody, Hand, At, Lent, pointer_at, Owns, Claims, given, giving, AreOwned, IsUniqueObject, IsOpenObject, IsNewOwner, IsAmong, IsHeld, IsKeyless}
+use Rattle.cyc_soundness.specs.inside.Worlds.{AreKeyless, IsDynamic, ObjectType, Typing, Outlasts, IsFilled, IsPart, IsTarget, HasType, IsResult, AreOperands, AreCells, IsOwner, IsObject, IsTyped, IsOpenLife, Grows, IsKnownOwner, life_at}
 use Rattle.cyc_soundness.specs.inside.Frames.{first, later, InScope, Level, HasMeaning, IsBound, AreVariables, LiveIn, Holds, Implies, Exits, IsContext, KnowsProgram, lives_in, read, IsThere, life_named, lives_among}
 use Rattle.cyc_soundness.specs.inside.Classes.{InInitial, InArguments}
 use Rattle.cyc_soundness.specs.inside.Stacks.{Val, turned, AreClaimed, operands_in, AreFields, Repeats, AreNext, IsWhole, IsMaking, IsArray, IsStack, IsFocus, IsWell, relied_at, AreGiven, AreNextGiven}

@@ -17,7 +17,7 @@ use Rattle.cyc_types.specs.Types.{Ty, ValueType, substituted_ty}
 use Rattle.cyc_types.specs.Types as types
 use Rattle.cyc_types.specs.TypedTrees.{Expression, Peek, Dereference, Target, Member, Element, peeked, StructType, Program}
 use Rattle.cyc_types.specs.Rules.{Derives}
-use Rattle.cyc_types.specs.typing.Tests.{is_struct, is_thin_mark}
+use Rattle.cyc_types.specs.typing.Tests.{is_thin_mark}
 use Rattle.cyc_types.specs.typing.Tests as tests
 use Rattle.cyc_types.specs.typing.Expressions.{assigned_type}
 use Rattle.cyc_types.specs.typing.WellTyped.{Context, WellTyped, IsPeek, IsLive, IsCell, Converts, PointerOperation, adds, subtracts, equals, differs, thin_null, thin_there, fat_null, fat_there, null_is, null_is_not}
@@ -39,7 +39,7 @@ use Rattle.cyc_soundness.specs.inside.Lives as lives
 use Rattle.cyc_soundness.specs.inside.Worlds.{ObjectType, Typing, IsFilled, IsPart, IsTarget, HasType, IsResult, Fits, AreCells, IsObject, IsTyped}
 use Rattle.cyc_soundness.specs.inside.Frames.{InScope, IsBound, AreVariables, LiveIn, lives_among, Holds, Exits, IsContext, KnowsProgram, lives_in, read, read_value, IsThere}
 use Rattle.cyc_soundness.specs.inside.Classes.{and_looked, InExpression, InPlace}
-use Rattle.cyc_soundness.specs.inside.Stacks.{IsThrough, seen_by, EvaluatesWhole, relied_at, Val, PlaceOf, null, WaitsPlace, of_cell, left_cell, IsByType, KeepsPlace, IsStack, IsFocus, IsWell}
+use Rattle.cyc_soundness.specs.inside.Stacks.{IsThrough, seen_by, EvaluatesWhole, relied_at, Val, PlaceOf, WaitsPlace, of_cell, left_cell, KeepsPlace, IsStack, IsFocus, IsWell}
 use Rattle.cyc_soundness.specs.inside.Stacks as stacks
 use Rattle.cyc_soundness.proofs.types.TypeLemmas.{target_typed, is_kind_same, mark_kinds, kind_meant}
 use Rattle.cyc_soundness.proofs.states.WorldLemmas.{result_grown, typed_cell}

@@ -33,7 +33,8 @@ use Rattle.cyc_meaning.specs.Step.{chosen, looped, supplied}
 use Rattle.cyc_meaning.proofs.NestingLemmas.{home_found}
 use Rattle.cyc_soundness.specs.inside.Lives.{Life, OfRegion, Kept, Lives, at, RunTy, RunValue, Value, kind_at}
 use Rattle.cyc_soundness.specs.inside.Lives as lives
-use Rattle.cyc_soundness.specs.inside.Worlds.{OfLocal, Thing, Holder, Hand, At, pointer_at, thing_of, Owns, Claims, ClaimsBy, ClaimsAlone, IsHere, giving, marked, AreOwned, IsOpenIn, ObjectType, IsKnownLife, IsNumber, IsOwner, Typing, IsFilled, variable_type, HasType, IsResult, AreCells, IsObject, IsTyped, Grows, Slot, KeyOf, PointerTo, Here}
+use Rattle.cyc_soundness.specs.inside.Worlds.{OfLocal, Thing, Holder, Hand, At, pointer_at, thing_of, Owns, Claims, ClaimsBy, ClaimsAlone, IsHere, giving, marked, AreOwned, IsOpenIn, ObjectType}
+use Rattle.cyc_soundness.specs.inside.Worlds.{IsKnownLife, IsNumber, IsOwner, Typing, IsFilled, variable_type, HasType, IsResult, AreCells, IsObject, IsTyped, Grows, Slot, KeyOf, PointerTo, Here}
 use Rattle.cyc_soundness.specs.inside.Worlds.{given as given_to}
 use Rattle.cyc_soundness.specs.inside.Frames.{later, Bound, InScope, Variable, Level, life_named, lives_in, read, read_value, IsThere, IsHomed, AreBelow, IsBound, AreVariables, IsLasting, LiveIn, Within, itself, older, Holds, Implies, LoopExit, Exits, IsHome, IsContext, KnowsProgram}
 use Rattle.cyc_soundness.specs.inside.Stacks.{Executes, Continues, IsLoop, Repeats, IsArray, IsNew, Want, Val, Go, operands_in, Comes, Keeps, inside, Waits, IsReturn, IsStack, IsFocus, IsWell, relied_at}

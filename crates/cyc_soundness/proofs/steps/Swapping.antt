@@ -10,7 +10,7 @@ use Rattle.cyc_types.specs.Rules.{AllKept, Derives}
 use Rattle.cyc_types.specs.typing.Tests.{is_struct}
 use Rattle.cyc_types.specs.typing.WellTyped.{Context, IsSide}
 use Rattle.cyc_types.specs.flow.States as flow
-use Rattle.cyc_types.specs.flow.States.{fullness, is_vacant, is_reached}
+use Rattle.cyc_types.specs.flow.States.{fullness, is_reached}
 use Rattle.cyc_types.specs.flow.Expressions.{peek_behind}
 use Rattle.cyc_types.specs.flow.Statements.{rule_side, side_demanded, peeked_side}
 use Rattle.cyc_meaning.specs.Values.{Operand}
@@ -20,17 +20,18 @@ use Rattle.cyc_meaning.specs.Parts.{wrong, stored_at, step_writing, stored}
 use Rattle.cyc_meaning.specs.Swaps.{both_places, finds_right_object, finds_right, finds_left_object, swaps, swap_read, swap_content, swap_loaded, swap_loaded_at, step_swapping}
 use Rattle.cyc_meaning.specs.inside.Nesting.{ends_of, AreOpen}
 use Rattle.cyc_soundness.proofs.flow.Looking.{peeked_so}
-use Rattle.cyc_soundness.specs.inside.Lives.{Life, RunTy, as_heap, kind_at, Value}
+use Rattle.cyc_soundness.specs.inside.Lives.{Life, RunTy, as_heap, Value}
 use Rattle.cyc_soundness.specs.inside.Lives as lives
 use Rattle.cyc_soundness.specs.inside.Worlds.{At, IsKept, thing_of, IsHad, Claims, IsOpenObject, ObjectType, Typing, global_type, IsFilled, HasType, IsTyped, Awaits, Pending, Settled, Thing, Holder, Nobody, Hand, IsHeld, Owns, Stays, Grows, IsHere, given, giving, IsResult, Away, Lent}
 use Rattle.cyc_soundness.specs.inside.Frames.{InScope, local_type, IsBound, AreVariables, LiveIn, Holds, Exits, IsContext, KnowsProgram, lives_in, read, IsFullIn}
 use Rattle.cyc_soundness.specs.inside.Classes.{InSide, and_looked, IsSpared}
-use Rattle.cyc_soundness.specs.inside.Stacks.{IsByType, relied_at, operands_in, Finds, Go, IsSpot, of_local, of_global, of_cell, IsLeftSpot, left_variable, left_cell, IsRead, AreSwapped, IsStack, IsWell, ClaimsAt, IsWrite, IsAwaited, IsFocus}
+use Rattle.cyc_soundness.specs.inside.Stacks.{relied_at, operands_in, Finds, Go, IsSpot, of_local, of_global, of_cell, IsLeftSpot, left_variable, left_cell, IsRead, AreSwapped, IsStack, IsWell, ClaimsAt, IsWrite, IsAwaited, IsFocus}
 use Rattle.cyc_soundness.specs.inside.Stacks as stacks
 use Rattle.cyc_soundness.proofs.types.TypeLemmas.{is_kind_same, kind_meant, place_type}
 use Rattle.cyc_soundness.proofs.flow.FlowLemmas.{full_set, used_full}
 use Rattle.cyc_soundness.proofs.states.WorldLemmas.{cell_there, type_grown, result_grown, risen, with_filled, written_grows, cell_written, globals_grown}
-use Rattle.cyc_soundness.proofs.states.Hands.{Changed, given_now, given_too, given_apart, given_other, held_before, nobody_before, giving_changed, at_no_hand, at_same, not_awaited, kept_now, holds_here, variables_kept, variables_pending, variables_grown, pending_grows, awaits_same, away_not_here, lent_no_hand, lent_not_at}
+use Rattle.cyc_soundness.proofs.states.Hands.{Changed, given_now, given_too, given_apart, given_other, held_before, nobody_before, giving_changed, at_no_hand, at_same, not_awaited}
+use Rattle.cyc_soundness.proofs.states.Hands.{kept_now, holds_here, variables_kept, variables_pending, variables_grown, pending_grows, awaits_same, away_not_here, lent_no_hand, lent_not_at}
 use Rattle.cyc_soundness.proofs.states.StackLemmas.{stack_grown, bound_of, place_local, among_bound, among_variable, among_live, among_set, open_of, globals_among, lasting_open, kept_open, object_known, among_open, IsPresent, there_present, stack_by, IsAboveBy, statement_relied, settled, among_own}
 use Rattle.cyc_soundness.proofs.types.RegionLemmas.{there_of, cell_live, global_means}
 use Rattle.cyc_soundness.proofs.states.Cells.{part_had, running, life_of, lasting_common, open_object, value_part, held_still}

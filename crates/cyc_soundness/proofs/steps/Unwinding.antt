@@ -1,7 +1,7 @@
 -- THE CONTROL STACK is left entry by entry: normally, by `break`, `continue` and `return`, and by an exception.
 use Rattle.std.proofs.Common.{◌≡◌, ◌≤◌, ℕ, zero, suc, arith, Bool, true, false, List, [], ◌∷◌, Option, Some, None, refl, sym, ap, subst, ◌∙◌, slice_get}
 use Rattle.std.proofs.lemmas.Option.{same_Some}
-use Rattle.cyc_types.specs.Types.{Ty, ValueType, result_type}
+use Rattle.cyc_types.specs.Types.{Ty, ValueType}
 use Rattle.cyc_types.specs.Types as types
 use Rattle.cyc_types.specs.TypedTrees.{Expression, Statement, Program}
 use Rattle.cyc_types.specs.flow.States as flow
@@ -17,7 +17,7 @@ use Rattle.cyc_soundness.specs.inside.Lives.{Life, RunTy, RunValue, Value}
 use Rattle.cyc_soundness.specs.inside.Lives as lives
 use Rattle.cyc_soundness.specs.inside.Worlds.{OfLocal, Hand, At, Lent, thing_of, Claims, given, marked, handing, variable_type, Typing, HasType, IsTyped, Here, Thing, Holder, Owns, IsHere}
 use Rattle.cyc_soundness.specs.inside.Frames.{InScope, Names, Home, IsBound, AreVariables, AreFullAt, LiveIn, Holds, Implies, LoopExit, Exits, HasResult, is_loop, KnowsProgram}
-use Rattle.cyc_soundness.specs.inside.Stacks.{IsByType, IsLentOut, IsLoop, Want, Nothing, Val, PlaceOf, Go, operands_in, IsBlocked, IsReturn, IsStack, IsFocus, IsWell}
+use Rattle.cyc_soundness.specs.inside.Stacks.{IsLentOut, IsLoop, Want, Nothing, Val, PlaceOf, Go, operands_in, IsBlocked, IsReturn, IsStack, IsFocus, IsWell}
 use Rattle.cyc_soundness.specs.inside.Stacks as stacks
 use Rattle.cyc_soundness.proofs.flow.FlowLemmas.{holds_implied, full_added}
 use Rattle.cyc_soundness.proofs.states.StackLemmas.{void_goes, given_back, stack_changed, none_lent, full_at_grown, not_heap, lexical_not_heap, within_bound, within_variables, within_live, within_holds, found_is, waits_within}

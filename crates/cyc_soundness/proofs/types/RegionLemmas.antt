@@ -13,12 +13,14 @@ use Rattle.cyc_types.specs.Types.{substituted_region, Ty, ValueType, result_type
 use Rattle.cyc_types.specs.TypedTrees.{Dereference, Target, Member, Element, StructType, Function, Program}
 use Rattle.cyc_types.specs.Types as types
 use Rattle.cyc_types.specs.typing.Scopes.{with_scope}
-use Rattle.cyc_types.specs.typing.WellTyped.{LocalInScope, Context, IsLive, AreLive, AreOutliving, IsCell, body_context, parameters_in_scope, IsNamed, AreNamed as AreNamedRegions, IsNamedIn, AreNamedIn, IsNamedResult, AreConstraints, IsWellTypedFunction, in_block, with_local, with_region, with_opened, with_key_opened, AreNotUnique}
+use Rattle.cyc_types.specs.typing.WellTyped.{LocalInScope, Context, IsLive, AreLive, AreOutliving, IsCell, body_context, parameters_in_scope, IsNamed, AreNamed as AreNamedRegions, IsNamedIn}
+use Rattle.cyc_types.specs.typing.WellTyped.{AreNamedIn, IsNamedResult, AreConstraints, IsWellTypedFunction, in_block, with_local, with_region, with_opened, with_key_opened, AreNotUnique}
 use Rattle.cyc_types.proofs.typing.FormedLemmas.{known_more}
 use Rattle.cyc_soundness.specs.inside.Lives.{Life, OfRegion, Kept, Lives, at, value_at, heap_life, lives_of, as_heap, AllOf, AllIn, AllInValue, IsKnown, IsOther, Owned}
 use Rattle.cyc_soundness.specs.inside.Worlds.{Thing, KeyOf, PointerTo, Typing, IsKnownLife, IsOpenIn, lent_now, Outlasts, heap as for_ever, stays, encloses, whole, behind, AgreesWith, IsNumber, IsKnownOwner}
 use Rattle.cyc_soundness.specs.inside.Classes.{IsDeclarable}
-use Rattle.cyc_soundness.specs.inside.Frames.{later, InScope, Variable, Level, Names, Instance, Home, life_named, is_live_named, lives_in, read, read_value, home_of, AreVariables, lives_among, IsThereBy, IsThere, IsScope, IsLasting, IsLiveIn, AreLiveIn, Exits, AreNamed, Stand, IsHome, AreKnownLocals, AreKnown, IsContext}
+use Rattle.cyc_soundness.specs.inside.Frames.{later, InScope, Variable, Level, Names, Instance, Home, life_named, is_live_named, lives_in, read, read_value, home_of, AreVariables}
+use Rattle.cyc_soundness.specs.inside.Frames.{lives_among, IsThereBy, IsThere, IsScope, IsLasting, IsLiveIn, AreLiveIn, Exits, AreNamed, Stand, IsHome, AreKnownLocals, AreKnown, IsContext}
 use Rattle.cyc_soundness.specs.inside.Stacks.{IsNew, regions_at_call, IsInstance}
 use Rattle.cyc_soundness.proofs.types.TypeLemmas.{all_in_weaker, every_in, read_alike, value_alike, lives_by, instance_by, result_by}
 use Rattle.cyc_soundness.proofs.types.ValueLemmas.{given_agree}

@@ -22,7 +22,8 @@ use Rattle.cyc_types.specs.typing.Tests.{is_struct, is_key, is_unique, is_tested
 use Rattle.cyc_types.specs.typing.Expressions.{assigned_type}
 use Rattle.cyc_types.specs.typing.Statements.{with_region_of}
 use Rattle.cyc_types.specs.declared.scope.Kind.TheVariants as scopes
-use Rattle.cyc_types.specs.typing.WellTyped.{LocalInScope, Context, WellTyped, IsPeek, IsCell, IsSide, ArePassed, IsMade, Converts, PointerOperation, IsChain, with_counter, IsLive, in_body, body_context, with_local, with_opened, with_key_opened, WellTypedStatement, WellTypedItems, WellTypedClauses, IsWellTypedFunction, parameters_in_scope}
+use Rattle.cyc_types.specs.typing.WellTyped.{LocalInScope, Context, WellTyped, IsPeek, IsCell, IsSide, ArePassed, IsMade, Converts, PointerOperation, IsChain, with_counter, IsLive, in_body}
+use Rattle.cyc_types.specs.typing.WellTyped.{body_context, with_local, with_opened, with_key_opened, WellTypedStatement, WellTypedItems, WellTypedClauses, IsWellTypedFunction, parameters_in_scope}
 use Rattle.cyc_types.specs.flow.States as flow
 use Rattle.cyc_types.specs.flow.States.{Unreached, Locked, Full, with_fullness, with_each, is_reached}
 use Rattle.cyc_types.specs.flow.Expressions.{peek_of, peek_behind, rule, rule_place, rule_initial, rule_arguments, rule_operations}
@@ -30,14 +31,19 @@ use Rattle.cyc_types.specs.flow.Statements.{rule_side, side_demanded, locks_of, 
 use Rattle.cyc_types.specs.flow.Programs.{start_of, in_function}
 use Rattle.cyc_meaning.specs.Values.{Operand}
 use Rattle.cyc_meaning.specs.Values as values
-use Rattle.cyc_meaning.specs.State.{Owner, Awaiting, ConvertTo, Operate, Chain, Apply, ApplyPointer, Decide, Store, StoreCell, Pass, Follow, FollowMember, Index, Advance, CountElements, PlaceBy, BesideHandle, MakePlain, MakeFields, MakeArray, FillElement, Initialise, Choose, Test, Return, ThrowWith, FreeObject, CloseByKey, OpenBy, AliasOf, AwaitingPlace, LoadFrom, TakeAddress, StoreTo, SwapLeft, SwapRight, Write, Entry, Needs, NeedsPlace, Discard, Rest, Join, Loop, CloseRegion, CloseLexical, EndLoan, Handler, Caller, Main, Environment, World, Focus, Evaluating, Locating, Given, GivenPlace, Executing, Proceeding, Calling, Entering, Binding, Naming, Writing, Swapping, Beginning, Repeating, Breaking, Continuing, Returning, Throwing, Catching, State, Running, Ended, Dead, Wrong}
+use Rattle.cyc_meaning.specs.State.{Owner, Awaiting, ConvertTo, Operate, Chain, Apply, ApplyPointer, Decide, Store, StoreCell, Pass, Follow, FollowMember, Index, Advance, CountElements, PlaceBy, BesideHandle, MakePlain}
+use Rattle.cyc_meaning.specs.State.{MakeFields, MakeArray, FillElement, Initialise, Choose, Test, Return, ThrowWith, FreeObject, CloseByKey, OpenBy, AliasOf, AwaitingPlace, LoadFrom, TakeAddress, StoreTo, SwapLeft, SwapRight}
+use Rattle.cyc_meaning.specs.State.{Write, Entry, Needs, NeedsPlace, Discard, Rest, Join, Loop, CloseRegion, CloseLexical, EndLoan, Handler, Caller, Main, Environment, World, Focus, Evaluating, Locating, Given, GivenPlace}
+use Rattle.cyc_meaning.specs.State.{Executing, Proceeding, Calling, Entering, Binding, Naming, Writing, Swapping, Beginning, Repeating, Breaking, Continuing, Returning, Throwing, Catching, State, Running, Ended, Dead, Wrong}
 use Rattle.cyc_meaning.specs.Allocation.{writes_from}
 use Rattle.cyc_meaning.specs.Parts.{target_of, target_of_value}
 use Rattle.cyc_soundness.specs.inside.Lives.{Life, Owned, RunTy, RunValue, Value, Seen, Into, looked, at, value_at, heap_life, lives_of, as_heap, AllIn, IsKnown}
 use Rattle.cyc_soundness.specs.inside.Lives as lives
-use Rattle.cyc_soundness.specs.inside.Worlds.{OfLocal, Settled, Awaits, At, IsPlain, Thing, Holder, Hand, pointer_at, thing_of, Owns, Claims, ClaimsPart, ClaimsBy, ClaimsAlone, IsHad, IsHere, ObjectType, Typing, AgreesWith, variable_type, IsFilled, IsFull, HasType, IsResult, AreOperands, IsNewOwner, IsKeyless, AreKeyless, IsTyped, Away}
+use Rattle.cyc_soundness.specs.inside.Worlds.{OfLocal, Settled, Awaits, At, IsPlain, Thing, Holder, Hand, pointer_at, thing_of, Owns, Claims, ClaimsPart, ClaimsBy, ClaimsAlone, IsHad, IsHere}
+use Rattle.cyc_soundness.specs.inside.Worlds.{ObjectType, Typing, AgreesWith, variable_type, IsFilled, IsFull, HasType, IsResult, AreOperands, IsNewOwner, IsKeyless, AreKeyless, IsTyped, Away}
 use Rattle.cyc_soundness.specs.inside.Classes.{Relied, and_looked, IsSpared, InExpression, InPlace, InSide, InInitial, InArguments, InOperations, InStatement, InItems, InClauses, IsDeclarable}
-use Rattle.cyc_soundness.specs.inside.Frames.{IsAmong, Bound, InScope, Variable, Level, Names, Instance, Home, life_named, lives_in, read, read_value, IsThere, IsScope, AreBelow, IsBound, AreVariables, LiveIn, Within, IsSet, IsFullIn, Holds, Implies, LoopExit, Exits, HasResult, around, lending, relying, AreFullAt, AreBreaks, is_loop, Stand, IsHome, IsContext, lives_among, KnowsProgram}
+use Rattle.cyc_soundness.specs.inside.Frames.{IsAmong, Bound, InScope, Variable, Level, Names, Instance, Home, life_named, lives_in, read, read_value, IsThere, IsScope, AreBelow, IsBound, AreVariables, LiveIn, Within}
+use Rattle.cyc_soundness.specs.inside.Frames.{IsSet, IsFullIn, Holds, Implies, LoopExit, Exits, HasResult, around, lending, relying, AreFullAt, AreBreaks, is_loop, Stand, IsHome, IsContext, lives_among, KnowsProgram}
 
 -- ---- trees, with what is known before and behind them
 

@@ -13,7 +13,9 @@ use Rattle.cyc_types.specs.declared.typed.Operator.TheVariants as operators
 use Rattle.cyc_types.specs.declared.typed.LogicalOperator.TheVariants as logical
 use Rattle.cyc_types.specs.declared.typed.PointerOperator.TheVariants as pointers
 use Rattle.cyc_types.specs.Types.{Ty, Int, Void, Value}
-use Rattle.cyc_types.specs.TypedTrees.{Local, Global, Expression, Number, NullPointer, Counter, Copy, Move, Peek, Load, AddressOf, FreeUnique, FreeKey, Call, Unary, Binary, Assign, Store, New, Dereference, Target, Member, Element, OnHeap, AsUnique, ByHandle, Initial, Plain, Fields, Array, Converted, Convert, Arguments, NoArguments, MoreArguments, NoOperations, ThenCompute, ThenTest, ThenPointerPeek, VariableSide, CellSide, Statement, Block, Empty, Evaluate, Swap, If, While, Return, Break, Continue, Throw, Try, Items, NoItems, MoreItems, Item, Execute, Declare, OpenRegion, DeclareAlias, DeclareKey, NoClauses, Default, Case, Function}
+use Rattle.cyc_types.specs.TypedTrees.{Local, Global, Expression, Number, NullPointer, Counter, Copy, Move, Peek, Load, AddressOf, FreeUnique, FreeKey, Call, Unary, Binary, Assign, Store, New, Dereference, Target, Member, Element, OnHeap}
+use Rattle.cyc_types.specs.TypedTrees.{AsUnique, ByHandle, Initial, Plain, Fields, Array, Converted, Convert, Arguments, NoArguments, MoreArguments, NoOperations, ThenCompute, ThenTest, ThenPointerPeek, VariableSide, CellSide, Statement}
+use Rattle.cyc_types.specs.TypedTrees.{Block, Empty, Evaluate, Swap, If, While, Return, Break, Continue, Throw, Try, Items, NoItems, MoreItems, Item, Execute, Declare, OpenRegion, DeclareAlias, DeclareKey, NoClauses, Default, Case, Function}
 use Rattle.cyc_types.specs.Rules.{Checked, fault_at, run}
 use Rattle.cyc_types.specs.flow.Programs.{rule_functions}
 

@@ -8,7 +8,9 @@ use Rattle.cyc_syntax.specs.declared.tree.PointerKind.TheVariants as marks
 use Rattle.cyc_syntax.specs.declared.tree.PrefixOperator.TheVariants as prefixes
 use Rattle.cyc_syntax.specs.declared.tree.BinaryOperator.TheVariants as operators
 use Rattle.cyc_syntax.specs.Symbols.{Place}
-use Rattle.cyc_syntax.specs.Trees.{Named, Pointer, BaseType, Int, Struct, Handle, Key, WrittenType, Number, Null, UniqueRegion, Variable, Call, Bracketed, NumberOfElements, FreeUnique, FreeKey, Chained, Prefixed, New, RegionNew, Binary, Assign, Plain, Fields, Array, NoExpressions, MoreExpressions, NoPostfixes, ThenIndex, ThenField, NoOperations, ThenOperation, Block, Labelled, Empty, Evaluate, Swap, If, While, Return, Break, Continue, Throw, Try, Braces, NoItems, MoreItems, Execute, Local, Region, Alias, DynamicRegion, NoClauses, Default, Case, Member, Constructor, Byte, NullPointer, Constraint, ParameterList, Listed, Parameters, Declaration, StructType, Exceptions, Global, Function}
+use Rattle.cyc_syntax.specs.Trees.{Named, Pointer, BaseType, Int, Struct, Handle, Key, WrittenType, Number, Null, UniqueRegion, Variable, Call, Bracketed, NumberOfElements, FreeUnique, FreeKey, Chained, Prefixed, New, RegionNew, Binary, Assign, Plain}
+use Rattle.cyc_syntax.specs.Trees.{Fields, Array, NoExpressions, MoreExpressions, NoPostfixes, ThenIndex, ThenField, NoOperations, ThenOperation, Block, Labelled, Empty, Evaluate, Swap, If, While, Return, Break, Continue, Throw, Try, Braces, NoItems}
+use Rattle.cyc_syntax.specs.Trees.{MoreItems, Execute, Local, Region, Alias, DynamicRegion, NoClauses, Default, Case, Member, Constructor, Byte, NullPointer, Constraint, ParameterList, Listed, Parameters, Declaration, StructType, Exceptions, Global, Function}
 use Rattle.cyc_types.specs.declared.region.Region.TheVariants as regions
 use Rattle.cyc_types.specs.declared.typed.Kind.TheVariants as kinds
 use Rattle.cyc_types.specs.declared.typed.Callee.TheVariants as callees

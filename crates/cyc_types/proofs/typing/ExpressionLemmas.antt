@@ -12,7 +12,8 @@ use Rattle.cyc_syntax.specs.declared.tree.PrefixOperator.TheVariants as prefixes
 use Rattle.cyc_syntax.specs.declared.tree.BinaryOperator.{BinaryOperator}
 use Rattle.cyc_syntax.specs.declared.tree.BinaryOperator.TheVariants as operators
 use Rattle.cyc_syntax.specs.Symbols.{Place}
-use Rattle.cyc_syntax.specs.Trees.{Named, Expression, Number, Character, Null, HeapRegion, UniqueRegion, Variable, Call, Bracketed, NumberOfElements, LowByteOf, FreeUnique, FreeKey, Chained, Prefixed, New, RegionNew, Binary, Assign, Initial, Plain, Fields, Array, Expressions, NoExpressions, MoreExpressions, Postfixes, NoPostfixes, ThenIndex, ThenField, Operations, NoOperations, ThenOperation, place_of}
+use Rattle.cyc_syntax.specs.Trees.{Named, Expression, Number, Character, Null, HeapRegion, UniqueRegion, Variable, Call, Bracketed, NumberOfElements, LowByteOf, FreeUnique, FreeKey, Chained, Prefixed, New, RegionNew}
+use Rattle.cyc_syntax.specs.Trees.{Binary, Assign, Initial, Plain, Fields, Array, Expressions, NoExpressions, MoreExpressions, Postfixes, NoPostfixes, ThenIndex, ThenField, Operations, NoOperations, ThenOperation, place_of}
 use Rattle.cyc_types.specs.declared.region.Region.{Region}
 use Rattle.cyc_types.specs.declared.region.Region.TheVariants as regions
 use Rattle.cyc_types.specs.declared.typed.Callee.{Callee}
@@ -28,17 +29,22 @@ use Rattle.cyc_types.specs.Types.{region_eq, Ty, Int, Char, Pointer, Handle, Key
 use Rattle.cyc_types.specs.Types as types
 use Rattle.cyc_types.specs.Outlives.{OutlivesIn, live_regions, names_no_unique}
 use Rattle.cyc_types.specs.Closure.{is_outliving, names_no_unique_scope}
-use Rattle.cyc_types.specs.TypedTrees.{Lvalue, Converted, Side, VariableSide, CellSide, Signature, type_of, type_of_place}
+use Rattle.cyc_types.specs.TypedTrees.{Lvalue, Side, VariableSide, CellSide, Signature, type_of, type_of_place}
 use Rattle.cyc_types.specs.TypedTrees as typed
 use Rattle.cyc_types.specs.Rules.{AllKept, Rule, Derives}
-use Rattle.cyc_types.specs.typing.Scopes.{signature_of_ints, RegionName, StructName, Field, Sort, Ordinary, OfRegion, OfLoop, Meaning, Unknown, Fixed, Counter, Routine, Declared, LocalVariable, Scope, is_live, local_meaning, meaning_in, meaning_among, meaning_of, with_counter}
+use Rattle.cyc_types.specs.typing.Scopes.{signature_of_ints, RegionName, Field, Sort, Ordinary, OfRegion, OfLoop, Meaning, Unknown, Fixed, Counter, Routine, Declared, LocalVariable, Scope, is_live, local_meaning, meaning_in, meaning_among, meaning_of, with_counter}
 use Rattle.cyc_types.specs.typing.Scopes as scopes
 use Rattle.cyc_types.specs.typing.Tests.{ty_eq, is_thin_mark, is_pointer, is_non_null, is_unique, is_key, is_struct, is_moved, is_int, is_char, is_value, is_fat, is_handle, value_of, target_of, region_of, struct_of, arguments_of, kind_of, kind_of_value}
-use Rattle.cyc_types.specs.typing.Formation.{struct_number, parameters_among, arguments_or, is_count, names_demanded, struct_demanded}
+use Rattle.cyc_types.specs.typing.Formation.{struct_number, parameters_among, arguments_or, is_count, struct_demanded}
 use Rattle.cyc_types.specs.typing.Formation as formation
-use Rattle.cyc_types.specs.typing.Expressions.{is_alike, is_null_allowed, is_outlived, conversion, converted, passed, passed_demanded, as_int, is_any, is_readable, variable_read, read, looked, rule_looked, Found, type_of_side, place_meant, Reached, pointed, indexed, has_members, fields_of, field_number, field_among, field_type, selected, content_demanded, loaded, reached, address_of, addressed, place_inside, assignment, assigned, is_looking, is_looking_first, operand, Joined, peeked_local, is_movable, ints_joined, tests_joined, sums_joined, equality_joined, then_pointer, then_added, are_compared, is_compared_live, null_test, null_tested, thin_test, then_compared, joined, paired_argument, paired_arguments, first_place, first_places, instance_of, instantiated, is_unique_for_variable, variables_demanded, constraints_demanded, effect_demanded, called, freed, key_freed, Placed, Made, on_heap, by_handle, rule_placement, plain_made, array_made, field_types, arguments_written, fields_known, fields_made, created, rule, rule_all, rule_chain, rule_place, rule_postfixed, rule_further, rule_made}
+use Rattle.cyc_types.specs.typing.Expressions.{is_alike, is_null_allowed, is_outlived, conversion, converted, passed, passed_demanded, as_int, is_any, is_readable, variable_read, read, looked, rule_looked, Found, type_of_side, place_meant, Reached, pointed}
+use Rattle.cyc_types.specs.typing.Expressions.{indexed, has_members, fields_of, field_number, field_among, field_type, selected, content_demanded, loaded, reached, address_of, addressed, place_inside, assignment, assigned, is_looking, is_looking_first, operand}
+use Rattle.cyc_types.specs.typing.Expressions.{Joined, peeked_local, is_movable, ints_joined, tests_joined, sums_joined, equality_joined, then_pointer, then_added, are_compared, is_compared_live, null_test, null_tested, thin_test, then_compared, joined}
+use Rattle.cyc_types.specs.typing.Expressions.{paired_argument, paired_arguments, first_place, first_places, instance_of, instantiated, is_unique_for_variable, variables_demanded, constraints_demanded, effect_demanded, called, freed, key_freed, Placed, Made}
+use Rattle.cyc_types.specs.typing.Expressions.{on_heap, by_handle, rule_placement, plain_made, array_made, field_types, arguments_written, fields_known, fields_made, created, rule, rule_all, rule_chain, rule_place, rule_postfixed, rule_further, rule_made}
 use Rattle.cyc_types.specs.typing.Statements.{exception_number, exception_among}
-use Rattle.cyc_types.specs.typing.WellTyped.{LocalInScope, Context, IsLive, AreLive, AreOutliving, HasLocal, HasPlace, IsVariable, IsPlace, IsCallee, AreNotUnique, Converts, IsPeek, IsPeekOf, PointerOperation, adds, subtracts, equals, differs, thin_null, thin_there, fat_null, fat_there, null_is, null_is_not, IsLeft, WellTyped, IsConverted, ArePassed, IsCell, IsPlacement, IsMade, IsChain, signature_of}
+use Rattle.cyc_types.specs.typing.WellTyped.{LocalInScope, Context, IsLive, AreLive, AreOutliving, HasLocal, HasPlace, IsVariable, IsPlace, IsCallee, AreNotUnique, Converts, IsPeek, PointerOperation, adds, subtracts}
+use Rattle.cyc_types.specs.typing.WellTyped.{equals, differs, thin_null, thin_there, fat_null, fat_there, null_is, null_is_not, IsLeft, WellTyped, IsConverted, ArePassed, IsCell, IsPlacement, IsMade, IsChain, signature_of}
 use Rattle.cyc_types.specs.typing.WellTyped as judgement
 use Rattle.cyc_types.proofs.RegionLemmas.{region_eq-true}
 use Rattle.cyc_types.proofs.ClosureLemmas.{outliving-sound}

@@ -7,21 +7,24 @@ use Rattle.cyc_syntax.specs.declared.tree.PrefixOperator.TheVariants as prefixes
 use Rattle.cyc_syntax.specs.declared.tree.BinaryOperator.{BinaryOperator}
 use Rattle.cyc_syntax.specs.declared.tree.BinaryOperator.TheVariants as operators
 use Rattle.cyc_syntax.specs.Symbols.{Place}
-use Rattle.cyc_syntax.specs.Trees.{Named, Pointer as Mark, BaseType, WrittenType, Expression, Number, Character, Null, HeapRegion, UniqueRegion, Variable, Call, Bracketed, NumberOfElements, LowByteOf, FreeUnique, FreeKey, Chained, Prefixed, New, RegionNew, Binary, Assign, Initial, Plain, Fields, Array, Expressions, NoExpressions, MoreExpressions, Postfixes, NoPostfixes, ThenIndex, ThenField, Operations, NoOperations, ThenOperation, place_of}
+use Rattle.cyc_syntax.specs.Trees.{Named, Pointer as Mark, BaseType, WrittenType, Expression, Number, Character, Null, HeapRegion, UniqueRegion, Variable, Call, Bracketed, NumberOfElements, LowByteOf, FreeUnique, FreeKey, Chained, Prefixed}
+use Rattle.cyc_syntax.specs.Trees.{New, RegionNew, Binary, Assign, Initial, Plain, Fields, Array, Expressions, NoExpressions, MoreExpressions, Postfixes, NoPostfixes, ThenIndex, ThenField, Operations, NoOperations, ThenOperation, place_of}
 use Rattle.cyc_syntax.specs.Trees as written
 use Rattle.cyc_types.specs.declared.region.Region.{Region}
 use Rattle.cyc_types.specs.declared.region.Region.TheVariants as regions
 use Rattle.cyc_types.specs.declared.typed.UnaryOperator.TheVariants as unary
 use Rattle.cyc_types.specs.Types.{region_eq, substituted_region, Ty, Int, Char, Pointer, Handle, Key, Struct, ValueType, Void, Value, result_type, substituted_ty}
-use Rattle.cyc_types.specs.TypedTrees.{Lvalue, Side, VariableSide, CellSide, Signature, type_of, type_of_place}
+use Rattle.cyc_types.specs.TypedTrees.{Lvalue, Side, VariableSide, CellSide, type_of, type_of_place}
 use Rattle.cyc_types.specs.TypedTrees as typed
 use Rattle.cyc_types.specs.Rules.{AllKept, Rule, Derives}
-use Rattle.cyc_types.specs.typing.Scopes.{RegionName, StructName, Field, Sort, Ordinary, OfRegion, OfLoop, Meaning, Unknown, Fixed, Counter, Routine, Declared, LocalVariable, Scope, region_among, local_meaning, meaning_in, meaning_among, meaning_of, with_counter}
+use Rattle.cyc_types.specs.typing.Scopes.{RegionName, StructName, Field, Sort, Ordinary, OfRegion, OfLoop, Meaning, Unknown, Fixed, Counter, Routine, LocalVariable, Scope, region_among, local_meaning, meaning_in, meaning_among, meaning_of, with_counter}
 use Rattle.cyc_types.specs.typing.Scopes as scopes
 use Rattle.cyc_types.specs.typing.Tests.{is_thin_mark, is_unique, is_struct, is_moved, is_char, is_value, value_of, target_of, region_of, arguments_of}
-use Rattle.cyc_types.specs.typing.Formation.{struct_number, parameters_among, region_or, left_out_at, arguments_or, base_written, pointers_written, type_written, is_count, names_demanded, struct_demanded, base_demanded, marks_demanded, type_demanded}
+use Rattle.cyc_types.specs.typing.Formation.{struct_number, parameters_among, region_or, left_out_at, arguments_or, base_written, pointers_written, type_written, is_count, struct_demanded, base_demanded, type_demanded}
 use Rattle.cyc_types.specs.typing.Formation as formation
-use Rattle.cyc_types.specs.typing.Expressions.{as_int, variable_read, variable_looked, read, looked, rule_looked, Found, type_of_side, place_meant, Reached, pointed, indexed, has_members, fields_of, field_among, field_type, selected, place_inside, loaded, reached, address_of, addressed, assigned_type, assignment, assigned, is_looking_first, operand, Joined, peeked_local, joined, all_paired, paired, paired_argument, paired_arguments, first_place, first_places, instance_of, called, key_freed, Placed, Made, on_heap, rule_placement, fields_made, created, rule, rule_all, rule_chain, rule_place, rule_postfixed, rule_further, rule_made}
+use Rattle.cyc_types.specs.typing.Expressions.{as_int, variable_read, variable_looked, read, looked, rule_looked, Found, type_of_side, place_meant, Reached, pointed, indexed, has_members, fields_of, field_among, field_type, selected, place_inside}
+use Rattle.cyc_types.specs.typing.Expressions.{loaded, reached, address_of, addressed, assigned_type, assignment, assigned, is_looking_first, operand, Joined, peeked_local, joined, all_paired, paired, paired_argument, paired_arguments, first_place}
+use Rattle.cyc_types.specs.typing.Expressions.{first_places, instance_of, called, key_freed, Placed, Made, on_heap, rule_placement, fields_made, created, rule, rule_all, rule_chain, rule_place, rule_postfixed, rule_further, rule_made}
 use Rattle.cyc_types.specs.inside.typing.Formed.{AllOf, AllIn, IsKnown}
 use Rattle.cyc_types.proofs.typing.TestLemmas.{kept_append}
 

@@ -7,17 +7,19 @@ use Rattle.std.proofs.lemmas.Option.{none-some}
 use Rattle.cyc_words.proofs.Numbers.{suc_pred}
 use Rattle.cyc_syntax.specs.Names.{number_of}
 use Rattle.cyc_syntax.specs.Symbols.{Place}
-use Rattle.cyc_syntax.specs.Trees.{Named, Pointer as Mark, BaseType, WrittenType, Expression, Statement, Block, Labelled, Empty, Evaluate, Swap, If, IfElse, While, Return, Break, Continue, Throw, Try, Body, Braces, Items, NoItems, MoreItems, Execute, Local, Region, Alias, DynamicRegion, Clauses, NoClauses, Default, Case, Member, Parameters, Declaration, StructType, Exceptions, Global, Function, place_of}
+use Rattle.cyc_syntax.specs.Trees.{Named, Pointer as Mark, BaseType, WrittenType, Expression, Statement, Block, Labelled, Empty, Evaluate, Swap, If, IfElse, While, Return, Break, Continue, Throw, Try, Body, Braces}
+use Rattle.cyc_syntax.specs.Trees.{Items, NoItems, MoreItems, Execute, Local, Region, Alias, DynamicRegion, Clauses, NoClauses, Default, Case, Member, Parameters, Declaration, StructType, Exceptions, Global, Function}
 use Rattle.cyc_syntax.specs.Trees as written
 use Rattle.cyc_types.specs.declared.region.Region.{Region as RegionCode}
 use Rattle.cyc_types.specs.declared.region.Region.TheVariants as regions
 use Rattle.cyc_types.specs.declared.typed.Callee.TheVariants as callees
 use Rattle.cyc_types.specs.Types.{Ty, Int, Char, Handle, Key, ValueType, Value}
 use Rattle.cyc_types.specs.Types as types
-use Rattle.cyc_types.specs.TypedTrees.{Lvalue, Converted, Signature, type_of}
+use Rattle.cyc_types.specs.TypedTrees.{Converted, Signature, type_of}
 use Rattle.cyc_types.specs.TypedTrees as typed
 use Rattle.cyc_types.specs.Rules.{AllKept, Derives}
-use Rattle.cyc_types.specs.typing.Scopes.{signature_of_ints, RegionName, StructName, Field, Sort, Ordinary, OfRegion, Meaning, Unknown, Fixed, Counter, Routine, Declared, LocalVariable, Scope, region_among, meaning_in, meaning_of, regions_in, behind, in_block, with_name, in_labelled, in_body, with_local, with_opened, with_region, with_key_opened}
+use Rattle.cyc_types.specs.typing.Scopes.{signature_of_ints, RegionName, StructName, Field, Sort, Ordinary, OfRegion, Meaning, Unknown, Fixed, Counter, Routine, LocalVariable, Scope}
+use Rattle.cyc_types.specs.typing.Scopes.{region_among, meaning_in, meaning_of, behind, in_block, with_name, in_labelled, in_body, with_local, with_opened, with_region, with_key_opened}
 use Rattle.cyc_types.specs.typing.Scopes as scopes
 use Rattle.cyc_types.specs.typing.Tests.{is_key, region_of}
 use Rattle.cyc_types.specs.typing.Formation.{Naming, left_out_at, region_or, base_written, pointers_written, type_for, after_type, types_for, base_for, after_base, pointers_for, after_mark, mark_for, after_region, regions_for, is_key_base, base_demanded, type_demanded}

@@ -4,7 +4,7 @@ use Rattle.std.specs.Prelude.{is_some, unwrap_or}
 use Rattle.std.proofs.lemmas.Bool.{and_parts, and_from, or_left, eqb-true, true≢false, not-true}
 use Rattle.std.proofs.lemmas.Option.{none-some}
 use Rattle.cyc_words.proofs.Numbers.{le_trans}
-use Rattle.cyc_syntax.specs.Trees.{Named, Pointer, BaseType, Struct, WrittenType, Member, Constraint, Parameters}
+use Rattle.cyc_syntax.specs.Trees.{Named, Pointer, BaseType, Struct, WrittenType, Member, Constraint}
 use Rattle.cyc_syntax.specs.Trees as written
 use Rattle.cyc_types.specs.declared.region.Region.{Region}
 use Rattle.cyc_types.specs.declared.region.Region.TheVariants.{Heap, Unique, Variable}
@@ -13,7 +13,8 @@ use Rattle.cyc_types.specs.Types as types
 use Rattle.cyc_types.specs.Outlives.{names_no_unique}
 use Rattle.cyc_types.specs.Rules.{AllKept, Derives}
 use Rattle.cyc_types.specs.typing.Scopes.{RegionName, StructName, region_among}
-use Rattle.cyc_types.specs.typing.Formation.{region_of, region_or, base_written, left_out_at, pointers_written, Naming, region_for, after_known, after_region, mark_for, after_mark, regions_for, after_regions, base_for, after_base, pointers_for, after_marks, type_for, after_type, types_for, after_members, is_known, is_name_of, base_demanded, type_demanded, is_key_of}
+use Rattle.cyc_types.specs.typing.Formation.{region_of, region_or, base_written, left_out_at, pointers_written, Naming, region_for, after_known, after_region, mark_for, after_mark, regions_for, after_regions}
+use Rattle.cyc_types.specs.typing.Formation.{base_for, after_base, pointers_for, after_marks, type_for, after_type, types_for, after_members, is_known, is_name_of, base_demanded, type_demanded, is_key_of}
 use Rattle.cyc_types.specs.typing.Heads.{Known, result_written, has_key, and_result, without_keys, effect_of, constraints_of, rule_parameters, effect_demanded, rule_effect, constraints_demanded}
 use Rattle.cyc_types.specs.typing.WellTyped.{IsNamed, AreNamed, IsNamedIn, AreNamedIn, IsNamedResult, AreConstraints, IsKeyless, AreKeyless}
 use Rattle.cyc_types.proofs.RegionLemmas.{region_eq-refl}

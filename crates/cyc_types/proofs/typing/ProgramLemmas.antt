@@ -9,7 +9,7 @@ use Rattle.cyc_words.proofs.Members.{Contains-head}
 use Rattle.cyc_words.proofs.Items.{slice_get_front, slice_get_behind}
 use Rattle.cyc_syntax.specs.Names.{number_of}
 use Rattle.cyc_syntax.specs.Symbols.{Place}
-use Rattle.cyc_syntax.specs.Trees.{Named, Pointer, BaseType, Struct, WrittenType, Body, Braces, Items, Member, GlobalValue, Positive, Negative, Byte, NullPointer, Constraint, Listed, Parameters, Declaration, StructType, Exceptions, Global, Function}
+use Rattle.cyc_syntax.specs.Trees.{Named, Pointer, BaseType, Struct, WrittenType, Braces, Items, Member, GlobalValue, Positive, Negative, Byte, NullPointer, Constraint, Listed, Parameters, Declaration, StructType, Exceptions, Global, Function}
 use Rattle.cyc_syntax.specs.Trees as written
 use Rattle.cyc_types.specs.declared.region.Region.{Region}
 use Rattle.cyc_types.specs.declared.region.Region.TheVariants as regions
@@ -21,14 +21,14 @@ use Rattle.cyc_types.specs.Declarations.{item_types}
 use Rattle.cyc_types.specs.TypedTrees.{Signature}
 use Rattle.cyc_types.specs.TypedTrees as typed
 use Rattle.cyc_types.specs.Rules.{AllKept, Derives}
-use Rattle.cyc_types.specs.typing.Scopes.{signature_of_ints, RegionName, StructName, Field, Exception, Routine, Declared, Ordinary, LocalVariable, Scope, meaning_in, item_regions}
+use Rattle.cyc_types.specs.typing.Scopes.{signature_of_ints, RegionName, StructName, Field, Exception, Routine, Ordinary, LocalVariable, Scope, meaning_in}
 use Rattle.cyc_types.specs.typing.Scopes as scopes
 use Rattle.cyc_types.specs.typing.Tests.{is_empty, is_left_out, is_key, is_number, is_pointer, is_non_null}
 use Rattle.cyc_types.specs.typing.Formation.{Naming, region_or, left_out_at, base_written, pointers_written, type_written, types_for, after_type, parameters_among, struct_number, type_demanded, is_global_shape, global_demanded}
 use Rattle.cyc_types.specs.typing.Statements.{exception_number, exception_among, rule_items}
 use Rattle.cyc_types.specs.typing.Heads.{Known, members_of, structs_of, fields_of, exceptions_of, parameter_naming, and_result, signature_of, declared_from, value_demanded, is_int_written, is_main_head, rule_function_head, Before, after_head, rule_heads, declares}
 use Rattle.cyc_types.specs.typing.Programs.{regions_before, exceptions_before, declared_before, known_of, before_all, Program, program_known, parameter_locals, body_scope, function_of, rule_functions, word_of, global_of, globals_of, struct_types, function_number, program_of, IsTypedProgram}
-use Rattle.cyc_types.specs.typing.WellTyped.{LocalInScope, WellTypedItems, parameters_in_scope, body_context, IsWellTypedFunction, AreWellTypedFunctions, IsWellTypedGlobal, AreWellTypedGlobals, IsWellTypedProgram}
+use Rattle.cyc_types.specs.typing.WellTyped.{WellTypedItems, parameters_in_scope, body_context, IsWellTypedFunction, AreWellTypedFunctions, IsWellTypedGlobal, AreWellTypedGlobals, IsWellTypedProgram}
 use Rattle.cyc_types.specs.typing.WellTyped as judgement
 use Rattle.cyc_types.proofs.typing.ListLemmas.{Holds}
 use Rattle.cyc_types.proofs.typing.TestLemmas.{kept_append}

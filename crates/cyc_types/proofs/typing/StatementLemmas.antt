@@ -5,27 +5,30 @@ use Rattle.std.proofs.lemmas.Bool.{and_parts, or_left, or_right, true≢false, n
 use Rattle.cyc_words.proofs.Members.{Contains-head, Contains-tail}
 use Rattle.cyc_words.proofs.Items.{slice_get_front, slice_get_behind}
 use Rattle.cyc_syntax.specs.Symbols.{Place}
-use Rattle.cyc_syntax.specs.Trees.{Named, Pointer, BaseType, Struct, WrittenType, Expression, Statement, Block, Labelled, Empty, Evaluate, Swap, If, IfElse, While, Return, Break, Continue, Throw, Try, Body, Braces, Items, NoItems, MoreItems, Item, Execute, Local, Region, Alias, DynamicRegion, Clauses, NoClauses, Default, Case, place_of}
+use Rattle.cyc_syntax.specs.Trees.{Named, Pointer, BaseType, Struct, WrittenType, Expression, Statement, Block, Labelled, Empty, Evaluate, Swap, If, IfElse, While, Return, Break, Continue}
+use Rattle.cyc_syntax.specs.Trees.{Throw, Try, Body, Braces, Items, NoItems, MoreItems, Item, Execute, Local, Region, Alias, DynamicRegion, Clauses, NoClauses, Default, Case, place_of}
 use Rattle.cyc_syntax.specs.Trees as written
 use Rattle.cyc_types.specs.declared.region.Region.{Region as RegionCode}
 use Rattle.cyc_types.specs.declared.region.Region.TheVariants as regions
 use Rattle.cyc_types.specs.declared.scope.Kind.{Kind}
 use Rattle.cyc_types.specs.declared.scope.Kind.TheVariants as kinds
-use Rattle.cyc_types.specs.Types.{region_eq, Ty, Int, Handle, Key, ValueType, Void, Null, Value}
+use Rattle.cyc_types.specs.Types.{region_eq, Ty, Int, Handle, Key}
 use Rattle.cyc_types.specs.Types as types
 use Rattle.cyc_types.specs.Outlives.{live_regions}
 use Rattle.cyc_types.specs.Declarations.{declared_types, item_types, clause_types}
-use Rattle.cyc_types.specs.TypedTrees.{Lvalue, Side, VariableSide, CellSide, Converted, type_of, type_of_place}
+use Rattle.cyc_types.specs.TypedTrees.{Side, VariableSide, CellSide, Converted, type_of}
 use Rattle.cyc_types.specs.TypedTrees as typed
 use Rattle.cyc_types.specs.Rules.{AllKept, Derives}
-use Rattle.cyc_types.specs.typing.Scopes.{RegionName, StructName, Sort, Ordinary, OfRegion, OfLoop, Meaning, Unknown, Fixed, Counter, Routine, Scope, region_among, meaning_of, counted, locals_in, body_locals, item_locals, clause_locals, regions_in, body_regions, item_regions, clause_regions, behind, with_scope, in_block, with_name, in_labelled, in_body, with_local, with_opened, with_region, with_key_opened}
+use Rattle.cyc_types.specs.typing.Scopes.{RegionName, StructName, Ordinary, OfRegion, Meaning, Unknown, Fixed, Counter, Routine, Scope, region_among, meaning_of, counted, locals_in, item_locals, regions_in}
+use Rattle.cyc_types.specs.typing.Scopes.{body_regions, item_regions, clause_regions, behind, with_scope, in_block, with_name, in_labelled, in_body, with_local, with_opened, with_region, with_key_opened}
 use Rattle.cyc_types.specs.typing.Scopes as scopes
 use Rattle.cyc_types.specs.typing.Tests.{is_left_out, ty_eq, is_unique, is_key, is_struct, region_of}
-use Rattle.cyc_types.specs.typing.Formation.{left_out_at, region_or, pointers_written, base_written, type_written, is_known, is_name_of, names_demanded, struct_demanded, base_demanded, marks_demanded, is_shape, type_demanded}
+use Rattle.cyc_types.specs.typing.Formation.{left_out_at, region_or, pointers_written, base_written, type_written, is_known, is_name_of, base_demanded, type_demanded}
 use Rattle.cyc_types.specs.typing.Formation as formation
 use Rattle.cyc_types.specs.typing.Expressions.{as_int, Found, type_of_side, rule, rule_place}
-use Rattle.cyc_types.specs.typing.Statements.{rule_condition, returned, rule_returned, swapped, exception_among, rule_thrown, thrown_demanded, is_given, thrown, caught, behind_clause, local_type, rule_initial, number_of_region, opened, with_region_of, alias_type, aliased, behind_item, rule_statement, rule_body, rule_items, rule_clauses}
-use Rattle.cyc_types.specs.typing.WellTyped.{Context, IsLive, IsVariable, IsPlace, WellTyped, IsPeek, IsConverted, IsCell, IsCondition, IsInitial, IsReturned, IsSide, IsException, IsThrown, IsCaught, IsDeclared, IsNextRegion, WellTypedStatement, WellTypedItems, WellTypedClauses}
+use Rattle.cyc_types.specs.typing.Statements.{rule_condition, returned, rule_returned, swapped, exception_among, rule_thrown, thrown_demanded, is_given, thrown, caught, behind_clause, local_type}
+use Rattle.cyc_types.specs.typing.Statements.{rule_initial, number_of_region, opened, with_region_of, alias_type, aliased, behind_item, rule_statement, rule_body, rule_items, rule_clauses}
+use Rattle.cyc_types.specs.typing.WellTyped.{Context, IsVariable, WellTyped, IsCell, IsCondition, IsInitial, IsReturned, IsSide, IsException, IsThrown, WellTypedStatement, WellTypedItems, WellTypedClauses}
 use Rattle.cyc_types.specs.typing.WellTyped as judgement
 use Rattle.cyc_types.proofs.RegionLemmas.{region_eq-true}
 use Rattle.cyc_types.proofs.typing.ListLemmas.{Holds}

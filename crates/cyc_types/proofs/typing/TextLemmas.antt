@@ -11,8 +11,10 @@ use Rattle.cyc_syntax.specs.declared.tree.PrefixOperator.TheVariants as prefixes
 use Rattle.cyc_syntax.specs.declared.tree.BinaryOperator.{BinaryOperator}
 use Rattle.cyc_syntax.specs.declared.tree.BinaryOperator.TheVariants as operators
 use Rattle.cyc_syntax.specs.Symbols.{Place, Symbol}
-use Rattle.cyc_syntax.specs.Trees.{Named, WrittenType, Expression, Number, Character, Null, HeapRegion, UniqueRegion, Variable, Call, Bracketed, NumberOfElements, LowByteOf, FreeUnique, FreeKey, Chained, Prefixed, New, RegionNew, Binary, Assign, Initial, Plain, Fields, Array, Expressions, NoExpressions, MoreExpressions, Postfixes, NoPostfixes, ThenIndex, ThenField, Operations, NoOperations, ThenOperation, Statement, Block, Labelled, Empty, Evaluate, Swap, If, IfElse, While, Return, Break, Continue, Throw, Try, Body, Braces, Items, NoItems, MoreItems, Execute, Local, Region, Alias, DynamicRegion, Clauses, NoClauses, Default, Case, Member, Constructor, Declaration, StructType, Exceptions, Global, Function, place_of}
-use Rattle.cyc_syntax.specs.Yields.{Leaf, Yield}
+use Rattle.cyc_syntax.specs.Trees.{Named, WrittenType, Expression, Number, Character, Null, HeapRegion, UniqueRegion, Variable, Call, Bracketed, NumberOfElements, LowByteOf, FreeUnique, FreeKey, Chained, Prefixed, New, RegionNew, Binary, Assign, Initial, Plain}
+use Rattle.cyc_syntax.specs.Trees.{Fields, Array, Expressions, NoExpressions, MoreExpressions, Postfixes, NoPostfixes, ThenIndex, ThenField, Operations, NoOperations, ThenOperation, Statement, Block, Labelled, Empty, Evaluate, Swap, If, IfElse, While, Return, Break}
+use Rattle.cyc_syntax.specs.Trees.{Continue, Throw, Try, Body, Braces, Items, NoItems, MoreItems, Execute, Local, Region, Alias, DynamicRegion, Clauses, NoClauses, Default, Case, Member, Constructor, Declaration, StructType, Exceptions, Global, Function, place_of}
+use Rattle.cyc_syntax.specs.Yields.{Yield}
 use Rattle.cyc_syntax.specs.Yields as yields
 use Rattle.cyc_syntax.specs.inside.Weight.{sum_of, constructor_weight, tree_weight}
 use Rattle.cyc_syntax.specs.Grammar.{level, binary_level, unary_level, assignment_level, IsExpression, IsInitial, AreExpressions, ArePostfixes, AreOperations, IsExpressionOrNone, IsStatement, IsBody, AreItems, AreClauses, AreDeclarations, HasTree, max_items, IsWithin, IsWithinLimits}
@@ -33,7 +35,10 @@ use Rattle.cyc_types.specs.typing.Scopes.{Field, Exception, Meaning, Unknown, Fi
 use Rattle.cyc_types.specs.typing.Scopes as scopes
 use Rattle.cyc_types.specs.typing.Tests.{is_unique, is_moved, is_thin_mark, is_int, is_char, is_value, value_of}
 use Rattle.cyc_types.specs.typing.Formation.{struct_demanded}
-use Rattle.cyc_types.specs.typing.Expressions.{passed, passed_demanded, as_int, variable_read, variable_looked, read, looked, rule_looked, Found, place_meant, Reached, pointed, indexed, selected, loaded, pointer_to, address_of, assignment, is_looking, is_looking_first, operand, Joined, peeked_local, then_pointer, is_movable, then_added, ints_joined, tests_joined, sums_joined, null_test, then_compared, equality_joined, joined, instance_of, instantiated, called, key_freed, Placed, Made, on_heap, rule_placement, field_types, arguments_written, fields_known, fields_made, plain_made, array_made, created, rule, rule_all, rule_chain, rule_place, rule_postfixed, rule_further, rule_made}
+use Rattle.cyc_types.specs.typing.Expressions.{passed, passed_demanded, as_int, variable_read, variable_looked, read, looked, rule_looked, Found, place_meant, Reached, pointed, indexed, selected, loaded, pointer_to, address_of, assignment, is_looking}
+use Rattle.cyc_types.specs.typing.Expressions.{is_looking_first, operand, Joined, peeked_local, then_pointer, is_movable, then_added, ints_joined, tests_joined, sums_joined, null_test, then_compared, equality_joined, joined, instance_of, instantiated, called}
+use Rattle.cyc_types.specs.typing.Expressions.{key_freed, Placed, Made, on_heap, rule_placement, field_types, arguments_written, fields_known, fields_made, plain_made, array_made, created, rule, rule_all, rule_chain, rule_place, rule_postfixed, rule_further}
+use Rattle.cyc_types.specs.typing.Expressions.{rule_made}
 use Rattle.cyc_types.specs.typing.Statements.{rule_condition, returned, rule_returned, exception_number, exception_among, thrown, caught, rule_initial, behind_item, rule_statement, rule_body, rule_items, rule_thrown, rule_clauses, with_caught, behind_clause}
 use Rattle.cyc_types.specs.typing.Heads.{Known, fields_of, exceptions_of, signature_of}
 use Rattle.cyc_types.specs.typing.Programs.{Program, exceptions_before, program_known, body_scope, rule_functions, IsTypedProgram}

@@ -6,8 +6,11 @@ use Rattle.cyc_syntax.specs.declared.tree.PrefixOperator.TheVariants as prefixes
 use Rattle.cyc_syntax.specs.declared.tree.BinaryOperator.{BinaryOperator}
 use Rattle.cyc_syntax.specs.declared.tree.BinaryOperator.TheVariants as operators
 use Rattle.cyc_syntax.specs.Symbols.{Place}
-use Rattle.cyc_syntax.specs.Trees.{Named, Expression, Number, Character, Null, HeapRegion, UniqueRegion, Variable, Call, Bracketed, NumberOfElements, LowByteOf, FreeUnique, FreeKey, Chained, Prefixed, New, RegionNew, Binary, Assign, Initial, Plain, Fields, Array, Expressions, NoExpressions, MoreExpressions, Postfixes, NoPostfixes, ThenIndex, ThenField, Operations, NoOperations, ThenOperation, Statement, Block, Labelled, Empty, Evaluate, Swap, If, IfElse, While, Return, Break, Continue, Throw, Try, Body, Braces, WrittenType, Items, NoItems, MoreItems, Execute, Local, Region, Alias, DynamicRegion, Clauses, NoClauses, Default, Case, Member, GlobalValue, Positive, Negative, Byte, NullPointer, ParameterList, Void, Listed, Declaration, StructType, Exceptions, Global, Function, place_of}
-use Rattle.cyc_syntax.specs.inside.Weight.{sum_of, separated_weight, optional_weight, region_list_weight, type_weight, member_weight, value_weight, parameter_list_weight, result_weight, tree_weight}
+use Rattle.cyc_syntax.specs.Trees.{Named, Expression, Number, Character, Null, HeapRegion, UniqueRegion, Variable, Call, Bracketed, NumberOfElements, LowByteOf, FreeUnique, FreeKey, Chained, Prefixed, New, RegionNew, Binary}
+use Rattle.cyc_syntax.specs.Trees.{Assign, Initial, Plain, Fields, Array, Expressions, NoExpressions, MoreExpressions, Postfixes, NoPostfixes, ThenIndex, ThenField, Operations, NoOperations, ThenOperation, Statement, Block}
+use Rattle.cyc_syntax.specs.Trees.{Labelled, Empty, Evaluate, Swap, If, IfElse, While, Return, Break, Continue, Throw, Try, Body, Braces, WrittenType, Items, NoItems, MoreItems, Execute, Local, Region, Alias, DynamicRegion}
+use Rattle.cyc_syntax.specs.Trees.{Clauses, NoClauses, Default, Case, Member, GlobalValue, Positive, Negative, Byte, NullPointer, ParameterList, Void, Listed, Declaration, StructType, Exceptions, Global, Function, place_of}
+use Rattle.cyc_syntax.specs.inside.Weight.{sum_of, separated_weight, optional_weight, type_weight, member_weight, value_weight, parameter_list_weight, tree_weight}
 use Rattle.cyc_syntax.specs.inside.Weight as written
 use Rattle.cyc_types.specs.declared.region.Region.TheVariants as regions
 use Rattle.cyc_types.specs.declared.typed.UnaryOperator.TheVariants as unary
@@ -23,11 +26,14 @@ use Rattle.cyc_types.specs.typing.Scopes.{Meaning, Unknown, Fixed, Counter, Rout
 use Rattle.cyc_types.specs.typing.Scopes as scopes
 use Rattle.cyc_types.specs.typing.Tests.{is_unique, is_moved, is_char}
 use Rattle.cyc_types.specs.typing.Formation.{Naming, type_written, types_for, after_type}
-use Rattle.cyc_types.specs.typing.Expressions.{passed, as_int, variable_read, variable_looked, read, looked, rule_looked, Found, place_meant, Reached, pointed, indexed, selected, loaded, reached, address_of, addressed, place_inside, assignment, is_looking, is_looking_first, operand, Joined, peeked_local, then_pointer, then_added, ints_joined, tests_joined, sums_joined, then_compared, equality_joined, joined, instance_of, instantiated, called, key_freed, Placed, Made, on_heap, rule_placement, field_types, arguments_written, fields_known, created, rule, rule_all, rule_chain, rule_place, rule_postfixed, rule_further, rule_made}
+use Rattle.cyc_types.specs.typing.Expressions.{passed, as_int, variable_read, variable_looked, read, looked, rule_looked, Found, place_meant, Reached, pointed, indexed, selected, loaded, reached, address_of, addressed, place_inside, assignment}
+use Rattle.cyc_types.specs.typing.Expressions.{is_looking, is_looking_first, operand, Joined, peeked_local, then_pointer, then_added, ints_joined, tests_joined, sums_joined, then_compared, equality_joined, joined, instance_of, instantiated}
+use Rattle.cyc_types.specs.typing.Expressions.{called, key_freed, Placed, Made, on_heap, rule_placement, field_types, arguments_written, fields_known, created, rule, rule_all, rule_chain, rule_place, rule_postfixed, rule_further, rule_made}
 use Rattle.cyc_types.specs.typing.Statements.{rule_condition, returned, rule_returned, exception_among, rule_thrown, with_caught, behind_clause, rule_initial, behind_item, rule_statement, rule_body, rule_items, rule_clauses}
 use Rattle.cyc_types.specs.typing.Heads.{members_of, parameter_types, signature_of}
 use Rattle.cyc_types.specs.typing.Programs.{Program, program_known, body_scope, rule_functions, constant_of, globals_of, IsTypedProgram}
-use Rattle.cyc_types.specs.Weight.{expression_weight, dereference_weight, placement_weight, initial_weight, converted_weight, arguments_weight, more_arguments_weight, operations_weight, side_weight, thrown_weight, caught_weight, statement_weight, items_weight, clauses_weight, constant_weight, global_weight, function_weight, program_weight}
+use Rattle.cyc_types.specs.Weight.{expression_weight, dereference_weight, placement_weight, initial_weight, converted_weight, arguments_weight, more_arguments_weight, operations_weight}
+use Rattle.cyc_types.specs.Weight.{side_weight, thrown_weight, caught_weight, statement_weight, items_weight, clauses_weight, constant_weight, global_weight, function_weight, program_weight}
 use Rattle.cyc_types.specs.Declarations.{caught_types, declared_types, item_types, clause_types, declared_regions, item_regions, clause_regions}
 use Rattle.cyc_types.specs.typing.WellTyped.{IsWellTypedFunction, AreWellTypedFunctions, IsWellTypedProgram}
 use Rattle.cyc_types.proofs.WeightLemmas.{else_lighter, else_written, type_token, result_token, word_lighter, parameters_counted}

@@ -3,7 +3,8 @@
 -- 2002; locks, codes and places are this project's own choice.)
 use Rattle.std.specs.Prelude.{ℕ, List, [], ◌∷◌, ◌++◌, Option, Some, None}
 use Rattle.cyc_syntax.specs.Symbols.{Place}
-use Rattle.cyc_types.specs.TypedTrees.{Local, Global, Expression, Converted, Side, VariableSide, CellSide, Statement, Block, Empty, Evaluate, Swap, If, While, Return, Break, Continue, Throw, Try, Items, NoItems, MoreItems, Item, Execute, Declare, DeclareRegion, OpenRegion, DeclareAlias, DeclareKey, Clauses, NoClauses, Default, Case}
+use Rattle.cyc_types.specs.TypedTrees.{Local, Global, Expression, Converted, Side, VariableSide, CellSide, Statement, Block, Empty, Evaluate, Swap, If, While, Return, Break, Continue}
+use Rattle.cyc_types.specs.TypedTrees.{Throw, Try, Items, NoItems, MoreItems, Item, Execute, Declare, DeclareRegion, OpenRegion, DeclareAlias, DeclareKey, Clauses, NoClauses, Default, Case}
 use Rattle.cyc_types.specs.Rules.{Demand, Rule, Own, Part, gives}
 use Rattle.cyc_types.specs.flow.States.{State, Unreached, Vacant, Locked, Full, meet, with_fullness, with_each, emptied}
 use Rattle.cyc_types.specs.flow.Touched.{touched_statement}

@@ -5,7 +5,8 @@ use Rattle.std.specs.Prelude.{ℕ, suc, ◌+◌, Bool, true, false, not, nat_eq,
 use Rattle.std.specs.List.{list_any}
 use Rattle.cyc_words.specs.declared.fault.Code.TheVariants as codes
 use Rattle.cyc_syntax.specs.Symbols.{Place}
-use Rattle.cyc_syntax.specs.Trees.{Named, WrittenType, Expression, Statement, Block, Labelled, Empty, Evaluate, Swap, If, IfElse, While, Return, Break, Continue, Throw, Try, Body, Braces, Items, NoItems, MoreItems, Item, Execute, Local, Region, Alias, DynamicRegion, Clauses, NoClauses, Default, Case, place_of}
+use Rattle.cyc_syntax.specs.Trees.{Named, WrittenType, Expression, Statement, Block, Labelled, Empty, Evaluate, Swap, If, IfElse, While, Return, Break, Continue, Throw, Try}
+use Rattle.cyc_syntax.specs.Trees.{Body, Braces, Items, NoItems, MoreItems, Item, Execute, Local, Region, Alias, DynamicRegion, Clauses, NoClauses, Default, Case, place_of}
 use Rattle.cyc_types.specs.declared.region.Region.{Region as RegionCode}
 use Rattle.cyc_types.specs.declared.region.Region.TheVariants as regions
 use Rattle.cyc_types.specs.declared.scope.Kind.TheVariants as kinds
@@ -13,7 +14,8 @@ use Rattle.cyc_types.specs.Types.{region_eq, Ty, Int, Pointer, Handle, Key, Valu
 use Rattle.cyc_types.specs.TypedTrees.{Lvalue, Global, Converted, type_of}
 use Rattle.cyc_types.specs.TypedTrees as typed
 use Rattle.cyc_types.specs.Rules.{fault_at, Demand, demand, Rule, Refused, Own, Part, gives, demands}
-use Rattle.cyc_types.specs.typing.Scopes.{RegionName, Exception, Meaning, Unknown, Fixed, Counter, Routine, Ordinary, OfRegion, Scope, is_taken, is_declared, meaning_of, counted, item_locals, item_regions, item_names, behind, in_block, with_name, in_labelled, in_body, with_local, with_opened, with_region, with_key_opened}
+use Rattle.cyc_types.specs.typing.Scopes.{Exception, Meaning, Unknown, Fixed, Counter, Routine, Ordinary, OfRegion, Scope, is_taken, is_declared, meaning_of, counted, item_locals}
+use Rattle.cyc_types.specs.typing.Scopes.{item_regions, item_names, behind, in_block, with_name, in_labelled, in_body, with_local, with_opened, with_region, with_key_opened}
 use Rattle.cyc_types.specs.typing.Scopes as scopes
 use Rattle.cyc_types.specs.typing.Tests.{is_left_out, ty_eq, is_unique, is_key, is_struct, is_int, region_of}
 use Rattle.cyc_types.specs.typing.Formation.{is_known, type_written, type_demanded}

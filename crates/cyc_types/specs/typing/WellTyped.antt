@@ -19,7 +19,10 @@ use Rattle.cyc_types.specs.declared.typed.PointerOperator.TheVariants as pointer
 use Rattle.cyc_types.specs.Types.{Ty, Int, Char, Pointer, Handle, Key, Struct, ValueType, Void, Null, Value, result_type, substituted_ty}
 use Rattle.cyc_types.specs.Outlives.{RegionContext, OutlivesIn, live_regions}
 use Rattle.cyc_types.specs.Declarations.{declared_types, item_types, caught_types, declared_regions, item_regions}
-use Rattle.cyc_types.specs.TypedTrees.{unary_type, Lvalue, Local, Global, Expression, Number, NullPointer, HeapRegion, Counter, Copy, Move, Peek, Load, AddressOf, AddressOfCell, NumberOfElements, FreeUnique, FreeKey, Call, Unary, Binary, Assign, Store, New, Dereference, Target, Member, Element, Placement, OnHeap, AsUnique, ByHandle, Initial, Plain, Fields, Array, Converted, Convert, Arguments, NoArguments, MoreArguments, Operations, NoOperations, ThenCompute, ThenTest, ThenPointer, ThenPointerPeek, Side, VariableSide, CellSide, Statement, Block, Empty, Evaluate, Swap, If, While, Return, Break, Continue, Throw, Try, Items, NoItems, MoreItems, Execute, Declare, DeclareRegion, OpenRegion, DeclareAlias, DeclareKey, Clauses, NoClauses, Default, Case, Word, Null, StructType, GlobalVariable, Signature, Function, Program}
+use Rattle.cyc_types.specs.TypedTrees.{unary_type, Lvalue, Local, Global, Expression, Number, NullPointer, HeapRegion, Counter, Copy, Move, Peek, Load, AddressOf, AddressOfCell, NumberOfElements, FreeUnique, FreeKey, Call, Unary, Binary}
+use Rattle.cyc_types.specs.TypedTrees.{Assign, Store, New, Dereference, Target, Member, Element, Placement, OnHeap, AsUnique, ByHandle, Initial, Plain, Fields, Array, Converted, Convert, Arguments, NoArguments, MoreArguments, Operations}
+use Rattle.cyc_types.specs.TypedTrees.{NoOperations, ThenCompute, ThenTest, ThenPointer, ThenPointerPeek, Side, VariableSide, CellSide, Statement, Block, Empty, Evaluate, Swap, If, While, Return, Break, Continue, Throw, Try, Items}
+use Rattle.cyc_types.specs.TypedTrees.{NoItems, MoreItems, Execute, Declare, DeclareRegion, OpenRegion, DeclareAlias, DeclareKey, Clauses, NoClauses, Default, Case, Word, Null, StructType, GlobalVariable, Signature, Function, Program}
 use Rattle.cyc_types.specs.typing.Scopes.{signature_of_ints, with_scope}
 use Rattle.cyc_types.specs.typing.Tests.{is_thin_mark, is_non_null, is_unique, is_key, is_struct, is_moved, is_tested, kind_of_mark, kind_of, kind_of_value}
 use Rattle.cyc_types.specs.typing.Expressions.{assigned_type, instantiated}

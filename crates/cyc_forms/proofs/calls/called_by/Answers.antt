@@ -6,7 +6,7 @@ use Rattle.cyc_types.specs.TypeView.{view_ty}
 use Rattle.cyc_types.specs.TypedTrees.{Call}
 use Rattle.cyc_types.specs.TypedTreeView.{arguments_of}
 use Rattle.cyc_types.specs.inside.SignatureView.{view_signature}
-use Rattle.cyc_types.specs.Rules.{settled, unless, run}
+use Rattle.cyc_types.specs.Rules.{settled, unless}
 use Rattle.cyc_types.specs.typing.Expressions.{instance_of, instantiated, call_demanded, called_by}
 use Rattle.cyc_scope.specs.inside.Code.{Gives}
 use Rattle.cyc_forms.specs.inside.Forms.{view_boxed, value_in}

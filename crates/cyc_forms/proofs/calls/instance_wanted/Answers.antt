@@ -12,7 +12,7 @@ use Rattle.cyc_forms.specs.inside.Forms.{value_in}
 use Rattle.cyc_forms.specs.inside.Instances.{instance_in}
 use Rattle.cyc_forms.specs.inside.Fitting.{FitsCall}
 use Rattle.cyc_forms.specs.inside.Calls.{regions_demanded}
-use Rattle.cyc_forms.proofs.Settling.{stops_at}
+use Rattle.cyc_forms.proofs.Settling.{stops_unless}
 use Rattle.cyc_forms.proofs.FittedValues.{fitting_run}
 use Rattle.cyc_forms.proofs.calls.instance_wanted.Goals as goal
 
@@ -58,7 +58,7 @@ returns-in_err-call_wanted c =
     let same : c.deref-3.result.now ≡ c.in_ok-table-2.table.items = search rules in
     let is : instance_in c.in_ok-table-2.table.items ≡ instance_of s vs = search rules in
     let stops : Gives (λ (t : SmallVec (Option Region) 5 Global). instance_in t.items) c.from_residual-in_err-call_wanted.result (unless asked here) =
-    rw (answered.1, answered.2) (stops_at e asked here c.in_err-call_wanted.ensures) in
+    rw (answered.1, answered.2) (stops_unless e asked here c.in_err-call_wanted.ensures) in
     subst (λ (m : List Region). Gives (λ (t : SmallVec (Option Region) 5 Global). instance_in t.items) c.from_residual-in_err-call_wanted.result (unless (settled None (call_demanded g p es vs s (instantiated m s))) m)) (ap instance_in same ∙ is) stops
 
 pub returns : goal.returns

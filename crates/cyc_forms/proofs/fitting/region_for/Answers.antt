@@ -4,7 +4,7 @@ use Rattle.std.proofs.lemmas.Option.{slice_get_read}
 use Rattle.cyc_types.specs.declared.region.Region.TheVariants.{Unique, Variable}
 use Rattle.cyc_types.specs.Types.{region_eq}
 use Rattle.cyc_forms.specs.inside.Fitting.{Stands}
-use Rattle.cyc_forms.proofs.FittedValues.{stands_known, stands_first}
+use Rattle.cyc_forms.proofs.FittedValues.{stands_known, first_stands}
 use Rattle.cyc_forms.proofs.fitting.region_for.Goals as goal
 
 pub returns-in-Some-Some : goal.returns-in-Some-Some
@@ -32,4 +32,4 @@ returns-in-Some-None c =
     let is_none : o ≡ None = search rules in
     let noted : slice_get table n ≡ Some o = slice_get_read table (length table) n o refl (ltb-true n (length table) (sym there.0)) there.1 in
     let other : region_eq s Unique ≡ false = search rules in
-    subst (λ w. Stands table (slice_set table n (Some s)) w s s) (sym is) (stands_first table n s (noted ∙ ap Some is_none) other)
+    subst (λ w. Stands table (slice_set table n (Some s)) w s s) (sym is) (first_stands table n s (noted ∙ ap Some is_none) other)

@@ -17,11 +17,16 @@ use Rattle.cyc_types.specs.declared.typed.PointerOperator.{PointerOperator}
 use Rattle.cyc_types.specs.declared.typed.PointerOperator.TheVariants as pointers
 use Rattle.cyc_types.specs.Types.{Ty, words_of, words_of_mark, substituted_ty, ValueType, Void, Value, result_type}
 use Rattle.cyc_types.specs.Types as type_forms
-use Rattle.cyc_types.specs.TypedTrees.{Load, New, OnHeap, AsUnique, ByHandle, Initial, Plain, Fields, Array, Dereference, Target, Lvalue, Local, Global, Expression, Number, NullPointer, Copy, Peek, Call, Unary, Binary, Assign, Converted, Convert, Arguments, NoArguments, MoreArguments, Operations, NoOperations, ThenCompute, ThenTest, ThenPointer, Statement, Block, Empty, Evaluate, If, While, Return, Break, Continue, Items, NoItems, MoreItems, Execute, Declare, Signature, StructType, Function, Program, Store, Member, Element, type_of_place, type_of, HeapRegion, Counter, Move, AddressOf, AddressOfCell, NumberOfElements, FreeUnique, FreeKey, ThenPointerPeek, Side, VariableSide, CellSide, Swap, Throw, Try, Clauses, NoClauses, Default, Case, DeclareRegion, OpenRegion, DeclareAlias, DeclareKey}
+use Rattle.cyc_types.specs.TypedTrees.{Load, New, OnHeap, AsUnique, ByHandle, Initial, Plain, Fields, Array, Dereference, Target, Lvalue, Local, Global, Expression, Number, NullPointer, Copy, Peek, Call, Unary, Binary, Assign}
+use Rattle.cyc_types.specs.TypedTrees.{Converted, Convert, Arguments, NoArguments, MoreArguments, Operations, NoOperations, ThenCompute, ThenTest, ThenPointer, Statement, Block, Empty, Evaluate, If, While, Return, Break, Continue}
+use Rattle.cyc_types.specs.TypedTrees.{Items, NoItems, MoreItems, Execute, Declare, Signature, StructType, Function, Program, Store, Member, Element, type_of_place, type_of, HeapRegion, Counter, Move, AddressOf, AddressOfCell}
+use Rattle.cyc_types.specs.TypedTrees.{NumberOfElements, FreeUnique, FreeKey, ThenPointerPeek, Side, VariableSide, CellSide, Swap, Throw, Try, Clauses, NoClauses, Default, Case, DeclareRegion, OpenRegion, DeclareAlias, DeclareKey}
 use Rattle.cyc_types.specs.typing.Statements.{with_region_of}
 use Rattle.cyc_types.specs.typing.Tests as tests
 use Rattle.cyc_types.specs.typing.Expressions.{type_of_side}
-use Rattle.cyc_types.specs.typing.WellTyped.{with_counter, Context, PointerOperation, adds, subtracts, equals, differs, thin_null, thin_there, fat_null, fat_there, null_is, null_is_not, IsCallee, Converts, IsPeek, WellTyped, IsCell, IsConverted, ArePassed, IsChain, IsCondition, IsReturned, IsInitial, WellTypedStatement, WellTypedItems, behind, in_block, in_body, with_local, body_context, AreWellTypedFunctions, IsWellTypedProgram, IsLeft, IsMade, IsSide, IsThrown, IsCaught, WellTypedClauses, with_caught, behind_clause, with_opened, with_key_opened, with_region, IsPlace}
+use Rattle.cyc_types.specs.typing.WellTyped.{with_counter, Context, PointerOperation, adds, subtracts, equals, differs, thin_null, thin_there, fat_null, fat_there, null_is, null_is_not, IsCallee, Converts, IsPeek, WellTyped}
+use Rattle.cyc_types.specs.typing.WellTyped.{IsCell, IsConverted, ArePassed, IsChain, IsCondition, IsReturned, IsInitial, WellTypedStatement, WellTypedItems, behind, in_block, in_body, with_local, body_context}
+use Rattle.cyc_types.specs.typing.WellTyped.{AreWellTypedFunctions, IsWellTypedProgram, IsLeft, IsMade, IsSide, IsThrown, IsCaught, WellTypedClauses, with_caught, behind_clause, with_opened, with_key_opened, with_region, IsPlace}
 use Rattle.cyc_types.specs.Numbered.{Numbering, signatures_of, IsSignature, argument_count, numbering_of}
 use Rattle.cyc_types.specs.Texts.{is_comparison, are_sums, stands_alone}
 use Rattle.cyc_meaning.specs.Pointers.{result_kind as operator_kind}

@@ -13,12 +13,14 @@ use Rattle.cyc_plain.specs.declared.instruction.Operand.TheVariants as operands
 use Rattle.cyc_plain.specs.declared.instruction.Instruction.{Instruction}
 use Rattle.cyc_plain.specs.inside.State as plain
 use Rattle.cyc_plain.specs.inside.State.{Frame, Words, put}
-use Rattle.cyc_meaning.specs.State.{FreeObject, CloseByKey, PlaceBy, BesideHandle, CountElements, Index, Advance, ThrowWith, SwapLeft, SwapRight, Handler, ConvertTo, Operate, Chain, Apply, ApplyPointer, Follow, LoadFrom, Decide, Store, Pass, MakePlain, MakeFields, MakeArray, FillElement, Initialise, Choose, Test, Return, Entry, Needs, NeedsPlace, Discard, Rest, Join, Loop, CloseRegion, EndLoan, CloseLexical, Caller, Main, FollowMember, TakeAddress, StoreTo, StoreCell, OpenBy, AliasOf}
+use Rattle.cyc_meaning.specs.State.{FreeObject, CloseByKey, PlaceBy, BesideHandle, CountElements, Index, Advance, ThrowWith, SwapLeft, SwapRight, Handler, ConvertTo, Operate, Chain, Apply, ApplyPointer, Follow, LoadFrom, Decide, Store, Pass, MakePlain, MakeFields}
+use Rattle.cyc_meaning.specs.State.{MakeArray, FillElement, Initialise, Choose, Test, Return, Entry, Needs, NeedsPlace, Discard, Rest, Join, Loop, CloseRegion, EndLoan, CloseLexical, Caller, Main, FollowMember, TakeAddress, StoreTo, StoreCell, OpenBy, AliasOf}
 use Rattle.cyc_lower.specs.declared.statements.Exits.{Exits}
 use Rattle.cyc_lower.specs.inside.ValueCode.{reached_operand, followed_operand}
 use Rattle.cyc_meaning.specs.Pointers.{result_kind as operator_kind}
 use Rattle.cyc_lower.proofs.slots.Widths.{chain_kind, made_kind}
-use Rattle.cyc_lower.proofs.relation.simulation.Relation.{base_of, Lands, in_temporary, in_local, HandsOn, drops, leaves, copies, Prints, prints_only, gives_byte, to_slot, to_jump, ValueStack, PlaceStack, DecidedStack, ChosenAt, RepeatedAt, DroppedStack, AheadStack, StatementStack, called_at, returned_at, top, floor, code_of, bounds_at, types_on, LandsStack, LandsMade, HandsOnStack, HandlersStand, CatchesAt}
+use Rattle.cyc_lower.proofs.relation.simulation.Relation.{base_of, Lands, in_temporary, in_local, HandsOn, drops, leaves, copies, Prints, prints_only, gives_byte, to_slot, to_jump, ValueStack, PlaceStack, DecidedStack, ChosenAt, RepeatedAt}
+use Rattle.cyc_lower.proofs.relation.simulation.Relation.{DroppedStack, AheadStack, StatementStack, called_at, returned_at, top, floor, code_of, bounds_at, types_on, LandsStack, LandsMade, HandsOnStack, HandlersStand, CatchesAt}
 use Rattle.cyc_lower.proofs.relation.contents.HandlerData.{handlers_same}
 use Rattle.cyc_lower.proofs.relation.code.Tested.{tests_go, forks_go}
 use Rattle.cyc_plain.proofs.MemoryLaws.{with_slot_of}

@@ -5,7 +5,8 @@ use Rattle.std.proofs.lemmas.Bool.{eqb-true, false_from_ne_true}
 use Rattle.std.proofs.lemmas.Option.{none-some}
 use Rattle.cyc_words.proofs.Items.{slice_get_last_cases}
 use Rattle.cyc_plain.specs.inside.State.{Words}
-use Rattle.cyc_meaning.specs.State.{FreeObject, CloseByKey, PlaceBy, BesideHandle, CountElements, Index, Advance, LoadFrom, TakeAddress, StoreTo, Awaiting, ConvertTo, Operate, Chain, Apply, ApplyPointer, Follow, FollowMember, Decide, Store, StoreCell, Pass, MakePlain, MakeFields, MakeArray, FillElement, Entry, Needs, NeedsPlace, Caller}
+use Rattle.cyc_meaning.specs.State.{FreeObject, CloseByKey, PlaceBy, BesideHandle, CountElements, Index, Advance, LoadFrom, TakeAddress, StoreTo, Awaiting, ConvertTo, Operate, Chain, Apply}
+use Rattle.cyc_meaning.specs.State.{ApplyPointer, Follow, FollowMember, Decide, Store, StoreCell, Pass, MakePlain, MakeFields, MakeArray, FillElement, Entry, Needs, NeedsPlace, Caller}
 use Rattle.cyc_objects.specs.inside.Tables.{Tables}
 use Rattle.cyc_lower.proofs.relation.contents.HeldValues.{height, Holds, held, counters_of, arrays_in, AreCounted}
 use Rattle.cyc_lower.proofs.relation.contents.Data.{Holds-rest, height-append}

@@ -14,7 +14,9 @@ use Rattle.cyc_plain.specs.inside.State.{Words}
 use Rattle.cyc_plain.specs.inside.State as plain
 use Rattle.cyc_plain.specs.inside.Memory.{slots_base, is_pinned}
 use Rattle.cyc_meaning.specs.Values.{Fat, Value, Handle, Operand as Kinded, Cell, words_of_kind}
-use Rattle.cyc_meaning.specs.State.{Owner, InRegion, Unique, Object, heap_number, ConvertTo, Operate, Chain, Apply, ApplyPointer, Follow, LoadFrom, Decide, Store, Pass, PlaceBy, BesideHandle, MakePlain, MakeFields, MakeArray, FillElement, Initialise, Choose, Test, Return, Entry, Needs, NeedsPlace, Loop, CloseRegion, CloseLexical, Handler, Caller, Main, Focus, Breaking, Continuing, Returning, FollowMember, TakeAddress, StoreTo, StoreCell, FreeObject, CloseByKey, SwapLeft, SwapRight, CountElements, Index, Advance}
+use Rattle.cyc_meaning.specs.State.{Owner, InRegion, Unique, Object, heap_number, ConvertTo, Operate, Chain, Apply, ApplyPointer, Follow, LoadFrom, Decide, Store, Pass, PlaceBy, BesideHandle}
+use Rattle.cyc_meaning.specs.State.{MakePlain, MakeFields, MakeArray, FillElement, Initialise, Choose, Test, Return, Entry, Needs, NeedsPlace, Loop, CloseRegion, CloseLexical, Handler, Caller, Main}
+use Rattle.cyc_meaning.specs.State.{Focus, Breaking, Continuing, Returning, FollowMember, TakeAddress, StoreTo, StoreCell, FreeObject, CloseByKey, SwapLeft, SwapRight, CountElements, Index, Advance}
 use Rattle.cyc_meaning.specs.inside.Nesting.{lexicals_of}
 use Rattle.cyc_lower.specs.inside.Slots.{Types, starts_of, slot_of, global_of}
 use Rattle.cyc_lower.specs.inside.ValueCode.{variable_bytes}

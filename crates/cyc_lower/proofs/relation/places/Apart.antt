@@ -16,7 +16,7 @@ use Rattle.cyc_meaning.specs.State.{World}
 use Rattle.cyc_objects.specs.inside.Tables.{Tables}
 use Rattle.cyc_objects.specs.inside.Words.{Points}
 use Rattle.cyc_objects.specs.inside.Related as objects
-use Rattle.cyc_objects.specs.inside.Related.{LiveVariable, AreApart}
+use Rattle.cyc_objects.specs.inside.Related.{AreApart}
 use Rattle.cyc_objects.proofs.Values.{kind-some}
 use Rattle.cyc_lower.specs.inside.Slots.{Types, slot_of, global_types}
 use Rattle.cyc_lower.specs.inside.Lowering.{lower_program}

@@ -37,7 +37,10 @@ use Rattle.cyc_plain.specs.inside.State as plain
 use Rattle.cyc_plain.specs.inside.Straight.{At}
 use Rattle.cyc_meaning.specs.Values.{Fat, Value, Thin, Operand as Kinded, kinds_of, words_of_kind, bytes_of_kind, is_thin, words_for}
 use Rattle.cyc_meaning.specs.Allocation.{writes_from, blanks_of}
-use Rattle.cyc_meaning.specs.State.{Object, World, globals_number, Environment, ConvertTo, Operate, Chain, Apply, ApplyPointer, Follow, LoadFrom, Decide, Store, Pass, PlaceBy, BesideHandle, MakePlain, MakeFields, MakeArray, FillElement, Initialise, Choose, Test, Return, Entry, Needs, NeedsPlace, Discard, Rest, Join, Loop, CloseRegion, CloseLexical, EndLoan, Handler, Caller, Main, calls_in, Focus, Evaluating, Locating, Given, Executing, Proceeding, Calling, Entering, Binding, Writing, Beginning, Repeating, Breaking, Continuing, Returning, Throwing, State, Running, Ended, GivenPlace, FollowMember, TakeAddress, StoreTo, StoreCell, FreeObject, CloseByKey, SwapLeft, SwapRight, Write, Swapping, ThrowWith, Naming, Catching, CountElements, Index, Advance, OpenBy, AliasOf}
+use Rattle.cyc_meaning.specs.State.{Object, World, globals_number, Environment, ConvertTo, Operate, Chain, Apply, ApplyPointer, Follow, LoadFrom, Decide, Store, Pass, PlaceBy, BesideHandle, MakePlain, MakeFields, MakeArray}
+use Rattle.cyc_meaning.specs.State.{FillElement, Initialise, Choose, Test, Return, Entry, Needs, NeedsPlace, Discard, Rest, Join, Loop, CloseRegion, CloseLexical, EndLoan, Handler, Caller, Main, calls_in, Focus, Evaluating}
+use Rattle.cyc_meaning.specs.State.{Locating, Given, Executing, Proceeding, Calling, Entering, Binding, Writing, Beginning, Repeating, Breaking, Continuing, Returning, Throwing, State, Running, Ended, GivenPlace, FollowMember}
+use Rattle.cyc_meaning.specs.State.{TakeAddress, StoreTo, StoreCell, FreeObject, CloseByKey, SwapLeft, SwapRight, Write, Swapping, ThrowWith, Naming, Catching, CountElements, Index, Advance, OpenBy, AliasOf}
 use Rattle.cyc_meaning.specs.Step.{object_of}
 use Rattle.cyc_meaning.specs.Operators.{null_exception, is_zero, unary_kind}
 use Rattle.cyc_meaning.specs.FrameCount.{words_of_all}
@@ -51,8 +54,11 @@ use Rattle.cyc_lower.specs.inside.ControlCode.{break_target, continue_target, bo
 use Rattle.cyc_lower.specs.inside.ExpressionCode.{are_simple, is_simple}
 use Rattle.cyc_lower.specs.inside.Lowering.{results_of, lower_program, raises_of, globals_of, scopes_of}
 use Rattle.cyc_lower.proofs.slots.Widths.{kind_of_result, given, called_kind, HasRoom, Outside, chain_kind, HasGlobal, made_kind, HasLocal, kind_in}
-use Rattle.cyc_lower.proofs.relation.code.Stands.{BegunAt, ElementsAt, CheckAt, ConversionAt, PlaceAt, OperatorAt, TruthAt, CopyAt, ExpressionAt, ArgumentsAt, OperationsAt, ValueAt, ComparesAt, Forks, BranchesAt, TestsAt, DiscardedAt, StatementAt, ItemsAt, PointerAt, CellsAt, ObjectAt, AddressAt, ConvertedOperandAt, FreedAt, HasSide, SideAt, ReadAt, WriteAt, ExchangeAt, LeaveAt, ClausesAt, CountAt, SavedAt, LoadedAt, FollowedAt, ReachedAt, GlobalAt, ClosedAt, MarksAt, RestoredAt, MadeAt, NamedAt, EntryAt}
-use Rattle.cyc_lower.proofs.relation.contents.HeldValues.{IsIn, IsLow, IsParts, words_held, height, Holds, HoldsFrom, held, kept, counters_of, AreCounted, IsHandleOf, IsObject, CallSlots, LocalsHold, GlobalsHold, behind_records, scopes_in, MayBeOpen, Waiting, callers, Newest, IsIntact, IsKept, left_by, handling, homes}
+use Rattle.cyc_lower.proofs.relation.code.Stands.{BegunAt, ElementsAt, CheckAt, ConversionAt, PlaceAt, OperatorAt, TruthAt, CopyAt, ExpressionAt, ArgumentsAt, OperationsAt, ValueAt, ComparesAt, Forks}
+use Rattle.cyc_lower.proofs.relation.code.Stands.{BranchesAt, TestsAt, DiscardedAt, StatementAt, ItemsAt, PointerAt, CellsAt, ObjectAt, AddressAt, ConvertedOperandAt, FreedAt, HasSide, SideAt, ReadAt}
+use Rattle.cyc_lower.proofs.relation.code.Stands.{WriteAt, ExchangeAt, LeaveAt, ClausesAt, CountAt, SavedAt, LoadedAt, FollowedAt, ReachedAt, GlobalAt, ClosedAt, MarksAt, RestoredAt, MadeAt, NamedAt, EntryAt}
+use Rattle.cyc_lower.proofs.relation.contents.HeldValues.{IsIn, IsLow, IsParts, words_held, height, Holds, HoldsFrom, held, kept, counters_of, AreCounted, IsHandleOf, IsObject, CallSlots}
+use Rattle.cyc_lower.proofs.relation.contents.HeldValues.{LocalsHold, GlobalsHold, behind_records, scopes_in, MayBeOpen, Waiting, callers, Newest, IsIntact, IsKept, left_by, handling, homes}
 
 -- ---- what is shared
 

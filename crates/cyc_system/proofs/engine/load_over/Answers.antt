@@ -1,4 +1,4 @@
-use Rattle.std.proofs.Common.{Ok, sym, subst}
+use Rattle.std.proofs.Common.{sym, subst}
 use Rattle.std.proofs.lemmas.Bool.{false_from_ne_true}
 use Rattle.cyc_elf.specs.Outline.{outlined}
 use Rattle.cyc_machine.specs.Start.{has_outside}

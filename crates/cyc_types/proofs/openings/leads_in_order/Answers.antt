@@ -1,7 +1,6 @@
 use Rattle.std.proofs.Common.{sym, ◌∙◌, arith, reverse}
 use Rattle.cyc_words.proofs.Booleans.{never_true_and_false}
 use Rattle.cyc_types.specs.Outlives.{is_outlived_by_live}
-use Rattle.cyc_types.specs.Types.{region_eq}
 use Rattle.cyc_types.specs.Closure.{written_in}
 use Rattle.cyc_types.specs.inside.Openings.{scope_at}
 use Rattle.cyc_types.proofs.RegionLemmas.{derived-region_eq, region_eq-true}

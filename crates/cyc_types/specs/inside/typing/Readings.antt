@@ -13,10 +13,11 @@ use Rattle.cyc_types.specs.Types.{region_eq, Ty, result_type}
 use Rattle.cyc_types.specs.TypedTrees.{Lvalue, Converted, Signature, type_of, type_of_place}
 use Rattle.cyc_types.specs.TypedTrees as typed
 use Rattle.cyc_types.specs.Rules.{fault_at, AllKept, Derives, Refuses}
-use Rattle.cyc_types.specs.typing.Scopes.{Meaning, Unknown, Fixed, Routine, Scope, is_live, meaning_of, is_declared, is_taken, in_labelled}
+use Rattle.cyc_types.specs.typing.Scopes.{Unknown, Routine, Scope, is_live, is_declared, is_taken, in_labelled}
 use Rattle.cyc_types.specs.typing.Scopes as scopes
 use Rattle.cyc_types.specs.typing.Tests.{ty_eq, is_pointer, is_unique, is_key, is_struct, is_void, is_tested, is_value, is_fat, value_of, region_of, kind_of, kind_of_value}
-use Rattle.cyc_types.specs.typing.Expressions.{is_alike, is_null_allowed, is_outlived, conversion, as_int, is_readable, variable_read, read, rule_looked, Found, type_of_side, pointed, passed, passed_demanded, pointer_to, address_of, assignment, instance_of, instantiated, variables_demanded, constraints_demanded, effect_demanded, called, rule, rule_place}
+use Rattle.cyc_types.specs.typing.Expressions.{is_alike, is_null_allowed, is_outlived, conversion, as_int, is_readable, variable_read, read, rule_looked, Found, type_of_side, pointed, passed, passed_demanded}
+use Rattle.cyc_types.specs.typing.Expressions.{pointer_to, address_of, assignment, instance_of, instantiated, variables_demanded, constraints_demanded, effect_demanded, called, rule, rule_place}
 use Rattle.cyc_types.specs.typing.Statements.{swapped, local_type, rule_initial, rule_lexical, rule_statement, rule_body}
 
 module _ (g : Scope) where

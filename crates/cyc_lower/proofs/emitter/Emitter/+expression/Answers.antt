@@ -14,7 +14,8 @@ use Rattle.cyc_lower.specs.inside.ValueCode.{copy_code, conversion_code, test_ju
 use Rattle.cyc_lower.specs.inside.ExpressionCode.{value_operand, brought_code}
 use Rattle.cyc_lower.specs.inside.Emission.{Gives, left_code, operation_code, view_starts}
 use Rattle.cyc_lower.proofs.emission.Emitting.{Remains, goes_on, emitted_joined, passed_on, slot_by_count, made_elements}
-use Rattle.cyc_lower.proofs.emission.ExpressionEmitting.{all_arguments, one_argument, next_argument, arguments_lower, all_operations, one_operation, next_operation, operations_lower, made_putchar, made_call, made_called, made_fields, made_binary, room_behind, made_left_alone, made_left_first, made_compute, made_test, room_after, made_print, made_assigned, room_for_right, made_stored, made_left_operand}
+use Rattle.cyc_lower.proofs.emission.ExpressionEmitting.{all_arguments, one_argument, next_argument, arguments_lower, all_operations, one_operation, next_operation, operations_lower, made_putchar, made_call, made_called, made_fields}
+use Rattle.cyc_lower.proofs.emission.ExpressionEmitting.{made_binary, room_behind, made_left_alone, made_left_first, made_compute, made_test, room_after, made_print, made_assigned, room_for_right, made_stored, made_left_operand}
 use Rattle.cyc_lower.proofs.emitter.Emitter.+expression.Goals.{lower_left-then-is_empty, lower_left-else-is_empty, lower_operations-then-behind-eq0, lower_operations-else-behind-eq0}
 use Rattle.cyc_lower.proofs.slots.CellBytes.{passed_slots}
 use Rattle.cyc_lower.proofs.emitter.Emitter.+expression.Goals as goal
