@@ -9,6 +9,7 @@ pub mod CostLemmas
 pub mod CostSteps
 pub mod CostRuns
 pub mod FrameSteps
+pub mod KeptParts
 pub mod KeptSteps
 pub mod OutermostRuns
 pub mod MoreLemmas

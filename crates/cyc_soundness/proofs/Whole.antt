@@ -40,9 +40,10 @@ use Rattle.cyc_soundness.specs.inside.Classes.{IsDeclarable, InFunctions, InGlob
 use Rattle.cyc_soundness.specs.inside.Stacks.{IsAccepted, operands_in, Comes, AreGiven, Val, PlaceOf, regions_at_call, IsStack, IsFocus, IsWell}
 use Rattle.cyc_soundness.specs.Sound.{IsSound}
 use Rattle.cyc_soundness.proofs.types.TypeLemmas.{kind_meant}
-use Rattle.cyc_soundness.proofs.states.StackLemmas.{AreAccepted, none_among}
+use Rattle.cyc_soundness.proofs.states.StackLemmas.{AreAccepted}
+use Rattle.cyc_soundness.proofs.states.StackLocals.{none_among}
 use Rattle.cyc_soundness.proofs.states.Cells.{running}
-use Rattle.cyc_soundness.proofs.steps.Objects.{begin_array, repeat_on, write_on}
+use Rattle.cyc_soundness.proofs.steps.ArrayObjects.{begin_array, repeat_on, write_on}
 use Rattle.cyc_soundness.proofs.steps.Swapping.{swapped_on, swapping_on}
 use Rattle.cyc_soundness.proofs.steps.Places.{locate, place_given}
 use Rattle.cyc_soundness.proofs.steps.Evaluation.{evaluate}

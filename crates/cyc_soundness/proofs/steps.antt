@@ -1,5 +1,6 @@
 -- each step of a typed state leads to a typed state
 pub mod Objects
+pub mod ArrayObjects
 pub mod Swapping
 pub mod Places
 pub mod Evaluation

@@ -2,4 +2,5 @@
 pub mod TypeLemmas
 pub mod ValueLemmas
 pub mod RegionLemmas
+pub mod CallRegions
 pub mod Sharing

@@ -16,16 +16,17 @@ use Rattle.cyc_meaning.specs.State.{Region, World, Object, Found, Closed, cell_a
 use Rattle.cyc_meaning.specs.Objects.{found_object, object_at}
 use Rattle.cyc_meaning.specs.Parts.{wrong, read, loaded, stored}
 use Rattle.cyc_meaning.specs.inside.Nesting.{ends_of, AreOpen}
-use Rattle.cyc_soundness.specs.inside.Lives.{Life, OfRegion, Owned, Kept, RunTy, RunValue, Int, Char, Pointer, Handle, Key, Struct, Value, Lives, at, kind_at, heap_life}
-use Rattle.cyc_soundness.specs.inside.Lives.{at as at'}
+use Rattle.cyc_soundness.specs.inside.Lives.{Life, OfRegion, Owned, Kept, RunTy, RunValue, Int, Char, Pointer, Handle, Key, Struct, Value, Lives, at, kind_at, heap_life, at as at'}
 use Rattle.cyc_soundness.specs.inside.Worlds.{IsKept, IsPlain, PointerTo, thing_of, same_thing, given, giving, Thing, Holder, Hand, At, IsHeld, pointer_at, Claims, ClaimsPart, ClaimsBy, IsHad, IsOpenObject, IsKeyless, AreKeyless, Stays, ObjectType, Typing}
 use Rattle.cyc_soundness.specs.inside.Worlds.{IsOpenIn, Outlasts, alike, heap as for_ever, globals as with_globals, stays, encloses, IsFilled, IsPart, IsTarget, HasType, IsResult, IsTyped, IsOpenLife, borrows, KeyOf, life_at, lent_now, global_life, Standing, Away}
 use Rattle.cyc_soundness.specs.inside.Frames.{InScope, IsBound, AreVariables, LiveIn, Holds, Exits, KnowsProgram, IsLasting}
 use Rattle.cyc_soundness.specs.inside.Stacks.{IsCommonLife, IsByType, Val, operands_in, IsStack, IsFocus, IsWell}
 use Rattle.cyc_soundness.proofs.types.TypeLemmas.{is_kind_same}
 use Rattle.cyc_soundness.proofs.states.WorldLemmas.{typed_cell, cell_there, live_object, result_grown, risen, risen_past, with_filled, written_grows, cell_written, globals_grown}
-use Rattle.cyc_soundness.proofs.states.Hands.{Changed, at_no_hand, given_now, giving_changed, given_typed, hands_globals, variables_kept, changed_after, variables_marked, variables_grown, lent_no_hand}
-use Rattle.cyc_soundness.proofs.states.StackLemmas.{open_of, globals_among, kept_open, object_known, open_outlasting, IsPresent, outlasting_open, lent_held}
+use Rattle.cyc_soundness.proofs.states.Hands.{Changed, at_no_hand, given_now, giving_changed, variables_kept, changed_after, lent_no_hand}
+use Rattle.cyc_soundness.proofs.states.StillHands.{variables_grown, given_typed}
+use Rattle.cyc_soundness.proofs.states.CallHands.{hands_globals, variables_marked}
+use Rattle.cyc_soundness.proofs.states.StackLocals.{open_of, globals_among, kept_open, object_known, open_outlasting, IsPresent, outlasting_open, lent_held}
 
 -- a typed state, by its parts
 pub running : (p : Program) (g : Typing) (x : Exits) (bs : List InScope) (e : Environment) (w : World) → IsTyped g w.regions w.objects → KnowsProgram g p → IsBound e.locals e.counters bs → AreVariables g bs

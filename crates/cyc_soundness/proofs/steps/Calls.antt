@@ -36,9 +36,14 @@ use Rattle.cyc_soundness.proofs.types.TypeLemmas.{is_kind_same, kind_meant}
 use Rattle.cyc_soundness.proofs.flow.FlowLemmas.{implies_self, implies_after, meet_second, each_full_implies}
 use Rattle.cyc_soundness.proofs.flow.RuleLemmas.{breaks_clauses, clauses_implied}
 use Rattle.cyc_soundness.proofs.states.WorldLemmas.{type_grown, operands_grown, opened_typed}
-use Rattle.cyc_soundness.proofs.states.Hands.{Changed, hand_same, at_no_hand, claims_kept, here_kept, variables_grown, holds_grown, moment_grows, moment_typed, moment_globals}
-use Rattle.cyc_soundness.proofs.states.StackLemmas.{AreAccepted, stack_changed, stack_grown, scopes_below_more}
-use Rattle.cyc_soundness.proofs.types.RegionLemmas.{life_known, there_open, opened_known, live_more, there_lasting, opened_lasting, stand_opened, new_home, context_inside, other_life, named_function, known_body}
+use Rattle.cyc_soundness.proofs.states.Hands.{Changed, hand_same, at_no_hand, claims_kept, here_kept}
+use Rattle.cyc_soundness.proofs.states.StillHands.{variables_grown, holds_grown}
+use Rattle.cyc_soundness.proofs.states.CallHands.{moment_grows, moment_typed, moment_globals}
+use Rattle.cyc_soundness.proofs.states.StackLemmas.{AreAccepted}
+use Rattle.cyc_soundness.proofs.states.StackClaims.{stack_changed, stack_grown}
+use Rattle.cyc_soundness.proofs.states.StackLocals.{scopes_below_more}
+use Rattle.cyc_soundness.proofs.types.RegionLemmas.{life_known, there_open, opened_known, live_more, there_lasting, opened_lasting, stand_opened, new_home, context_inside, other_life}
+use Rattle.cyc_soundness.proofs.types.CallRegions.{named_function, known_body}
 use Rattle.cyc_soundness.proofs.states.Cells.{running}
 use Rattle.cyc_soundness.proofs.steps.Objects.{operands_reversed, given_turned}
 use Rattle.cyc_soundness.proofs.steps.Supply.{new_life, made_typing, declares}

@@ -49,15 +49,21 @@ use Rattle.cyc_soundness.specs.inside.Stacks as stacks
 use Rattle.cyc_soundness.proofs.types.TypeLemmas.{place_type, target_typed, is_kind_same, kind_read, kind_meant}
 use Rattle.cyc_soundness.proofs.flow.FlowLemmas.{full_set, used_full, implies_self, meet_first, meet_second, vacant_implied, holds_implied, reached_with}
 use Rattle.cyc_soundness.proofs.states.WorldLemmas.{type_grown, result_grown}
-use Rattle.cyc_soundness.proofs.states.Hands.{Changed, at_no_hand, given_now, marked_now, marked_before, marked_keeps, variables_kept, holds_kept, taken_typed, hands_globals, kept_now, gone_changed, away_not_here, marked_changed, shown_changed, variables_marked, same_grows, holds_here}
+use Rattle.cyc_soundness.proofs.states.Hands.{Changed, at_no_hand, given_now, marked_now, marked_before, marked_keeps, variables_kept, holds_kept, gone_changed, away_not_here, marked_changed, shown_changed, same_grows, holds_here}
+use Rattle.cyc_soundness.proofs.states.StillHands.{taken_typed}
+use Rattle.cyc_soundness.proofs.states.CallHands.{hands_globals, variables_marked}
+use Rattle.cyc_soundness.proofs.states.StillHands.{kept_now}
 use Rattle.cyc_soundness.proofs.types.Sharing.{keeps_by, region_common, plain_read, unique_by_type}
-use Rattle.cyc_soundness.proofs.states.StackLemmas.{emptied_other, stack_changed, comes_alone, keeps_passed, void_goes, pointer_left, bound_to, lasting_open, kept_open, object_known, among_open}
-use Rattle.cyc_soundness.proofs.states.StackLemmas.{among_own, place_local, among_bound, among_variable, among_live, among_level, among_set, set_stored, open_of, globals_among, settled}
+use Rattle.cyc_soundness.proofs.states.StackLemmas.{emptied_other, comes_alone, keeps_passed}
+use Rattle.cyc_soundness.proofs.states.StackClaims.{stack_changed, void_goes, pointer_left}
+use Rattle.cyc_soundness.proofs.states.StackLocals.{bound_to, lasting_open, kept_open, object_known, among_open, among_own, place_local, among_bound, among_variable, among_live, among_level, among_set, set_stored, open_of, globals_among}
+use Rattle.cyc_soundness.proofs.states.StackClaims.{settled}
 use Rattle.cyc_soundness.proofs.types.ValueLemmas.{zero_is, converted_by, kind_given, lasts_itself}
-use Rattle.cyc_soundness.proofs.types.RegionLemmas.{agrees_of, there_of, cell_live, global_means, these_by, is_among, instance_is, parameters_mean, result_means}
+use Rattle.cyc_soundness.proofs.types.RegionLemmas.{agrees_of, there_of}
+use Rattle.cyc_soundness.proofs.types.CallRegions.{instance_is, cell_live, global_means, these_by, is_among, parameters_mean, result_means}
 use Rattle.cyc_soundness.proofs.states.Cells.{lasting_common, open_object, plain_claims, pointer_plain, running, part_at, Content, content_of, reads, stored_typing, stores_marking, stores_on}
 use Rattle.cyc_soundness.proofs.flow.Looking.{looked_expression, looked_converted, peeked_so}
-use Rattle.cyc_soundness.proofs.steps.Objects.{makes_on}
+use Rattle.cyc_soundness.proofs.steps.ArrayObjects.{makes_on}
 use Rattle.cyc_soundness.proofs.steps.Places.{gives_same, looked_result, looked_part, takes_left, gives, gives_by, converted_leads, moved_comes}
 
 abbrev left_typed : (q : Relied) (well : Type 0) (c : Context) (a : Expression) (v : ValueType) (os : Operations) → InOperations q os → IsLeft well c a v os → well ⊎ IsPeek c a v

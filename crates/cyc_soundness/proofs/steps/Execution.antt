@@ -39,7 +39,7 @@ use Rattle.cyc_soundness.specs.inside.Stacks as stacks
 use Rattle.cyc_soundness.proofs.types.TypeLemmas.{target_typed, kind_read, kind_meant}
 use Rattle.cyc_soundness.proofs.flow.FlowLemmas.{used_full, implies_self, implies_after, meet_first, meet_second, at_least_implies, emptied_implied, holds_implied, full_last}
 use Rattle.cyc_soundness.proofs.flow.RuleLemmas.{breaks_statement, breaks_items, breaks_clauses, clauses_implied, nothing_locked}
-use Rattle.cyc_soundness.proofs.states.StackLemmas.{within_bound, within_variables, within_live, within_holds, scopes_below_more, bound_to}
+use Rattle.cyc_soundness.proofs.states.StackLocals.{within_bound, within_variables, within_live, within_holds, scopes_below_more, bound_to}
 use Rattle.cyc_soundness.proofs.types.RegionLemmas.{opened_known, live_more, same_name, known_behind, opened_lasting, agrees_of, context_inside, context_lexical}
 use Rattle.cyc_soundness.proofs.states.WorldLemmas.{opened_typed}
 use Rattle.cyc_soundness.proofs.types.Sharing.{keeps_by}

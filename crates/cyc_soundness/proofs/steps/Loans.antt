@@ -37,11 +37,18 @@ use Rattle.cyc_soundness.specs.inside.Frames.{IsAmong, first, later, Bound, InSc
 use Rattle.cyc_soundness.specs.inside.Stacks.{operands_in, Continues, Go, IsStack, IsWell, IsCommonLife}
 use Rattle.cyc_soundness.proofs.types.TypeLemmas.{all_in_weaker, read_alike}
 use Rattle.cyc_soundness.proofs.flow.FlowLemmas.{full_set, reached_with}
-use Rattle.cyc_soundness.proofs.types.RegionLemmas.{name_known, same_name, known_other, other_life, context_key, context_alias, context_again, region_owner}
+use Rattle.cyc_soundness.proofs.types.RegionLemmas.{name_known, same_name, known_other, other_life, region_owner}
+use Rattle.cyc_soundness.proofs.types.CallRegions.{context_key, context_alias, context_again}
 use Rattle.cyc_soundness.proofs.states.WorldLemmas.{globals_grown, result_grown, typed_cell}
-use Rattle.cyc_soundness.proofs.states.Hands.{Changed, at_no_hand, at_some, given_now, giving_changed, handing_changed, changed_after, variables_kept, holds_kept, freed_typed, hands_globals, with_kept, kept_grows}
-use Rattle.cyc_soundness.proofs.states.Hands.{kept_typed, variables_more, moment_typed, moment_globals, holds_lent, lent_last, closed_by_key, lent_typed, marked_now, kept_now, also_changed, also_typed, also_lent}
-use Rattle.cyc_soundness.proofs.states.StackLemmas.{emptied_other, stack_changed, above_globals, full_here, within_full_at, within_variables, among_bound, among_variable, among_own, among_set, set_stored, statement_relied, settled, lent_held}
+use Rattle.cyc_soundness.proofs.states.Hands.{Changed, at_no_hand, at_some, given_now, giving_changed, handing_changed, changed_after, variables_kept, holds_kept}
+use Rattle.cyc_soundness.proofs.states.StillHands.{freed_typed}
+use Rattle.cyc_soundness.proofs.states.CallHands.{hands_globals, with_kept, kept_grows, kept_typed, variables_more, moment_typed, moment_globals, holds_lent, lent_last, closed_by_key}
+use Rattle.cyc_soundness.proofs.states.StillHands.{lent_typed}
+use Rattle.cyc_soundness.proofs.states.Hands.{marked_now}
+use Rattle.cyc_soundness.proofs.states.StillHands.{kept_now, also_changed, also_typed, also_lent}
+use Rattle.cyc_soundness.proofs.states.StackLemmas.{emptied_other, statement_relied}
+use Rattle.cyc_soundness.proofs.states.StackClaims.{stack_changed, settled}
+use Rattle.cyc_soundness.proofs.states.StackLocals.{above_globals, full_here, within_full_at, within_variables, among_bound, among_variable, among_own, among_set, set_stored, lent_held}
 use Rattle.cyc_soundness.proofs.states.Cells.{pointer_plain, plain_claims, running}
 
 -- ---- lists

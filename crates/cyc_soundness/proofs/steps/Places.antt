@@ -45,8 +45,11 @@ use Rattle.cyc_soundness.proofs.types.TypeLemmas.{target_typed, is_kind_same, ma
 use Rattle.cyc_soundness.proofs.states.WorldLemmas.{result_grown, typed_cell}
 use Rattle.cyc_soundness.proofs.states.Hands.{at_no_hand, holds_kept, variables_kept}
 use Rattle.cyc_soundness.proofs.types.Sharing.{region_common, plain_read, keeps_by}
-use Rattle.cyc_soundness.proofs.states.StackLemmas.{stack_changed, part_alone, IsPresent, there_present}
-use Rattle.cyc_soundness.proofs.types.RegionLemmas.{agrees_of, there_of, field_means}
+use Rattle.cyc_soundness.proofs.states.StackClaims.{stack_changed}
+use Rattle.cyc_soundness.proofs.states.StackLemmas.{part_alone}
+use Rattle.cyc_soundness.proofs.states.StackLocals.{IsPresent, there_present}
+use Rattle.cyc_soundness.proofs.types.RegionLemmas.{agrees_of, there_of}
+use Rattle.cyc_soundness.proofs.types.CallRegions.{field_means}
 use Rattle.cyc_soundness.proofs.flow.Looking.{looked_expression, peeked_so}
 use Rattle.cyc_soundness.proofs.steps.Swapping.{left_spot, finds_right_on, both_on}
 use Rattle.cyc_soundness.specs.inside.Worlds.{Hand, pointer_at, thing_of, Claims, ClaimsPart, ClaimsBy, IsHad, IsPlain}

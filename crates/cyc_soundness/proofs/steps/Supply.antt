@@ -34,23 +34,25 @@ use Rattle.cyc_meaning.proofs.NestingLemmas.{home_found}
 use Rattle.cyc_soundness.specs.inside.Lives.{Life, OfRegion, Kept, Lives, at, RunTy, RunValue, Value, kind_at}
 use Rattle.cyc_soundness.specs.inside.Lives as lives
 use Rattle.cyc_soundness.specs.inside.Worlds.{OfLocal, Thing, Holder, Hand, At, pointer_at, thing_of, Owns, Claims, ClaimsBy, ClaimsAlone, IsHere, giving, marked, AreOwned, IsOpenIn, ObjectType}
-use Rattle.cyc_soundness.specs.inside.Worlds.{IsKnownLife, IsNumber, IsOwner, Typing, IsFilled, variable_type, HasType, IsResult, AreCells, IsObject, IsTyped, Grows, Slot, KeyOf, PointerTo, Here}
-use Rattle.cyc_soundness.specs.inside.Worlds.{given as given_to}
+use Rattle.cyc_soundness.specs.inside.Worlds.{IsKnownLife, IsNumber, IsOwner, Typing, IsFilled, variable_type, HasType, IsResult, AreCells, IsObject, IsTyped, Grows, Slot, KeyOf, PointerTo, Here, given as given_to}
 use Rattle.cyc_soundness.specs.inside.Frames.{later, Bound, InScope, Variable, Level, life_named, lives_in, read, read_value, IsThere, IsHomed, AreBelow, IsBound, AreVariables, IsLasting, LiveIn, Within, itself, older, Holds, Implies, LoopExit, Exits, IsHome, IsContext, KnowsProgram}
 use Rattle.cyc_soundness.specs.inside.Stacks.{Executes, Continues, IsLoop, Repeats, IsArray, IsNew, Want, Val, Go, operands_in, Comes, Keeps, inside, Waits, IsReturn, IsStack, IsFocus, IsWell, relied_at}
 use Rattle.cyc_soundness.specs.inside.Stacks as stacks
 use Rattle.cyc_soundness.proofs.types.TypeLemmas.{is_kind_same, kind_read}
 use Rattle.cyc_soundness.proofs.flow.FlowLemmas.{holds_implied, reached_with, full_put, vacant_now}
 use Rattle.cyc_soundness.proofs.states.WorldLemmas.{type_grown, with_variable, variable_grows, object_typed, globals_grown, owner_grown}
-use Rattle.cyc_soundness.proofs.states.Hands.{Changed, Raises, at_no_hand, given_now, marked_now, marked_before, marked_keeps, giving_changed, changed_raised, open_kept, variables_kept, holds_kept, given_typed, lent_no_hand, away_not_here, marked_other}
+use Rattle.cyc_soundness.proofs.states.Hands.{Changed, at_no_hand, given_now, marked_now, marked_before, marked_keeps, giving_changed, open_kept, variables_kept, holds_kept, lent_no_hand, away_not_here, marked_other}
+use Rattle.cyc_soundness.proofs.states.StillHands.{Raises, changed_raised, given_typed}
 use Rattle.cyc_soundness.proofs.types.Sharing.{plain_read}
-use Rattle.cyc_soundness.proofs.states.StackLemmas.{stack_changed, there_present, fields_kept, passed_kept, comes_alone, claimed_next, scopes_below_more, local_new, bound_more, set_with_fullness, home_is, found_is, within_bound, within_variables, within_live, within_holds}
+use Rattle.cyc_soundness.proofs.states.StackClaims.{stack_changed}
+use Rattle.cyc_soundness.proofs.states.StackLocals.{there_present, scopes_below_more, local_new, bound_more, set_with_fullness, home_is, found_is, within_bound, within_variables, within_live, within_holds}
+use Rattle.cyc_soundness.proofs.states.StackLemmas.{fields_kept, passed_kept, comes_alone, claimed_next}
 use Rattle.cyc_soundness.proofs.types.RegionLemmas.{life_known, there_open, there_lasting, known_local, owner_known}
 use Rattle.cyc_soundness.proofs.types.ValueLemmas.{negated, complemented, widened, narrowed, combined, zero_is}
 use Rattle.cyc_soundness.specs.inside.Classes.{InInitial}
 use Rattle.cyc_soundness.proofs.states.Cells.{part_had, running, plain_unkept}
 use Rattle.cyc_soundness.proofs.steps.Loans.{opens_on, aliases_on, closes_on, frees_on}
-use Rattle.cyc_soundness.proofs.steps.Objects.{plain_on, fields_on, array_on, fill_on, makes_on}
+use Rattle.cyc_soundness.proofs.steps.ArrayObjects.{plain_on, fields_on, array_on, fill_on, makes_on}
 use Rattle.cyc_soundness.proofs.steps.Places.{looked_result, gives, follow_on, member_on, index_on, advance_on, count_on, cell_stored, point_on, null_point_on}
 use Rattle.cyc_soundness.proofs.steps.Evaluation.{pass_on, chain_on, converted_on, denied_on, decided_on, writes_local, writes_global}
 

@@ -30,10 +30,18 @@ use Rattle.cyc_soundness.specs.inside.Stacks as stacks
 use Rattle.cyc_soundness.proofs.types.TypeLemmas.{is_kind_same, kind_meant, place_type}
 use Rattle.cyc_soundness.proofs.flow.FlowLemmas.{full_set, used_full}
 use Rattle.cyc_soundness.proofs.states.WorldLemmas.{cell_there, type_grown, result_grown, risen, with_filled, written_grows, cell_written, globals_grown}
-use Rattle.cyc_soundness.proofs.states.Hands.{Changed, given_now, given_too, given_apart, given_other, held_before, nobody_before, giving_changed, at_no_hand, at_same, not_awaited}
-use Rattle.cyc_soundness.proofs.states.Hands.{kept_now, holds_here, variables_kept, variables_pending, variables_grown, pending_grows, awaits_same, away_not_here, lent_no_hand, lent_not_at}
-use Rattle.cyc_soundness.proofs.states.StackLemmas.{stack_grown, bound_of, place_local, among_bound, among_variable, among_live, among_set, open_of, globals_among, lasting_open, kept_open, object_known, among_open, IsPresent, there_present, stack_by, IsAboveBy, statement_relied, settled, among_own}
-use Rattle.cyc_soundness.proofs.types.RegionLemmas.{there_of, cell_live, global_means}
+use Rattle.cyc_soundness.proofs.states.Hands.{Changed, given_now, given_too, given_apart, given_other, held_before, nobody_before, giving_changed, at_no_hand, at_same}
+use Rattle.cyc_soundness.proofs.states.StillHands.{not_awaited}
+use Rattle.cyc_soundness.proofs.states.Hands.{awaits_same, away_not_here, lent_no_hand, lent_not_at}
+use Rattle.cyc_soundness.proofs.states.StillHands.{kept_now}
+use Rattle.cyc_soundness.proofs.states.Hands.{holds_here, variables_kept}
+use Rattle.cyc_soundness.proofs.states.CallHands.{variables_pending, pending_grows}
+use Rattle.cyc_soundness.proofs.states.StillHands.{variables_grown}
+use Rattle.cyc_soundness.proofs.states.StackLemmas.{IsAboveBy, statement_relied}
+use Rattle.cyc_soundness.proofs.states.StackClaims.{stack_grown, stack_by, settled}
+use Rattle.cyc_soundness.proofs.states.StackLocals.{bound_of, place_local, among_bound, among_variable, among_live, among_set, open_of, globals_among, lasting_open, kept_open, object_known, among_open, IsPresent, there_present, among_own}
+use Rattle.cyc_soundness.proofs.types.RegionLemmas.{there_of}
+use Rattle.cyc_soundness.proofs.types.CallRegions.{cell_live, global_means}
 use Rattle.cyc_soundness.proofs.states.Cells.{part_had, running, life_of, lasting_common, open_object, value_part, held_still}
 
 -- a local that has what is in it, or an object that pointers lead to

@@ -20,9 +20,15 @@ use Rattle.cyc_soundness.specs.inside.Frames.{InScope, Names, Home, IsBound, Are
 use Rattle.cyc_soundness.specs.inside.Stacks.{IsLentOut, IsLoop, Want, Nothing, Val, PlaceOf, Go, operands_in, IsBlocked, IsReturn, IsStack, IsFocus, IsWell}
 use Rattle.cyc_soundness.specs.inside.Stacks as stacks
 use Rattle.cyc_soundness.proofs.flow.FlowLemmas.{holds_implied, full_added}
-use Rattle.cyc_soundness.proofs.states.StackLemmas.{void_goes, given_back, stack_changed, none_lent, full_at_grown, not_heap, lexical_not_heap, within_bound, within_variables, within_live, within_holds, found_is, waits_within}
+use Rattle.cyc_soundness.proofs.states.StackLocals.{given_back}
+use Rattle.cyc_soundness.proofs.states.StackLemmas.{none_lent, full_at_grown}
+use Rattle.cyc_soundness.proofs.states.StackClaims.{void_goes, stack_changed}
+use Rattle.cyc_soundness.proofs.states.StackLocals.{not_heap, lexical_not_heap, within_bound, within_variables, within_live, within_holds, found_is, waits_within}
 use Rattle.cyc_soundness.proofs.states.WorldLemmas.{closed_typed, result_grown, typed_cell}
-use Rattle.cyc_soundness.proofs.states.Hands.{Changed, at_not_lent, given_now, marked_now, handing_changed, alone_kept, alone_comes, variables_kept, hands_globals, moment_grows, moment_typed, moment_globals, holds_lent, returned_typed, away_same}
+use Rattle.cyc_soundness.proofs.states.Hands.{Changed, at_not_lent, given_now, marked_now, handing_changed, away_same}
+use Rattle.cyc_soundness.proofs.states.StillHands.{alone_comes, returned_typed}
+use Rattle.cyc_soundness.proofs.states.Hands.{alone_kept, variables_kept}
+use Rattle.cyc_soundness.proofs.states.CallHands.{hands_globals, moment_grows, moment_typed, moment_globals, holds_lent}
 use Rattle.cyc_soundness.proofs.states.Cells.{running}
 use Rattle.cyc_soundness.proofs.steps.Execution.{continue_with}
 

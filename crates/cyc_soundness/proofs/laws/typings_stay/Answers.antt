@@ -1,6 +1,6 @@
 -- Growth.
 use Rattle.cyc_soundness.proofs.states.WorldLemmas.{type_grown}
-use Rattle.cyc_soundness.proofs.states.StackLemmas.{stack_grown}
+use Rattle.cyc_soundness.proofs.states.StackClaims.{stack_grown}
 use Rattle.cyc_soundness.proofs.laws.typings_stay.Goals as goal
 
 pub returns-clause-values : goal.returns-clause-values
