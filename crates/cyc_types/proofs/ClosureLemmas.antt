@@ -1,7 +1,7 @@
 -- The tests of `Closure` decide the outlives relation.
 use Rattle.std.proofs.Common.{◌≡◌, ◌≢◌, ◌⊎◌, inl, inr, true, not, ◌&&◌, ◌||◌, List, [], ◌∷◌, refl, sym, ◌∙◌, subst}
 use Rattle.std.specs.Prelude.{Contains}
-use Rattle.std.proofs.lemmas.Bool.{or_cases, or_left, or_right, and_parts, and_from, true≢false, false_from_ne_true, not-true, not_from_false}
+use Rattle.std.proofs.lemmas.Bool.{or_cases, or_left, or_right, and_parts, and_from, cases_Bool, true≢false, false_from_ne_true, not-true, not_from_false}
 use Rattle.cyc_words.proofs.Members.{Contains-head, Contains-tail, Contains-empty, Contains-cons_cases}
 use Rattle.cyc_words.proofs.Searches.{any-true, any-from, all-true}
 use Rattle.cyc_types.specs.declared.region.Region.{Region}
@@ -43,6 +43,20 @@ above-trans (p ∷ ps) a b d h k =
             | inl bd ↦ late u.0 (above-trans ps p.1 b d u.1 bd)
             | inr m ↦ let n = and_parts (above ps b p.0) (above ps p.1 d) m in late u.0 n.1
           ]
+    ]
+
+-- a pair that leads where the ones behind it lead already adds nothing
+pub above-known : (p : Region × Region) (ps : List (Region × Region)) → above ps p.0 p.1 ≡ true → (a b : Region) → above (p ∷ ps) a b ≡ above ps a b
+above-known p ps h a b =
+    elim (cases_Bool (above ps a b)) [
+      | inl e ↦ rw e
+      | inr n ↦
+          let apart : (above ps a p.0 && above ps p.1 b) ≡ true → ⊥ =
+          λ e. (
+          let u = and_parts (above ps a p.0) (above ps p.1 b) e in
+          true≢false (sym (above-trans ps a p.0 b u.0 (above-trans ps p.0 p.1 b h u.1)) ∙ n)
+          ) in
+          rw (n, false_from_ne_true (above ps a p.0 && above ps p.1 b) apart)
     ]
 
 pub above-pair : (w : List (Region × Region)) (a b : Region) → Contains w (a, b) → above w a b ≡ true

@@ -78,6 +78,16 @@ fn entry_of(constraints: &[Constraint], region: Region) -> Option<&Constraint>
     None
 }
 
+/// Whether the first region is known to outlive the second.
+fn is_known(constraints: &[Constraint], longer: Region, shorter: Region) -> bool
+    ensures { result ≡ table_leads constraints.now longer shorter }
+{
+    match entry_of(constraints, longer) {
+        Some(constraint) => constraint.leads_to(shorter),
+        None => longer == shorter,
+    }
+}
+
 /// The region and all that it outlives.
 fn all_below(
     alloc: Global,
@@ -134,6 +144,10 @@ pub(crate) fn closed(
     let mut constraints = unclosed(alloc, written)?;
     for i in (0..written.len()).rev() {
         let (longer, shorter) = written[i];
+        // what outlives the longer-lived region is known to outlive all of those below already
+        if is_known(&constraints, longer, shorter) {
+            continue;
+        }
         let below = all_below(alloc, &constraints, shorter)?;
         extend_all(&mut constraints, longer, &below)?;
     }
