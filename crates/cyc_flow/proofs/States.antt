@@ -3,7 +3,7 @@ use Rattle.std.proofs.Common.{◌≡◌, ℕ, ◌+◌, ◌≤◌, min, Bool, tru
 use Rattle.std.proofs.lemmas.List.{length-drop}
 use Rattle.cyc_flow.specs.declared.state.Fullness.{Fullness as FullnessCode}
 use Rattle.cyc_types.specs.Types.{Ty}
-use Rattle.cyc_types.specs.flow.States.{Fullness, lower_each, is_as_full, are_as_full}
+use Rattle.cyc_types.specs.flow.States.{Fullness, Unreached, lower_each, is_as_full, are_as_full, emptied}
 use Rattle.cyc_types.specs.flow.Programs.{each_is}
 use Rattle.cyc_flow.specs.inside.Code.{view_fullness}
 
@@ -62,6 +62,13 @@ unequal (x ∷ xs) (y ∷ ys) n = and_false (is_as_full (view_fullness x) (view_
     and_false : (a : Bool) {b : Bool} → b ≡ false → (a && b) ≡ false
     and_false true e = e
     and_false false e = refl
+
+-- ---- locals that may hold nothing
+
+-- of code that is never run nothing is kept
+pub emptied_unreached : (ns : List ℕ) → emptied ns Unreached ≡ Unreached
+emptied_unreached [] = refl
+emptied_unreached (n ∷ ns) = emptied_unreached ns
 
 -- ---- the state at the start of a function
 

@@ -1,6 +1,6 @@
 //! What is known of each local at a place of a function.
 ghost use Rattle.std.specs.Prelude.{◌≡◌, ◌++◌, IfOk, List, ℕ, map, replicate, if◌then◌else◌};
-ghost use Rattle.cyc_types.specs.flow.States.{Full, Vacant, meet, is_at_least, fullness, with_fullness, with_each, emptied, lower, lower_each, is_as_full, are_as_full, is_vacant, is_locked, is_reached};
+ghost use Rattle.cyc_types.specs.flow.States.{Reached, Full, Vacant, meet, is_at_least, fullness, with_fullness, with_each, emptied, lower, lower_each, is_as_full, are_as_full, is_vacant, is_locked, is_reached};
 ghost use Rattle.cyc_types.specs.flow.Expressions.{is_free};
 ghost use Rattle.cyc_flow.specs.inside.Code.{view_fullness, view_state};
 
@@ -103,29 +103,18 @@ impl State {
         state
     }
 
-    /// This local may hold nothing, unless it is lent out. Tries in each other come to the same local once for each of them, so that nothing
-    /// is written where it holds nothing.
-    #[tactic(auto, using(crate::proofs::Trails::known_again))]
-    fn empty(&mut self, number: usize)
-        ensures { view_state self.new ≡ (if is_locked (fullness (view_state self.old) number) then view_state self.old else with_fullness Vacant (view_state self.old) number) }
-    {
-        match self.fullness(number) {
-            Fullness::Full => self.set(number, Fullness::Vacant),
-            Fullness::Locked => {}
-            Fullness::Vacant => {}
-        }
-    }
-
     /// Each of these locals may hold nothing, unless it is lent out.
-    #[tactic(auto, using(std::proofs::lemmas::List::drop_more))]
+    #[tactic(auto, using(crate::proofs::States::emptied_unreached))]
     pub(crate) fn emptied(self, numbers: &[usize]) -> State
         ensures { view_state result ≡ emptied numbers.now (view_state self) }
     {
-        let mut state = self;
-        for number in numbers {
-            state.empty(*number);
+        match self {
+            State::Unreached => State::Unreached,
+            State::Reached(mut locals) => {
+                empty_each(&mut locals, numbers);
+                State::Reached(locals)
+            }
         }
-        state
     }
 
     pub(crate) fn is_reached(&self) -> bool
@@ -176,6 +165,31 @@ impl State {
             State::Unreached => Ok(State::Unreached),
             State::Reached(locals) => Ok(State::Reached(locals.to_vec(alloc)?)),
         }
+    }
+}
+
+/// This local may hold nothing, unless it is lent out. Tries in each other come to the same local once for each of them, so that nothing is
+/// written where it holds nothing.
+#[tactic(auto, using(crate::proofs::Trails::known_again))]
+fn empty(locals: &mut [Fullness], number: usize)
+    ensures { Reached (map view_fullness locals.new) ≡ (if is_locked (fullness (Reached (map view_fullness locals.old)) number) then Reached (map view_fullness locals.old) else with_fullness Vacant (Reached (map view_fullness locals.old)) number) }
+{
+    if number >= locals.len() {
+        return;
+    }
+    match locals[number] {
+        Fullness::Full => locals[number] = Fullness::Vacant,
+        Fullness::Locked | Fullness::Vacant => {}
+    }
+}
+
+/// The same of each of these locals.
+#[tactic(auto, using(std::proofs::lemmas::List::drop_more))]
+fn empty_each(locals: &mut [Fullness], numbers: &[usize])
+    ensures { Reached (map view_fullness locals.new) ≡ emptied numbers.now (Reached (map view_fullness locals.old)) }
+{
+    for number in numbers {
+        empty(locals, *number);
     }
 }
 
