@@ -1,9 +1,9 @@
 -- The table of first places gives what the rules say that a signature's variables are.
-use Rattle.std.proofs.Common.{◌≡◌, ℕ, zero, suc, ◌+◌, ◌<◌, ◌≤◌, Bool, true, false, cond, if◌then◌else◌, ◌||◌, List, [], ◌∷◌, ◌++◌, map, replicate, drop, take, length, append-nil, get_or, slice_get, slice_index_or, unwrap_or, Option, Some, None, refl, sym, ap, ◌∙◌, arith}
+use Rattle.std.proofs.Common.{◌≡◌, ℕ, zero, suc, ◌+◌, ◌-◌, ◌<◌, ◌≤◌, Bool, true, false, cond, if◌then◌else◌, ◌||◌, List, [], ◌∷◌, ◌++◌, map, replicate, drop, take, length, append-nil, get_or, slice_get, slice_index_or, unwrap_or, Option, Some, None, refl, sym, ap, ◌∙◌, arith}
 use Rattle.std.specs.List.{list_any, refill}
 use Rattle.std.proofs.lemmas.Bool.{eq-eqb}
 use Rattle.std.proofs.lemmas.Bool.Decides.{nat_tests}
-use Rattle.std.proofs.lemmas.List.{drop_all, take_all, length-set}
+use Rattle.std.proofs.lemmas.List.{drop_all, take_all, length-set, take-replicate, replicate-append-replicate}
 use Rattle.std.proofs.lemmas.List.Folds.{list_any-append}
 use Rattle.std.proofs.lemmas.Option.{same_Some}
 use Rattle.cyc_words.proofs.Lists.{drop_read}
@@ -53,6 +53,16 @@ pub unknown_at : (table : List (Option Region)) (n : ℕ) (d : Region) → slice
 unknown_at [] n d h = refl
 unknown_at (x ∷ xs) zero d h = absurd (cc)
 unknown_at (x ∷ xs) (suc n) d h = unknown_at xs n d h
+
+-- so many of the variables without a place that are left are added
+pub unplaced_more : (count left next : ℕ) (old new : List (Option Region)) → next ≤ 64 → next ≤ left → left ≤ count
+    → old ≡ replicate (count - left) None → new ≡ old ++ take next (replicate 64 None) → new ≡ replicate (count - (left - next)) None
+unplaced_more count left next old new few within most filled added =
+    let sum : (count - left) + next ≡ count - (left - next) = omega arith in
+    let none : Option Region = None in
+    added ∙ ap (λ z. z ++ take next (replicate 64 none)) filled
+    ∙ ap (λ z. replicate (count - left) none ++ z) (take-replicate next 64 none few)
+    ∙ replicate-append-replicate (count - left) next none ∙ ap (λ (n : ℕ). replicate n none) sum
 
 none_paired : (rs : List Region) → all_paired rs [] ≡ []
 none_paired [] = refl

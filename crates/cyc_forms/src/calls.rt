@@ -1,5 +1,6 @@
 //! Calls: what a call asks, where its region variables are what the arguments say, and its node.
 ghost use Rattle.std.specs.Prelude.{◌≡◌, map, option_map, None, Ok, IfOk, IfSome};
+ghost use Rattle.std.specs.List.{list_all};
 ghost use Rattle.cyc_syntax.specs.inside.TreeView.{place_of_span, view_name, expressions_of};
 ghost use Rattle.cyc_types.specs.Types as types;
 ghost use Rattle.cyc_types.specs.Types.{substituted_region};
@@ -8,7 +9,7 @@ ghost use Rattle.cyc_types.specs.TypedTrees as nodes;
 ghost use Rattle.cyc_types.specs.TypedTreeView as typed_view;
 ghost use Rattle.cyc_types.specs.inside.SignatureView.{substituted_pair, view_signature};
 ghost use Rattle.cyc_types.specs.Rules.{settled, run};
-ghost use Rattle.cyc_types.specs.typing.Scopes.{meaning_of};
+ghost use Rattle.cyc_types.specs.typing.Scopes.{is_live, meaning_of};
 ghost use Rattle.cyc_types.specs.typing.Expressions as rules;
 ghost use Rattle.cyc_types.specs.typing.Expressions.{constraints_demanded, effect_demanded, call_demanded, called_by, called, instantiated};
 ghost use Rattle.cyc_scope.specs.inside.Code.{Ends, Gives};
@@ -48,8 +49,22 @@ fn demand_constraints(
     }
 }
 
-/// Settles that an effect is live at this place, where this table has the regions of the call.
+/// Whether an effect is live, where this table has the regions of the call.
 #[tactic(auto, using(std::proofs::lemmas::List::drop_more))]
+fn is_covered(scope: &Scope<'_>, table: &[Option<Region>], effect: &[Region]) -> bool
+    ensures { result ≡ list_all (λ r. is_live scope.now r) (map (substituted_region (instance_in table.now)) effect.now) }
+{
+    for region in effect {
+        if !scope.is_live(region_at(table, *region)) {
+            return false;
+        }
+    }
+    true
+}
+
+/// Settles that an effect is live at this place, where this table has the regions of the call. One that is live, as most are, is gone through
+/// with nothing to settle.
+#[tactic(auto, using(std::proofs::lemmas::List::drop_more, crate::proofs::Settling::covered_settled))]
 fn demand_effect(
     so_far: &mut Settled,
     scope: &Scope<'_>,
@@ -59,6 +74,9 @@ fn demand_effect(
 )
     ensures { so_far.new.known ≡ settled so_far.old.known (effect_demanded scope.now (place_of_span span) (map (substituted_region (instance_in table.now)) effect.now)) }
 {
+    if is_covered(scope, table, effect) {
+        return;
+    }
     for region in effect {
         let is_live = scope.is_live(region_at(table, *region));
         so_far.demand(Code::EffectNotCovered, span, is_live);

@@ -112,6 +112,23 @@ fn note_arguments(table: &mut [Option<Region>], parameters: &[Ty], values: &[Con
     }
 }
 
+/// Variables that have no place yet: a table is copied of them, and not made one by one.
+const UNPLACED: [Option<Region>; 64] = [None; 64];
+
+/// So many variables that have no place yet.
+fn unplaced(alloc: Global, count: usize) -> Result<SmallVec<Option<Region>, 5>, AllocError>
+    ensures { IfOk result (λ table. table.items ≡ replicate count None) }
+{
+    let mut table = SmallVec::with_capacity(alloc, count)?;
+    let mut left = count;
+    while left > 0 {
+        let next = left.min(UNPLACED.len());
+        table.extend_from_slice(&UNPLACED[..next])?;
+        left -= next;
+    }
+    Ok(table)
+}
+
 /// A table of so many variables, of which none has a place yet. None has the number 0.
 pub(crate) fn no_places(
     alloc: Global,
@@ -122,7 +139,7 @@ pub(crate) fn no_places(
     let Some(length) = variables.checked_add(1) else {
         return Err(AllocError);
     };
-    let mut table = SmallVec::from_elem(alloc, None, length)?;
+    let mut table = unplaced(alloc, length)?;
     note(&mut table, Region::Variable(0), Region::Heap);
     Ok(table)
 }
