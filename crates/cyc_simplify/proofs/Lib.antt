@@ -10,9 +10,14 @@ pub mod Steps
 -- a table that was checked is right
 pub mod Tables
 -- each run of a simplified program is one of the program given
+pub mod Alike
 pub mod Runs
 -- it is a plain program, and not larger
 pub mod Sizes
+-- what is known of room is so, and a program does the same where nothing asks for it
+pub mod Rooms
+pub mod Spared
+pub mod Sparing
 -- what the functions do
 pub mod Keeping
 pub mod Ranges

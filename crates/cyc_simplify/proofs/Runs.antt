@@ -1,6 +1,5 @@
 -- The simplified program goes in lockstep with the one given: their states are equal, and what is known is true in them.
-use Rattle.std.proofs.Common.{◌≡◌, ℕ, suc, ◌+◌, ◌*◌, ◌-◌, ◌/◌, ◌%◌, ◌≤◌, Bool, true, false, ◌&&◌, ◌||◌, List, [], ◌∷◌, length, Option, Some, None, slice_get, refl, sym, ap, subst, ◌∙◌, arith, inl, inr}
-use Rattle.std.specs.Prelude.{◌==◌, if◌then◌else◌}
+use Rattle.std.proofs.Common.{◌≡◌, ℕ, ◌+◌, ◌*◌, ◌≤◌, Bool, true, false, List, [], ◌∷◌, length, Option, Some, None, refl, sym, ap, subst, ◌∙◌, arith, inl, inr}
 use Rattle.std.proofs.lemmas.Bool.{cases_lt}
 use Rattle.std.proofs.lemmas.List.{get_or_past}
 use Rattle.std.proofs.lemmas.Option.{slice_get_past}
@@ -9,23 +8,22 @@ use Rattle.cyc_words.specs.inside.Following.{Matching, Steps, Follows}
 use Rattle.cyc_words.proofs.Simulation.{running_ended, running_failed, simulates}
 use Rattle.cyc_words.proofs.Matching.{by_one}
 use Rattle.cyc_words.proofs.Lists.{slice_get_below}
-use Rattle.cyc_words.specs.Word.{add_of}
-use Rattle.cyc_words.specs.Bytes.{with_byte, word_of}
 use Rattle.cyc_store.specs.State.{StoreState}
 use Rattle.cyc_store.specs.Services.{Call}
 use Rattle.cyc_plain.specs.declared.instruction.Instruction.{Instruction}
 use Rattle.cyc_plain.specs.declared.instruction.Instruction.TheVariants as instructions
 use Rattle.cyc_plain.specs.declared.instruction.Operand.{Operand}
 use Rattle.cyc_plain.specs.inside.Program.{Routine, Program, CodePlace, no_routine, routine_at}
-use Rattle.cyc_plain.specs.inside.State.{Activation, Frame, Configuration, State, Running, Ended, Stuck, seen_of, status_of, place_of}
-use Rattle.cyc_plain.specs.inside.Memory.{pins, is_pinned, global_at, slot_at, word_or, word_waiting, put_or, with_waiting, Range, OfGlobals, OfStore, OfSlots, range_of, word_in, memory_at, with_global, with_slot, with_word, with_memory}
-use Rattle.cyc_plain.specs.inside.Step.{Choice, operand_word, IsAllowed, MayLie, MayServe, returns, finishes, loads, saves, loads_byte, saves_byte, advanced, call_of, callee_of, called, performed, executed, instruction_at, step, limit_of, limit_at, limited, limited_step, Step, start, machine}
+use Rattle.cyc_plain.specs.inside.State.{Configuration, State, Running, Ended, Stuck, seen_of, status_of, place_of}
+use Rattle.cyc_plain.specs.inside.Memory.{pins, is_pinned}
+use Rattle.cyc_plain.specs.inside.Step.{Choice, IsAllowed, MayLie, MayServe, call_of, callee_of, called, performed, executed, instruction_at, step, limit_of, limit_at, limited, limited_step, Step, start, machine}
 use Rattle.cyc_plain.proofs.RunLaws.{lawful, limited_either}
 use Rattle.cyc_simplify.specs.declared.fact.Fact.{Fact}
 use Rattle.cyc_simplify.specs.declared.fact.Fact.TheVariants as facts_are
 use Rattle.cyc_simplify.specs.inside.Facts.{scene_of, is_known}
 use Rattle.cyc_simplify.specs.inside.Replacement.{simplified_operand, right_operand, folded_unary, simplified_unary, folded_at, holder_in, simplified_binary, simplified_move, decision_in, simplified_branch, value_in, simplified_load, simplified_instruction}
 use Rattle.cyc_simplify.specs.inside.Table.{IsReplaced, AreReplaced}
+use Rattle.cyc_simplify.proofs.Alike.{pinned_alike, DoAlike, either_performs}
 use Rattle.cyc_simplify.proofs.Kept.{facts_in, IsKnown, known_behind, known_start}
 use Rattle.cyc_simplify.proofs.Steps.{performs_same, callee_same, limit_same, request_same}
 use Rattle.cyc_simplify.proofs.Tables.{unchanged}
@@ -76,18 +74,6 @@ simplified_pins_same facts (instructions.Unary operator destination operand) slo
     go None = refl
 simplified_pins_same facts i slot = refl
 
-pinned_alike : (slot : ℕ) (code others : List Instruction) → length others ≡ length code
-    → ((index : ℕ) (i : Instruction) → slice_get code index ≡ Some i → (j : Instruction) × (slice_get others index ≡ Some j) × (pins j slot ≡ pins i slot))
-    → is_pinned others slot ≡ is_pinned code slot
-pinned_alike slot [] [] long each = refl
-pinned_alike slot [] (j ∷ others) long each = absurd (omega (arith, long))
-pinned_alike slot (i ∷ code) [] long each = absurd (omega (arith, long))
-pinned_alike slot (i ∷ code) (j ∷ others) long each =
-    let (other, at, same) = each 0 i refl in
-    let is : j ≡ other = let e : Some j ≡ Some other = at in cc in
-    ap (λ (b : Bool). b || is_pinned others slot) (ap (λ (x : Instruction). pins x slot) is ∙ same)
-    ∙ ap (λ (b : Bool). pins i slot || b) (pinned_alike slot code others (omega (arith, long)) (λ index x found. each (suc index) x found))
-
 module _ (program simplified : Program) (are : AreReplaced program simplified) where
   pinned_same : (function slot : ℕ) → is_pinned (routine_at simplified function).code slot ≡ is_pinned (routine_at program function).code slot
   pinned_same function slot =
@@ -95,77 +81,12 @@ module _ (program simplified : Program) (are : AreReplaced program simplified) w
       pinned_alike slot (routine_at program function).code (routine_at simplified function).code r.as_many
       (λ index i at. (simplified_instruction (r.table index) i, r.each index i at, simplified_pins_same (r.table index) i slot))
 
-  -- ---- memory
-
-  slot_same : (a : Activation) (address : ℕ) → slot_at simplified a address ≡ slot_at program a address
-  slot_same a address =
-      ap (λ (b : Bool). if a.base + 4 * ((address - a.base) / 4) == address && b then Some ((address - a.base) / 4) else None) (pinned_same a.function ((address - a.base) / 4))
-
-  global_same : (address : ℕ) → global_at simplified address ≡ global_at program address
-  global_same address = ap (λ (globals : List ℕ). global_at (record program { globals = globals }) address) are.globals
-
-  waiting_same : (frames : List Frame) (address : ℕ) → word_waiting simplified frames address ≡ word_waiting program frames address
-  waiting_same [] address = refl
-  waiting_same (f ∷ frames) address =
-      ap (λ (o : Option ℕ). word_or o f.caller.slots (word_waiting simplified frames address)) (slot_same f.caller address)
-      ∙ ap (word_or (slot_at program f.caller address) f.caller.slots) (waiting_same frames address)
-
-  with_waiting_same : (frames : List Frame) (address word : ℕ) → with_waiting simplified frames address word ≡ with_waiting program frames address word
-  with_waiting_same [] address word = refl
-  with_waiting_same (f ∷ frames) address word =
-      ap (λ (o : Option ℕ). put_or o word f frames (with_waiting simplified frames address word)) (slot_same f.caller address)
-      ∙ ap (put_or (slot_at program f.caller address) word f frames) (with_waiting_same frames address word)
-
-  memory_same : (c : Configuration) (address : ℕ) → memory_at simplified c address ≡ memory_at program c address
-  memory_same c address = go (range_of address)
-    where
-      go : (range : Range) → word_in simplified c address range ≡ word_in program c address range
-      go OfGlobals = ap (λ (o : Option ℕ). word_or o c.globals None) (global_same address)
-      go OfStore = refl
-      go OfSlots =
-          ap (λ (o : Option ℕ). word_or o c.active.slots (word_waiting simplified c.frames address)) (slot_same c.active address)
-          ∙ ap (word_or (slot_at program c.active address) c.active.slots) (waiting_same c.frames address)
-
-  written_same : (c : Configuration) (address word : ℕ) → with_memory simplified c address word ≡ with_memory program c address word
-  written_same c address word = go (range_of address)
-    where
-      by_slot : (o : Option ℕ) → with_slot simplified c o address word ≡ with_slot program c o address word
-      by_slot (Some number) = refl
-      by_slot None = ap (λ (frames : List Frame). record c { frames = frames }) (with_waiting_same c.frames address word)
-
-      go : (range : Range) → with_word simplified c address word range ≡ with_word program c address word range
-      go OfGlobals = ap (λ (o : Option ℕ). with_global c o word) (global_same address)
-      go OfStore = refl
-      go OfSlots = ap (λ (o : Option ℕ). with_slot simplified c o address word) (slot_same c.active address) ∙ by_slot (slot_at program c.active address)
-
-  -- ---- an instruction of either program
-
-  saves_same : (c : Configuration) (address word : ℕ) (o : Option ℕ) → saves simplified c address word o ≡ saves program c address word o
-  saves_same c address word None = refl
-  saves_same c address word (Some old) = ap (λ (d : Configuration). Running (advanced d)) (written_same c address word)
-
-  saves_byte_same : (c : Configuration) (address byte : ℕ) (o : Option ℕ) → saves_byte simplified c address byte o ≡ saves_byte program c address byte o
-  saves_byte_same c address byte None = refl
-  saves_byte_same c address byte (Some old) = ap (λ (d : Configuration). Running (advanced d)) (written_same c (word_of address) (with_byte old (address % 4) byte))
-
-  results_same : (function : ℕ) → (routine_at simplified function).results ≡ (routine_at program function).results
-  results_same function = (each_replaced program simplified are function).results
-
-  either_performs : (choice : Choice) (c : Configuration) (i : Instruction) → performed simplified choice c i ≡ performed program choice c i
-  either_performs choice c (instructions.Return value) = ap (λ (n : ℕ). returns c value n c.frames) (results_same c.active.function)
-  either_performs choice c (instructions.Finish value) = ap (λ (n : ℕ). finishes c value n c.active.handlers) (results_same c.active.function)
-  either_performs choice c (instructions.Load destination address offset) = ap (loads c destination) (memory_same c (add_of (operand_word c.active.slots address) offset))
-  either_performs choice c (instructions.LoadByte destination address offset) =
-      let a : ℕ = add_of (operand_word c.active.slots address) offset in ap (loads_byte c destination a) (memory_same c (word_of a))
-  either_performs choice c (instructions.Store address offset source) =
-      let a : ℕ = add_of (operand_word c.active.slots address) offset in
-      let word : ℕ = operand_word c.active.slots source in
-      ap (saves simplified c a word) (memory_same c a) ∙ saves_same c a word (memory_at program c a)
-  either_performs choice c (instructions.StoreByte address offset source) =
-      let a : ℕ = add_of (operand_word c.active.slots address) offset in
-      let byte : ℕ = operand_word c.active.slots source % 256 in
-      ap (saves_byte simplified c a byte) (memory_same c (word_of a)) ∙ saves_byte_same c a byte (memory_at program c (word_of a))
-  either_performs choice c i = refl
+  pub are_alike : DoAlike program simplified
+  are_alike = record {
+    results = λ function. (each_replaced program simplified are function).results;
+    pinned = pinned_same;
+    globals = are.globals;
+  }
 
   -- ---- steps
 
@@ -213,7 +134,7 @@ module _ (program simplified : Program) (are : AreReplaced program simplified) w
         let j : Instruction = simplified_instruction facts i in
         let same : performed program choice c j ≡ performed program choice c i = performs_same program choice c facts known.0 i in
         record {
-          does = ap (executed simplified choice c) is ∙ either_performs choice c j ∙ same;
+          does = ap (executed simplified choice c) is ∙ either_performs program simplified are_alike choice c j ∙ same;
           knows = subst (IsKnown program simplified (each_replaced program simplified are)) same
               (known_behind program simplified (each_replaced program simplified are) choice c j (at ∙ is) known);
           calls = ap callee_of is ∙ callee_same facts i;

@@ -1,19 +1,19 @@
 -- A function whose instructions were all checked and simplified is replaced by what was made of it.
-use Rattle.std.proofs.Common.{◌≡◌, ℕ, zero, suc, ◌+◌, ◌<◌, ◌≤◌, Bool, true, List, [], ◌∷◌, ◌++◌, length, map, Option, Some, None, slice_get, refl, sym, ap, subst, ◌∙◌, arith, inl, inr}
+use Rattle.std.proofs.Common.{◌≡◌, ℕ, zero, suc, ◌+◌, ◌<◌, Bool, true, List, [], ◌∷◌, ◌++◌, length, map, Option, Some, None, slice_get, refl, sym, ap, subst, ◌∙◌, arith, inl, inr}
 use Rattle.std.specs.Prelude.{◌==◌, slice_index_or}
 use Rattle.std.proofs.lemmas.Bool.{cases_lt, and_parts, and_from, eqb-true}
-use Rattle.std.proofs.lemmas.List.{length-append, length-map}
+use Rattle.std.proofs.lemmas.List.{length-append}
 use Rattle.cyc_words.proofs.Items.{below_from_slice_get}
 use Rattle.cyc_plain.specs.declared.instruction.Instruction.{Instruction}
 use Rattle.cyc_plain.specs.declared.instruction.Instruction.TheVariants as instructions
 use Rattle.cyc_plain.specs.declared.program.Function.{Function}
-use Rattle.cyc_plain.specs.inside.Program.{Routine, Program, no_routine, routine_of, routine_at, program_of}
+use Rattle.cyc_plain.specs.inside.Program.{Routine, Program, no_routine, routine_of, routine_at}
 use Rattle.cyc_plain.specs.inside.Uses.{At}
 use Rattle.cyc_simplify.specs.declared.entry.Entry.{Entry}
 use Rattle.cyc_simplify.specs.declared.fact.Fact.{Fact}
 use Rattle.cyc_simplify.specs.inside.Facts.{facts_behind}
 use Rattle.cyc_simplify.specs.inside.Replacement.{simplified_instruction}
-use Rattle.cyc_simplify.specs.inside.Table.{ArePins, IsReplaced, AreReplaced, entered_or, facts_behind_place, facts_at, may_jump, is_entry_suited, leads_well, is_checked_at}
+use Rattle.cyc_simplify.specs.inside.Table.{ArePins, IsReplaced, entered_or, facts_behind_place, facts_at, may_jump, is_entry_suited, leads_well, is_checked_at}
 use Rattle.cyc_simplify.specs.inside.Entries.{entry_in, jumps_well, goes_well, AreWalked, IsWalked, with_code, AreFirstReplaced}
 use Rattle.cyc_simplify.proofs.Tables.{replaced, unchanged}
 
@@ -45,12 +45,12 @@ module _ (program : Program) (pinned : List Bool) (entry : ℕ → Option (List 
 
 -- ---- instruction by instruction
 
-get_before : (code : List Instruction) (x : Instruction) (k : ℕ) → k < length code → slice_get (code ++ x ∷ []) k ≡ slice_get code k
+pub get_before : (code : List Instruction) (x : Instruction) (k : ℕ) → k < length code → slice_get (code ++ x ∷ []) k ≡ slice_get code k
 get_before [] x k below = absurd (omega arith)
 get_before (i ∷ code) x zero below = refl
 get_before (i ∷ code) x (suc k) below = get_before code x k (omega arith)
 
-get_last : (code : List Instruction) (x : Instruction) → slice_get (code ++ x ∷ []) (length code) ≡ Some x
+pub get_last : (code : List Instruction) (x : Instruction) → slice_get (code ++ x ∷ []) (length code) ≡ Some x
 get_last [] x = refl
 get_last (i ∷ code) x = get_last code x
 
@@ -143,20 +143,20 @@ same_replaced program r pinned code pins same = subst (λ (is : List Instruction
 pub none_replaced : (program : Program) → AreFirstReplaced program 0 []
 none_replaced program = record { as_many = refl; each = λ k below. absurd (omega arith) }
 
-routine_before : (routines : List Routine) (r : Routine) (k : ℕ) → k < length routines → slice_index_or (routines ++ r ∷ []) k no_routine ≡ slice_index_or routines k no_routine
+pub routine_before : (routines : List Routine) (r : Routine) (k : ℕ) → k < length routines → slice_index_or (routines ++ r ∷ []) k no_routine ≡ slice_index_or routines k no_routine
 routine_before [] r k below = absurd (omega arith)
 routine_before (s ∷ routines) r zero below = refl
 routine_before (s ∷ routines) r (suc k) below = routine_before routines r k (omega arith)
 
-routine_last : (routines : List Routine) (r : Routine) → slice_index_or (routines ++ r ∷ []) (length routines) no_routine ≡ r
+pub routine_last : (routines : List Routine) (r : Routine) → slice_index_or (routines ++ r ∷ []) (length routines) no_routine ≡ r
 routine_last [] r = refl
 routine_last (s ∷ routines) r = routine_last routines r
 
-routines_last : (functions : List Function) (f : Function) → map routine_of (functions ++ f ∷ []) ≡ map routine_of functions ++ routine_of f ∷ []
+pub routines_last : (functions : List Function) (f : Function) → map routine_of (functions ++ f ∷ []) ≡ map routine_of functions ++ routine_of f ∷ []
 routines_last [] f = refl
 routines_last (g ∷ functions) f = ap (λ (rs : List Routine). routine_of g ∷ rs) (routines_last functions f)
 
-next_replaced : (program : Program) (count : ℕ) (routines : List Routine) (r : Routine) → AreFirstReplaced program count routines → IsReplaced program (routine_at program count) r
+pub next_replaced : (program : Program) (count : ℕ) (routines : List Routine) (r : Routine) → AreFirstReplaced program count routines → IsReplaced program (routine_at program count) r
     → AreFirstReplaced program (count + 1) (routines ++ r ∷ [])
 next_replaced program count routines r are is = record {
   as_many = omega (arith, length-append routines (r ∷ []), are.as_many);
@@ -170,21 +170,3 @@ next_replaced program count routines r are is = record {
         (subst (IsReplaced program (routine_at program count)) (sym last) is)
   ];
 }
-
-pub more_replaced : (program : Program) (count : ℕ) (functions : List Function) (f : Function) (r : Routine) → AreFirstReplaced program count (map routine_of functions)
-    → r ≡ routine_at program count → IsReplaced program r (routine_of f) → AreFirstReplaced program (count + 1) (map routine_of (functions ++ f ∷ []))
-more_replaced program count functions f r are same is =
-    subst (AreFirstReplaced program (count + 1)) (sym (routines_last functions f))
-    (next_replaced program count (map routine_of functions) (routine_of f) are (subst (λ (s : Routine). IsReplaced program s (routine_of f)) same is))
-
-pub all_replaced : (program : Program) (functions : List Function) (globals : List ℕ) (main : ℕ) → AreFirstReplaced program (length program.functions) (map routine_of functions)
-    → globals ≡ program.globals → main ≡ program.main → AreReplaced program (program_of functions globals main)
-all_replaced program functions globals main are same_globals same_main =
-    record { as_many = are.as_many; each = are.each; globals = same_globals; main = same_main }
-
-pub program_replaced : (program : Program) (given functions : List Function) (number : ℕ) (globals : List ℕ) (main : ℕ) → map routine_of given ≡ program.functions
-    → number ≤ length given → length given ≤ number → AreFirstReplaced program number (map routine_of functions) → globals ≡ program.globals → main ≡ program.main
-    → AreReplaced program (program_of functions globals main)
-program_replaced program given functions number globals main are_given most least are same_globals same_main =
-    let as_many : number ≡ length program.functions = omega (arith, most, least, length-map given routine_of, ap (λ (rs : List Routine). length rs) are_given) in
-    all_replaced program functions globals main (subst (λ (n : ℕ). AreFirstReplaced program n (map routine_of functions)) as_many are) same_globals same_main

@@ -6,3 +6,4 @@ pub mod Replacement
 pub mod Table
 pub mod Entries
 pub mod Pins
+pub mod Room

@@ -11,6 +11,7 @@ mod jumps;
 mod known;
 mod pins;
 mod replacement;
+mod room;
 mod simplification;
 mod walk;
 

@@ -2,12 +2,14 @@
 ghost use Rattle.std.specs.Prelude.{IfOk};
 ghost use Rattle.cyc_plain.specs.inside.Program.{routine_of};
 ghost use Rattle.cyc_simplify.specs.inside.Entries.{with_code};
+ghost use Rattle.cyc_simplify.specs.inside.Room.{IsMade};
 ghost use Rattle.cyc_simplify.specs.inside.Simplified.{IsSimplified};
 ghost use Rattle.cyc_simplify.specs.inside.Table.{IsReplaced};
 
 use crate::candidates::is_candidate;
 use crate::entries::entries_of;
 use crate::pins::pins_of;
+use crate::room::spare;
 use crate::walk::walked;
 use cyc_plain::{Function, Instruction, Plain};
 use std::alloc::{AllocError, Global};
@@ -34,10 +36,12 @@ fn simplified_code(
 }
 
 /// A function, simplified.
+#[tactic(auto, using(crate::proofs::Sparing::code_made))]
 fn simplified(alloc: Global, plain: &Plain, function: &Function) -> Result<Function, AllocError>
-    ensures { IfOk result (λ made. IsReplaced plain.now (routine_of function.now) (routine_of made)) }
+    ensures { IfOk result (λ made. IsMade plain.now (routine_of function.now) (routine_of made)) }
 {
     let code = simplified_code(alloc, plain, function)?;
+    let code = spare(alloc, plain, code)?;
     Ok(Function {
         name: function.name,
         parameters: function.parameters,

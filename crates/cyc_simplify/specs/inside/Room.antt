@@ -1,0 +1,121 @@
+-- Room for calls: where `Enter` asks for what is known to be there, since a call of the same call had it before, nothing is put in its
+-- place. What a call has of room depends on where its slots lie and on how many calls are under way, and both stay as they are until it
+-- ends. So what is known of it is never forgotten.
+use Rattle.std.specs.Prelude.{◌≡◌, ℕ, zero, suc, ◌+◌, ◌*◌, ◌<◌, ◌≤◌, Bool, true, ◌&&◌, nat_le, nat_lt, if◌then◌else◌, List, length, Some, slice_get, slice_index_or}
+use Rattle.cyc_plain.specs.declared.instruction.Instruction.{Instruction}
+use Rattle.cyc_plain.specs.declared.instruction.Instruction.TheVariants as instructions
+use Rattle.cyc_plain.specs.inside.Memory.{slots_base}
+use Rattle.cyc_plain.specs.inside.Program.{Program, Routine, no_routine, routine_at}
+use Rattle.cyc_plain.specs.inside.Uses.{leads}
+use Rattle.cyc_simplify.specs.inside.Entries.{with_code, AreFirstReplaced}
+use Rattle.cyc_simplify.specs.inside.Table.{IsReplaced}
+
+-- ---- room
+
+-- how many slots each function has
+abbrev pub slots_in : Program → ℕ → ℕ
+slots_in program function = (routine_at program function).slots
+
+-- Room is a number: none is known, or a call with so many slots, less one, has it. So a call whose slots begin at this address has it,
+-- with so many calls under way and at most `calls` of them.
+abbrev pub HasRoom : (calls : ℕ) → (room base depth : ℕ) → Type 0
+HasRoom calls zero base depth = Unit {0}
+HasRoom calls (suc slots) base depth = (slots_base + 4 * slots ≤ base) × (depth < calls)
+
+-- the room that there was where the run goes on behind an instruction
+abbrev pub room_of : (slots : ℕ → ℕ) → Instruction → ℕ
+room_of slots (instructions.Call function arguments count result) = suc (slots function)
+room_of slots (instructions.Enter function) = suc (slots function)
+room_of slots i = 0
+
+abbrev pub greater : (one other : ℕ) → ℕ
+greater one other = if nat_lt one other then other else one
+
+-- what is known of room behind an instruction
+abbrev pub room_behind : (slots : ℕ → ℕ) → (room : ℕ) → Instruction → ℕ
+room_behind slots room i = greater room (room_of slots i)
+
+-- ---- tables
+
+-- Room for each place of code, none where it begins: nowhere more than is known wherever the code comes from.
+pub record IsRoomTable (slots : ℕ → ℕ) (code : List Instruction) (rooms : ℕ → ℕ) : Type 0 where
+  pub first : rooms 0 ≡ 0
+  pub edges : (index next : ℕ) (i : Instruction) → slice_get code index ≡ Some i → leads i index next ≡ true
+      → rooms next ≤ room_behind slots (rooms index) i
+
+-- ---- the check
+
+-- what is said of a place; where nothing is, no room is known
+abbrev pub room_at : List ℕ → (place : ℕ) → ℕ
+room_at rooms place = slice_index_or rooms place 0
+
+-- a place asks for no more than this
+abbrev pub is_enough : List ℕ → (room place : ℕ) → Bool
+is_enough rooms room place = nat_le (room_at rooms place) room
+
+-- an instruction leads to places that ask for no more
+abbrev pub leads_to_enough : List ℕ → (room : ℕ) → Instruction → (index : ℕ) → Bool
+leads_to_enough rooms room (instructions.Jump target) index = is_enough rooms room target
+leads_to_enough rooms room (instructions.Branch comparison left right target) index =
+    is_enough rooms room target && is_enough rooms room (index + 1)
+leads_to_enough rooms room (instructions.Try first handler) index = is_enough rooms room handler && is_enough rooms room (index + 1)
+leads_to_enough rooms room (instructions.Return value) index = true
+leads_to_enough rooms room (instructions.Throw tag value) index = true
+leads_to_enough rooms room (instructions.Finish value) index = true
+leads_to_enough rooms room (instructions.Uncaught tag value) index = true
+leads_to_enough rooms room i index = is_enough rooms room (index + 1)
+
+-- ---- what is put in
+
+-- a jump to where the run goes on
+abbrev pub nothing_at : (index : ℕ) → Instruction
+nothing_at index = instructions.Jump (index + 1)
+
+abbrev pub spared_instruction : (slots : ℕ → ℕ) → (room index : ℕ) → Instruction → Instruction
+spared_instruction slots room index (instructions.Enter function) =
+    if nat_lt room (suc (slots function)) then instructions.Enter function else nothing_at index
+spared_instruction slots room index i = i
+
+-- the code with nothing where room is known that is asked for
+pub record IsSparedCode (slots : ℕ → ℕ) (code spared : List Instruction) : Type 0 where
+  pub as_many : length spared ≡ length code
+  pub rooms : ℕ → ℕ
+  pub table : IsRoomTable slots code rooms
+  pub each : (index : ℕ) (i : Instruction) → slice_get code index ≡ Some i
+      → slice_get spared index ≡ Some (spared_instruction slots (rooms index) index i)
+
+-- the first instructions of code, so many of them, were checked and spared
+pub record AreSparedFirst (slots : ℕ → ℕ) (code : List Instruction) (rooms : List ℕ) (count : ℕ) (spared : List Instruction) : Type 0 where
+  pub as_many : length spared ≡ count
+  pub each : (index : ℕ) (i : Instruction) → slice_get code index ≡ Some i → index < count
+      → slice_get spared index ≡ Some (spared_instruction slots (room_at rooms index) index i)
+  pub checked : (index : ℕ) (i : Instruction) → slice_get code index ≡ Some i → index < count
+      → leads_to_enough rooms (room_behind slots (room_at rooms index) i) i index ≡ true
+
+-- ---- functions
+
+pub record IsSpared (slots : ℕ → ℕ) (r s : Routine) : Type 0 where
+  pub same : s ≡ with_code r s.code
+  pub code : IsSparedCode slots r.code s.code
+
+-- function by function, in order
+pub record AreSpared (program spared : Program) : Type 0 where
+  pub as_many : length spared.functions ≡ length program.functions
+  pub each : (k : ℕ) → k < length program.functions → IsSpared (slots_in program) (routine_at program k) (routine_at spared k)
+  pub globals : spared.globals ≡ program.globals
+  pub main : spared.main ≡ program.main
+
+-- ---- functions that are made
+
+-- The first functions of a program, so many of them, simplified and then spared. The program given says how many slots each has.
+pub record AreMadeFirst (program : Program) (count : ℕ) (routines : List Routine) : Type 0 where
+  pub between : List Routine
+  pub replaced : AreFirstReplaced program count between
+  pub as_many : length routines ≡ count
+  pub spared : (k : ℕ) → k < count → IsSpared (slots_in program) (slice_index_or between k no_routine) (slice_index_or routines k no_routine)
+
+-- a function, simplified and then spared
+pub record IsMade (program : Program) (r s : Routine) : Type 0 where
+  pub between : Routine
+  pub replaced : IsReplaced program r between
+  pub spared : IsSpared (slots_in program) between s
