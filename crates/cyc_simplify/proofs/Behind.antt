@@ -1,7 +1,7 @@
 -- What an instruction leaves and makes of the slots of its call.
-use Rattle.std.proofs.Common.{◌≡◌, ◌≢◌, ℕ, suc, ◌+◌, ◌-◌, ◌≤◌, ◌<◌, Bool, true, false, ◌||◌, List, Option, Some, None, refl, sym, ap, subst, ◌∙◌, arith}
-use Rattle.std.specs.Prelude.{◌==◌, not, if◌then◌else◌}
-use Rattle.std.proofs.lemmas.Bool.{or_parts, and_parts, and_from, eqb-true, eq-eqb, eqb-false, cond-false, cond_both, not-true, le-leb, lt-ltb, false≢true, not_from_false}
+use Rattle.std.proofs.Common.{◌≡◌, ◌≢◌, ℕ, suc, ◌+◌, ◌-◌, ◌≤◌, ◌<◌, Bool, true, false, ◌&&◌, ◌||◌, List, Option, Some, None, refl, sym, ap, subst, ◌∙◌, arith, inl, inr}
+use Rattle.std.specs.Prelude.{◌==◌, not, nat_le, nat_lt, if◌then◌else◌}
+use Rattle.std.proofs.lemmas.Bool.{or_parts, or_cases, and_parts, and_from, and_left, and_right, eqb-true, eq-eqb, eqb-false, cond-true, cond-false, cond_both, not-true, le-leb, leb-true, lt-leb, lt-ltb, le-ltb, false≢true, not_from_false}
 use Rattle.cyc_words.specs.Word.{add_of}
 use Rattle.cyc_store.specs.State.{StoreState}
 use Rattle.cyc_store.specs.Services as services
@@ -21,7 +21,7 @@ use Rattle.cyc_plain.specs.inside.Uses.{is_slot, is_among}
 use Rattle.cyc_simplify.specs.declared.fact.Fact.{Fact}
 use Rattle.cyc_simplify.specs.declared.fact.Fact.TheVariants as facts_are
 use Rattle.cyc_simplify.specs.declared.fact.Written.{Written}
-use Rattle.cyc_simplify.specs.inside.Facts.{Scene, IsTrueIn, IsTrueIfAny, is_free, suits_operand, leaves_slot, negated, is_any_slot, suited, loaded, shown}
+use Rattle.cyc_simplify.specs.inside.Facts.{Scene, IsTrueIn, IsTrueIfAny, is_free, are_free, lie_apart, are_copied, suits_operand, leaves_slot, negated, is_any_slot, suited, loaded, shown}
 use Rattle.cyc_simplify.proofs.Truth.{IsLeft, suited_any, suited_if}
 use Rattle.cyc_simplify.proofs.Same.{negated_compares}
 
@@ -92,6 +92,24 @@ pub moved_made : (old : Words) (memory : ℕ → Option ℕ) (pinned : List Bool
 moved_made old memory pinned destination source other =
     suited_any (record { slots = put old destination (operand_word old source); memory = memory }) pinned (facts_are.Equal destination source)
     (put-same old destination (operand_word old source) ∙ sym (other_word old destination (operand_word old source) source other))
+
+-- words that are moved to slots that are none of their sources
+pub copied_made : (old : Words) (pinned : List Bool) (source count destination : ℕ) → are_copied pinned destination source count ≡ true → (k : ℕ) → k < count
+    → copied old source count old destination (destination + k) ≡ copied old source count old destination (source + k)
+copied_made old pinned source count destination copies k below =
+    let apart = (and_parts (lie_apart destination source count) (are_free pinned destination count && are_free pinned source count) copies).0 in
+    let among : is_among destination count (destination + k) ≡ true =
+    and_from _ _ (le-leb destination (destination + k) (omega arith)) (lt-ltb (destination + k) (destination + count) (omega (arith, below))) in
+    let same : source + (destination + k - destination) ≡ source + k = omega arith in
+    cond-true (is_among destination count (destination + k)) (old (source + (destination + k - destination))) (old (destination + k)) among
+    ∙ ap old same
+    ∙ sym (cond-false (is_among destination count (source + k)) (old (source + (source + k - destination))) (old (source + k)) (outside apart))
+  where
+    outside : lie_apart destination source count ≡ true → is_among destination count (source + k) ≡ false
+    outside apart = elim (or_cases (nat_le (destination + count) source) (nat_le (source + count) destination) apart) [
+      | inl behind ↦ and_right (nat_le destination (source + k)) (nat_lt (source + k) (destination + count)) (le-ltb (source + k) (destination + count) (omega (arith, leb-true (destination + count) source behind)))
+      | inr before ↦ and_left (nat_le destination (source + k)) (nat_lt (source + k) (destination + count)) (lt-leb destination (source + k) (omega (arith, below, leb-true (source + count) destination before)))
+    ]
 
 pub itself_word : (old : Words) (destination : ℕ) (source : Operand) → is_slot source destination ≡ true → operand_word old source ≡ old destination
 itself_word old destination (operands.Word number) is = absurd (false≢true is)

@@ -1,7 +1,7 @@
 -- In a run of a simplified program what its tables say is true: in the call that is executed, and in those that wait.
-use Rattle.std.proofs.Common.{◌≡◌, ℕ, suc, ◌+◌, ◌-◌, ◌*◌, ◌%◌, ◌^◌, Bool, true, false, List, [], ◌∷◌, ◌++◌, drop, slice_get, Option, Some, None, refl, sym, ap, subst, ◌∙◌, arith}
+use Rattle.std.proofs.Common.{◌≡◌, ℕ, suc, ◌+◌, ◌-◌, ◌*◌, ◌%◌, ◌^◌, Bool, true, false, List, [], ◌∷◌, ◌++◌, drop, slice_get, Option, Some, None, refl, sym, ap, subst, ◌∙◌, arith, inl, inr}
 use Rattle.std.specs.Prelude.{◌==◌, if◌then◌else◌, unwrap_or, slice_index}
-use Rattle.std.proofs.lemmas.Bool.{eq-eqb, or_left, or_right, cond_both, false≢true}
+use Rattle.std.proofs.lemmas.Bool.{cases_Bool, eq-eqb, or_left, or_right, cond_both, false≢true, not_from_false}
 use Rattle.cyc_words.specs.Ending.{Uncaught}
 use Rattle.cyc_words.specs.Word.{signed, add_of}
 use Rattle.cyc_words.specs.Bytes.{with_byte, word_of}
@@ -25,15 +25,15 @@ use Rattle.cyc_plain.specs.inside.Step.{served_to, with_slots, Choice, gives, op
 use Rattle.cyc_plain.proofs.RunLaws.{if_either}
 use Rattle.cyc_plain.proofs.MemoryLaws.{numbered-from}
 use Rattle.cyc_plain.proofs.SlotLaws.{put-other}
-use Rattle.cyc_plain.specs.inside.Uses.{At, is_slot, leads}
+use Rattle.cyc_plain.specs.inside.Uses.{At, is_slot, is_among, leads}
 use Rattle.cyc_simplify.specs.declared.fact.Fact.{Fact}
 use Rattle.cyc_simplify.specs.declared.fact.Fact.TheVariants as facts_are
 use Rattle.cyc_simplify.specs.declared.fact.Touched.TheVariants as touches
-use Rattle.cyc_simplify.specs.inside.Facts.{Scene, scene_of, AreTrueIn, IsTrueIfAny, is_free, are_suited, written, touched_by, touched, kept, suited, held, made}
+use Rattle.cyc_simplify.specs.inside.Facts.{Scene, scene_of, AreTrueIn, IsTrueIfAny, IsMade, is_free, are_free, are_suited, written, touched_by, touched_by_words, leaves_slot, touched, kept, suited, held}
 use Rattle.cyc_simplify.specs.inside.Table.{IsReplaced}
 use Rattle.cyc_simplify.proofs.Memory.{memory_other, memory_there, unnamed_left, IsAlike, memory_alike}
-use Rattle.cyc_simplify.proofs.Truth.{IsLeft, IsUntouched, fact_free, kept_true, suited_true, kept_suited, AreTrueAlone, true_alone, true_behind_call, suited_if}
-use Rattle.cyc_simplify.proofs.Behind.{put_left, put_itself, copied_left, told_left, moved_made, itself_word, computed_made, loaded_made, shown_true}
+use Rattle.cyc_simplify.proofs.Truth.{IsLeft, IsUntouched, fact_free, kept_true, suited_true, kept_suited, AreTrueAlone, true_alone, true_behind_call, suited_if, free_there}
+use Rattle.cyc_simplify.proofs.Behind.{put_left, put_itself, copied_left, copied_made, told_left, moved_made, itself_word, computed_made, loaded_made, shown_true}
 
 module _ (program simplified : Program) (replaced : (function : ℕ) → IsReplaced program (routine_at program function) (routine_at simplified function)) where
   -- what is known at a place of a function
@@ -133,11 +133,11 @@ module _ (program simplified : Program) (replaced : (function : ℕ) → IsRepla
 
     -- behind the instruction, in such a scene
     goes : (next : ℕ) (new : Scene) → leads i c.active.next next ≡ true → AreTrueIn new (kept (written program i) (touched slots_free i) here)
-        → IsTrueIfAny new (made slots_free i c.active.next next) → AreTrueIn new (facts_in c.active.function next)
+        → IsMade new slots_free i c.active.next next → AreTrueIn new (facts_in c.active.function next)
     goes next new led keeps makes = (replaced c.active.function).is_table.edges c.active.next next i at led new keeps makes
 
     left : (next : ℕ) (new : Scene) → leads i c.active.next next ≡ true → IsLeft old new.slots (written program i) → IsUntouched (scene_of program c) new (touched slots_free i)
-        → IsTrueIfAny new (made slots_free i c.active.next next) → AreTrueIn new (facts_in c.active.function next)
+        → IsMade new slots_free i c.active.next next → AreTrueIn new (facts_in c.active.function next)
     left next new led leaves untouched makes =
         goes next new led (kept_true (scene_of program c) new (written program i) leaves (touched slots_free i) untouched here holds) makes
 
@@ -146,7 +146,7 @@ module _ (program simplified : Program) (replaced : (function : ℕ) → IsRepla
     same_memory d alike same = memory_alike program c d alike (λ slot named. ap (λ (slots : Words). slots slot) same)
 
     stays : (next : ℕ) (d : Configuration) → leads i c.active.next next ≡ true → IsAlike c d → d.active.slots ≡ c.active.slots
-        → touched slots_free i ≡ touches.Nothing → IsTrueIfAny (scene_of program d) (made slots_free i c.active.next next) → AreTrueIn (scene_of program d) (facts_in c.active.function next)
+        → touched slots_free i ≡ touches.Nothing → IsMade (scene_of program d) slots_free i c.active.next next → AreTrueIn (scene_of program d) (facts_in c.active.function next)
     stays next d led alike same none makes =
         left next (scene_of program d) led (λ slot leaves. ap (λ (slots : Words). slots slot) same)
         (subst (IsUntouched (scene_of program c) (scene_of program d)) (sym none) (same_memory d alike same)) makes
@@ -162,6 +162,23 @@ module _ (program simplified : Program) (replaced : (function : ℕ) → IsRepla
         other : is_free slots_free destination ≡ true → (slot : ℕ) → is_pinned (routine_at program c.active.function).code slot ≡ true → slot ≡ destination → ⊥
         other free slot named same =
             false≢true (sym (free_unnamed c.active.function destination free) ∙ ap (is_pinned (routine_at program c.active.function).code) (sym same) ∙ named)
+
+    -- slots get words, one behind the other
+    by_slots : (d : Configuration) (source count destination : ℕ) → IsAlike c d → d.active.slots ≡ copied old source count old destination
+        → IsUntouched (scene_of program c) (scene_of program d) (touched_by_words slots_free destination count)
+    by_slots d source count destination alike is =
+        cond_both (are_free slots_free destination count) touches.Nothing touches.All (IsUntouched (scene_of program c) (scene_of program d))
+        (λ free.
+        memory_alike program c d alike
+        (λ slot named. ap (λ (slots : Words). slots slot) is ∙ copied_left old old source count destination slot (outside free slot named)))
+        (λ taken. tt)
+      where
+        outside : are_free slots_free destination count ≡ true → (slot : ℕ) → is_pinned (routine_at program c.active.function).code slot ≡ true
+            → leaves_slot (record { first = destination; count = count }) slot ≡ true
+        outside free slot named = elim (cases_Bool (is_among destination count slot)) [
+          | inl among ↦ absurd (false≢true (sym (free_unnamed c.active.function slot (free_there slots_free destination count slot free among)) ∙ named))
+          | inr other ↦ not_from_false (is_among destination count slot) other
+        ]
 
     loaded_so : (destination : ℕ) (found : Option ℕ) → ((word : ℕ) → found ≡ Some word → AreTrueIn (scene_of program (advanced (with_slots c (put old destination word)))) (facts_in c.active.function (c.active.next + 1)))
         → IsKnown (loads c destination found)
@@ -206,7 +223,7 @@ module _ (program simplified : Program) (replaced : (function : ℕ) → IsRepla
           memory_alike program (with_memory program c address word) behind_store (record { function = refl; base = refl; frames = refl; globals = refl; store = refl }) (λ slot named. refl) other
 
       stored : written program i ≡ record { first = 0; count = 0 } → leads i c.active.next (c.active.next + 1) ≡ true → IsUntouched (scene_of program c) between (touched slots_free i)
-          → IsTrueIfAny (scene_of program behind_store) (made slots_free i c.active.next (c.active.next + 1))
+          → IsMade (scene_of program behind_store) slots_free i c.active.next (c.active.next + 1)
           → AreTrueIn (scene_of program behind_store) (facts_in c.active.function (c.active.next + 1))
       stored none led untouched makes =
           goes (c.active.next + 1) (scene_of program behind_store) led
@@ -319,7 +336,7 @@ module _ (program simplified : Program) (replaced : (function : ℕ) → IsRepla
     -- a slot gets a word
     gets : (i : Instruction) → here_at i → (d : Configuration) (destination word : ℕ) → IsAlike c d → d.active.slots ≡ put words destination word
         → leads i c.active.next (c.active.next + 1) ≡ true → written program i ≡ record { first = destination; count = 1 } → touched pins i ≡ touched_by pins destination
-        → IsTrueIfAny (scene_of program d) (made pins i c.active.next (c.active.next + 1)) → AreTrueIn (scene_of program d) (facts_in c.active.function (c.active.next + 1))
+        → IsMade (scene_of program d) pins i c.active.next (c.active.next + 1) → AreTrueIn (scene_of program d) (facts_in c.active.function (c.active.next + 1))
     gets i at d destination word same is led writes touches makes =
         left choice c i at holds handling waiting (c.active.next + 1) (scene_of program d) led
         (subst (IsLeft words d.active.slots) (sym writes) (subst (λ (new : Words). IsLeft words new (record { first = destination; count = 1 })) (sym is) (put_left words destination word)))
@@ -392,15 +409,15 @@ module _ (program simplified : Program) (replaced : (function : ℕ) → IsRepla
     -- a slot gets a word of which nothing is known
     gets_any : (i : Instruction) → here_at i → (d : Configuration) (destination word : ℕ) → IsAlike c d → d.active.slots ≡ put words destination word
         → leads i c.active.next (c.active.next + 1) ≡ true → written program i ≡ record { first = destination; count = 1 } → touched pins i ≡ touched_by pins destination
-        → ((index next : ℕ) → made pins i index next ≡ None) → AreTrueIn (scene_of program d) (facts_in c.active.function (c.active.next + 1))
-    gets_any i at d destination word same is led writes touches none =
-        gets i at d destination word same is led writes touches (subst (IsTrueIfAny (scene_of program d)) (sym (none c.active.next (c.active.next + 1))) tt)
+        → IsMade (scene_of program d) pins i c.active.next (c.active.next + 1) → AreTrueIn (scene_of program d) (facts_in c.active.function (c.active.next + 1))
+    gets_any i at d destination word same is led writes touches makes =
+        gets i at d destination word same is led writes touches makes
 
     -- the run goes on, and nothing changes but what was printed and which handlers are open
     goes_by : (i : Instruction) → here_at i → (d : Configuration) → leads i c.active.next (c.active.next + 1) ≡ true → IsAlike c d → d.active.slots ≡ words → touched pins i ≡ touches.Nothing
-        → ((index next : ℕ) → made pins i index next ≡ None) → AreTrueIn (scene_of program d) (facts_in c.active.function (c.active.next + 1))
-    goes_by i at d led same is nothing none =
-        stays choice c i at holds handling waiting (c.active.next + 1) d led same is nothing (subst (IsTrueIfAny (scene_of program d)) (sym (none c.active.next (c.active.next + 1))) tt)
+        → IsMade (scene_of program d) pins i c.active.next (c.active.next + 1) → AreTrueIn (scene_of program d) (facts_in c.active.function (c.active.next + 1))
+    goes_by i at d led same is nothing makes =
+        stays choice c i at holds handling waiting (c.active.next + 1) d led same is nothing makes
 
     saved : (address : Operand) (offset : ℕ) (source : Operand) → here_at (instructions.Store address offset source)
         → (found : Option ℕ) → memory_at program c (add_of (operand_word words address) offset) ≡ found
@@ -442,11 +459,13 @@ module _ (program simplified : Program) (replaced : (function : ℕ) → IsRepla
     performs : (i : Instruction) → here_at i → IsKnown (performed program choice c i)
     performs (instructions.Move destination source) at = moved destination source at
     performs (instructions.MoveWords destination source count) at = (
-      left choice c (instructions.MoveWords destination source count) at holds handling waiting (c.active.next + 1) (scene_of program (advanced (with_slots c (copied words source count words destination)))) led (copied_left words words source count destination) tt tt,
+      left choice c (instructions.MoveWords destination source count) at holds handling waiting (c.active.next + 1) (scene_of program (advanced (with_slots c (copied words source count words destination)))) led (copied_left words words source count destination)
+          (by_slots choice c (instructions.MoveWords destination source count) at holds handling waiting (advanced (with_slots c (copied words source count words destination))) source count destination (record { function = refl; base = refl; frames = refl; globals = refl; store = refl }) refl)
+          (copied_made words pins source count destination),
       handling,
       waiting,
     )
-    performs (instructions.Unary operator destination operand) at = (gets_any (instructions.Unary operator destination operand) at (given destination (unary_result operator (operand_word words operand))) destination (unary_result operator (operand_word words operand)) (record { function = refl; base = refl; frames = refl; globals = refl; store = refl }) refl led refl refl (λ index next. refl), handling, waiting)
+    performs (instructions.Unary operator destination operand) at = (gets_any (instructions.Unary operator destination operand) at (given destination (unary_result operator (operand_word words operand))) destination (unary_result operator (operand_word words operand)) (record { function = refl; base = refl; frames = refl; globals = refl; store = refl }) refl led refl refl tt, handling, waiting)
     performs (instructions.Binary operator destination left right) at = computed operator destination left right at
     performs (instructions.Jump target) at = (
       stays choice c (instructions.Jump target) at holds handling waiting target (record c { active = record c.active { next = target } }) (eq-eqb target target refl) (record { function = refl; base = refl; frames = refl; globals = refl; store = refl }) refl refl tt,
@@ -474,10 +493,10 @@ module _ (program simplified : Program) (replaced : (function : ℕ) → IsRepla
       ),
     )
     performs (instructions.Return value) at = returned choice c _ at holds handling waiting value (routine_at program c.active.function).results c.frames refl waiting
-    performs (instructions.ReadByte destination) at = (gets_any (instructions.ReadByte destination) at (advanced (with_slots (record c { input = drop 1 c.input }) (put words destination (unwrap_or (slice_get c.input 0) (2 ^ 32 - 1))))) destination (unwrap_or (slice_get c.input 0) (2 ^ 32 - 1)) (record { function = refl; base = refl; frames = refl; globals = refl; store = refl }) refl led refl refl (λ index next. refl), handling, waiting)
-    performs (instructions.WriteByte source) at = (goes_by (instructions.WriteByte source) at (advanced (record c { output = c.output ++ operand_word words source % 256 ∷ [] })) led (record { function = refl; base = refl; frames = refl; globals = refl; store = refl }) refl refl (λ index next. refl), handling, waiting)
-    performs (instructions.AddressOf destination slot count) at = (gets_any (instructions.AddressOf destination slot count) at (given destination (add_of c.active.base (4 * slot))) destination (add_of c.active.base (4 * slot)) (record { function = refl; base = refl; frames = refl; globals = refl; store = refl }) refl led refl refl (λ index next. refl), handling, waiting)
-    performs (instructions.LoadGlobal destination global) at = (gets_any (instructions.LoadGlobal destination global) at (given destination (c.globals global)) destination (c.globals global) (record { function = refl; base = refl; frames = refl; globals = refl; store = refl }) refl led refl refl (λ index next. refl), handling, waiting)
+    performs (instructions.ReadByte destination) at = (gets_any (instructions.ReadByte destination) at (advanced (with_slots (record c { input = drop 1 c.input }) (put words destination (unwrap_or (slice_get c.input 0) (2 ^ 32 - 1))))) destination (unwrap_or (slice_get c.input 0) (2 ^ 32 - 1)) (record { function = refl; base = refl; frames = refl; globals = refl; store = refl }) refl led refl refl tt, handling, waiting)
+    performs (instructions.WriteByte source) at = (goes_by (instructions.WriteByte source) at (advanced (record c { output = c.output ++ operand_word words source % 256 ∷ [] })) led (record { function = refl; base = refl; frames = refl; globals = refl; store = refl }) refl refl tt, handling, waiting)
+    performs (instructions.AddressOf destination slot count) at = (gets_any (instructions.AddressOf destination slot count) at (given destination (add_of c.active.base (4 * slot))) destination (add_of c.active.base (4 * slot)) (record { function = refl; base = refl; frames = refl; globals = refl; store = refl }) refl led refl refl tt, handling, waiting)
+    performs (instructions.LoadGlobal destination global) at = (gets_any (instructions.LoadGlobal destination global) at (given destination (c.globals global)) destination (c.globals global) (record { function = refl; base = refl; frames = refl; globals = refl; store = refl }) refl led refl refl tt, handling, waiting)
     performs (instructions.StoreGlobal global source) at = (
       left choice c (instructions.StoreGlobal global source) at holds handling waiting (c.active.next + 1) (scene_of program (advanced (record c { globals = put c.globals global (operand_word words source) }))) led (λ slot leaves. refl) tt tt,
       handling,
@@ -488,24 +507,24 @@ module _ (program simplified : Program) (replaced : (function : ℕ) → IsRepla
     performs (instructions.LoadByte destination address offset) at =
         loaded_byte choice c (instructions.LoadByte destination address offset) at holds handling waiting destination (add_of (operand_word words address) offset)
         (memory_at program c (word_of (add_of (operand_word words address) offset)))
-        (λ word. gets_any (instructions.LoadByte destination address offset) at (given destination word) destination word (record { function = refl; base = refl; frames = refl; globals = refl; store = refl }) refl led refl refl (λ index next. refl))
+        (λ word. gets_any (instructions.LoadByte destination address offset) at (given destination word) destination word (record { function = refl; base = refl; frames = refl; globals = refl; store = refl }) refl led refl refl tt)
     performs (instructions.StoreByte address offset source) at = saved_byte address offset source at (memory_at program c (word_of (add_of (operand_word words address) offset)))
     performs (instructions.Ask request) at =
         served choice c (instructions.Ask request) at holds handling waiting (destination_of request) (call_in words request) (refusal c.store (call_in words request))
         (left choice c (instructions.Ask request) at holds handling waiting (c.active.next + 1) (scene_of program (served_to choice.serving c (destination_of request) (call_in words request))) led (told_left c.store words words request choice.serving) tt tt)
-    performs (instructions.CountLexical destination) at = (gets_any (instructions.CountLexical destination) at (given destination (lexical_count c.store.regions % 2 ^ 32)) destination (lexical_count c.store.regions % 2 ^ 32) (record { function = refl; base = refl; frames = refl; globals = refl; store = refl }) refl led refl refl (λ index next. refl), handling, waiting)
+    performs (instructions.CountLexical destination) at = (gets_any (instructions.CountLexical destination) at (given destination (lexical_count c.store.regions % 2 ^ 32)) destination (lexical_count c.store.regions % 2 ^ 32) (record { function = refl; base = refl; frames = refl; globals = refl; store = refl }) refl led refl refl tt, handling, waiting)
     performs (instructions.Try first handler) at =
         tried choice c (instructions.Try first handler) at holds handling waiting first handler c.active.handlers handling ((replaced c.active.function).is_table.tries c.active.next first handler at)
         (try_behind first handler (c.active.next + 1) at (or_left (suc c.active.next == c.active.next + 1) (handler == c.active.next + 1) led))
         (try_behind first handler handler at (or_right (suc c.active.next == handler) (handler == handler) (eq-eqb handler handler refl)))
     performs (instructions.Leave first) at =
         closed choice c (instructions.Leave first) at holds handling waiting
-        (λ handlers. goes_by (instructions.Leave first) at (advanced (record c { active = record c.active { handlers = handlers } })) led (record { function = refl; base = refl; frames = refl; globals = refl; store = refl }) refl refl (λ index next. refl)) first c.active.handlers handling
+        (λ handlers. goes_by (instructions.Leave first) at (advanced (record c { active = record c.active { handlers = handlers } })) led (record { function = refl; base = refl; frames = refl; globals = refl; store = refl }) refl refl tt) first c.active.handlers handling
     performs (instructions.Throw tag value) at =
         thrown choice c (instructions.Throw tag value) at holds handling waiting (operand_word words tag) (operand_word words value) c.active c.frames handling waiting
     performs (instructions.Finish value) at = finished choice c (instructions.Finish value) at holds handling waiting value (routine_at program c.active.function).results c.active.handlers refl
     performs (instructions.Uncaught tag value) at = tt
-    performs (instructions.Enter function) at = (goes_by (instructions.Enter function) at (advanced c) led (record { function = refl; base = refl; frames = refl; globals = refl; store = refl }) refl refl (λ index next. refl), handling, waiting)
+    performs (instructions.Enter function) at = (goes_by (instructions.Enter function) at (advanced c) led (record { function = refl; base = refl; frames = refl; globals = refl; store = refl }) refl refl tt, handling, waiting)
 
   -- what is known stays known
   pub known_behind : (choice : Choice) (c : Configuration) (i : Instruction) → At (routine_at simplified c.active.function) c.active.next i → IsKnown (Running c) → IsKnown (performed program choice c i)

@@ -1,18 +1,20 @@
 -- Which slots of a function have their address taken is found.
-use Rattle.std.proofs.Common.{◌≡◌, ℕ, zero, suc, ◌+◌, Bool, true, false, ◌||◌, List, [], ◌∷◌, ◌++◌, drop, length, Some, None, slice_get, refl, sym, ap, subst, ◌∙◌, arith, inl, inr}
+use Rattle.std.proofs.Common.{◌≡◌, ℕ, zero, suc, ◌+◌, ◌-◌, ◌<◌, ◌≤◌, Bool, true, false, ◌&&◌, ◌||◌, List, [], ◌∷◌, ◌++◌, drop, length, Some, None, slice_get, refl, sym, ap, subst, ◌∙◌, arith, inl, inr}
 use Rattle.std.specs.Prelude.{◌⊎◌, not, slice_index_or, replicate}
-use Rattle.std.proofs.lemmas.Bool.{cases_lt, or_cases, false≢true, not-true, both_ways, false_from_ne_true}
+use Rattle.std.proofs.lemmas.Bool.{cases_Bool, cases_lt, or_cases, and_parts, and_from, false≢true, not-true, both_ways, false_from_ne_true}
 use Rattle.std.proofs.lemmas.List.{length-append}
 use Rattle.std.proofs.lemmas.Option.{none-some}
+use Rattle.cyc_words.proofs.Numbers.{suc_plus_one}
 use Rattle.cyc_words.proofs.Items.{slice_index_or_before, slice_index_or_last, slice_index_or_beyond, slice_index_or_replicate_same}
 use Rattle.cyc_plain.specs.declared.instruction.Instruction.{Instruction}
 use Rattle.cyc_plain.specs.declared.instruction.Instruction.TheVariants as instructions
 use Rattle.cyc_plain.specs.inside.Memory.{pins, is_pinned}
 use Rattle.cyc_plain.specs.inside.Program.{Routine}
 use Rattle.cyc_simplify.specs.declared.fact.Written.{Written}
-use Rattle.cyc_simplify.specs.inside.Facts.{leaves_slot, is_free}
+use Rattle.cyc_simplify.specs.inside.Facts.{leaves_slot, is_free, are_free, lie_apart, are_copied}
 use Rattle.cyc_simplify.specs.inside.Pins.{is_within, range_of, AreRanges, AreFirstPins}
 use Rattle.cyc_simplify.specs.inside.Table.{ArePins}
+use Rattle.cyc_simplify.proofs.Truth.{each_free}
 
 -- each slot that the code pins is in a range, or is pinned by what is still to be looked at
 abbrev pub AreRangesBut : (code left : List Instruction) → List Written → Type 0
@@ -127,3 +129,40 @@ all_pinned r pinned are as_many = record {
       absurd (both_ways (slice_index_or pinned slot true) (not-true (slice_index_or pinned slot true) free)
       (subst (λ (bs : List Bool). slice_index_or bs slot true ≡ true) (sym are) (slice_index_or_replicate_same r.slots true slot)));
 }
+
+-- ---- slots that are free, one behind the other
+
+pub free_more : (pinned : List Bool) (first count : ℕ) → are_free pinned first count ≡ true → is_free pinned (first + count) ≡ true → are_free pinned first (count + 1) ≡ true
+free_more pinned first count before last =
+    subst (λ (n : ℕ). are_free pinned first n ≡ true) (suc_plus_one count) (and_from (are_free pinned first count) (is_free pinned (first + count)) before last)
+
+pub not_all_free : (pinned : List Bool) (first count k : ℕ) → k < count → is_free pinned (first + k) ≡ false → false ≡ are_free pinned first count
+not_all_free pinned first count k below taken = elim (cases_Bool (are_free pinned first count)) [
+  | inl free ↦ absurd (false≢true (sym taken ∙ each_free pinned first count k free below))
+  | inr none ↦ sym none
+]
+
+free_below : (pinned : List Bool) (slot : ℕ) → is_free pinned slot ≡ true → slot < length pinned
+free_below pinned slot free = elim (cases_lt slot (length pinned)) [
+  | inl below ↦ below
+  | inr beyond ↦ absurd (false≢true (sym (ap not (slice_index_or_beyond pinned slot beyond)) ∙ free))
+]
+
+-- they are slots of the function
+pub free_within : (pinned : List Bool) (first count : ℕ) → are_free pinned first count ≡ true → 0 < count → first + count ≤ length pinned
+free_within pinned first count free some =
+    let last : is_free pinned (first + (count - 1)) ≡ true = each_free pinned first count (count - 1) free (omega (arith, some)) in
+    omega (arith, free_below pinned (first + (count - 1)) last, some)
+
+-- words that are copied are in slots of the function
+pub destination_within : (pinned : List Bool) (destination source count index : ℕ) → are_copied pinned destination source count ≡ true → index < count → destination + index < length pinned
+destination_within pinned destination source count index copies below =
+    let (apart, both) = and_parts (lie_apart destination source count) (are_free pinned destination count && are_free pinned source count) copies in
+    let free = (and_parts (are_free pinned destination count) (are_free pinned source count) both).0 in
+    free_below pinned (destination + index) (each_free pinned destination count index free below)
+
+pub source_within : (pinned : List Bool) (destination source count index : ℕ) → are_copied pinned destination source count ≡ true → index < count → source + index < length pinned
+source_within pinned destination source count index copies below =
+    let (apart, both) = and_parts (lie_apart destination source count) (are_free pinned destination count && are_free pinned source count) copies in
+    let free = (and_parts (are_free pinned destination count) (are_free pinned source count) both).1 in
+    free_below pinned (source + index) (each_free pinned source count index free below)

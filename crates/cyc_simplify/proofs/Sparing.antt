@@ -12,7 +12,7 @@ use Rattle.cyc_plain.specs.inside.Uses.{leads}
 use Rattle.cyc_plain.specs.inside.WellFormed.{IsPlain}
 use Rattle.cyc_plain.proofs.Placed.{routine_in}
 use Rattle.cyc_simplify.specs.inside.Entries.{with_code}
-use Rattle.cyc_simplify.specs.inside.Room.{slots_in, room_behind, room_at, is_enough, leads_to_enough, spared_instruction, IsSparedCode, AreSparedFirst, IsSpared, AreSpared, AreMadeFirst, IsMade}
+use Rattle.cyc_simplify.specs.inside.Room.{slots_in, room_behind, room_at, is_enough, leads_to_enough, spared_instruction, IsSparedCode, AreSparedFirst, IsSpared, AreSpared, AreMadeFirst, IsMadeFunction}
 use Rattle.cyc_simplify.specs.inside.Simplified.{IsSimplified}
 use Rattle.cyc_simplify.specs.inside.Table.{IsReplaced, AreReplaced}
 use Rattle.cyc_simplify.proofs.Runs.{each_replaced}
@@ -110,7 +110,7 @@ module _ (slots : ℕ → ℕ) (code : List Instruction) (rooms : List ℕ) wher
 pub none_made_yet : (program : Program) → AreMadeFirst program 0 []
 none_made_yet program = record { between = []; replaced = none_replaced program; as_many = refl; spared = λ k below. absurd (omega arith) }
 
-next_made : (program : Program) (count : ℕ) (routines : List Routine) (s : Routine) → AreMadeFirst program count routines → IsMade program (routine_at program count) s
+next_made : (program : Program) (count : ℕ) (routines : List Routine) (s : Routine) → AreMadeFirst program count routines → IsMadeFunction program (routine_at program count) s
     → AreMadeFirst program (count + 1) (routines ++ s ∷ [])
 next_made program count routines s are is = record {
   between = are.between ++ is.between ∷ [];
@@ -131,10 +131,10 @@ next_made program count routines s are is = record {
 }
 
 pub more_made : (program : Program) (count : ℕ) (functions : List Function) (f : Function) (r : Routine) → AreMadeFirst program count (map routine_of functions)
-    → r ≡ routine_at program count → IsMade program r (routine_of f) → AreMadeFirst program (count + 1) (map routine_of (functions ++ f ∷ []))
+    → r ≡ routine_at program count → IsMadeFunction program r (routine_of f) → AreMadeFirst program (count + 1) (map routine_of (functions ++ f ∷ []))
 more_made program count functions f r are same is =
     subst (AreMadeFirst program (count + 1)) (sym (routines_last functions f))
-    (next_made program count (map routine_of functions) (routine_of f) are (subst (λ (s : Routine). IsMade program s (routine_of f)) same is))
+    (next_made program count (map routine_of functions) (routine_of f) are (subst (λ (s : Routine). IsMadeFunction program s (routine_of f)) same is))
 
 module _ (program : Program) (given functions : List Function) (number : ℕ) (globals : List ℕ) (main : ℕ) (are_given : map routine_of given ≡ program.functions)
     (most : number ≤ length given) (least : length given ≤ number) (are : AreMadeFirst program number (map routine_of functions)) (same_globals : globals ≡ program.globals)
@@ -172,5 +172,5 @@ module _ (program : Program) (given functions : List Function) (number : ℕ) (g
   made_simplified plain = spared_simplified middle (program_of functions globals main) middle_spared program (is_simplified program middle middle_replaced plain)
 
 -- a function that is made so
-pub code_made : (program : Program) (r : Routine) (code spared : List Instruction) → IsReplaced program r (with_code r code) → IsSparedCode (slots_in program) code spared → IsMade program r (with_code r spared)
+pub code_made : (program : Program) (r : Routine) (code spared : List Instruction) → IsReplaced program r (with_code r code) → IsSparedCode (slots_in program) code spared → IsMadeFunction program r (with_code r spared)
 code_made program r code spared replaced is = record { between = with_code r code; replaced = replaced; spared = record { same = refl; code = is } }

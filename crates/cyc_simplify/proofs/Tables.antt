@@ -1,7 +1,7 @@
 -- A table that was checked is right: what it says of a place is true there, whichever way the run came.
 use Rattle.std.proofs.Common.{◌≡◌, ℕ, zero, suc, ◌+◌, ◌<◌, Bool, true, ◌&&◌, ◌||◌, List, [], ◌∷◌, ◌++◌, length, drop, Option, Some, None, slice_get, refl, sym, ap, subst, ◌∙◌, arith, inl, inr}
 use Rattle.std.specs.Prelude.{◌==◌, not, nat_lt, if◌then◌else◌}
-use Rattle.std.proofs.lemmas.Bool.{and_parts, and_from, or_cases, eqb-true, false≢true, cond_both, cond-true}
+use Rattle.std.proofs.lemmas.Bool.{and_parts, and_from, or_cases, eqb-true, ltb-true, false≢true, cond_both, cond-true}
 use Rattle.cyc_words.proofs.Lists.{slice_get_below}
 use Rattle.cyc_words.proofs.Numbers.{suc_plus_one}
 use Rattle.cyc_words.proofs.Items.{below_from_slice_get}
@@ -23,10 +23,10 @@ use Rattle.cyc_simplify.specs.declared.fact.Touched.{Touched}
 use Rattle.cyc_simplify.specs.declared.fact.Touched.TheVariants as touches
 use Rattle.cyc_simplify.specs.declared.fact.Written.{Written}
 use Rattle.cyc_simplify.specs.declared.fact.TheConstants.{MOST_FACTS}
-use Rattle.cyc_simplify.specs.inside.Facts.{Scene, IsTrueIn, AreTrueIn, IsTrueIfAny, is_known, suits, are_suited, written, touched, keeps, kept, suited, made, negated, is_any_slot, remembered, facts_behind}
+use Rattle.cyc_simplify.specs.inside.Facts.{Scene, IsTrueIn, AreTrueIn, IsTrueIfAny, IsMade, is_known, are_free, lie_apart, are_copied, copied, with_copies, suits, are_suited, written, touched, keeps, kept, suited, made, negated, is_any_slot, remembered, facts_behind}
 use Rattle.cyc_simplify.specs.inside.Replacement.{simplified_operand, own_word, takes_word, small_or, right_operand, may_fold, simplified_binary, simplified_request, simplified_instruction}
 use Rattle.cyc_simplify.specs.inside.Table.{ArePins, IsTable, IsReplaced, entered_or, facts_behind_place, facts_at, is_more, is_known_with, resolved_fact, follows, are_known, may_jump, may_go_on, is_entry_suited, is_empty, leads_well, is_checked_at, IsChecked}
-use Rattle.cyc_simplify.proofs.Truth.{same_fact, known_true, remembered_true, leaves_any, leaves_any_operand, kept_suited}
+use Rattle.cyc_simplify.proofs.Truth.{each_free, same_fact, known_true, all_true, leaves_any, leaves_any_operand, kept_suited}
 use Rattle.cyc_simplify.proofs.Same.{operand_same}
 
 -- ---- nothing replaced
@@ -176,9 +176,27 @@ module _ (pinned : List Bool) where
       (cond_both (nat_lt (length facts) MOST_FACTS) facts (drop 1 facts) (λ l. are_suited pinned l ≡ true) (λ few. all) (λ many. behind_first_suited facts all))
       (and_from (suits pinned fact) true one refl)
 
+  copied_suited : (i : Instruction) (k : ℕ) → IsSuited (copied pinned i k)
+  copied_suited (instructions.MoveWords destination source count) k =
+      cond_both (nat_lt k count && are_copied pinned destination source count) (Some (facts_are.Equal (destination + k) (operands.Slot (source + k)))) None IsSuited
+      (λ copies.
+      let (below, are) = and_parts (nat_lt k count) (are_copied pinned destination source count) copies in
+      let (apart, both) = and_parts (lie_apart destination source count) (are_free pinned destination count && are_free pinned source count) are in
+      let (free, others_free) = and_parts (are_free pinned destination count) (are_free pinned source count) both in
+      and_from _ _ (each_free pinned destination count k free (ltb-true k count below)) (each_free pinned source count k others_free (ltb-true k count below)))
+      (λ none. tt)
+  copied_suited i k = tt
+
+  copies_suited : (i : Instruction) (facts : List Fact) → are_suited pinned facts ≡ true → are_suited pinned (with_copies pinned i facts) ≡ true
+  copies_suited i facts all = with_one 2 _ (with_one 1 _ (with_one 0 facts all))
+    where
+      with_one : (k : ℕ) (others : List Fact) → are_suited pinned others ≡ true → are_suited pinned (remembered others (copied pinned i k)) ≡ true
+      with_one k others are = remembered_suited others (copied pinned i k) are (copied_suited i k)
+
   pub behind_suited : (program : Program) (facts : List Fact) (i : Instruction) (index next : ℕ) → are_suited pinned facts ≡ true → are_suited pinned (facts_behind program pinned facts i index next) ≡ true
   behind_suited program facts i index next all =
-      remembered_suited (kept (written program i) (touched pinned i) facts) (made pinned i index next) (kept_suited pinned (written program i) (touched pinned i) facts all) (made_suited i index next)
+      let keeps : List Fact = kept (written program i) (touched pinned i) facts in
+      remembered_suited (with_copies pinned i keeps) (made pinned i index next) (copies_suited i keeps (kept_suited pinned (written program i) (touched pinned i) facts all)) (made_suited i index next)
 
 -- ---- a table that was checked
 
@@ -259,15 +277,15 @@ module _ (program : Program) (r s : Routine) (pinned : List Bool) (entry : ℕ �
     falls j stands facts may holds behind led =
         subst (λ (n : ℕ). AreTrueIn scene (table n)) (eqb-true (suc index) next led) (went_on scene index j stands facts may holds behind)
 
-    behind_true : (j : Instruction) → AreTrueIn scene (kept (written program j) (touched pinned j) (table index)) → IsTrueIfAny scene (made pinned j index next) → (suc index == next) ≡ true
+    behind_true : (j : Instruction) → AreTrueIn scene (kept (written program j) (touched pinned j) (table index)) → IsMade scene pinned j index next → (suc index == next) ≡ true
         → AreTrueIn scene (facts_behind program pinned (table index) j index (index + 1))
     behind_true j keeps makes led =
         let same : next ≡ index + 1 = sym (eqb-true (suc index) next led) ∙ suc_plus_one index in
-        remembered_true scene (kept (written program j) (touched pinned j) (table index)) (made pinned j index (index + 1)) keeps
-        (subst (λ (n : ℕ). IsTrueIfAny scene (made pinned j index n)) same makes)
+        all_true scene pinned (kept (written program j) (touched pinned j) (table index)) j index (index + 1) keeps
+        (subst (λ (n : ℕ). IsMade scene pinned j index n) same makes)
 
     to_next : (j : Instruction) → StandsFor index j → may_go_on (entry (index + 1)) (facts_behind program pinned (table index) j index (index + 1)) None ≡ true
-        → (suc index == next) ≡ true → AreTrueIn scene (kept (written program j) (touched pinned j) (table index)) → IsTrueIfAny scene (made pinned j index next) → AreTrueIn scene (table next)
+        → (suc index == next) ≡ true → AreTrueIn scene (kept (written program j) (touched pinned j) (table index)) → IsMade scene pinned j index next → AreTrueIn scene (table next)
     to_next j stands may led keeps makes =
         let behind = behind_true j keeps makes led in falls j stands (facts_behind program pinned (table index) j index (index + 1)) may behind behind led
 
@@ -302,7 +320,7 @@ module _ (program : Program) (r s : Routine) (pinned : List Bool) (entry : ℕ �
         ]
 
     edge : (j : Instruction) → StandsFor index j → leads_well program pinned entry (table index) j index ≡ true → leads j index next ≡ true
-        → AreTrueIn scene (kept (written program j) (touched pinned j) (table index)) → IsTrueIfAny scene (made pinned j index next) → AreTrueIn scene (table next)
+        → AreTrueIn scene (kept (written program j) (touched pinned j) (table index)) → IsMade scene pinned j index next → AreTrueIn scene (table next)
     edge (instructions.Jump target) stands well led keeps makes =
         to_target target (table index) None well led (subst (AreTrueIn scene) (nothing_lost (table index)) keeps) tt
     edge (instructions.Branch comparison left right target) stands well led keeps makes = by_branch comparison left right target stands well led keeps makes

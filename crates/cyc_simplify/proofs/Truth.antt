@@ -1,10 +1,12 @@
 -- Truth of facts: where two are the same, where an instruction leaves the slots that they are about, and where what is asked is
 -- among what is known.
-use Rattle.std.proofs.Common.{◌≡◌, ◌≢◌, ℕ, zero, suc, ◌+◌, ◌^◌, ◌<◌, Bool, true, false, ◌&&◌, List, [], ◌∷◌, drop, length, Option, Some, None, refl, sym, ap, subst, ◌∙◌, arith, inl, inr}
+use Rattle.std.proofs.Common.{◌≡◌, ◌≢◌, ℕ, zero, suc, ◌+◌, ◌-◌, ◌^◌, ◌<◌, ◌≤◌, Bool, true, false, ◌&&◌, List, [], ◌∷◌, drop, length, Option, Some, None, refl, sym, ap, subst, ◌∙◌, arith, inl, inr}
 use Rattle.std.specs.Prelude.{◌==◌, not, nat_le, nat_lt, if◌then◌else◌}
-use Rattle.std.proofs.lemmas.Bool.{and_parts, and_from, and_right, or_cases, eqb-true, eq-eqb, ltb-true, le-ltb, not_from_false, false≢true, cond_both, cond-true}
+use Rattle.std.proofs.lemmas.Bool.{and_parts, and_from, and_right, or_cases, eqb-true, eq-eqb, ltb-true, leb-true, le-ltb, cases_lt, not_from_false, false≢true, cond_both, cond-true}
 use Rattle.cyc_words.specs.Word.{add_of}
 use Rattle.cyc_words.proofs.Lists.{all_append}
+use Rattle.cyc_plain.specs.declared.instruction.Instruction.{Instruction}
+use Rattle.cyc_plain.specs.declared.instruction.Instruction.TheVariants as instructions
 use Rattle.cyc_plain.specs.declared.instruction.Operand.{Operand}
 use Rattle.cyc_plain.specs.declared.instruction.Operand.TheVariants as operands
 use Rattle.cyc_plain.specs.declared.instruction.BinaryOperator.{BinaryOperator}
@@ -22,7 +24,8 @@ use Rattle.cyc_simplify.specs.declared.fact.Touched.TheVariants as touches
 use Rattle.cyc_simplify.specs.declared.fact.Written.{Written}
 use Rattle.cyc_simplify.specs.declared.fact.TheConstants.{MOST_FACTS}
 use Rattle.cyc_simplify.specs.inside.Facts.{Scene, found, IsTrueIn, AreTrueIn, IsTrueIfAny, operator_number, comparison_number, is_same_operator, is_same_comparison, is_same_operand, is_same_word}
-use Rattle.cyc_simplify.specs.inside.Facts.{is_same_fact, is_known, is_free, suits_operand, suits, are_suited, leaves_slot, leaves_operand, are_apart, is_untouched, keeps, kept, suited, remembered}
+use Rattle.cyc_simplify.specs.inside.Facts.{is_same_fact, is_known, is_free, are_free, suits_operand, suits, are_suited, leaves_slot, leaves_operand, are_apart, is_untouched, keeps, kept, suited}
+use Rattle.cyc_simplify.specs.inside.Facts.{made, remembered, are_copied, copied, with_copies, IsMade}
 
 -- ---- what is the same
 
@@ -342,3 +345,43 @@ remembered_true scene facts (Some fact) holds one =
     behind_first : (facts : List Fact) → AreTrueIn scene facts → AreTrueIn scene (drop 1 facts)
     behind_first [] holds = tt
     behind_first (other ∷ facts) (first, rest) = rest
+
+-- words that are moved are known to be copies where they are
+copies_true : (scene : Scene) (pinned : List Bool) (destination source count : ℕ) → IsMade scene pinned (instructions.MoveWords destination source count) 0 0
+    → (facts : List Fact) → AreTrueIn scene facts → AreTrueIn scene (with_copies pinned (instructions.MoveWords destination source count) facts)
+copies_true scene pinned destination source count same facts holds = with_one 2 _ (with_one 1 _ (with_one 0 facts holds))
+  where
+    one : (k : ℕ) → IsTrueIfAny scene (copied pinned (instructions.MoveWords destination source count) k)
+    one k =
+        cond_both (nat_lt k count && are_copied pinned destination source count) (Some (facts_are.Equal (destination + k) (operands.Slot (source + k)))) None (IsTrueIfAny scene)
+        (λ copies.
+        let (below, are) = and_parts (nat_lt k count) (are_copied pinned destination source count) copies in same are k (ltb-true k count below))
+        (λ none. tt)
+
+    with_one : (k : ℕ) (others : List Fact) → AreTrueIn scene others → AreTrueIn scene (remembered others (copied pinned (instructions.MoveWords destination source count) k))
+    with_one k others are = remembered_true scene others (copied pinned (instructions.MoveWords destination source count) k) are (one k)
+
+pub all_true : (scene : Scene) (pinned : List Bool) (facts : List Fact) (i : Instruction) (index next : ℕ) → AreTrueIn scene facts → IsMade scene pinned i index next
+    → AreTrueIn scene (remembered (with_copies pinned i facts) (made pinned i index next))
+all_true scene pinned facts (instructions.MoveWords destination source count) index next holds is = copies_true scene pinned destination source count is facts holds
+all_true scene pinned facts i index next holds is = remembered_true scene facts (made pinned i index next) holds is
+
+-- ---- slots that are free
+
+-- the one that is so far from the first
+pub each_free : (pinned : List Bool) (first count k : ℕ) → are_free pinned first count ≡ true → k < count → is_free pinned (first + k) ≡ true
+each_free pinned first zero k free below = absurd (omega (arith, below))
+each_free pinned first (suc count) k free below =
+    let (before, last) = and_parts (are_free pinned first count) (is_free pinned (first + count)) free in
+    elim (cases_lt k count) [
+      | inl nearer ↦ each_free pinned first count k before nearer
+      | inr not_nearer ↦
+          let same : count ≡ k = omega (arith, below, not_nearer) in subst (λ (n : ℕ). is_free pinned (first + n) ≡ true) same last
+    ]
+
+pub free_there : (pinned : List Bool) (first count slot : ℕ) → are_free pinned first count ≡ true → is_among first count slot ≡ true → is_free pinned slot ≡ true
+free_there pinned first count slot free among =
+    let (low, high) = and_parts (nat_le first slot) (nat_lt slot (first + count)) among in
+    let from : first ≤ slot = leb-true first slot low in
+    let same : first + (slot - first) ≡ slot = omega (arith, from) in
+    subst (λ (n : ℕ). is_free pinned n ≡ true) same (each_free pinned first count (slot - first) free (omega (arith, from, ltb-true slot (first + count) high)))

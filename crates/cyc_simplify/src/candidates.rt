@@ -29,6 +29,16 @@ fn with_copy(copies: Copies, destination: usize) -> Copies {
     }
 }
 
+/// Copies of several words more, one behind the other.
+fn with_copies(copies: Copies, destination: usize, count: usize) -> Copies {
+    let copies = with_copy(copies, destination);
+    if count > 1 && destination <= usize::MAX - count {
+        with_copy(copies, destination + (count - 1))
+    } else {
+        copies
+    }
+}
+
 /// The copies behind an instruction. What is copied for a call is not looked at: it is to stand there.
 fn copies_behind(copies: Copies, instruction: Instruction) -> Copies {
     match instruction {
@@ -42,6 +52,11 @@ fn copies_behind(copies: Copies, instruction: Instruction) -> Copies {
                 copies
             }
         }
+        Instruction::MoveWords {
+            destination,
+            count,
+            ..
+        } => with_copies(copies, destination, count),
         Instruction::Call { .. } => no_copies(),
         _ => copies,
     }

@@ -7,7 +7,7 @@ ghost use Rattle.cyc_simplify.specs.inside.Facts as facts_of;
 
 use crate::fact::{Fact, MOST_FACTS, Touched, Written};
 use crate::known::{is_same_operand, is_slot};
-use crate::pins::{is_free, suits_operand};
+use crate::pins::{are_free, is_free, suits_operand};
 use cyc_plain::{Comparison, Instruction, Operand, Plain, RECORD_WORDS, Request};
 use std::alloc::AllocError;
 
@@ -128,12 +128,28 @@ fn touched_by(pinned: &[bool], slot: usize) -> Touched
     }
 }
 
+/// What the words that so many slots get change in memory.
+fn touched_by_words(pinned: &[bool], first: usize, count: usize) -> Touched
+    ensures { result ≡ facts_of.touched_by_words pinned.now first count }
+{
+    if are_free(pinned, first, count) {
+        Touched::Nothing
+    } else {
+        Touched::All
+    }
+}
+
 /// What an instruction may change of memory.
 fn touched(pinned: &[bool], instruction: Instruction) -> Touched
     ensures { result ≡ facts_of.touched pinned.now instruction }
 {
     match instruction {
         Instruction::Move { destination, .. } => touched_by(pinned, destination),
+        Instruction::MoveWords {
+            destination,
+            count,
+            ..
+        } => touched_by_words(pinned, destination, count),
         Instruction::Unary { destination, .. } => touched_by(pinned, destination),
         Instruction::Binary { destination, .. } => touched_by(pinned, destination),
         Instruction::ReadByte { destination } => touched_by(pinned, destination),
@@ -149,7 +165,6 @@ fn touched(pinned: &[bool], instruction: Instruction) -> Touched
         } => Touched::Word { address, offset },
         Instruction::StoreByte { .. }
         | Instruction::StoreGlobal { .. }
-        | Instruction::MoveWords { .. }
         | Instruction::Call { .. }
         | Instruction::Ask { .. }
         | Instruction::Try { .. } => Touched::All,
@@ -442,6 +457,64 @@ fn remember(facts: &mut Vec<Fact>, made: Option<Fact>) -> Result<(), AllocError>
     Ok(())
 }
 
+/// Whether so many slots, from each first one on, have none in common.
+fn lie_apart(first: usize, other: usize, count: usize) -> bool
+    ensures { result ≡ facts_of.lie_apart first other count }
+{
+    if first < other {
+        other - first >= count
+    } else {
+        first - other >= count
+    }
+}
+
+/// Whether words that are moved are copies: between free slots, and none of the sources is written.
+fn are_copied(pinned: &[bool], destination: usize, source: usize, count: usize) -> bool
+    ensures { result ≡ facts_of.are_copied pinned.now destination source count }
+{
+    lie_apart(destination, source, count)
+        && (are_free(pinned, destination, count) && are_free(pinned, source, count))
+}
+
+/// One of the words that an instruction copies, if it copies so many, is the same as its source.
+#[tactic(auto, using(crate::proofs::Ranges::destination_within, crate::proofs::Ranges::source_within))]
+fn copied(pinned: &[bool], instruction: Instruction, index: usize) -> Option<Fact>
+    ensures { result ≡ facts_of.copied pinned.now instruction index }
+{
+    match instruction {
+        Instruction::MoveWords {
+            destination,
+            source,
+            count,
+        } => {
+            if index < count && are_copied(pinned, destination, source, count) {
+                Some(Fact::Equal {
+                    slot: destination + index,
+                    operand: Operand::Slot {
+                        number: source + index,
+                    },
+                })
+            } else {
+                None
+            }
+        }
+        _ => None,
+    }
+}
+
+/// What is known of words that an instruction copies: of three at most, as a pointer with its bounds has.
+fn remember_copies(
+    pinned: &[bool],
+    facts: &mut Vec<Fact>,
+    instruction: Instruction,
+) -> Result<(), AllocError>
+    ensures { OnOk result (facts.new.items ≡ facts_of.with_copies pinned.now instruction facts.old.items) }
+{
+    remember(facts, copied(pinned, instruction, 0))?;
+    remember(facts, copied(pinned, instruction, 1))?;
+    remember(facts, copied(pinned, instruction, 2))
+}
+
 /// The facts become those that are known behind an instruction, where the run goes on to the next one.
 pub(crate) fn go_on(
     plain: &Plain,
@@ -458,5 +531,6 @@ pub(crate) fn go_on(
         written(plain, instruction),
         touched(pinned, instruction),
     );
+    remember_copies(pinned, facts, instruction)?;
     remember(facts, made(pinned, instruction, index, index + 1))
 }

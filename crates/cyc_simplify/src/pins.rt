@@ -21,6 +21,19 @@ pub(crate) fn is_free(pinned: &[bool], slot: usize) -> bool
     }
 }
 
+/// Whether so many slots, from the first on, are.
+#[tactic(auto, using(crate::proofs::Ranges::free_more, crate::proofs::Ranges::not_all_free, crate::proofs::Ranges::free_within))]
+pub(crate) fn are_free(pinned: &[bool], first: usize, count: usize) -> bool
+    ensures { result ≡ facts_of.are_free pinned.now first count }
+{
+    for index in 0..count {
+        if !is_free(pinned, first + index) {
+            return false;
+        }
+    }
+    true
+}
+
 pub(crate) fn suits_operand(pinned: &[bool], operand: Operand) -> bool
     ensures { result ≡ facts_of.suits_operand pinned.now operand }
 {

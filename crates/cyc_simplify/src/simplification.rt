@@ -2,7 +2,7 @@
 ghost use Rattle.std.specs.Prelude.{IfOk};
 ghost use Rattle.cyc_plain.specs.inside.Program.{routine_of};
 ghost use Rattle.cyc_simplify.specs.inside.Entries.{with_code};
-ghost use Rattle.cyc_simplify.specs.inside.Room.{IsMade};
+ghost use Rattle.cyc_simplify.specs.inside.Room.{IsMadeFunction};
 ghost use Rattle.cyc_simplify.specs.inside.Simplified.{IsSimplified};
 ghost use Rattle.cyc_simplify.specs.inside.Table.{IsReplaced};
 
@@ -38,7 +38,7 @@ fn simplified_code(
 /// A function, simplified.
 #[tactic(auto, using(crate::proofs::Sparing::code_made))]
 fn simplified(alloc: Global, plain: &Plain, function: &Function) -> Result<Function, AllocError>
-    ensures { IfOk result (λ made. IsMade plain.now (routine_of function.now) (routine_of made)) }
+    ensures { IfOk result (λ made. IsMadeFunction plain.now (routine_of function.now) (routine_of made)) }
 {
     let code = simplified_code(alloc, plain, function)?;
     let code = spare(alloc, plain, code)?;

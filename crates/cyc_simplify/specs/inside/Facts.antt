@@ -1,5 +1,5 @@
 -- Facts about the slots of a function, and memory: when they are true, which an instruction keeps, and which it makes.
-use Rattle.std.specs.Prelude.{◌≡◌, ℕ, ◌+◌, ◌^◌, Bool, true, false, not, ◌==◌, ◌&&◌, ◌||◌, nat_lt, if◌then◌else◌, List, [], ◌∷◌, ◌++◌, length, filter, drop, Option, Some, None, slice_index_or}
+use Rattle.std.specs.Prelude.{◌≡◌, ℕ, zero, suc, ◌+◌, ◌<◌, ◌^◌, Bool, true, false, not, ◌==◌, ◌&&◌, ◌||◌, nat_le, nat_lt, if◌then◌else◌, List, [], ◌∷◌, ◌++◌, length, filter, drop, Option, Some, None, slice_index_or}
 use Rattle.std.specs.List.{AllByRecursion}
 use Rattle.cyc_words.specs.Word.{add_of}
 use Rattle.cyc_plain.specs.declared.instruction.Instruction.{Instruction}
@@ -55,10 +55,6 @@ AreTrueIn scene facts = AllByRecursion (IsTrueIn scene) facts
 abbrev pub IsTrueIfAny : Scene → Option Fact → Type 0
 IsTrueIfAny scene (Some fact) = IsTrueIn scene fact
 IsTrueIfAny scene None = Unit {0}
-
--- wherever the first are true, and one more if there is one, the others are
-abbrev pub Entails : List Fact → Option Fact → (others : List Fact) → Type 0
-Entails facts more others = (scene : Scene) → AreTrueIn scene facts → IsTrueIfAny scene more → AreTrueIn scene others
 
 -- ---- which are the same
 
@@ -126,6 +122,11 @@ is_known (other ∷ facts) fact = is_same_fact other fact || is_known facts fact
 abbrev pub is_free : List Bool → (slot : ℕ) → Bool
 is_free pinned slot = not (slice_index_or pinned slot true)
 
+-- so are so many slots from the first on
+abbrev pub are_free : List Bool → (first count : ℕ) → Bool
+are_free pinned first zero = true
+are_free pinned first (suc count) = are_free pinned first count && is_free pinned (first + count)
+
 abbrev pub suits_operand : List Bool → Operand → Bool
 suits_operand pinned (operands.Slot number) = is_free pinned number
 suits_operand pinned (operands.Word word) = nat_lt word (2 ^ 32)
@@ -174,6 +175,9 @@ leaves_operand slots (operands.Word word) = true
 abbrev pub touched_by : List Bool → (slot : ℕ) → Touched
 touched_by pinned slot = if is_free pinned slot then touches.Nothing else touches.All
 
+abbrev pub touched_by_words : List Bool → (first count : ℕ) → Touched
+touched_by_words pinned first count = if are_free pinned first count then touches.Nothing else touches.All
+
 abbrev pub touched : List Bool → Instruction → Touched
 touched pinned (instructions.Move destination source) = touched_by pinned destination
 touched pinned (instructions.Unary operator destination operand) = touched_by pinned destination
@@ -187,7 +191,7 @@ touched pinned (instructions.CountLexical destination) = touched_by pinned desti
 touched pinned (instructions.Store address offset source) = touches.Word address offset
 touched pinned (instructions.StoreByte address offset source) = touches.All
 touched pinned (instructions.StoreGlobal global source) = touches.All
-touched pinned (instructions.MoveWords destination source count) = touches.All
+touched pinned (instructions.MoveWords destination source count) = touched_by_words pinned destination count
 touched pinned (instructions.Call function arguments count result) = touches.All
 touched pinned (instructions.Ask request) = touches.All
 touched pinned (instructions.Try first handler) = touches.All
@@ -267,6 +271,33 @@ abbrev pub remembered : List Fact → Option Fact → List Fact
 remembered facts (Some fact) = (if nat_lt (length facts) MOST_FACTS then facts else drop 1 facts) ++ fact ∷ []
 remembered facts None = facts
 
+-- so many slots, from each first one on, have none in common
+abbrev pub lie_apart : (first other count : ℕ) → Bool
+lie_apart first other count = nat_le (first + count) other || nat_le (other + count) first
+
+-- words that are moved are copies: between free slots, and none of the sources is written
+abbrev pub are_copied : List Bool → (destination source count : ℕ) → Bool
+are_copied pinned destination source count =
+    lie_apart destination source count && (are_free pinned destination count && are_free pinned source count)
+
+-- one of the words that an instruction copies, if it copies so many, is the same as its source
+abbrev pub copied : List Bool → Instruction → (index : ℕ) → Option Fact
+copied pinned (instructions.MoveWords destination source count) index =
+    if nat_lt index count && are_copied pinned destination source count
+    then Some (facts_are.Equal (destination + index) (operands.Slot (source + index)))
+    else None
+copied pinned instruction index = None
+
+-- that of three at most, as a pointer with its bounds has
+abbrev pub with_copies : List Bool → Instruction → List Fact → List Fact
+with_copies pinned i facts = remembered (remembered (remembered facts (copied pinned i 0)) (copied pinned i 1)) (copied pinned i 2)
+
+-- what an instruction makes is true: the words that it moves as copies are the same as their sources, and the fact of any other
+abbrev pub IsMade : Scene → List Bool → Instruction → (index next : ℕ) → Type 0
+IsMade scene pinned (instructions.MoveWords destination source count) index next =
+    are_copied pinned destination source count ≡ true → (k : ℕ) → k < count → scene.slots (destination + k) ≡ scene.slots (source + k)
+IsMade scene pinned instruction index next = IsTrueIfAny scene (made pinned instruction index next)
+
 -- what is known behind an instruction
 abbrev pub facts_behind : Program → List Bool → List Fact → Instruction → (index next : ℕ) → List Fact
-facts_behind program pinned facts i index next = remembered (kept (written program i) (touched pinned i) facts) (made pinned i index next)
+facts_behind program pinned facts i index next = remembered (with_copies pinned i (kept (written program i) (touched pinned i) facts)) (made pinned i index next)

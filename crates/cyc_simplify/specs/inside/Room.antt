@@ -115,7 +115,7 @@ pub record AreMadeFirst (program : Program) (count : ℕ) (routines : List Routi
   pub spared : (k : ℕ) → k < count → IsSpared (slots_in program) (slice_index_or between k no_routine) (slice_index_or routines k no_routine)
 
 -- a function, simplified and then spared
-pub record IsMade (program : Program) (r s : Routine) : Type 0 where
+pub record IsMadeFunction (program : Program) (r s : Routine) : Type 0 where
   pub between : Routine
   pub replaced : IsReplaced program r between
   pub spared : IsSpared (slots_in program) between s

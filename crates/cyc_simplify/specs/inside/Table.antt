@@ -8,7 +8,7 @@ use Rattle.cyc_plain.specs.inside.Program.{Routine, Program, routine_at}
 use Rattle.cyc_plain.specs.inside.Uses.{At, leads}
 use Rattle.cyc_simplify.specs.declared.fact.Fact.{Fact}
 use Rattle.cyc_simplify.specs.declared.fact.Fact.TheVariants as facts_are
-use Rattle.cyc_simplify.specs.inside.Facts.{Entails, is_same_fact, is_known, is_free, are_suited, written, touched, kept, made, facts_behind}
+use Rattle.cyc_simplify.specs.inside.Facts.{Scene, AreTrueIn, IsMade, is_same_fact, is_known, is_free, are_suited, written, touched, kept, made, facts_behind}
 use Rattle.cyc_simplify.specs.inside.Replacement.{simplified_operand, simplified_instruction}
 
 -- ---- tables
@@ -24,7 +24,7 @@ pub record IsTable (program : Program) (r : Routine) (pinned : List Bool) (table
   pub tries : (index first handler : ℕ) → At r index (instructions.Try first handler) → table index ≡ []
   pub suited : (index : ℕ) → index < length r.code → are_suited pinned (table index) ≡ true
   pub edges : (index next : ℕ) (i : Instruction) → At r index i → leads i index next ≡ true
-      → Entails (kept (written program i) (touched pinned i) (table index)) (made pinned i index next) (table next)
+      → (scene : Scene) → AreTrueIn scene (kept (written program i) (touched pinned i) (table index)) → IsMade scene pinned i index next → AreTrueIn scene (table next)
 
 -- The second function is the first with each instruction replaced, by what is known of the slots where it stands.
 pub record IsReplaced (program : Program) (r s : Routine) : Type 0 where
