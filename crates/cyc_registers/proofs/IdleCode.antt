@@ -1,7 +1,7 @@
 -- The places that are said to be idle are.
-use Rattle.std.proofs.Common.{◌≡◌, ◌≢◌, ℕ, zero, suc, ◌+◌, Bool, false, true, List, [], ◌∷◌, ◌++◌, length, Some, length-append, refl, sym, ap, subst, ◌∙◌, arith, inl, inr}
-use Rattle.std.specs.Prelude.{◌==◌, ◌&&◌, ◌||◌, not, nat_lt, bit_and, slice_get}
-use Rattle.std.proofs.lemmas.Bool.{and_parts, or_cases, cases_eq, ltb-true, eqb-true, false≢true, not_from_true, not-true}
+use Rattle.std.proofs.Common.{◌≡◌, ◌≢◌, ℕ, zero, suc, ◌+◌, ◌≤◌, Bool, false, true, List, [], ◌∷◌, ◌++◌, length, Some, length-append, refl, sym, ap, subst, ◌∙◌, arith, inl, inr}
+use Rattle.std.specs.Prelude.{◌==◌, ◌&&◌, ◌||◌, not, nat_le, nat_lt, bit_and, slice_get}
+use Rattle.std.proofs.lemmas.Bool.{and_parts, and_from, or_cases, cases_eq, leb-true, ltb-true, lt-ltb, eqb-true, false≢true, not_from_true, not-true}
 use Rattle.cyc_plain.specs.declared.instruction.Comparison.{Comparison}
 use Rattle.cyc_plain.specs.declared.instruction.Comparison.TheVariants as comparisons
 use Rattle.cyc_plain.specs.declared.instruction.Instruction.{Instruction}
@@ -9,21 +9,46 @@ use Rattle.cyc_plain.specs.declared.instruction.Instruction.TheVariants as instr
 use Rattle.cyc_plain.specs.declared.instruction.Operand.{Operand}
 use Rattle.cyc_plain.specs.declared.instruction.Operand.TheVariants as operands
 use Rattle.cyc_plain.specs.inside.Program.{Routine, Program}
-use Rattle.cyc_plain.specs.inside.Uses.{At, is_slot}
+use Rattle.cyc_plain.specs.inside.Uses.{At, is_slot, is_among}
 use Rattle.cyc_registers.specs.declared.home.Home.{Home}
 use Rattle.cyc_registers.specs.declared.home.Home.TheVariants as homes
 use Rattle.cyc_registers.specs.declared.liveness.TheConstants.{MOST_CHOSEN}
 use Rattle.cyc_registers.specs.inside.Interference.{is_kept, home_of, register_of}
 use Rattle.cyc_registers.specs.inside.Idle.{always_has_result, AreIdle, IsIdle, IsThere, IsUnused, NeverHolds, idle_at}
-use Rattle.cyc_registers.specs.inside.IdlePlaces.{is_idle, is_there, is_unused, never_holds, shares_register}
+use Rattle.cyc_registers.specs.inside.IdlePlaces.{is_idle, is_there, is_unused, are_unused, never_holds, shares_register}
 use Rattle.cyc_registers.specs.inside.LivenessTable.{IsSound}
 use Rattle.cyc_registers.specs.inside.Masks.{AreMasks, mask_at}
-use Rattle.cyc_registers.proofs.Bits.{apart_bits}
+use Rattle.cyc_registers.proofs.Bits.{apart_bits, no_mask}
 use Rattle.cyc_registers.proofs.CheckedLiveness.{live_bit}
 use Rattle.cyc_registers.specs.inside.Liveness.{IsLiveAt}
 
 pub none_idle : (program : Program) (r : Routine) (hs : List Home) → AreIdle program r hs []
 none_idle program r hs index i at is = absurd (false≢true is)
+
+-- ---- slots that are not live behind a place
+
+pub none_unused : (masks live : List ℕ) (hs : List Home) (index slot : ℕ) → length masks ≤ slot → is_unused masks live hs index slot ≡ false
+none_unused masks live hs index slot behind =
+    ap (λ (mask : ℕ). nat_lt 0 mask && (bit_and (mask_at live (index + 1)) mask == 0 && not (is_kept (home_of hs slot)))) (no_mask masks slot behind)
+
+pub unused_more : (masks live : List ℕ) (hs : List Home) (index first count : ℕ)
+    → are_unused masks live hs index first (count + 1) ≡ are_unused masks live hs index first count && is_unused masks live hs index (first + count)
+unused_more masks live hs index first count = let e : count + 1 ≡ suc count = omega arith in ap (are_unused masks live hs index first) e
+
+among_unused : (masks live : List ℕ) (hs : List Home) (index first count : ℕ) → are_unused masks live hs index first count ≡ true
+    → (slot : ℕ) → is_among first count slot ≡ true → is_unused masks live hs index slot ≡ true
+among_unused masks live hs index first zero are slot among =
+    let (from, before) = and_parts (nat_le first slot) (nat_lt slot (first + 0)) among in
+    absurd (omega (arith, leb-true first slot from, ltb-true slot (first + 0) before))
+among_unused masks live hs index first (suc count) are slot among =
+    let (from, before) = and_parts (nat_le first slot) (nat_lt slot (first + suc count)) among in
+    let (others, last) = and_parts (are_unused masks live hs index first count) (is_unused masks live hs index (first + count)) are in
+    elim (cases_eq slot (first + count)) [
+      | inl same ↦ ap (is_unused masks live hs index) same ∙ last
+      | inr apart ↦
+          among_unused masks live hs index first count others slot
+          (and_from (nat_le first slot) (nat_lt slot (first + count)) from (lt-ltb slot (first + count) (omega (arith, apart, ltb-true slot (first + suc count) before))))
+    ]
 
 -- ---- by the table
 
@@ -75,6 +100,8 @@ module _ (program : Program) (r : Routine) (masks live : List ℕ) (calls clause
       | inr shared ↦ inr (inr (there destination source shared))
     ]
   ]
+  idle (instructions.MoveWords destination source count) is =
+      λ slot among. unused slot (among_unused masks live hs index destination count is slot among)
   idle (instructions.Unary operator destination operand) is = unused destination is
   idle (instructions.Binary operator destination left right) is =
       let parts = and_parts (is_unused masks live hs index destination) (always_has_result operator) is in

@@ -1,5 +1,5 @@
 //! Places where nothing is to be done.
-ghost use Rattle.std.specs.Prelude.{◌≡◌, ◌<◌, length, not, IfOk};
+ghost use Rattle.std.specs.Prelude.{◌≡◌, ◌+◌, ◌<◌, length, not, IfOk};
 ghost use Rattle.cyc_plain.specs.inside.Program.{routine_of};
 ghost use Rattle.cyc_plain.specs.inside.Uses.{is_slot};
 ghost use Rattle.cyc_registers.specs.inside.Interference as right;
@@ -57,6 +57,45 @@ fn is_unused(masks: &[u32], live: &[u32], homes: &[Home], index: usize, slot: us
     0 < mask && (mask_at(live, index + 1) & mask == 0 && is_unkept(homes, slot))
 }
 
+/// Whether the slot so many behind the first is such a one.
+#[tactic(auto, using(crate::proofs::IdleCode::none_unused))]
+fn is_unused_behind(
+    masks: &[u32],
+    live: &[u32],
+    homes: &[Home],
+    index: usize,
+    first: usize,
+    offset: usize,
+) -> bool
+    requires { index < length live.now }
+    ensures { result ≡ checks.is_unused masks.now live.now homes.now index (first + offset) }
+{
+    if first > masks.len() || offset >= masks.len() - first {
+        return false;
+    }
+    is_unused(masks, live, homes, index, first + offset)
+}
+
+/// Whether so many slots from this one on are such ones.
+#[tactic(auto, using(crate::proofs::IdleCode::unused_more))]
+fn are_unused(
+    masks: &[u32],
+    live: &[u32],
+    homes: &[Home],
+    index: usize,
+    first: usize,
+    count: usize,
+) -> bool
+    requires { index < length live.now }
+    ensures { result ≡ checks.are_unused masks.now live.now homes.now index first count }
+{
+    let mut are = true;
+    for offset in 0..count {
+        are = are && is_unused_behind(masks, live, homes, index, first, offset);
+    }
+    are
+}
+
 /// Whether the first home is a register alone, which is the second one's too.
 fn shares_register(home: Home, other: Home) -> bool
     ensures { result ≡ checks.shares_register home other }
@@ -103,6 +142,11 @@ fn is_idle(
             source,
         } => is_unused(masks, live, homes, index, destination)
             || (is_slot(source, destination) || is_there(homes, destination, source)),
+        Instruction::MoveWords {
+            destination,
+            count,
+            ..
+        } => are_unused(masks, live, homes, index, destination, count),
         Instruction::Unary { destination, .. } => is_unused(masks, live, homes, index, destination),
         Instruction::Binary {
             operator,

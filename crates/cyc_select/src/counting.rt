@@ -319,6 +319,7 @@ pub(crate) fn is_idle(frame: &Frame, index: usize, instruction: Instruction) -> 
 {
     match instruction {
         Instruction::Move { .. }
+        | Instruction::MoveWords { .. }
         | Instruction::Unary { .. }
         | Instruction::Binary { .. }
         | Instruction::Jump { .. }

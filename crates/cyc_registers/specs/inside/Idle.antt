@@ -10,7 +10,7 @@ use Rattle.cyc_plain.specs.declared.instruction.Operand.{Operand}
 use Rattle.cyc_plain.specs.declared.instruction.Operand.TheVariants as operands
 use Rattle.cyc_plain.specs.inside.Operators.{compares}
 use Rattle.cyc_plain.specs.inside.Program.{Routine, Program}
-use Rattle.cyc_plain.specs.inside.Uses.{At}
+use Rattle.cyc_plain.specs.inside.Uses.{At, is_among}
 use Rattle.cyc_registers.specs.declared.home.Home.{Home}
 use Rattle.cyc_registers.specs.declared.home.Home.TheVariants as homes
 use Rattle.cyc_registers.specs.inside.Interference.{HasRegister, is_kept, home_of}
@@ -40,6 +40,8 @@ IsThere hs slot (operands.Word word) = ⊥
 abbrev pub IsIdle : Program → Routine → List Home → (index : ℕ) → Instruction → Type 0
 IsIdle program r hs index (instructions.Move destination source) =
     (source ≡ operands.Slot destination) ⊎ (IsUnused program r hs index destination ⊎ IsThere hs destination source)
+IsIdle program r hs index (instructions.MoveWords destination source count) =
+    (slot : ℕ) → is_among destination count slot ≡ true → IsUnused program r hs index slot
 IsIdle program r hs index (instructions.Unary operator destination operand) = IsUnused program r hs index destination
 IsIdle program r hs index (instructions.Binary operator destination left right) =
     (always_has_result operator ≡ true) × IsUnused program r hs index destination

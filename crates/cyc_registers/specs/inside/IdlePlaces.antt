@@ -1,5 +1,5 @@
 -- Which places are taken for idle, by homes and by a table of where chosen slots are live.
-use Rattle.std.specs.Prelude.{ℕ, ◌+◌, Bool, false, ◌==◌, ◌&&◌, ◌||◌, not, nat_lt, List, bit_and}
+use Rattle.std.specs.Prelude.{ℕ, zero, suc, ◌+◌, Bool, true, false, ◌==◌, ◌&&◌, ◌||◌, not, nat_lt, List, bit_and}
 use Rattle.cyc_plain.specs.declared.instruction.Comparison.{Comparison}
 use Rattle.cyc_plain.specs.declared.instruction.Comparison.TheVariants as comparisons
 use Rattle.cyc_plain.specs.declared.instruction.Instruction.{Instruction}
@@ -30,6 +30,12 @@ is_unused masks live hs index slot =
     nat_lt 0 (mask_at masks slot)
     && (bit_and (mask_at live (index + 1)) (mask_at masks slot) == 0 && not (is_kept (home_of hs slot)))
 
+-- so many slots from this one on are such ones
+abbrev pub are_unused : (masks live : List ℕ) → List Home → (index first count : ℕ) → Bool
+are_unused masks live hs index first zero = true
+are_unused masks live hs index first (suc count) =
+    are_unused masks live hs index first count && is_unused masks live hs index (first + count)
+
 -- what is moved is in the register that the slot has alone
 abbrev pub is_there : List Home → (slot : ℕ) → Operand → Bool
 is_there hs slot (operands.Slot number) = shares_register (home_of hs slot) (home_of hs number)
@@ -38,6 +44,7 @@ is_there hs slot (operands.Word word) = false
 abbrev pub is_idle : (masks live : List ℕ) → List Home → (index : ℕ) → Instruction → Bool
 is_idle masks live hs index (instructions.Move destination source) =
     is_unused masks live hs index destination || (is_slot source destination || is_there hs destination source)
+is_idle masks live hs index (instructions.MoveWords destination source count) = are_unused masks live hs index destination count
 is_idle masks live hs index (instructions.Unary operator destination operand) = is_unused masks live hs index destination
 is_idle masks live hs index (instructions.Binary operator destination left right) =
     is_unused masks live hs index destination && always_has_result operator

@@ -185,6 +185,7 @@ module _ (program : Program) (well : IsWellFormed program) (frames : List Frame)
 
       go : (j : Instruction) → instruction_at program (record { function = function; index = index }) ≡ Some j → is_idle (frame_at frames function) index j ≡ true → index + 1 < length (routine_at program function).code
       go (plain.Move destination source) there is = stays (plain.Move destination source) there refl
+      go (plain.MoveWords destination source count) there is = stays (plain.MoveWords destination source count) there refl
       go (plain.Unary operator destination operand) there is = stays (plain.Unary operator destination operand) there refl
       go (plain.Binary operator destination left right) there is = stays (plain.Binary operator destination left right) there refl
       go (plain.Branch comparison left right target) there is = stays (plain.Branch comparison left right target) there refl

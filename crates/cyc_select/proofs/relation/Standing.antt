@@ -470,19 +470,16 @@ module _ (program : Program) (well : IsWellFormed program) (frames : List Frame)
       middle = s.middle;
     }
 
-    -- a slot that lives in a register alone gets another word
-    pub standing_unkept : (slot word : ℕ) → is_kept (frame_at frames c.active.function) slot ≡ false
-        → Standing program frames addresses pages calls c r w base back stage (put slots slot word)
-    standing_unkept slot word unkept = record {
+    -- slots that live in registers alone get other words
+    pub standing_unkept_words : (slots' : Words) → ((slot : ℕ) → is_kept (frame_at frames c.active.function) slot ≡ true → slots' slot ≡ slots slot)
+        → Standing program frames addresses pages calls c r w base back stage slots'
+    standing_unkept_words slots' same = record {
       known = s.known;
       base_is = s.base_is;
       zero_is = s.zero_is;
       lowest = s.lowest;
       deep = s.deep;
-      holds = λ other other_below other_kept. elim (cases_eq other slot) [
-        | inl same ↦ absurd (let e : true ≡ false = sym other_kept ∙ (ap (is_kept (frame_at frames c.active.function)) same ∙ unkept) in cc)
-        | inr apart ↦ s.holds other other_below other_kept ∙ sym (put-other slots slot other word apart)
-      ];
+      holds = λ slot slot_below slot_kept. s.holds slot slot_below slot_kept ∙ sym (same slot slot_kept);
       left = s.left;
       chain = s.chain;
       leaves = s.leaves;
@@ -496,6 +493,14 @@ module _ (program : Program) (well : IsWellFormed program) (frames : List Frame)
       counted = s.counted;
       middle = s.middle;
     }
+
+    -- one of them does
+    pub standing_unkept : (slot word : ℕ) → is_kept (frame_at frames c.active.function) slot ≡ false
+        → Standing program frames addresses pages calls c r w base back stage (put slots slot word)
+    standing_unkept slot word unkept = standing_unkept_words (put slots slot word) (λ other other_kept. elim (cases_eq other slot) [
+      | inl same ↦ absurd (let e : true ≡ false = sym other_kept ∙ (ap (is_kept (frame_at frames c.active.function)) same ∙ unkept) in cc)
+      | inr apart ↦ put-other slots slot other word apart
+    ])
 
     -- the words for what the function saves written, where it begins
     pub standing_begun : (w' : Contents) (in_frame : Bool)

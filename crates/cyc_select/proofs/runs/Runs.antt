@@ -324,7 +324,7 @@ module _ (program : Program) (well : IsWellFormed program) (words : HasWords pro
         address_goes program well frames fit code formed addresses pages calls few c run r w base back now s caches destination slot count at a (omega (arith, some, named)) stands
     instruction_goes (plain.LoadGlobal destination global) at busy (a, b) fits stands = load_global_goes program well frames fit code formed addresses pages calls few c run r w base back now s caches destination global at a b stands
     instruction_goes (plain.StoreGlobal global source) at busy (a, b) fits stands = store_global_goes program well frames fit code formed addresses pages calls few c run r w base back now s caches global source at a (b, fits) stands
-    instruction_goes (plain.MoveWords destination source count) at busy in_range fits stands = move_words_goes program well frames fit code formed addresses pages calls few c run r w base back now s caches destination source count at in_range stands
+    instruction_goes (plain.MoveWords destination source count) at busy in_range fits stands = move_words_goes program well frames fit code formed addresses pages calls few c run r w base back now s caches destination source count at in_range (omega (arith, counted (plain.MoveWords destination source count) busy)) stands
     instruction_goes (plain.Load destination address offset) at busy (a, b) (fits, near) stands =
         load_goes program well frames fit code formed addresses pages calls few c run r w base back now s caches destination address offset at a (b, fits) near (stops_not (plain.Load destination address offset) at (zeros_at program c (plain.Load destination address offset) at refl)) stands
     instruction_goes (plain.LoadByte destination address offset) at busy (a, b) (fits, near) stands =

@@ -227,14 +227,18 @@ module _ (program : Program) (well : IsWellFormed program) (frames : List Frame)
         ],
       )
 
+  -- it has all its lines
+  abbrev pub IsCounted : Instruction → Type 0
+  IsCounted i = count_of program frames c.active.function c.active.next i ≡ body_count program frames c.active.function i
+
   counted_by : (destination source count : ℕ) (b : Bool) → is_crossing destination source count ≡ b
       → move_words_count frame destination source count ≡ (if b then 2 * length (result_registers count) else moves_count frame destination source count)
   counted_by destination source count b is = ap (λ (a : Bool). if a then 2 * length (result_registers count) else moves_count frame destination source count) is
 
   all_goes : (destination source count : ℕ) → IsAt (plain.MoveWords destination source count) → IsMoveInRange (routine_at program c.active.function) destination source count
-      → is_crossing destination source count ≡ true
+      → is_crossing destination source count ≡ true → IsCounted (plain.MoveWords destination source count)
       → Stands code here (ordinary (all_moved frame destination source count)) → Goes 1 here (here + 2 * length (result_registers count)) (Running run)
-  all_goes destination source count at_i in_range crossing stands =
+  all_goes destination source count at_i in_range crossing all_counted stands =
       let registers : List ℕ = result_registers count in
       let is : List Instr = load_words frame source (result_registers count) in
       let js : List Instr = store_all frame destination (result_registers count) in
@@ -255,7 +259,7 @@ module _ (program : Program) (well : IsWellFormed program) (frames : List Frame)
       let there : Words = copied c.active.slots source count c.active.slots destination in
       let d : Configuration = record c { active = record c.active { next = c.active.next + 1; slots = copied c.active.slots source count c.active.slots destination } } in
       let at_d = standing_at program well frames fit addresses pages calls few c q m base back (stage_of frames c) there puts.2 d refl refl refl refl refl refl s.input in
-      let line : here + length is + length js ≡ instruction_line program frames c.active.function (c.active.next + 1) = omega (arith, line_next program frames c.active.function c.active.next (plain.MoveWords destination source count) at_i, counted_by destination source count true crossing, long, also) in
+      let line : here + length is + length js ≡ instruction_line program frames c.active.function (c.active.next + 1) = omega (arith, line_next program frames c.active.function c.active.next (plain.MoveWords destination source count) at_i, all_counted, counted_by destination source count true crossing, long, also) in
       walk_few code formed addresses globals_length (words_per_call * calls) 1 (length is + (length js + 0)) here hi c.output _ (Running run) (omega (arith, long, also, some, in_range.some))
       (walk_block code formed addresses globals_length (words_per_call * calls) is (length js + 0) here here hi c.output c.input _ r w run now (stands_first code here is js stands) take.keeps.safe (omega arith)
       (λ e before.
@@ -281,9 +285,9 @@ module _ (program : Program) (well : IsWellFormed program) (frames : List Frame)
 
   -- one by one
   each_goes : (destination source count : ℕ) → IsAt (plain.MoveWords destination source count) → IsMoveInRange (routine_at program c.active.function) destination source count
-      → is_crossing destination source count ≡ false
+      → is_crossing destination source count ≡ false → IsCounted (plain.MoveWords destination source count)
       → Stands code here (ordinary (moves frame destination source count)) → Goes 1 here (here + moves_count frame destination source count) (Running run)
-  each_goes destination source count at_i in_range apart stands =
+  each_goes destination source count at_i in_range apart all_counted stands =
       let is : List Instr = moves frame destination source count in
       let q : Words = after_r is r w in
       let m : Contents = after_w is r w in
@@ -308,7 +312,7 @@ module _ (program : Program) (well : IsWellFormed program) (frames : List Frame)
       (moved c.active.slots destination source count) there (moved_copied c.active.slots destination source count ahead) moves_them.standing in
       let at_d = standing_at program well frames fit addresses pages calls few c q m base back (stage_of frames c) there in_place d refl refl refl refl refl refl s.input in
       let line : here + length is ≡ instruction_line program frames c.active.function (c.active.next + 1) =
-      omega (arith, line_next program frames c.active.function c.active.next (plain.MoveWords destination source count) at_i, counted_by destination source count false apart, long) in
+      omega (arith, line_next program frames c.active.function c.active.next (plain.MoveWords destination source count) at_i, all_counted, counted_by destination source count false apart, long) in
       walk_few code formed addresses globals_length (words_per_call * calls) 1 (length is + 0) here hi c.output _ (Running run) (omega (arith, long, moves_some frame destination source count in_range.some))
       (walk_block code formed addresses globals_length (words_per_call * calls) is 0 here here hi c.output c.input _ r w run now stands moves_them.safe (omega arith)
       (λ f later.
@@ -328,14 +332,15 @@ module _ (program : Program) (well : IsWellFormed program) (frames : List Frame)
       })))))
 
   pub move_words_goes : (destination source count : ℕ) → IsAt (plain.MoveWords destination source count) → IsMoveInRange (routine_at program c.active.function) destination source count
+      → IsCounted (plain.MoveWords destination source count)
       → Stands code here (body program frames c.active.function here (plain.MoveWords destination source count)) → Goes 1 here (here + body_count program frames c.active.function (plain.MoveWords destination source count)) (Running run)
-  move_words_goes destination source count at_i in_range stands = go (is_crossing destination source count) refl stands
+  move_words_goes destination source count at_i in_range all_counted stands = go (is_crossing destination source count) refl stands
     where
       go : (b : Bool) → is_crossing destination source count ≡ b
           → Stands code here (ordinary (if b then all_moved frame destination source count else moves frame destination source count))
           → Goes 1 here (here + (if b then 2 * length (result_registers count) else moves_count frame destination source count)) (Running run)
-      go true crossing stands_here = all_goes destination source count at_i in_range crossing stands_here
-      go false apart stands_here = each_goes destination source count at_i in_range apart stands_here
+      go true crossing stands_here = all_goes destination source count at_i in_range crossing all_counted stands_here
+      go false apart stands_here = each_goes destination source count at_i in_range apart all_counted stands_here
 
   -- ---- a load
 

@@ -1,10 +1,10 @@
 -- An idle instruction: the run below stays where it is, which matches the state behind it.
-use Rattle.std.proofs.Common.{◌≡◌, ◌≢◌, ℕ, suc, ◌+◌, ◌*◌, ◌≤◌, Bool, true, false, List, Some, refl, sym, ap, subst, ◌∙◌, arith, inl, inr}
+use Rattle.std.proofs.Common.{◌≡◌, ◌≢◌, ℕ, suc, ◌+◌, ◌-◌, ◌*◌, ◌≤◌, Bool, true, false, List, Some, refl, sym, ap, subst, ◌∙◌, arith, inl, inr}
 use Rattle.std.specs.Prelude.{◌⊎◌, ◌==◌, if◌then◌else◌}
-use Rattle.std.proofs.lemmas.Bool.{cases_eq, eq-eqb, false≢true, or_left}
+use Rattle.std.proofs.lemmas.Bool.{cases_Bool, cases_eq, cond-false, eq-eqb, false≢true, or_left}
 use Rattle.cyc_words.proofs.Items.{below_from_slice_get}
 use Rattle.cyc_words.proofs.Numbers.{eqb_other, eqb_itself, eqb_next}
-use Rattle.cyc_plain.specs.inside.Uses.{writes, leads}
+use Rattle.cyc_plain.specs.inside.Uses.{is_among, writes, leads}
 use Rattle.cyc_machine.specs.State.{globals_length, words_per_call}
 use Rattle.cyc_plain.specs.declared.instruction.Instruction.{Instruction}
 use Rattle.cyc_plain.specs.declared.instruction.Instruction.TheVariants as plain
@@ -16,7 +16,7 @@ use Rattle.cyc_plain.specs.declared.instruction.Operand.TheVariants as operands
 use Rattle.cyc_plain.specs.inside.Operators.{unary_result, binary_result, has_no_result, compares}
 use Rattle.cyc_plain.specs.inside.Program.{Program, routine_at}
 use Rattle.cyc_plain.specs.inside.State as states
-use Rattle.cyc_plain.specs.inside.State.{Words, put, Configuration}
+use Rattle.cyc_plain.specs.inside.State.{Words, put, copied, Configuration}
 use Rattle.cyc_plain.specs.inside.Step.{at, with_slots, gives, instruction_at, operand_word, performed, is_within}
 use Rattle.cyc_plain.specs.inside.WellFormed.{IsWellFormed}
 use Rattle.cyc_plain.proofs.RunLaws.{zeros, calls_nothing, zeros_at, limit_free}
@@ -33,7 +33,7 @@ use Rattle.cyc_select.specs.inside.Selection.{value_register, instruction_line, 
 use Rattle.cyc_select.proofs.effects.Walks.{now_at}
 use Rattle.cyc_select.proofs.layout.Lines.{line_next}
 use Rattle.cyc_select.proofs.relation.Matches.{Ready, Passed, steps_to, within}
-use Rattle.cyc_select.proofs.relation.Standing.{Standing, stage_of, standing_at, standing_unkept}
+use Rattle.cyc_select.proofs.relation.Standing.{Standing, stage_of, standing_at, standing_unkept, standing_unkept_words}
 use Rattle.cyc_select.proofs.relation.Values.{Caches, caches_past, live_earlier}
 use Rattle.cyc_registers.specs.inside.Liveness.{IsLiveAt}
 
@@ -97,6 +97,32 @@ module _ (program : Program) (well : IsWellFormed program) (frames : List Frame)
             ready.caches slot k has (live_earlier program frames c.active.function right c.active.next (c.active.next + 1) slot i at_i led (unwritten slot other) wanted)
             ∙ sym (put-other c.active.slots destination slot word other)
       ])
+
+  -- slots that nothing asks for get words that others have
+  passes_unused_words : (destination source count : ℕ) → IsAt (plain.MoveWords destination source count) → is_idle (frame_at frames c.active.function) c.active.next (plain.MoveWords destination source count) ≡ true
+      → ((slot : ℕ) → is_among destination count slot ≡ true → IsUnused program (routine_at program c.active.function) (frame_at frames c.active.function).homes c.active.next slot)
+      → Passes
+  passes_unused_words destination source count at_i idle unused =
+      passes_with (plain.MoveWords destination source count) at_i refl idle refl (copied c.active.slots source count c.active.slots destination) refl
+      (standing_unkept_words program well frames fit addresses pages calls few c ready.r ready.w ready.base ready.back (stage_of frames c) c.active.slots ready.standing
+      (copied c.active.slots source count c.active.slots destination)
+      (λ slot kept. elim (cases_Bool (is_among destination count slot)) [
+        | inl among ↦ absurd (let e : true ≡ false = sym kept ∙ (unused slot among).0 in cc)
+        | inr other ↦ unmoved slot other
+      ]))
+      (λ slot k has wanted. elim (cases_Bool (is_among destination count slot)) [
+        | inl among ↦
+            absurd ((unused slot among).1
+            (subst (IsLiveAt program (routine_at program c.active.function) slot) (let e : c.active.next + 1 ≡ suc c.active.next = omega arith in e) wanted))
+        | inr other ↦
+            ready.caches slot k has
+            (live_earlier program frames c.active.function right c.active.next (c.active.next + 1) slot (plain.MoveWords destination source count) at_i (eqb_next c.active.next) other wanted)
+            ∙ sym (unmoved slot other)
+      ])
+    where
+      unmoved : (slot : ℕ) → is_among destination count slot ≡ false → copied c.active.slots source count c.active.slots destination slot ≡ c.active.slots slot
+      unmoved slot other =
+          cond-false (is_among destination count slot) (c.active.slots (source + (slot - destination))) (c.active.slots slot) other
 
   -- no slot changes
   passes_same : (i : Instruction) → IsAt i → calls_nothing i ≡ true → is_idle (frame_at frames c.active.function) c.active.next i ≡ true → behind_count program frames c.active.function i ≡ 0
@@ -186,6 +212,8 @@ module _ (program : Program) (well : IsWellFormed program) (frames : List Frame)
 
       go : (j : Instruction) → IsAt j → is_idle (frame_at frames c.active.function) c.active.next j ≡ true → Passes
       go (plain.Move destination source) there is = moves destination source there is (idle_is (plain.Move destination source) there is)
+      go (plain.MoveWords destination source count) there is =
+          passes_unused_words destination source count there is (idle_is (plain.MoveWords destination source count) there is)
       go (plain.Unary operator destination operand) there is =
           passes_unused (plain.Unary operator destination operand) there refl is refl destination (unary_result operator (operand_word c.active.slots operand)) (idle_is (plain.Unary operator destination operand) there is)
           (λ slot other. eqb_other destination slot other) (eqb_next c.active.next) refl

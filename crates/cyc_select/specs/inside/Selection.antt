@@ -665,6 +665,7 @@ move_words_count frame destination source count =
 -- An idle place has no lines of its own: where its frame says so, of an instruction that may be idle.
 abbrev pub is_idle : Frame → (index : ℕ) → Instruction → Bool
 is_idle frame index (plain.Move destination source) = idle_at frame.idle index
+is_idle frame index (plain.MoveWords destination source count) = idle_at frame.idle index
 is_idle frame index (plain.Unary operator destination operand) = idle_at frame.idle index
 is_idle frame index (plain.Binary operator destination left right) = idle_at frame.idle index
 is_idle frame index (plain.Jump target) = idle_at frame.idle index
