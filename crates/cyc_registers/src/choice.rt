@@ -22,6 +22,9 @@ const ARRIVAL_PRICE: u64 = 2;
 /// How often a slot is looked at at most: once for each kind of register, and once more.
 const MOST_LOOKS: u32 = 4;
 
+/// What stands for a register where there is none.
+const NO_REGISTER: u8 = 0;
+
 /// A slot that is looked at, and what a register of each kind would save.
 #[derive(Clone, Copy)]
 struct Candidate {
@@ -29,7 +32,7 @@ struct Candidate {
     mask: u32,
     /// Those that it meets.
     meets: u32,
-    /// Those that are moved to it, or it to them.
+    /// Those that are moved to it, or it to them, and that it does not meet.
     moves: u32,
     /// One that calls lose.
     lost: u64,
@@ -56,6 +59,14 @@ struct Offer {
 struct Registers {
     /// The slots of each, by its number.
     slots: Vec<u32>,
+    /// That of each slot, by the slot's number.
+    given: Vec<u8>,
+    /// The one that each slot is handed over in, so that nothing is to be done for that.
+    wanted: Vec<u8>,
+    /// The slots that are handed over in each register.
+    handed: Vec<u32>,
+    /// How many of those that calls lose no slot has.
+    free: usize,
     /// How many of those that calls preserve are given: the first of them.
     saved: usize,
     /// How many there may be.
@@ -78,6 +89,14 @@ const NO_OFFER: Offer = Offer {
     register: 0,
     gain: 0,
 };
+
+/// The register in a list of the slot with the lowest number of these.
+fn register_at(list: &[u8], slots: u32) -> u8 {
+    match list.get(slots.trailing_zeros() as usize) {
+        Some(register) => *register,
+        None => NO_REGISTER,
+    }
+}
 
 fn better(first: Offer, second: Offer) -> Offer {
     if second.gain > first.gain {
@@ -110,7 +129,7 @@ impl Candidate {
             slot,
             mask,
             meets,
-            moves: interference.moves(mask),
+            moves: interference.moves(mask) & (ALL_NUMBERS ^ meets),
             lost,
             is_both,
             preserved,
@@ -125,9 +144,31 @@ impl Candidate {
 }
 
 impl Registers {
+    /// Whether it is a register of those that calls lose, which none of these slots has.
+    fn is_open(&self, register: u8, others: u32) -> bool {
+        (FIRST_REGISTER..FIRST_PRESERVED).contains(&register)
+            && mask_at(&self.slots, register as usize) & others == 0
+    }
+
+    /// The first of the registers of these slots, as they stand in this list, that none of the others has.
+    fn first_open(&self, list: &[u8], slots: u32, others: u32) -> Option<u8> {
+        let mut left = slots;
+        for _ in 0..MOST_CHOSEN {
+            if left == 0 {
+                break;
+            }
+            let register = register_at(list, left);
+            if self.is_open(register, others) {
+                return Some(register);
+            }
+            left = left & left.saturating_sub(1);
+        }
+        None
+    }
+
     /// One of these that others have, none of which the slot meets: one of a slot to which it is moved, or else that whose slots
     /// are fewest, since instructions on one register cannot change places.
-    fn shared(&self, first: u8, end: u8, candidate: Candidate) -> Option<u8> {
+    fn shared(&self, first: u8, end: u8, candidate: &Candidate) -> Option<u8> {
         let mut found = None;
         let mut least = MOST_CHOSEN;
         for register in first..end {
@@ -146,58 +187,62 @@ impl Registers {
         found
     }
 
-    /// Whether there are more free registers than are kept.
-    fn is_ample(&self) -> bool {
-        let mut free: usize = 0;
+    /// One of those that calls lose which no slot has: if may be, one in which none is handed over that the slot meets.
+    fn free(&self, candidate: &Candidate) -> Option<u8> {
+        let mut found = None;
         for register in FIRST_REGISTER..FIRST_PRESERVED {
             if mask_at(&self.slots, register as usize) == 0 {
-                free = free.saturating_add(1);
-            }
-        }
-        free > self.wide
-    }
-
-    /// One of those that calls lose for a slot that is not in memory too. It shares one where it is moved, or where no more are
-    /// free than are kept.
-    fn alone(&self, candidate: Candidate) -> Option<u8> {
-        match self.shared(FIRST_REGISTER, FIRST_PRESERVED, candidate) {
-            Some(register) => {
-                let slots = mask_at(&self.slots, register as usize);
-                if slots & candidate.moves == 0 && self.is_ample() {
-                    self.free()
-                } else {
-                    Some(register)
+                if mask_at(&self.handed, register as usize) & candidate.meets == 0 {
+                    return Some(register);
                 }
+                found = Some(register);
             }
-            None => self.free(),
+        }
+        found
+    }
+
+    /// One of those that calls lose, which none of these others has: that of a slot to which this one is moved, or the one that this
+    /// one is handed over in, or one to which it is moved; or else a free one, while there are more than are kept.
+    fn lost(&self, candidate: &Candidate, others: u32) -> Option<u8> {
+        let moved = self.first_open(&self.given, candidate.moves, others);
+        if moved.is_some() {
+            return moved;
+        }
+        let wanted = self.first_open(&self.wanted, candidate.mask, others);
+        if wanted.is_some() {
+            return wanted;
+        }
+        let near = self.first_open(&self.wanted, candidate.moves, others);
+        if near.is_some() {
+            return near;
+        }
+        if candidate.is_both || self.free > self.wide {
+            return self.free(candidate);
+        }
+        match self.shared(FIRST_REGISTER, FIRST_PRESERVED, candidate) {
+            Some(register) => Some(register),
+            None => self.free(candidate),
         }
     }
 
-    /// One of those that calls lose which no slot has.
-    fn free(&self) -> Option<u8> {
-        for register in FIRST_REGISTER..FIRST_PRESERVED {
-            if mask_at(&self.slots, register as usize) == 0 {
-                return Some(register);
-            }
+    /// One of those that calls lose. What is live behind a call is in memory too, and shares none.
+    fn lost_offer(&self, candidate: &Candidate) -> Offer {
+        let is_both = candidate.is_both;
+        if is_both && self.both >= MOST_BOTH {
+            return NO_OFFER;
         }
-        None
-    }
-
-    /// One of those that calls lose: one that others have, or a free one. What is live behind a call shares none of them.
-    fn lost_offer(&self, candidate: Candidate) -> Offer {
-        if candidate.is_both {
-            return match self.free() {
-                Some(register) if self.both < MOST_BOTH => Offer {
-                    home: Home::Both { register },
-                    register,
-                    gain: candidate.lost,
-                },
-                _ => NO_OFFER,
-            };
-        }
-        match self.alone(candidate) {
+        let others = if is_both {
+            ALL_NUMBERS
+        } else {
+            candidate.meets
+        };
+        match self.lost(candidate, others) {
             Some(register) => Offer {
-                home: Home::Register { register },
+                home: if is_both {
+                    Home::Both { register }
+                } else {
+                    Home::Register { register }
+                },
                 register,
                 gain: candidate.lost,
             },
@@ -206,7 +251,7 @@ impl Registers {
     }
 
     /// One of those that calls preserve: one that is saved for another slot already, or the next one.
-    fn preserved_offer(&self, candidate: Candidate) -> Offer {
+    fn preserved_offer(&self, candidate: &Candidate) -> Offer {
         let next = FIRST_PRESERVED + self.saved.min(MOST_SAVED) as u8;
         match self.shared(FIRST_PRESERVED, next, candidate) {
             Some(register) => Offer {
@@ -223,12 +268,17 @@ impl Registers {
         }
     }
 
-    fn take(&mut self, candidate: Candidate, offer: Offer) {
+    fn take(&mut self, candidate: &Candidate, offer: Offer) {
         if let Some(slots) = self.slots.get_mut(offer.register as usize) {
-            if offer.register >= FIRST_PRESERVED && *slots == 0 {
+            if *slots == 0 && offer.register >= FIRST_PRESERVED {
                 self.saved = self.saved.saturating_add(1);
+            } else if *slots == 0 {
+                self.free = self.free.saturating_sub(1);
             }
             *slots = *slots | candidate.mask;
+            if let Some(given) = self.given.get_mut(candidate.mask.trailing_zeros() as usize) {
+                *given = offer.register;
+            }
             if let Home::Both { .. } = offer.home {
                 self.both = self.both.saturating_add(1);
                 *slots = ALL_NUMBERS;
@@ -236,9 +286,18 @@ impl Registers {
         }
     }
 
+    /// The best home that is left for a slot.
+    fn offer(&self, candidate: &Candidate) -> Offer {
+        let lost = self.lost_offer(candidate);
+        if lost.gain >= candidate.gain {
+            return lost;
+        }
+        better(lost, self.preserved_offer(candidate))
+    }
+
     /// Gives a slot the best home that is left, if that is as good as was hoped. Answers what it might gain still.
-    fn settle(&mut self, homes: &mut Vec<Home>, candidate: Candidate) -> u64 {
-        let offer = better(self.lost_offer(candidate), self.preserved_offer(candidate));
+    fn settle(&mut self, homes: &mut Vec<Home>, candidate: &Candidate) -> u64 {
+        let offer = self.offer(candidate);
         if offer.gain < candidate.gain {
             return offer.gain;
         }
@@ -302,6 +361,42 @@ fn wide_in(candidates: &[Candidate]) -> usize {
     wide
 }
 
+impl Registers {
+    /// All registers, which no slot has so far.
+    fn new(alloc: Global, most: usize, wide: usize) -> Result<Registers, AllocError> {
+        Ok(Registers {
+            slots: vec![in alloc; 0; REGISTERS_END as usize]?,
+            given: vec![in alloc; NO_REGISTER; MOST_CHOSEN as usize]?,
+            wanted: vec![in alloc; NO_REGISTER; MOST_CHOSEN as usize]?,
+            handed: vec![in alloc; 0; REGISTERS_END as usize]?,
+            free: MOST_LOST,
+            saved: 0,
+            most,
+            both: 0,
+            wide,
+        })
+    }
+
+    /// Slots that are handed over at one place among arguments, or parameters, want one register.
+    fn want(&mut self, costs: &SpillCosts, masks: &[u32]) {
+        for slot in 0..masks.len() {
+            let mask = mask_at(masks, slot);
+            match costs.place_at(slot) {
+                Some(place) if place < MOST_LOST => {
+                    let register = FIRST_REGISTER + place as u8;
+                    if let Some(wanted) = self.wanted.get_mut(mask.trailing_zeros() as usize) {
+                        *wanted = register;
+                    }
+                    if let Some(handed) = self.handed.get_mut(register as usize) {
+                        *handed = *handed | mask;
+                    }
+                }
+                _ => {}
+            }
+        }
+    }
+}
+
 /// Homes for the slots of a function, which may save so many registers: those that gain most come first.
 pub(crate) fn choose(
     alloc: Global,
@@ -315,20 +410,16 @@ pub(crate) fn choose(
     ensures { IfOk result (λ chosen. chosen.saved ≤ most) }
 {
     let mut candidates = candidates_of(alloc, function, costs, masks, lives, interference)?;
-    let mut registers = Registers {
-        slots: vec![in alloc; 0; REGISTERS_END as usize]?,
-        saved: 0,
-        most,
-        both: 0,
-        wide: wide_in(&candidates),
-    };
+    let mut registers = Registers::new(alloc, most, wide_in(&candidates))?;
+    registers.want(costs, masks);
     let mut homes = vec![in alloc; Home::Memory; function.slots]?;
     for _ in 0..MOST_CHOSEN * MOST_LOOKS {
         let next = next_of(&candidates);
         if next >= candidates.len() || candidates[next].gain == 0 {
             break;
         }
-        candidates[next].gain = registers.settle(&mut homes, candidates[next]);
+        let gain = registers.settle(&mut homes, &candidates[next]);
+        candidates[next].gain = gain;
     }
     Ok(Chosen {
         homes,

@@ -12,6 +12,10 @@ const MOST_DOUBLINGS: u32 = 64;
 struct SpillCost {
     reads: u64,
     writes: u64,
+    /// The place among the arguments of a call, or among the parameters, at which it is handed over most.
+    place: usize,
+    /// How often it is handed over there.
+    handed: u64,
 }
 
 /// What registers for the slots of a function would gain.
@@ -163,6 +167,24 @@ impl SpillCosts {
         }
     }
 
+    /// A slot that is handed over so often as the argument, or the parameter, of this place.
+    fn hand_over(&mut self, slot: usize, place: usize, weight: u64) {
+        if let Some(cost) = self.slots.get_mut(slot) {
+            if place == cost.place {
+                cost.handed = cost.handed.saturating_add(weight);
+            } else if weight > cost.handed {
+                cost.place = place;
+                cost.handed = weight;
+            }
+        }
+    }
+
+    fn hand_over_all(&mut self, first: usize, count: usize, weight: u64) {
+        for place in 0..count {
+            self.hand_over(first.saturating_add(place), place, weight);
+        }
+    }
+
     /// An instruction that is executed so often.
     fn add(&mut self, instruction: Instruction, weight: u64) {
         let (first, second) = operands_of(instruction);
@@ -182,7 +204,14 @@ impl SpillCosts {
                     self.write(destination.saturating_add(word), weight);
                 }
             }
-            Instruction::Call { .. } => self.calls = self.calls.saturating_add(weight),
+            Instruction::Call {
+                arguments,
+                count,
+                ..
+            } => {
+                self.calls = self.calls.saturating_add(weight);
+                self.hand_over_all(arguments, count, weight);
+            }
             _ => {}
         }
     }
@@ -246,6 +275,14 @@ impl SpillCosts {
         }
     }
 
+    /// Where it is handed over most, if anywhere.
+    pub(crate) fn place_at(&self, slot: usize) -> Option<usize> {
+        match self.slots.get(slot) {
+            Some(cost) if cost.handed > 0 => Some(cost.place),
+            _ => None,
+        }
+    }
+
     fn count_from(&self, least: u64) -> u32 {
         let mut count: u32 = 0;
         for slot in 0..self.slots.len() {
@@ -292,12 +329,15 @@ pub(crate) fn spill_costs_of(alloc: Global, function: &Function) -> Result<Spill
     let none = SpillCost {
         reads: 0,
         writes: 0,
+        place: 0,
+        handed: 0,
     };
     let mut costs = SpillCosts {
         slots: vec![in alloc; none; function.slots]?,
         calls: 0,
         backward: Vec::new(alloc),
     };
+    costs.hand_over_all(0, function.parameters, 1);
     let mut places = costs.places(alloc, &function.code)?;
     costs.weigh(&function.code, &mut places);
     Ok(costs)
