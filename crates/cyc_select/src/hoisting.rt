@@ -1,19 +1,21 @@
 //! The first line of a branch's target, in front of the branch.
 ghost use Rattle.std.specs.Prelude.{◌≡◌, ◌+◌, ◌≤◌, slice_get};
-ghost use Rattle.cyc_select.specs.inside.Selection.{value_register, word_first, slot_first, operand_first, operation_first, plan_first, copy_first, load_first, move_first, target_of, tests_register, may_write, copied_if, copied, hoisted_at, hoisted, hoisted_count, test_count};
+ghost use Rattle.cyc_select.specs.inside.Selection.{value_register, word_first, slot_first, operand_first, operands_first, operation_first, plan_first, divided_first, test_first, copy_first, load_first, move_first};
+ghost use Rattle.cyc_select.specs.inside.Selection.{first_line, given_register, own_register, target_of, tests_register, is_spare, is_own, may_write, copied_if, hoisted_at, hoisted, hoisted_count, test_count};
 
 use crate::code::Condition;
-use crate::constants::{FIRST, SECOND};
+use crate::constants::{FIRST, SECOND, THIRD, THIRD_RESULT, ZERO};
 use crate::counting::is_idle;
-use crate::instructions::{copy, load_upper, or_immediate, small};
+use crate::instructions::{add_immediate, copy, load_upper, minus, or_immediate, small};
 use crate::numbers::{fits_signed, is_zero_word};
 use crate::operands::{made_in, operand_register, value_register};
 use crate::operators::{
     arithmetic, condition_of, immediate, is_tested, shift, shift_by, test_count,
 };
-use crate::plan::{Operation, Plan, Test, binary_plan, unary_plan};
+use crate::plan::{Operation, Plan, Test, binary_plan, test_of, unary_plan};
 use cyc_frame::Frame;
 use cyc_isa::Instr;
+use cyc_machine::constants::{ARGUMENT, GET_BYTE, SERVICE};
 use cyc_plain::{Instruction, Operand};
 
 /// The first line of what brings a word into a register.
@@ -54,6 +56,23 @@ fn operand_first(
     }
 }
 
+/// The first line of two operands, or else this one of what stands behind.
+fn operands_first(
+    frame: &Frame,
+    left: Operand,
+    right: Operand,
+    behind: Option<Instr>,
+) -> Option<Instr>
+    ensures { result ≡ operands_first frame.now left right behind }
+{
+    operand_first(
+        frame,
+        FIRST,
+        left,
+        operand_first(frame, SECOND, right, behind),
+    )
+}
+
 /// What computes a word in one line.
 fn operation_first(operation: Operation, target: u8, left: u8, right: u8) -> Option<Instr>
     ensures { result ≡ operation_first operation target left right }
@@ -67,15 +86,33 @@ fn operation_first(operation: Operation, target: u8, left: u8, right: u8) -> Opt
     }
 }
 
-/// The first line of a plan.
-fn plan_first(frame: &Frame, plan: Plan, destination: usize) -> Option<Instr>
-    ensures { result ≡ plan_first frame.now plan destination }
+/// The first line of a plan whose word is made in this register.
+fn plan_first(frame: &Frame, target: u8, plan: Plan) -> Option<Instr>
+    ensures { result ≡ plan_first frame.now target plan }
 {
     let left = operand_register(frame, FIRST, plan.left);
     let right = operand_register(frame, SECOND, plan.right);
-    let computed = operation_first(plan.operation, made_in(frame, destination), left, right);
-    let behind = operand_first(frame, SECOND, plan.right, computed);
-    operand_first(frame, FIRST, plan.left, behind)
+    let computed = operation_first(plan.operation, target, left, right);
+    operands_first(frame, plan.left, plan.right, computed)
+}
+
+/// The first line of a division that is tested.
+fn divided_first(frame: &Frame, left: Operand, right: Operand) -> Option<Instr>
+    ensures { result ≡ divided_first frame.now left right }
+{
+    let behind = add_immediate(THIRD, ZERO, minus(1));
+    operands_first(frame, left, right, Some(behind))
+}
+
+/// The first line of what a branch tests.
+fn test_first(frame: &Frame, test: Test) -> Option<Instr>
+    ensures { result ≡ test_first frame.now test }
+{
+    match test {
+        Test::Operands { left, right, .. } => operands_first(frame, left, right, None),
+        Test::Sign { operand, .. } => operand_first(frame, FIRST, operand, None),
+        Test::Computed { plan } => plan_first(frame, FIRST, plan),
+    }
 }
 
 /// The first line of what brings an operand into a register of a value.
@@ -98,6 +135,73 @@ fn move_first(frame: &Frame, destination: usize, source: Operand) -> Option<Inst
     match value_register(frame, destination) {
         Some(register) => load_first(frame, register, source),
         None => operand_first(frame, FIRST, source, None),
+    }
+}
+
+/// The first line of an instruction, where it makes a word of what is in registers, and behind it the instruction has more lines
+/// or leads to the next one alone.
+fn first_line(frame: &Frame, instruction: Instruction) -> Option<Instr>
+    ensures { result ≡ first_line frame.now instruction }
+{
+    match instruction {
+        Instruction::Move {
+            destination,
+            source,
+        } => move_first(frame, destination, source),
+        Instruction::Unary {
+            operator,
+            destination,
+            operand,
+        } => plan_first(
+            frame,
+            made_in(frame, destination),
+            unary_plan(operator, operand),
+        ),
+        Instruction::Binary {
+            operator,
+            destination,
+            left,
+            right,
+        } => {
+            if is_tested(operator, right) {
+                return divided_first(frame, left, right);
+            }
+            let plan = binary_plan(operator, left, right);
+            plan_first(frame, made_in(frame, destination), plan)
+        }
+        Instruction::Branch {
+            comparison,
+            left,
+            right,
+            ..
+        } => test_first(frame, test_of(comparison, left, right)),
+        Instruction::ReadByte { .. } => Some(small(SERVICE, GET_BYTE as u16)),
+        Instruction::WriteByte { source } => load_first(frame, ARGUMENT, source),
+        Instruction::StoreGlobal { source, .. } => operand_first(frame, FIRST, source, None),
+        _ => None,
+    }
+}
+
+/// The register that an instruction computes a slot's word in, if the slot has one.
+fn given_register(frame: &Frame, instruction: Instruction) -> Option<u8>
+    ensures { result ≡ given_register frame.now instruction }
+{
+    match instruction {
+        Instruction::Move { destination, .. }
+        | Instruction::Unary { destination, .. }
+        | Instruction::Binary { destination, .. } => value_register(frame, destination),
+        _ => None,
+    }
+}
+
+/// The same of a place, where the frame says that it fills slots.
+fn own_register(frame: &Frame, target: usize, instruction: Instruction) -> Option<u8>
+    ensures { result ≡ own_register frame.now target instruction }
+{
+    if frame.fills_slots(target) {
+        given_register(frame, instruction)
+    } else {
+        None
     }
 }
 
@@ -125,31 +229,41 @@ fn tests_register(condition: Condition, register: u8) -> bool
     }
 }
 
-/// Whether a line that makes a word in this register may stand in front of the branch.
-fn may_write(frame: &Frame, condition: Condition, destination: usize, target: Option<u8>) -> bool
-    ensures { result ≡ may_write frame.now condition destination target }
+/// Whether no value has the register, and nothing keeps its word.
+fn is_spare(register: u8) -> bool
+    ensures { result ≡ is_spare register }
+{
+    register == FIRST || (ZERO < register && register <= THIRD_RESULT)
+}
+
+fn is_own(own: Option<u8>, register: u8) -> bool
+    ensures { result ≡ is_own own register }
+{
+    match own {
+        Some(own) => own == register,
+        None => false,
+    }
+}
+
+/// Whether a line that makes a word in this register may stand in front of the branch, where only this value may get lost.
+fn may_write(condition: Condition, own: Option<u8>, target: Option<u8>) -> bool
+    ensures { result ≡ may_write condition own target }
 {
     match target {
         Some(register) => {
-            (register == FIRST || register == SECOND || register == made_in(frame, destination))
-                && !tests_register(condition, register)
+            (is_spare(register) || is_own(own, register)) && !tests_register(condition, register)
         }
         None => false,
     }
 }
 
 /// A line, where it may stand in front of the branch.
-fn copied_if(
-    frame: &Frame,
-    condition: Condition,
-    destination: usize,
-    first: Option<Instr>,
-) -> Option<Instr>
-    ensures { result ≡ copied_if frame.now condition destination first }
+fn copied_if(condition: Condition, own: Option<u8>, first: Option<Instr>) -> Option<Instr>
+    ensures { result ≡ copied_if condition own first }
 {
     match first {
         Some(first) => {
-            if may_write(frame, condition, destination, target_of(first)) {
+            if may_write(condition, own, target_of(first)) {
                 Some(first)
             } else {
                 None
@@ -159,56 +273,7 @@ fn copied_if(
     }
 }
 
-/// The first line of an instruction, where it may stand in front of the branch.
-fn copied(frame: &Frame, condition: Condition, instruction: Instruction) -> Option<Instr>
-    ensures { result ≡ copied frame.now condition instruction }
-{
-    match instruction {
-        Instruction::Move {
-            destination,
-            source,
-        } => copied_if(
-            frame,
-            condition,
-            destination,
-            move_first(frame, destination, source),
-        ),
-        Instruction::Unary {
-            operator,
-            destination,
-            operand,
-        } => {
-            let plan = unary_plan(operator, operand);
-            copied_if(
-                frame,
-                condition,
-                destination,
-                plan_first(frame, plan, destination),
-            )
-        }
-        Instruction::Binary {
-            operator,
-            destination,
-            left,
-            right,
-        } => {
-            if is_tested(operator, right) {
-                return None;
-            }
-            let plan = binary_plan(operator, left, right);
-            copied_if(
-                frame,
-                condition,
-                destination,
-                plan_first(frame, plan, destination),
-            )
-        }
-        _ => None,
-    }
-}
-
-/// What stands in front of a branch by this test to this place of the code: the first line of that place, where the frame
-/// says that it may.
+/// What stands in front of a branch by this test to this place of the code: the first line of that place, where it may.
 pub(crate) fn hoisted(
     frame: &Frame,
     code: &[Instruction],
@@ -220,10 +285,11 @@ pub(crate) fn hoisted(
     let condition = condition_of(frame, test);
     match code.get(target) {
         Some(instruction) => {
-            if frame.fills_slots(target) && !is_idle(frame, target, *instruction) {
-                copied(frame, condition, *instruction)
-            } else {
+            if is_idle(frame, target, *instruction) {
                 None
+            } else {
+                let own = own_register(frame, target, *instruction);
+                copied_if(condition, own, first_line(frame, *instruction))
             }
         }
         None => None,

@@ -2,8 +2,9 @@
 use Rattle.std.proofs.Common.{◌≡◌, ℕ, zero, suc, ◌+◌, ◌-◌, ◌*◌, ◌/◌, ◌%◌, ◌^◌, ◌<◌, ◌≤◌, Bool, true, false, List, [], ◌∷◌, ◌++◌, length, take, Option, None, Some, slice_get, refl, sym, ap, subst, ◌∙◌, arith, inl, inr}
 use Rattle.std.specs.Prelude.{◌==◌, ◌&&◌, nat_lt, if◌then◌else◌, slice_index_or}
 use Rattle.std.specs.List.{AllByRecursion}
-use Rattle.std.proofs.lemmas.Bool.{cases_Bool, cases_lt, eqb-true, ltb-true, false≢true}
+use Rattle.std.proofs.lemmas.Bool.{cases_Bool, cases_lt, eqb-true, ltb-true}
 use Rattle.std.proofs.lemmas.List.{get_or_past}
+use Rattle.std.proofs.lemmas.Option.{none-some}
 use Rattle.cyc_words.specs.Word.{IsWord}
 use Rattle.cyc_words.proofs.Lists.{slice_get_below, all_append}
 use Rattle.cyc_words.proofs.Members.{All_from_recursion, All_at}
@@ -16,6 +17,7 @@ use Rattle.cyc_plain.specs.declared.instruction.Instruction.{Instruction}
 use Rattle.cyc_plain.specs.declared.instruction.Instruction.TheVariants as plain
 use Rattle.cyc_plain.specs.declared.instruction.BinaryOperator.{BinaryOperator}
 use Rattle.cyc_plain.specs.declared.instruction.UnaryOperator.{UnaryOperator}
+use Rattle.cyc_plain.specs.declared.instruction.Comparison.{Comparison}
 use Rattle.cyc_plain.specs.declared.instruction.Operand.{Operand}
 use Rattle.cyc_plain.specs.declared.instruction.Operand.TheVariants as operands
 use Rattle.cyc_isa.specs.Decoding.{register_of}
@@ -25,7 +27,7 @@ use Rattle.cyc_isa.specs.declared.instr.MemoryOp.{MemoryOp}
 use Rattle.cyc_isa.specs.declared.instr.MemoryOp.TheVariants.{LoadWord, StoreWord, LoadByte, StoreByte}
 use Rattle.cyc_isa.specs.declared.instr.MoveFromOp.{MoveFromOp}
 use Rattle.cyc_isa.specs.declared.instr.MoveFromOp.TheVariants.{High, Low}
-use Rattle.cyc_machine.specs.declared.constants.TheConstants.{ARGUMENT, END_UNCAUGHT, PUT_BYTE, RETURN_ADDRESS, SECOND_ARGUMENT, SERVICE}
+use Rattle.cyc_machine.specs.declared.constants.TheConstants.{ARGUMENT, END_UNCAUGHT, GET_BYTE, PUT_BYTE, RETURN_ADDRESS, SECOND_ARGUMENT, SERVICE}
 use Rattle.cyc_plain.specs.inside.Program.{Routine, Program, CodePlace, no_routine, routine_at}
 use Rattle.cyc_plain.specs.inside.Step.{instruction_at}
 use Rattle.cyc_plain.specs.declared.instruction.Request.{Request}
@@ -59,13 +61,12 @@ use Rattle.cyc_select.specs.inside.Selection.{answer_code, unwound_code, far_pla
 use Rattle.cyc_select.specs.inside.Selection.{plan_count, small, syscall, add_immediate, minus, upper_of_global, word_code, load_code, load_count, operand_code, operand_register, operands_code, operation_code, outcome_code, operation_of}
 use Rattle.cyc_select.specs.inside.Selection.{computed_code, plan_code, test_code, condition_of, hoisted, branch_code, behind_count, divided_code, divide_code, divide_count, ending_code, ending_count, operator_code, operator_count, body, behind}
 use Rattle.cyc_select.specs.inside.Selection.{place_lines, is_idle, body_count, count_of, code_count, function_count, functions_count, function_line, instruction_line, code_lines, function_lines, start_lines, select_of, regions_code, load_at}
-use Rattle.cyc_select.specs.inside.Selection.{store_at, spill, spills, spills_count, calling_code, operand_count, global_code, is_near, global_address, load, store, saving_code, restoring_code, saving_count, returning_code, routine_lines, is_own}
+use Rattle.cyc_select.specs.inside.Selection.{store_at, spill, spills, spills_count, calling_code, operand_count, global_code, is_near, global_address, load, store, saving_code, restoring_code, saving_count, returning_code, routine_lines, is_own, first_line, write_code, store_global}
 use Rattle.cyc_select.proofs.relation.Arriving.{length_arriving}
 use Rattle.cyc_select.proofs.layout.Lines.{line_first, line_next}
 use Rattle.cyc_select.proofs.values.Plans.{AllOfTest, all_unary, all_binary, all_test}
 use Rattle.cyc_select.proofs.emission.Counts.{operation_some, move_some, move_words_some, give_some, length_registers, answer_few, service_small}
-use Rattle.cyc_select.proofs.relation.Matches.{is_straight}
-use Rattle.cyc_select.proofs.steps.Hoisting.{Hoists, hoists}
+use Rattle.cyc_select.proofs.steps.Hoisting.{Hoists, hoists, first_begins, test_starts}
 use Rattle.cyc_select.proofs.steps.Returns.{loaded}
 use Rattle.cyc_select.proofs.layout.Structure.{length_body, stand}
 use Rattle.cyc_select.proofs.effects.Walks.{Stands, stands_front}
@@ -580,33 +581,68 @@ module _ (program : Program) (well : IsWellFormed program) (words : HasWords pro
         formed_append (address_code frame address offset) (js ++ last) (address_formed address offset there near)
         (formed_append js last (operand_formed SECOND source also) ((refl, near_fits offset), tt))
 
-    straight_formed : (i : Instruction) (n : ℕ) → is_straight i ≡ true → IsInRange program (routine_at program function) i → HasWord i → n + body_count program frames function i ≤ length (select_of program frames).lines → Formed (body program frames function n i)
-    straight_formed (plain.Move destination source) n straight (a, b) fits long = move_formed destination source a (b, fits)
-    straight_formed (plain.Unary operator destination operand) n straight (a, b) fits long =
-        plan_formed (unary_plan operator operand) destination (unary_there operator operand (b, fits)) a
-    straight_formed (plain.Binary operator destination left right) n straight (a, b, e) (fits, also) long = operator_formed operator destination left right n a (b, fits) (e, also) long
-    straight_formed i n straight in_range fits long = absurd (false≢true straight)
+    branch_test_formed : (comparison : Comparison) (left right : Operand) → IsThere left → IsThere right → Formed (ordinary (test_code frame (test_of comparison left right)))
+    branch_test_formed comparison left right l r =
+        test_formed (test_of comparison left right) (all_test IsThere zero_there IsPlanThere (λ op a b outcome x y. (x, y, tt)) (λ op a half outcome small x. (x, zero_there, small)) comparison left right l r)
 
-    -- it leads to the next instruction
-    straight_stays : (i : Instruction) → is_straight i ≡ true → leaves i ≡ false
-    straight_stays (plain.Move destination source) straight = refl
-    straight_stays (plain.Unary operator destination operand) straight = refl
-    straight_stays (plain.Binary operator destination left right) straight = refl
-    straight_stays i straight = absurd (false≢true straight)
+    read_formed : (destination : ℕ) → destination < slots → Formed (ordinary (small SERVICE GET_BYTE ∷ syscall ∷ give_code frame SERVICE destination))
+    read_formed destination below = ((refl, (omega arith)), ((refl, tt), give_formed SERVICE destination below))
+
+    write_formed : (source : Operand) → IsThere source → Formed (write_code frame source)
+    write_formed source there =
+        formed_append (load_code frame ARGUMENT source) (small SERVICE PUT_BYTE ∷ syscall ∷ []) (load_formed ARGUMENT source there) ((refl, (omega arith)), ((refl, tt), tt))
+
+    global_stored_formed : (global : ℕ) (source : Operand) → global < length program.globals → IsThere source → Formed (store_global frame global source)
+    global_stored_formed global source below there =
+        formed_append (operand_code frame FIRST source) (global_code StoreWord (operand_register frame FIRST source) global) (operand_formed FIRST source there)
+        (global_formed StoreWord (operand_register frame FIRST source) global below)
+
+    -- a line that may stand in front of a branch
+    first_formed : (i : Instruction) (n : ℕ) (x : Instr) → first_line frame i ≡ Some x → IsInRange program (routine_at program function) i → HasWord i → n + body_count program frames function i ≤ length (select_of program frames).lines
+        → IsFormedLine (length (select_of program frames).lines) (lines.Ordinary x)
+    first_formed i n x is in_range fits long = go i is in_range fits long
+      where
+        -- where all lines are formed that it stands before
+        at_head : (j : Instruction) → first_line frame j ≡ Some x → Formed (body program frames function n j) → IsFormedLine (length (select_of program frames).lines) (lines.Ordinary x)
+        at_head j begun all = let head = first_begins program frames function j x begun n in (subst Formed head.1 all).0
+
+        go : (j : Instruction) → first_line frame j ≡ Some x → IsInRange program (routine_at program function) j → HasWord j → n + body_count program frames function j ≤ length (select_of program frames).lines
+            → IsFormedLine (length (select_of program frames).lines) (lines.Ordinary x)
+        go (plain.Move destination source) begun (a, b) words_fit below = at_head (plain.Move destination source) begun (move_formed destination source a (b, words_fit))
+        go (plain.Unary operator destination operand) begun (a, b) words_fit below =
+            at_head (plain.Unary operator destination operand) begun (plan_formed (unary_plan operator operand) destination (unary_there operator operand (b, words_fit)) a)
+        go (plain.Binary operator destination left right) begun (a, b, e) (words_fit, also) below =
+            at_head (plain.Binary operator destination left right) begun (operator_formed operator destination left right n a (b, words_fit) (e, also) below)
+        go (plain.Branch comparison left right target) begun (a, b, inside) (words_fit, also) below =
+            let test : Test = test_of comparison left right in
+            let (rest, same) = test_starts frame test x begun in
+            (subst (λ (is : List Instr). Formed (ordinary is)) same (branch_test_formed comparison left right (a, words_fit) (b, also))).0
+        go (plain.ReadByte destination) begun inside words_fit below = at_head (plain.ReadByte destination) begun (read_formed destination inside)
+        go (plain.WriteByte source) begun inside words_fit below = at_head (plain.WriteByte source) begun (write_formed source (inside, words_fit))
+        go (plain.StoreGlobal global source) begun (a, b) words_fit below = at_head (plain.StoreGlobal global source) begun (global_stored_formed global source a (b, words_fit))
+        go j begun inside words_fit below = absurd (none-some x begun)
+
+    -- behind an instruction that has more than its first line stands another
+    stays : (i : Instruction) (x : Instr) → first_line frame i ≡ Some x → leaves i ≡ false
+    stays (plain.Move destination source) x is = refl
+    stays (plain.Unary operator destination operand) x is = refl
+    stays (plain.Binary operator destination left right) x is = refl
+    stays (plain.Branch comparison left right target) x is = refl
+    stays (plain.ReadByte destination) x is = refl
+    stays (plain.WriteByte source) x is = refl
+    stays (plain.StoreGlobal global source) x is = refl
+    stays i x is = absurd (none-some x is)
 
     -- a line that was hoisted is formed, and so is the label behind it
     module _ (target : ℕ) (condition : Condition) (x : Instr) (its : Hoists program frames function target condition x) where
       hoisted_formed : IsFormedLine (length (select_of program frames).lines) (lines.Ordinary x)
       hoisted_formed =
-          let line : ℕ = instruction_line program frames function target in
-          let begins = its.first (instruction_line program frames function target) in
-          (subst Formed begins.1
-          (straight_formed its.i line its.straight (range_at program well (record { function = function; index = target }) its.i its.at) (All_at HasWord (routine_at program function).code target its.i (words.functions function no_routine known) its.at)
-          (line_known function target its.i its.at its.busy))).0
+          first_formed its.i (instruction_line program frames function target) x its.line (range_at program well (record { function = function; index = target }) its.i its.at)
+          (All_at HasWord (routine_at program function).code target its.i (words.functions function no_routine known) its.at) (line_known function target its.i its.at its.busy)
 
       behind_known : instruction_line program frames function target + 1 < length (select_of program frames).lines
       behind_known =
-          let further = goes_behind program (routine_at program function) target its.i (routine_in program function well known) its.at (straight_stays its.i its.straight) in
+          let further = goes_behind program (routine_at program function) target its.i (routine_in program function well known) its.at (stays its.i x its.line) in
           let some = count_some program frames function its.i (range_at program well (record { function = function; index = target }) its.i its.at) in
           let counted = ap (λ (b : Bool). (if b then 0 else body_count program frames function its.i) + behind_count program frames function its.i) its.busy in
           omega (arith, target_known function (target + 1) further, line_next program frames function target its.i its.at, counted, some)
@@ -627,8 +663,7 @@ module _ (program : Program) (well : IsWellFormed program) (words : HasWords pro
         go (hoisted frame (routine_at program function).code (test_of comparison left right) target) refl
       where
         test_there : Formed (ordinary (test_code frame (test_of comparison left right)))
-        test_there =
-            test_formed (test_of comparison left right) (all_test IsThere zero_there IsPlanThere (λ op l r outcome x y. (x, y, tt)) (λ op l half outcome small x. (x, zero_there, small)) comparison left right (a, fits) (b, also))
+        test_there = branch_test_formed comparison left right (a, fits) (b, also)
 
         go : (first : Option Instr) → hoisted frame (routine_at program function).code (test_of comparison left right) target ≡ first
             → Formed (branch_code frame (test_of comparison left right) first (instruction_line program frames function target))
@@ -663,16 +698,13 @@ module _ (program : Program) (well : IsWellFormed program) (words : HasWords pro
         )
     body_formed (plain.Return value) n in_range fits long = returning_formed n value in_range long
     body_formed (plain.Finish value) n in_range fits long = returning_formed n value in_range long
-    body_formed (plain.ReadByte destination) n below fits long = ((refl, (omega arith)), ((refl, tt), give_formed SERVICE destination below))
-    body_formed (plain.WriteByte source) n below fits long =
-        formed_append (load_code frame ARGUMENT source) (small SERVICE PUT_BYTE ∷ syscall ∷ []) (load_formed ARGUMENT source (below, fits)) ((refl, (omega arith)), ((refl, tt), tt))
+    body_formed (plain.ReadByte destination) n below fits long = read_formed destination below
+    body_formed (plain.WriteByte source) n below fits long = write_formed source (below, fits)
     body_formed (plain.AddressOf destination slot count) n (a, some, named) fits long =
         ((refl, slot_fits slot (omega (arith, some, named))), keep_formed destination a)
     body_formed (plain.LoadGlobal destination global) n (a, b) fits long =
         formed_append (global_code LoadWord (made_in frame destination) global) (keep_code frame destination) (global_formed LoadWord (made_in frame destination) global b) (keep_formed destination a)
-    body_formed (plain.StoreGlobal global source) n (a, b) fits long =
-        formed_append (operand_code frame FIRST source) (global_code StoreWord (operand_register frame FIRST source) global) (operand_formed FIRST source (b, fits))
-        (global_formed StoreWord (operand_register frame FIRST source) global a)
+    body_formed (plain.StoreGlobal global source) n (a, b) fits long = global_stored_formed global source a (b, fits)
     body_formed (plain.MoveWords destination source count) n in_range fits long =
         go (is_crossing destination source count)
       where

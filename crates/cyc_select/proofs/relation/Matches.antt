@@ -25,7 +25,8 @@ use Rattle.cyc_frame.specs.inside.Frame.{Frame}
 use Rattle.cyc_select.specs.inside.Labelled.{Labelled, IsFormed}
 use Rattle.cyc_select.specs.inside.Machine as labelled
 use Rattle.cyc_select.specs.inside.Machine.{State, Running, Ended}
-use Rattle.cyc_select.specs.inside.Selection.{coming, slot_offset, value_register, is_kept, is_idle, function_line, instruction_line, count_of}
+use Rattle.cyc_select.specs.inside.Plans.{test_of}
+use Rattle.cyc_select.specs.inside.Selection.{coming, slot_offset, value_register, is_kept, is_idle, test_count, function_line, instruction_line, count_of}
 use Rattle.cyc_select.proofs.values.Blocks.{ValuesSame, lasting}
 use Rattle.cyc_select.proofs.layout.Lines.{line_next}
 use Rattle.cyc_select.proofs.effects.Views.{Contents, written}
@@ -42,12 +43,20 @@ abbrev pub After : (program : Program) (pages calls : ℕ) → Configuration →
 After program pages calls c t =
     (labelled.status_of t ≡ simulation.Running) × (next : states.State) × Step program pages calls (states.Running c) next × (labelled.seen_of t ≡ states.seen_of next)
 
--- an instruction that makes a word, and leads to the next
+-- an instruction that leads to the next
 abbrev pub is_straight : Instruction → Bool
 is_straight (plain.Move destination source) = true
 is_straight (plain.Unary operator destination operand) = true
 is_straight (plain.Binary operator destination left right) = true
+is_straight (plain.ReadByte destination) = true
+is_straight (plain.WriteByte source) = true
+is_straight (plain.StoreGlobal global source) = true
 is_straight i = false
+
+-- Behind its first line an instruction has another, or it leads to the next.
+abbrev pub HasMore : Frame → Instruction → Type 0
+HasMore frame (plain.Branch comparison left right target) = 0 < test_count frame (test_of comparison left right)
+HasMore frame i = is_straight i ≡ true
 
 module _ (program : Program) (well : IsWellFormed program) (frames : List Frame) (fit : AreFrames program frames) (code : Labelled) (formed : IsFormed code) (addresses : ℕ → ℕ) (pages calls : ℕ) (few : calls ≤ 4096) where
   abbrev pub At : ℕ → (out input : List ℕ) → (r : Words) (w : Contents) → labelled.Configuration → Type 0
@@ -131,7 +140,7 @@ module _ (program : Program) (well : IsWellFormed program) (frames : List Frame)
     pub is : t ≡ Running run
     pub ready : Ready c (Running before)
     pub at : instruction_at program (states.place_of (states.Running c)) ≡ Some i
-    pub straight : is_straight i ≡ true
+    pub more : HasMore (frame_at frames c.active.function) i
     pub busy : is_idle (frame_at frames c.active.function) c.active.next i ≡ false
     pub output : run.output ≡ c.output
     pub input : run.input ≡ c.input

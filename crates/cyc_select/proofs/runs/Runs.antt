@@ -13,6 +13,7 @@ use Rattle.cyc_isa.specs.declared.instr.MultiplyDivideOp.TheVariants.{Divide, Mu
 use Rattle.cyc_machine.specs.State.{globals_length, words_per_call}
 use Rattle.cyc_plain.specs.declared.instruction.Instruction.{Instruction}
 use Rattle.cyc_plain.specs.declared.instruction.Instruction.TheVariants as plain
+use Rattle.cyc_plain.specs.declared.instruction.Comparison.{Comparison}
 use Rattle.cyc_plain.specs.declared.instruction.BinaryOperator.{BinaryOperator}
 use Rattle.cyc_plain.specs.declared.instruction.BinaryOperator.TheVariants as binary
 use Rattle.cyc_plain.specs.declared.instruction.Operand.{Operand}
@@ -51,9 +52,9 @@ use Rattle.cyc_select.proofs.values.Operations.{product_quotient, product_remain
 use Rattle.cyc_select.proofs.values.Plans.{multiply_divide_result, if_low}
 use Rattle.cyc_select.proofs.relation.Values.{Caches}
 use Rattle.cyc_select.proofs.effects.Views.{Contents}
-use Rattle.cyc_select.proofs.effects.Walks.{Stands, stands_front, stands_back, stands_until, Rises, rising_distinct, rising_inside, comes_map, Quiet, Walk, walk_end, walk_to, walk_rest}
+use Rattle.cyc_select.proofs.effects.Walks.{Stands, stands_front, stands_back, stands_until, Rises, rising_distinct, rising_inside, comes_map, Quiet, Walk, walk_end, walk_few, walk_to, walk_rest}
 use Rattle.cyc_select.proofs.relation.Standing.{IsNewest, stage_of, Standing, behind_line}
-use Rattle.cyc_select.proofs.relation.Matches.{After, At, Ready, Begun, Matches, Reached, Passed, weight, is_straight}
+use Rattle.cyc_select.proofs.relation.Matches.{After, At, Ready, Begun, Matches, Reached, Passed, weight, is_straight, HasMore}
 use Rattle.cyc_select.proofs.steps.Simple.{address_goes, move_goes, unary_goes, binary_goes, divide_goes, jump_goes, branch_goes, read_goes, write_goes, load_global_goes, count_lexical_goes, store_global_goes, uncaught_goes}
 use Rattle.cyc_select.proofs.steps.Accesses.{move_words_goes, load_goes, store_goes, load_byte_goes, store_byte_goes}
 use Rattle.cyc_select.proofs.steps.Requests.{ask_goes}
@@ -307,13 +308,22 @@ module _ (program : Program) (well : IsWellFormed program) (words : HasWords pro
     finish_goes value at in_range stands (h ∷ handlers) some =
         absurd (stops_not (plain.Finish value) at (zeros_at program c (plain.Finish value) at refl) (ap (finishes c value (routine_at program c.active.function).results) some))
 
+    -- all lines of a branch are executed
+    branch_walks : (comparison : Comparison) (left right : Operand) (target : ℕ) → IsAt (plain.Branch comparison left right target) → is_idle (frame_at frames c.active.function) c.active.next (plain.Branch comparison left right target) ≡ false
+        → IsInRange program (routine_at program c.active.function) (plain.Branch comparison left right target) → HasWord (plain.Branch comparison left right target) → StandsHere (plain.Branch comparison left right target)
+        → Walk code formed addresses globals_length (words_per_call * calls) (body_count program frames c.active.function (plain.Branch comparison left right target)) here (here + body_count program frames c.active.function (plain.Branch comparison left right target)) c.output (After program pages calls c) (Reached program well frames fit code formed addresses pages calls few c) (Running run)
+    branch_walks comparison left right target at busy (a, b, below) (fits, also) stands =
+        branch_goes program well frames fit code formed addresses pages calls few c run r w base back now s caches comparison left right target at (a, fits) (b, also) (omega (arith, counted (plain.Branch comparison left right target) busy))
+        (λ j there is_busy. stands_front code (instruction_line program frames c.active.function target) (body program frames c.active.function (instruction_line program frames c.active.function target) j) (behind program frames c.active.function j) (body_stands program well frames fit code stand long c.active.function target j there is_busy)) stands
+
     instruction_goes : (i : Instruction) → IsAt i → is_idle (frame_at frames c.active.function) c.active.next i ≡ false → IsInRange program (routine_at program c.active.function) i → HasWord i → StandsHere i → Goes (body_count program frames c.active.function i)
     instruction_goes (plain.Move destination source) at busy (a, b) fits stands = move_goes program well frames fit code formed addresses pages calls few c run r w base back now s caches destination source at a (b, fits) (omega (arith, counted (plain.Move destination source) busy)) stands
     instruction_goes (plain.Unary operator destination operand) at busy (a, b) fits stands = unary_goes program well frames fit code formed addresses pages calls few c run r w base back now s caches operator destination operand at a (b, fits) (omega (arith, counted (plain.Unary operator destination operand) busy)) stands
     instruction_goes (plain.Binary operator destination left right) at busy (a, b, e) (fits, also) stands = operator_goes operator destination left right at busy a (b, fits) (e, also) stands
     instruction_goes (plain.Jump target) at busy below fits stands = jump_goes program well frames fit code formed addresses pages calls few c run r w base back now s caches target at stands
-    instruction_goes (plain.Branch comparison left right target) at busy (a, b, below) (fits, also) stands = branch_goes program well frames fit code formed addresses pages calls few c run r w base back now s caches comparison left right target at (a, fits) (b, also) (omega (arith, counted (plain.Branch comparison left right target) busy))
-        (λ j there is_busy. stands_front code (instruction_line program frames c.active.function target) (body program frames c.active.function (instruction_line program frames c.active.function target) j) (behind program frames c.active.function j) (body_stands program well frames fit code stand long c.active.function target j there is_busy)) stands
+    instruction_goes (plain.Branch comparison left right target) at busy in_range fits stands =
+        walk_few code formed addresses globals_length (words_per_call * calls) 1 (body_count program frames c.active.function (plain.Branch comparison left right target)) here (here + body_count program frames c.active.function (plain.Branch comparison left right target)) c.output _ (Running run) (omega arith)
+        (branch_walks comparison left right target at busy in_range fits stands)
     instruction_goes (plain.Call callee arguments count result) at busy in_range fits stands =
         call_goes program well frames fit code formed addresses pages calls few lie c run r w base back now s caches callee arguments count result at in_range (returns_to c.active.function c.active.next callee arguments count result at).inside stands
     instruction_goes (plain.Return value) at busy in_range fits stands =
@@ -491,21 +501,58 @@ module _ (program : Program) (well : IsWellFormed program) (words : HasWords pro
           go : (b : Bool) → IsLighter c (if b then states.Stuck c.output c.input else gives c destination (binary_result operator (operand_word c.active.slots left) (operand_word c.active.slots right)))
           go true = some
           go false = given_lighter destination (binary_result operator (operand_word c.active.slots left) (operand_word c.active.slots right))
+      performed_lighter (plain.ReadByte destination) is_one = omega (arith, some)
+      performed_lighter (plain.WriteByte source) is_one = omega (arith, some)
+      performed_lighter (plain.StoreGlobal global source) is_one = omega (arith, some)
       performed_lighter j is_one = absurd (false≢true is_one)
 
   -- behind its first line, which was executed in front of a branch
   begun_goes : (c : Configuration) (t : State) → Begun program well frames fit code formed addresses pages calls few c t → Never c → IsStepped above below_machine matching (states.Running c) t
-  begun_goes c t begun never =
-      let line : ℕ = instruction_line program frames c.active.function c.active.next in
-      let same : begun.before ≡ begun.ready.run = (let e : Running begun.before ≡ Running begun.ready.run = begun.ready.is in cc) in
-      let before_line : begun.before.line ≡ instruction_line program frames c.active.function c.active.next = ap (λ (d : labelled.Configuration). d.line) same ∙ begun.ready.now.at_line in
-      let unread : begun.run.input ≡ begun.before.input = begun.input ∙ sym (ap (λ (d : labelled.Configuration). d.input) same ∙ begun.ready.now.input) in
-      let whole = subst (Walk code formed addresses globals_length (words_per_call * calls) 1 line (end_of c begun.i) c.output (After program pages calls c) (Comes_to false c)) (sym begun.ready.is)
-      (ready_goes false c (Running begun.before) never begun.ready begun.i begun.at begun.busy) in
-      stepped true c t begun.run (suc begun.before.line) begun.i begun.input begun.at (omega (arith, before_line)) begun.is
-      (walk_to code formed addresses globals_length (words_per_call * calls) 0 (suc begun.before.line) (end_of c begun.i) c.output (Comes_to false c) (Comes_to true c) (Running begun.run)
-      (λ u reached. (reached.0, reached.1, reached.2, straight_lighter c begun.i begun.at begun.straight reached.0 reached.1))
-      (walk_rest code formed addresses globals_length (words_per_call * calls) 0 line (end_of c begun.i) c.output (Comes_to false c) begun.before begun.run unread whole begun.goes))
+  begun_goes c t begun never = go begun.i begun.at begun.busy begun.more
+    where
+      same : begun.before ≡ begun.ready.run
+      same = (let e : Running begun.before ≡ Running begun.ready.run = begun.ready.is in cc)
+
+      before_line : begun.before.line ≡ instruction_line program frames c.active.function c.active.next
+      before_line = ap (λ (d : labelled.Configuration). d.line) same ∙ begun.ready.now.at_line
+
+      unread : begun.run.input ≡ begun.before.input
+      unread = begun.input ∙ sym (ap (λ (d : labelled.Configuration). d.input) same ∙ begun.ready.now.input)
+
+      -- the walk through all lines, without its first step
+      rest : (n : ℕ) (i : Instruction) → Walk code formed addresses globals_length (words_per_call * calls) (suc n) (instruction_line program frames c.active.function c.active.next) (end_of c i) c.output (After program pages calls c) (Comes_to false c) (Running begun.ready.run)
+          → Walk code formed addresses globals_length (words_per_call * calls) n (suc begun.before.line) (end_of c i) c.output (After program pages calls c) (Comes_to false c) (Running begun.run)
+      rest n i whole =
+          walk_rest code formed addresses globals_length (words_per_call * calls) n (instruction_line program frames c.active.function c.active.next) (end_of c i) c.output (Comes_to false c) begun.before begun.run unread
+          (subst (λ (d : labelled.Configuration). Walk code formed addresses globals_length (words_per_call * calls) (suc n) (instruction_line program frames c.active.function c.active.next) (end_of c i) c.output (After program pages calls c) (Comes_to false c) (Running d)) (sym same) whole)
+          begun.goes
+
+      -- where nothing may be left, the run comes nearer to the end of the code
+      straight : (i : Instruction) → instruction_at program (states.place_of (states.Running c)) ≡ Some i → is_idle (frame_at frames c.active.function) c.active.next i ≡ false → is_straight i ≡ true → IsStepped above below_machine matching (states.Running c) t
+      straight i at busy is_one =
+          stepped true c t begun.run (suc begun.before.line) i begun.input at (omega (arith, before_line)) begun.is
+          (walk_to code formed addresses globals_length (words_per_call * calls) 0 (suc begun.before.line) (end_of c i) c.output (Comes_to false c) (Comes_to true c) (Running begun.run)
+          (λ u reached. (reached.0, reached.1, reached.2, straight_lighter c i at is_one reached.0 reached.1))
+          (rest 0 i (ready_goes false c (Running begun.before) never begun.ready i at busy)))
+
+      go : (i : Instruction) → instruction_at program (states.place_of (states.Running c)) ≡ Some i → is_idle (frame_at frames c.active.function) c.active.next i ≡ false → HasMore (frame_at frames c.active.function) i
+          → IsStepped above below_machine matching (states.Running c) t
+      go (plain.Branch comparison left right target) at busy some =
+          let ready = begun.ready in
+          let i : Instruction = plain.Branch comparison left right target in
+          let line : ℕ = instruction_line program frames c.active.function c.active.next in
+          let stands = stands_front code line (body program frames c.active.function line i) (behind program frames c.active.function i) (body_stands program well frames fit code stand long c.active.function c.active.next i at busy) in
+          let all = branch_walks c never ready.run ready.r ready.w ready.base ready.back ready.now ready.standing ready.caches comparison left right target at busy (in_range_of c.active.function c.active.next i at) (word_of_it c.active.function c.active.next i at) stands in
+          let whole = subst (λ (b : Bool). Walk code formed addresses globals_length (words_per_call * calls) 2 line (line + (if b then 0 else body_count program frames c.active.function i)) c.output (After program pages calls c) (Comes_to false c) (Running ready.run)) (sym busy)
+          (walk_few code formed addresses globals_length (words_per_call * calls) 2 (body_count program frames c.active.function i) line (line + body_count program frames c.active.function i) c.output _ (Running ready.run) (omega (arith, some)) all) in
+          stepped false c t begun.run (suc begun.before.line) i begun.input at (omega (arith, before_line)) begun.is (rest 1 i whole)
+      go (plain.Move destination source) at busy is_one = straight (plain.Move destination source) at busy is_one
+      go (plain.Unary operator destination operand) at busy is_one = straight (plain.Unary operator destination operand) at busy is_one
+      go (plain.Binary operator destination left right) at busy is_one = straight (plain.Binary operator destination left right) at busy is_one
+      go (plain.ReadByte destination) at busy is_one = straight (plain.ReadByte destination) at busy is_one
+      go (plain.WriteByte source) at busy is_one = straight (plain.WriteByte source) at busy is_one
+      go (plain.StoreGlobal global source) at busy is_one = straight (plain.StoreGlobal global source) at busy is_one
+      go i at busy is_one = absurd (false≢true is_one)
 
   known_goes : (c : Configuration) (t : State) → Matches program well frames fit code formed addresses pages calls few (states.Running c) t → Never c → (i : Instruction) → instruction_at program (states.place_of (states.Running c)) ≡ Some i
       → IsStepped above below_machine matching (states.Running c) t

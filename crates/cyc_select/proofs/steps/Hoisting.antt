@@ -1,13 +1,15 @@
 -- The first line of a branch's target, in front of the branch: which line it is, and that it does there what it does at its place.
-use Rattle.std.proofs.Common.{◌≡◌, ◌≢◌, ℕ, ◌+◌, ◌%◌, ◌^◌, ◌<◌, ◌≤◌, Bool, true, false, not, List, [], ◌∷◌, ◌++◌, Option, Some, None, slice_get, append_assoc, refl, sym, ap, subst, ◌∙◌, arith, inl, inr}
-use Rattle.std.specs.Prelude.{◌⊎◌, ◌==◌, ◌&&◌, ◌||◌, nat_lt, if◌then◌else◌}
-use Rattle.std.proofs.lemmas.Bool.{and_parts, or_cases, or_parts, eqb-true, eqb-false, ne_eqb, false≢true, not-true}
+use Rattle.std.proofs.Common.{◌≡◌, ◌≢◌, ℕ, ◌+◌, ◌%◌, ◌^◌, ◌<◌, ◌≤◌, Bool, true, false, not, List, [], ◌∷◌, ◌++◌, Option, Some, None, slice_get, length, append_assoc, append-nil, refl, sym, ap, subst, ◌∙◌, arith, inl, inr}
+use Rattle.std.specs.Prelude.{◌⊎◌, ◌==◌, ◌&&◌, ◌||◌, nat_lt, nat_le, if◌then◌else◌}
+use Rattle.std.proofs.lemmas.Bool.{and_parts, or_cases, or_parts, eqb-true, eqb-false, ltb-true, leb-true, ne_eqb, false≢true, not-true}
 use Rattle.std.proofs.lemmas.Option.{same_Some, none-some}
 use Rattle.cyc_words.specs.Ending.{Ending}
 use Rattle.cyc_words.proofs.Numbers.{eqb_itself}
 use Rattle.cyc_isa.specs.Effect.{branch_taken, branch_zero_taken}
 use Rattle.cyc_isa.specs.declared.instr.Instr.{Instr}
 use Rattle.cyc_isa.specs.declared.instr.Instr.TheVariants.{Immediate, LoadUpper, Shift, ShiftVariable, Arithmetic}
+use Rattle.cyc_isa.specs.declared.instr.MemoryOp.TheVariants.{StoreWord}
+use Rattle.cyc_machine.specs.declared.constants.TheConstants.{ARGUMENT, GET_BYTE, PUT_BYTE, SERVICE}
 use Rattle.cyc_machine.specs.Run.{World, told, ending_of}
 use Rattle.cyc_machine.specs.Step.{after}
 use Rattle.cyc_machine.specs.declared.event.Event.TheVariants.{Ran}
@@ -22,29 +24,31 @@ use Rattle.cyc_plain.specs.inside.State.{Words}
 use Rattle.cyc_plain.specs.inside.Uses.{writes}
 use Rattle.cyc_plain.proofs.SlotLaws.{put-other}
 use Rattle.cyc_registers.specs.inside.Fills.{fills_at}
-use Rattle.cyc_registers.specs.inside.Interference.{AreHomes}
 use Rattle.cyc_frame.specs.inside.Frame.{Frame}
 use Rattle.cyc_frame.specs.inside.Layout.{frame_at}
 use Rattle.cyc_select.specs.declared.code.Condition.{Condition}
 use Rattle.cyc_select.specs.declared.code.Condition.TheVariants as conditions
 use Rattle.cyc_select.specs.declared.code.Line.{Line}
 use Rattle.cyc_select.specs.declared.code.Line.TheVariants as lines
-use Rattle.cyc_select.specs.declared.constants.TheConstants.{FIRST, SECOND}
+use Rattle.cyc_select.specs.declared.constants.TheConstants.{ZERO, FIRST, SECOND, THIRD, THIRD_RESULT}
 use Rattle.cyc_select.specs.declared.plan.Operation.{Operation}
 use Rattle.cyc_select.specs.declared.plan.Operation.TheVariants as operations
 use Rattle.cyc_select.specs.declared.plan.Plan.{Plan}
 use Rattle.cyc_select.specs.declared.plan.Test.{Test}
+use Rattle.cyc_select.specs.declared.plan.Test.TheVariants as tests
 use Rattle.cyc_select.specs.inside.Labelled.{Labelled, is_ordinary}
 use Rattle.cyc_select.specs.inside.Machine.{Configuration, State, Running, Ended, Stopped, Step, ExecutesAt, Performs, PerformsOrdinary, settled, closed, from_world, machine_of, world_of, at, holds_of}
 use Rattle.cyc_select.specs.inside.Numbers.{fits_signed, is_zero_word}
-use Rattle.cyc_select.specs.inside.Plans.{unary_plan, binary_plan}
-use Rattle.cyc_select.specs.inside.Selection.{value_register, or_else, made_in, keep_code, small, or_immediate, load_upper, constant, copy, word_code, load_code, load_from, fetch_from, operand_code, operand_register}
-use Rattle.cyc_select.specs.inside.Selection.{operation_code, outcome_code, operation_of, computed_code, plan_code, move_to, divide_code, part_of, ordinary, body, is_idle, is_tested, condition_of, word_first}
-use Rattle.cyc_select.specs.inside.Selection.{slot_first, operand_first, operation_first, plan_first, copy_first, load_first, move_first, target_of, tests_register, may_write, copied_if, copied, hoisted_at, hoisted}
+use Rattle.cyc_select.specs.inside.Plans.{unary_plan, binary_plan, test_of}
+use Rattle.cyc_select.specs.inside.Selection.{value_register, made_in, keep_code, give_code, is_own, add_immediate, minus, syscall, small, or_immediate, load_upper, constant, copy, word_code, load_code, load_from, fetch_from, operand_code, operand_register}
+use Rattle.cyc_select.specs.inside.Selection.{operands_code, operation_code, outcome_code, operation_of, computed_code, plan_code, test_code, global_code, move_to, divided_code, divide_code, part_of}
+use Rattle.cyc_select.specs.inside.Selection.{ordinary, body, is_idle, is_tested, condition_of, with_hoisted, word_first, slot_first, operand_first, operands_first, operation_first, plan_first, divided_first, test_first, copy_first, load_first, move_first}
+use Rattle.cyc_select.specs.inside.Selection.{first_line, given_register, own_register, target_of, tests_register, is_spare, may_write, copied_if, hoisted_at, hoisted}
+use Rattle.cyc_select.proofs.emission.Counts.{length_test}
 use Rattle.cyc_select.proofs.values.Blocks.{IsScratch}
 use Rattle.cyc_select.proofs.effects.Views.{Contents, does_r, does_w, IsSafe, IsWritable, moved}
 use Rattle.cyc_select.proofs.effects.Walks.{Stands}
-use Rattle.cyc_select.proofs.relation.Matches.{is_straight}
+use Rattle.cyc_select.proofs.relation.Matches.{HasMore}
 
 -- ---- a line that makes a word of what is in registers
 
@@ -168,6 +172,18 @@ module _ (frame : Frame) where
       go true rest = behind_is rest
       go false same = word_code_starts register word x js same
 
+  -- where nothing stands behind
+  starts_plain : (is : List Instr) (x : Instr) → Starts (is ++ []) x → Starts is x
+  starts_plain is x starts = subst (λ (l : List Instr). Starts l x) (append-nil is) starts
+
+  operands_starts : (left right : Operand) (behind : Option Instr) (js : List Instr) (x : Instr) → operands_first frame left right behind ≡ Some x → (behind ≡ Some x → Starts js x)
+      → Starts (operands_code frame left right ++ js) x
+  operands_starts left right behind js x is behind_is =
+      let front : List Instr = operand_code frame FIRST left in
+      let second : List Instr = operand_code frame SECOND right in
+      subst (λ (l : List Instr). Starts l x) (sym (append_assoc front second js))
+      (operand_starts FIRST left _ (second ++ js) x is (λ more. operand_starts SECOND right behind js x more behind_is))
+
   operation_starts : (operation : Operation) (target left right : ℕ) (x : Instr) → operation_first operation target left right ≡ Some x → Starts (operation_code operation target left right) x
   operation_starts (operations.Arithmetic op) target left right x is = starts_one _ x [] is
   operation_starts (operations.Immediate op half) target left right x is = starts_one _ x [] is
@@ -175,18 +191,25 @@ module _ (frame : Frame) where
   operation_starts (operations.ShiftBy op amount) target left right x is = starts_one _ x [] is
   operation_starts (operations.MultiplyDivide op from) target left right x is = absurd (no_line x is)
 
-  plan_starts : (plan : Plan) (destination : ℕ) (x : Instr) → plan_first frame plan destination ≡ Some x → Starts (plan_code frame plan destination) x
+  planned_starts : (target : ℕ) (plan : Plan) (x : Instr) → plan_first frame target plan ≡ Some x → Starts (operation_of frame target plan) x
+  planned_starts target plan x is =
+      let computes : List Instr = operation_code plan.operation target (operand_register frame FIRST plan.left) (operand_register frame SECOND plan.right) in
+      operands_starts plan.left plan.right _ computes x is (λ last. operation_starts plan.operation target (operand_register frame FIRST plan.left) (operand_register frame SECOND plan.right) x last)
+
+  plan_starts : (plan : Plan) (destination : ℕ) (x : Instr) → plan_first frame (made_in frame destination) plan ≡ Some x → Starts (plan_code frame plan destination) x
   plan_starts plan destination x is =
       let target : ℕ = made_in frame destination in
-      let left : List Instr = operand_code frame FIRST plan.left in
-      let right : List Instr = operand_code frame SECOND plan.right in
-      let computes : List Instr = operation_code plan.operation target (operand_register frame FIRST plan.left) (operand_register frame SECOND plan.right) in
-      let operates : Starts (left ++ (right ++ computes)) x =
-      operand_starts FIRST plan.left _ (right ++ computes) x is
-      (λ behind. operand_starts SECOND plan.right _ computes x behind (λ last. operation_starts plan.operation target (operand_register frame FIRST plan.left) (operand_register frame SECOND plan.right) x last)) in
       starts_append (computed_code frame target plan) (keep_code frame destination) x
-      (starts_append (operation_of frame target plan) (outcome_code plan.outcome target) x
-      (subst (λ (l : List Instr). Starts l x) (sym (append_assoc left right computes)) operates))
+      (starts_append (operation_of frame target plan) (outcome_code plan.outcome target) x (planned_starts target plan x is))
+
+  divided_starts : (left right : Operand) (x : Instr) → divided_first frame left right ≡ Some x → Starts (divided_code frame left right) x
+  divided_starts left right x is = operands_starts left right _ (add_immediate THIRD ZERO (minus 1) ∷ []) x is (λ same. starts_one _ x [] same)
+
+  pub test_starts : (test : Test) (x : Instr) → test_first frame test ≡ Some x → Starts (test_code frame test) x
+  test_starts (tests.Operands op left right) x is =
+      starts_plain (operands_code frame left right) x (operands_starts left right None [] x is (λ none. absurd (no_line x none)))
+  test_starts (tests.Sign op operand) x is = starts_plain (operand_code frame FIRST operand) x (operand_starts FIRST operand None [] x is (λ none. absurd (no_line x none)))
+  test_starts (tests.Computed plan) x is = planned_starts FIRST plan x is
 
   load_starts : (register : ℕ) (o : Operand) (js : List Instr) (x : Instr) → load_first frame register o ≡ Some x → Starts (load_code frame register o ++ js) x
   load_starts register (operands.Slot number) js x is = go (value_register frame number) is
@@ -200,88 +223,142 @@ module _ (frame : Frame) where
   move_starts None destination o x is = operand_starts FIRST o None _ x is (λ none. absurd (no_line x none))
   move_starts (Some register) destination o x is = load_starts register o (keep_code frame destination) x is
 
+-- with what stands in front of a branch itself
+starts_hoisted : (is : List Instr) (first : Option Instr) (x : Instr) → Starts is x → Starts (with_hoisted is first) x
+starts_hoisted is None x starts = starts
+starts_hoisted is (Some y) x starts = starts_append is (y ∷ []) x starts
+
+-- the lines of an instruction begin with its first
+abbrev pub Begins : Program → List Frame → (function : ℕ) → Instruction → Instr → Type 0
+Begins program frames function i x = (line : ℕ) → (rest : List Line) × (body program frames function line i ≡ lines.Ordinary x ∷ rest)
+
+begins_as : (is : List Instr) (ls : List Line) (x : Instr) → Starts is x → (rest : List Line) × (ordinary is ++ ls ≡ lines.Ordinary x ∷ rest)
+begins_as is ls x (rest, same) = (ordinary rest ++ ls, ap (λ (l : List Instr). ordinary l ++ ls) same)
+
+begins_so : (is : List Instr) (x : Instr) → Starts is x → (rest : List Line) × (ordinary is ≡ lines.Ordinary x ∷ rest)
+begins_so is x (rest, same) = (ordinary rest, ap ordinary same)
+
+pub first_begins : (program : Program) (frames : List Frame) (function : ℕ) (i : Instruction) (x : Instr) → first_line (frame_at frames function) i ≡ Some x → Begins program frames function i x
+first_begins program frames function (plain.Move destination source) x is line =
+    let frame : Frame = frame_at frames function in
+    begins_so (move_to (value_register frame destination) frame destination source) x (move_starts frame (value_register frame destination) destination source x is)
+first_begins program frames function (plain.Unary operator destination operand) x is line =
+    begins_so (plan_code (frame_at frames function) (unary_plan operator operand) destination) x (plan_starts (frame_at frames function) (unary_plan operator operand) destination x is)
+first_begins program frames function (plain.Binary operator destination left right) x is line = go (is_tested operator right) is
+  where
+    go : (b : Bool) → (if b then divided_first (frame_at frames function) left right else plan_first (frame_at frames function) (made_in (frame_at frames function) destination) (binary_plan operator left right)) ≡ Some x
+        → (rest : List Line)
+        × ((if b then divide_code (frame_at frames function) line (part_of operator) destination left right else ordinary (plan_code (frame_at frames function) (binary_plan operator left right) destination)) ≡ lines.Ordinary x ∷ rest)
+    go true first = begins_as (divided_code (frame_at frames function) left right) _ x (divided_starts (frame_at frames function) left right x first)
+    go false first =
+        begins_so (plan_code (frame_at frames function) (binary_plan operator left right) destination) x (plan_starts (frame_at frames function) (binary_plan operator left right) destination x first)
+first_begins program frames function (plain.Branch comparison left right target) x is line =
+    let frame : Frame = frame_at frames function in
+    let test : Test = test_of comparison left right in
+    let first : Option Instr = hoisted frame (routine_at program function).code test target in
+    begins_as (with_hoisted (test_code frame test) first) _ x (starts_hoisted (test_code frame test) first x (test_starts frame test x is))
+first_begins program frames function (plain.ReadByte destination) x is line = begins_so (small SERVICE GET_BYTE ∷ syscall ∷ give_code (frame_at frames function) SERVICE destination) x (starts_one (small SERVICE GET_BYTE) x _ is)
+first_begins program frames function (plain.WriteByte source) x is line =
+    begins_so (load_code (frame_at frames function) ARGUMENT source ++ small SERVICE PUT_BYTE ∷ syscall ∷ []) x (load_starts (frame_at frames function) ARGUMENT source (small SERVICE PUT_BYTE ∷ syscall ∷ []) x is)
+first_begins program frames function (plain.StoreGlobal global source) x is line =
+    let frame : Frame = frame_at frames function in
+    let js : List Instr = global_code StoreWord (operand_register frame FIRST source) global in
+    begins_so (operand_code frame FIRST source ++ js) x (operand_starts frame FIRST source None js x is (λ none. absurd (no_line x none)))
+first_begins program frames function i x is line = absurd (no_line x is)
+
+-- ---- what is left behind it
+
+-- these lines are some
+starts_some : (is : List Instr) (x : Instr) → Starts is x → 0 < length is
+starts_some is x (rest, same) = omega (arith, ap (λ (l : List Instr). length l) same)
+
+leaves_more : (frame : Frame) (i : Instruction) (x : Instr) → first_line frame i ≡ Some x → HasMore frame i
+leaves_more frame (plain.Move destination source) x is = refl
+leaves_more frame (plain.Unary operator destination operand) x is = refl
+leaves_more frame (plain.Binary operator destination left right) x is = refl
+leaves_more frame (plain.Branch comparison left right target) x is =
+    let test : Test = test_of comparison left right in
+    omega (arith, starts_some (test_code frame test) x (test_starts frame test x is), length_test frame test)
+leaves_more frame (plain.ReadByte destination) x is = refl
+leaves_more frame (plain.WriteByte source) x is = refl
+leaves_more frame (plain.StoreGlobal global source) x is = refl
+leaves_more frame i x is = absurd (no_line x is)
+
+-- ---- the register of a slot whose word is made so
+
+pub record Gives (program : Program) (frames : List Frame) (function target : ℕ) (i : Instruction) (n : ℕ) : Type 0 where
+  pub destination : ℕ
+  pub written : writes program i destination ≡ true
+  pub has : value_register (frame_at frames function) destination ≡ Some n
+  pub fills : fills_at (frame_at frames function).fills target ≡ true
+
+gives_own : (program : Program) (frames : List Frame) (function target : ℕ) (i : Instruction) (n : ℕ) → own_register (frame_at frames function) target i ≡ Some n → Gives program frames function target i n
+gives_own program frames function target i n is = go (fills_at (frame_at frames function).fills target) refl is
+  where
+    of : (j : Instruction) → fills_at (frame_at frames function).fills target ≡ true → given_register (frame_at frames function) j ≡ Some n → Gives program frames function target j n
+    of (plain.Move destination source) fills given = record { destination = destination; written = eqb_itself destination; has = given; fills = fills }
+    of (plain.Unary operator destination operand) fills given = record { destination = destination; written = eqb_itself destination; has = given; fills = fills }
+    of (plain.Binary operator destination left right) fills given = record { destination = destination; written = eqb_itself destination; has = given; fills = fills }
+    of j fills given = absurd (none-some n given)
+
+    go : (b : Bool) → fills_at (frame_at frames function).fills target ≡ b → (if b then given_register (frame_at frames function) i else None) ≡ Some n → Gives program frames function target i n
+    go true fills given = of i fills given
+    go false not_there given = absurd (none-some n given)
+
 -- what is known of a line that stands in front of a branch with this condition to this place
 pub record Hoists (program : Program) (frames : List Frame) (function target : ℕ) (condition : Condition) (x : Instr) : Type 0 where
   pub i : Instruction
   pub at : slice_get (routine_at program function).code target ≡ Some i
-  pub fills : fills_at (frame_at frames function).fills target ≡ true
   pub busy : is_idle (frame_at frames function) target i ≡ false
-  pub straight : is_straight i ≡ true
-  pub destination : ℕ
-  pub written : writes program i destination ≡ true
+  pub line : first_line (frame_at frames function) i ≡ Some x
+  pub more : HasMore (frame_at frames function) i
+  pub own : Option ℕ
+  pub gives : (n : ℕ) → own ≡ Some n → Gives program frames function target i n
   pub register : ℕ
   pub computes : target_of x ≡ Some register
-  pub may : may_write (frame_at frames function) condition destination (Some register) ≡ true
-  pub first : (line : ℕ) → (rest : List Line) × (body program frames function line i ≡ lines.Ordinary x ∷ rest)
+  pub may : may_write condition own (Some register) ≡ true
 
 -- what the check says of a line
-abbrev Passes : Frame → Condition → (destination : ℕ) → Instr → Type 0
-Passes frame condition destination x = (register : ℕ) × (target_of x ≡ Some register) × (may_write frame condition destination (Some register) ≡ true)
+abbrev Passes : Condition → (own : Option ℕ) → Instr → Type 0
+Passes condition own x = (register : ℕ) × (target_of x ≡ Some register) × (may_write condition own (Some register) ≡ true)
 
-passes_if : (frame : Frame) (condition : Condition) (destination : ℕ) (o : Option Instr) (x : Instr) → copied_if frame condition destination o ≡ Some x → (o ≡ Some x) × Passes frame condition destination x
-passes_if frame condition destination None x is = absurd (no_line x is)
-passes_if frame condition destination (Some y) x is = go (may_write frame condition destination (target_of y)) refl is
+passes_if : (condition : Condition) (own : Option ℕ) (o : Option Instr) (x : Instr) → copied_if condition own o ≡ Some x → (o ≡ Some x) × Passes condition own x
+passes_if condition own None x is = absurd (no_line x is)
+passes_if condition own (Some y) x is = go (may_write condition own (target_of y)) refl is
   where
-    register_of : (z : Instr) (t : Option ℕ) → target_of z ≡ t → may_write frame condition destination t ≡ true → Passes frame condition destination z
+    register_of : (z : Instr) (t : Option ℕ) → target_of z ≡ t → may_write condition own t ≡ true → Passes condition own z
     register_of z None none may = absurd (false≢true may)
     register_of z (Some register) computes may = (register, computes, may)
 
-    go : (b : Bool) → may_write frame condition destination (target_of y) ≡ b → (if b then Some y else None) ≡ Some x → (Some y ≡ Some x) × Passes frame condition destination x
-    go true may same = (same, subst (Passes frame condition destination) (same_Some y x same) (register_of y (target_of y) refl may))
+    go : (b : Bool) → may_write condition own (target_of y) ≡ b → (if b then Some y else None) ≡ Some x → (Some y ≡ Some x) × Passes condition own x
+    go true may same = (same, subst (Passes condition own) (same_Some y x same) (register_of y (target_of y) refl may))
     go false may none = absurd (no_line x none)
 
 module _ (program : Program) (frames : List Frame) (function target : ℕ) (condition : Condition) (x : Instr) where
-  abbrev frame : Frame
-  frame = frame_at frames function
-
   abbrev Its : Type 0
   Its = Hoists program frames function target condition x
 
-  of_line : (i : Instruction) → slice_get (routine_at program function).code target ≡ Some i → fills_at (frame_at frames function).fills target ≡ true → is_idle (frame_at frames function) target i ≡ false
-      → copied (frame_at frames function) condition i ≡ Some x → Its
-  of_line (plain.Move destination source) at fills busy is =
-      let (first, (register, computes, may)) = passes_if frame condition destination (move_first (value_register frame destination) frame source) x is in
-      let (rest, same) = move_starts frame (value_register frame destination) destination source x first in
-      record { i = plain.Move destination source; at = at; fills = fills; busy = busy; straight = refl; destination = destination; written = eqb_itself destination; register = register; computes = computes; may = may; first = λ line. (ordinary rest, ap ordinary same) }
-  of_line (plain.Unary operator destination operand) at fills busy is =
-      let (first, (register, computes, may)) = passes_if frame condition destination (plan_first frame (unary_plan operator operand) destination) x is in
-      let (rest, same) = plan_starts frame (unary_plan operator operand) destination x first in
-      record { i = plain.Unary operator destination operand; at = at; fills = fills; busy = busy; straight = refl; destination = destination; written = eqb_itself destination; register = register; computes = computes; may = may; first = λ line. (ordinary rest, ap ordinary same) }
-  of_line (plain.Binary operator destination left right) at fills busy is = go (is_tested operator right) refl is
+  of_place : (o : Option Instruction) → slice_get (routine_at program function).code target ≡ o → hoisted_at (frame_at frames function) condition target o ≡ Some x → Its
+  of_place None at is = absurd (no_line x is)
+  of_place (Some i) at is = go (is_idle (frame_at frames function) target i) refl is
     where
-      go : (b : Bool) → is_tested operator right ≡ b → (if b then None else copied_if (frame_at frames function) condition destination (plan_first (frame_at frames function) (binary_plan operator left right) destination)) ≡ Some x → Its
-      go true tested none = absurd (no_line x none)
-      go false untested given =
-          let (first, (register, computes, may)) = passes_if frame condition destination (plan_first frame (binary_plan operator left right) destination) x given in
-          let (rest, same) = plan_starts frame (binary_plan operator left right) destination x first in
+      go : (b : Bool) → is_idle (frame_at frames function) target i ≡ b
+          → (if b then None else copied_if condition (own_register (frame_at frames function) target i) (first_line (frame_at frames function) i)) ≡ Some x → Its
+      go true idle none = absurd (no_line x none)
+      go false busy given =
+          let (line, (register, computes, may)) = passes_if condition (own_register (frame_at frames function) target i) (first_line (frame_at frames function) i) x given in
           record {
-            i = plain.Binary operator destination left right;
+            i = i;
             at = at;
-            fills = fills;
             busy = busy;
-            straight = refl;
-            destination = destination;
-            written = eqb_itself destination;
+            line = line;
+            more = leaves_more (frame_at frames function) i x line;
+            own = own_register (frame_at frames function) target i;
+            gives = gives_own program frames function target i;
             register = register;
             computes = computes;
             may = may;
-            first = λ line. (
-              ordinary rest,
-              ap (λ (b : Bool). if b then divide_code (frame_at frames function) line (part_of operator) destination left right else ordinary (plan_code (frame_at frames function) (binary_plan operator left right) destination)) untested
-                  ∙ ap ordinary same,
-            );
           }
-  of_line i at fills busy is = absurd (no_line x is)
-
-  of_place : (o : Option Instruction) → slice_get (routine_at program function).code target ≡ o → hoisted_at (frame_at frames function) condition target o ≡ Some x → Its
-  of_place None at is = absurd (no_line x is)
-  of_place (Some i) at is = go (fills_at (frame_at frames function).fills target && not (is_idle (frame_at frames function) target i)) refl is
-    where
-      go : (b : Bool) → (fills_at (frame_at frames function).fills target && not (is_idle (frame_at frames function) target i)) ≡ b → (if b then copied (frame_at frames function) condition i else None) ≡ Some x → Its
-      go true both given =
-          let parts = and_parts (fills_at (frame_at frames function).fills target) (not (is_idle (frame_at frames function) target i)) both in
-          of_line i at parts.0 (not-true (is_idle (frame_at frames function) target i) parts.1) given
-      go false both none = absurd (no_line x none)
 
 pub hoists : (program : Program) (frames : List Frame) (function target : ℕ) (test : Test) (x : Instr) → hoisted (frame_at frames function) (routine_at program function).code test target ≡ Some x
     → Hoists program frames function target (condition_of (frame_at frames function) test) x
@@ -294,45 +371,46 @@ stands_at_head code k ls rest l same stands = (subst (Stands code k) same stands
 
 -- ---- the register that it writes
 
-module _ (frame : Frame) (condition : Condition) (destination register : ℕ) (may : may_write frame condition destination (Some register) ≡ true) where
-  parts : ((register == FIRST || register == SECOND || register == made_in frame destination) ≡ true) × (not (tests_register condition register) ≡ true)
-  parts = and_parts (register == FIRST || register == SECOND || register == made_in frame destination) (not (tests_register condition register)) may
+module _ (condition : Condition) (own : Option ℕ) (register : ℕ) (may : may_write condition own (Some register) ≡ true) where
+  parts : ((is_spare register || is_own own register) ≡ true) × (not (tests_register condition register) ≡ true)
+  parts = and_parts (is_spare register || is_own own register) (not (tests_register condition register)) may
 
   pub untested : tests_register condition register ≡ false
   untested = not-true (tests_register condition register) parts.1
 
-  which : (register ≡ FIRST) ⊎ ((register ≡ SECOND) ⊎ (register ≡ made_in frame destination))
-  which = elim (or_cases (register == FIRST || register == SECOND) (register == made_in frame destination) parts.0) [
-    | inl scratches ↦ elim (or_cases (register == FIRST) (register == SECOND) scratches) [
-      | inl first ↦ inl (eqb-true register FIRST first)
-      | inr second ↦ inr (inl (eqb-true register SECOND second))
-    ]
-    | inr made ↦ inr (inr (eqb-true register (made_in frame destination) made))
+  own_is : (o : Option ℕ) → is_own o register ≡ true → o ≡ Some register
+  own_is None none = absurd (false≢true none)
+  own_is (Some n) same = ap Some (eqb-true n register same)
+
+  spare_is : is_spare register ≡ true → (register ≡ FIRST) ⊎ ((0 < register) × (register ≤ 5))
+  spare_is spare = elim (or_cases (register == FIRST) (nat_lt ZERO register && nat_le register THIRD_RESULT) spare) [
+    | inl first ↦ inl (eqb-true register FIRST first)
+    | inr between ↦
+        let ends = and_parts (nat_lt ZERO register) (nat_le register THIRD_RESULT) between in
+        inr (ltb-true ZERO register ends.0, leb-true register THIRD_RESULT ends.1)
   ]
 
-  -- where a slot may have it, the slot has it whose word is made there
-  pub of_value : (n : ℕ) → 6 ≤ n → n < 24 → n ≡ register → value_register frame destination ≡ Some n
+  which : ((register ≡ FIRST) ⊎ ((0 < register) × (register ≤ 5))) ⊎ (own ≡ Some register)
+  which = elim (or_cases (is_spare register) (is_own own register) parts.0) [
+    | inl spare ↦ inl (spare_is spare)
+    | inr is ↦ inr (own_is own is)
+  ]
+
+  -- where a slot may have it, it is that of the slot whose word is made
+  pub of_value : (n : ℕ) → 6 ≤ n → n < 24 → n ≡ register → own ≡ Some n
   of_value n low high same = elim which [
-    | inl first ↦ absurd (omega (arith, first, same, high))
-    | inr (inl second) ↦ absurd (omega (arith, second, same, low))
-    | inr (inr made) ↦ go (value_register frame destination) refl made
+    | inl (inl first) ↦ absurd (omega (arith, first, same, high))
+    | inl (inr between) ↦ absurd (omega (arith, between.1, same, low))
+    | inr is ↦ is ∙ ap Some (sym same)
   ]
-    where
-      go : (v : Option ℕ) → value_register frame destination ≡ v → register ≡ or_else v FIRST → v ≡ Some n
-      go None none is = absurd (omega (arith, is, same, high))
-      go (Some own) has is = ap Some (sym (same ∙ is))
 
-  module _ (program : Program) (function : ℕ) (right : AreHomes program (routine_at program function) frame.saved frame.homes) where
+  module _ (value : (n : ℕ) → own ≡ Some n → (6 ≤ n) × (n < 24)) where
     bounds : (0 < register) × (register ≤ 24)
     bounds = elim which [
-      | inl first ↦ ((omega (arith, first)), (omega (arith, first)))
-      | inr (inl second) ↦ ((omega (arith, second)), (omega (arith, second)))
-      | inr (inr made) ↦ go (value_register frame destination) refl made
+      | inl (inl first) ↦ ((omega (arith, first)), (omega (arith, first)))
+      | inl (inr between) ↦ (between.0, (omega (arith, between.1)))
+      | inr is ↦ ((omega (arith, (value register is).0)), (omega (arith, (value register is).1)))
     ]
-      where
-        go : (v : Option ℕ) → value_register frame destination ≡ v → register ≡ or_else v FIRST → (0 < register) × (register ≤ 24)
-        go None none is = ((omega (arith, is)), (omega (arith, is)))
-        go (Some own) has is = ((omega (arith, is, right.low destination own has)), (omega (arith, is, right.high destination own has)))
 
     pub writable : (register == 0) ≡ false
     writable = ne_eqb register 0 (λ e. absurd (omega (arith, e, bounds.0)))

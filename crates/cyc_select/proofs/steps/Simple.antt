@@ -73,7 +73,7 @@ use Rattle.cyc_select.proofs.effects.Walks.{Stands, stands_front, stands_back, s
 use Rattle.cyc_select.proofs.effects.Walks.{now_is, walk_end, walk_few, walk_from, walk_one, walk_block, walk_branch, walk_branch_to, at_now, walk_jump, walk_get, walk_put, walk_uncaught}
 use Rattle.cyc_select.proofs.relation.Standing.{Standing, based_here, lies, slot_inside, slot_cell, global_cell, standing_global, standing_registers, standing_at, stage_of}
 use Rattle.cyc_select.proofs.relation.Matches.{After, steps_to, At, Reached, reached, reached_gives, ready_by, steps_by, reached_at, within}
-use Rattle.cyc_select.proofs.steps.Hoisting.{Hoists, hoists, stands_at_head, copy_steps, pure_safe, pure_others, pure_memory, holds_beside, untested, of_value, writable, scratch}
+use Rattle.cyc_select.proofs.steps.Hoisting.{Hoists, hoists, first_begins, stands_at_head, copy_steps, pure_safe, pure_others, pure_memory, holds_beside, untested, of_value, writable, scratch}
 use Rattle.cyc_select.proofs.values.Reaching.{reaches}
 
 module _ (program : Program) (well : IsWellFormed program) (frames : List Frame) (fit : AreFrames program frames) (code : Labelled) (formed : IsFormed code) (addresses : ℕ → ℕ) (pages calls : ℕ) (few : calls ≤ 4096)
@@ -614,7 +614,7 @@ module _ (program : Program) (well : IsWellFormed program) (frames : List Frame)
       → holds_of (after_r is r w) condition ≡ taken → performed program zeros c i ≡ states.Running (at c (if taken then target else c.active.next + 1))
       → ((slot : ℕ) → writes program i slot ≡ false) → leads i c.active.next (if taken then target else c.active.next + 1) ≡ true
       → length is + 1 ≡ count → count_of program frames c.active.function c.active.next i ≡ count
-      → Stands code here (ordinary is ++ lines.Branch condition (instruction_line program frames c.active.function target) ∷ []) → Goes 1 here (here + count) (Running run)
+      → Stands code here (ordinary is ++ lines.Branch condition (instruction_line program frames c.active.function target) ∷ []) → Goes count here (here + count) (Running run)
   branch_plain i at_i free is condition target count taken keeps takes does unwritten led long counted stands =
       let line : ℕ → ℕ = instruction_line program frames c.active.function in
       let last : Line = lines.Branch condition (line target) in
@@ -624,7 +624,7 @@ module _ (program : Program) (well : IsWellFormed program) (frames : List Frame)
       let next : here + length is + 1 ≡ line (c.active.next + 1) = omega (arith, line_next program frames c.active.function c.active.next i at_i, counted, long) in
       let there : (if holds_of (after_r is r w) condition then line target else here + length is + 1) ≡ line (if taken then target else c.active.next + 1) =
       ap (λ (b : Bool). if b then line target else here + length is + 1) takes ∙ line_taken taken target (c.active.next + 1) line (here + length is + 1) next in
-      walk_few code formed addresses globals_length (words_per_call * calls) 1 (length is + 1) here (here + count) c.output _ (Running run) (omega arith)
+      walk_few code formed addresses globals_length (words_per_call * calls) count (length is + 1) here (here + count) c.output _ (Running run) (omega (arith, long))
       (walk_block code formed addresses globals_length (words_per_call * calls) is 1 here here (here + count) c.output c.input _ r w run now (stands_front code here (ordinary is) (last ∷ []) stands) keeps.safe (omega arith)
       (λ d later.
       walk_branch code formed addresses globals_length (words_per_call * calls) 0 (here + length is) (here + length is) (here + count) c.output c.input _ (after_r is r w) (after_w is r w) d condition (line target) (line (if taken then target else c.active.next + 1)) later last_stands (omega arith) there
@@ -643,7 +643,7 @@ module _ (program : Program) (well : IsWellFormed program) (frames : List Frame)
   IsKnownFirst condition target None = Unit {0}
   IsKnownFirst condition target (Some x) =
       (its : Hoists program frames c.active.function target condition x) × (slice_get code.lines (instruction_line program frames c.active.function target) ≡ Some (lines.Ordinary x))
-      × ((slot n : ℕ) → value_register (frame_at frames c.active.function) its.destination ≡ Some n → value_register (frame_at frames c.active.function) slot ≡ Some n
+      × ((slot n : ℕ) → its.own ≡ Some n → value_register (frame_at frames c.active.function) slot ≡ Some n
       → IsLiveAt program (routine_at program c.active.function) slot (suc c.active.next) → ⊥)
 
   module _ (i : Instruction) (at_i : IsAt i) (free : IsFree i) (condition : Condition) (target : ℕ) (x : Instr) (known : IsKnownFirst condition target (Some x))
@@ -661,11 +661,16 @@ module _ (program : Program) (well : IsWellFormed program) (frames : List Frame)
     others : (n : ℕ) → n ≢ its.register → p n ≡ q n
     others n other = pure_others x its.register q (after_w is r w) its.computes n other
 
+    own_value : (n : ℕ) → its.own ≡ Some n → (6 ≤ n) × (n < 24)
+    own_value n is =
+        let gives = its.gives n is in
+        (homes_right.low gives.destination n gives.has, homes_right.high gives.destination n gives.has)
+
     is_scratch : IsScratch globals_length (words_per_call * calls) its.register
-    is_scratch = scratch frame condition its.destination its.register its.may program c.active.function homes_right globals_length (words_per_call * calls)
+    is_scratch = scratch condition its.own its.register its.may own_value globals_length (words_per_call * calls)
 
     safe_here : IsSafe globals_length (words_per_call * calls) x q
-    safe_here = pure_safe globals_length (words_per_call * calls) x its.register q its.computes (writable frame condition its.destination its.register its.may program c.active.function homes_right)
+    safe_here = pure_safe globals_length (words_per_call * calls) x its.register q its.computes (writable condition its.own its.register its.may own_value)
 
     -- where the run may go, in front of the line
     cached : (next : ℕ) → leads i c.active.next next ≡ true → Caches program frames c.active.function next q c.active.slots
@@ -676,7 +681,7 @@ module _ (program : Program) (well : IsWellFormed program) (frames : List Frame)
     cached_behind : leads i c.active.next (c.active.next + 1) ≡ true → Caches program frames c.active.function (c.active.next + 1) p c.active.slots
     cached_behind led slot n has wanted = elim (cases_eq n its.register) [
       | inl same ↦
-          absurd (known.2 slot n (of_value frame condition its.destination its.register its.may n (homes_right.low slot n has) (homes_right.high slot n has) same) has
+          absurd (known.2 slot n (of_value condition its.own its.register its.may n (homes_right.low slot n has) (homes_right.high slot n has) same) has
           (subst (IsLiveAt program (routine_at program c.active.function) slot) (let e : c.active.next + 1 ≡ suc c.active.next = omega arith in e) wanted))
       | inr other ↦ others n other ∙ cached (c.active.next + 1) led slot n has wanted
     ]
@@ -684,8 +689,8 @@ module _ (program : Program) (well : IsWellFormed program) (frames : List Frame)
     -- no register changes that calls preserve and the function does not save
     unsaved : (j : ℕ) → (frame_at frames c.active.function).saved ≤ j → j < 7 → 17 + j ≡ its.register → ⊥
     unsaved j past high same =
-        let has = of_value frame condition its.destination its.register its.may (17 + j) (omega arith) (omega (arith, high)) same in
-        let saved = homes_right.saved_registers its.destination (17 + j) has (omega arith) in
+        let gives = its.gives (17 + j) (of_value condition its.own its.register its.may (17 + j) (omega arith) (omega (arith, high)) same) in
+        let saved = homes_right.saved_registers gives.destination (17 + j) gives.has (omega arith) in
         omega (arith, saved, past)
 
     -- the place is begun, by what was executed in front of the branch
@@ -705,7 +710,7 @@ module _ (program : Program) (well : IsWellFormed program) (frames : List Frame)
             is = refl;
             ready = ready;
             at = its.at;
-            straight = its.straight;
+            more = its.more;
             busy = its.busy;
             output = behind.output;
             input = behind.input;
@@ -726,7 +731,7 @@ module _ (program : Program) (well : IsWellFormed program) (frames : List Frame)
 
     branch_copied : (count : ℕ) (taken : Bool) → holds_of q condition ≡ taken → performed program zeros c i ≡ states.Running (at c (if taken then target else c.active.next + 1)) → leads i c.active.next (if taken then target else c.active.next + 1) ≡ true
         → length is + 1 + 1 ≡ count → count_of program frames c.active.function c.active.next i ≡ count
-        → Stands code here (ordinary (is ++ x ∷ []) ++ lines.Branch condition (instruction_line program frames c.active.function target + 1) ∷ []) → Goes 1 here (here + count) (Running run)
+        → Stands code here (ordinary (is ++ x ∷ []) ++ lines.Branch condition (instruction_line program frames c.active.function target + 1) ∷ []) → Goes count here (here + count) (Running run)
     branch_copied count taken takes does led long counted stands =
         let last : Line = lines.Branch condition (lines_of target + 1) in
         let all : List Instr = is ++ x ∷ [] in
@@ -736,8 +741,8 @@ module _ (program : Program) (well : IsWellFormed program) (frames : List Frame)
         let front = stands_front code here (ordinary all) (last ∷ []) stands in
         let x_stands = (stands_behind code here is (x ∷ []) front).0 in
         let next : here + length is + 1 + 1 ≡ lines_of (c.active.next + 1) = omega (arith, line_next program frames c.active.function c.active.next i at_i, counted, long) in
-        let holds : holds_of p condition ≡ taken = holds_beside condition its.register p q (untested frame condition its.destination its.register its.may) others ∙ takes in
-        walk_few code formed addresses globals_length (words_per_call * calls) 1 (length is + 2) here (here + count) c.output _ (Running run) (omega arith)
+        let holds : holds_of p condition ≡ taken = holds_beside condition its.register p q (untested condition its.own its.register its.may) others ∙ takes in
+        walk_few code formed addresses globals_length (words_per_call * calls) count (length is + 2) here (here + count) c.output _ (Running run) (omega (arith, long))
         (walk_block code formed addresses globals_length (words_per_call * calls) is 2 here here (here + count) c.output c.input _ r w run now (stands_first code here is (x ∷ []) front) keeps.safe (omega arith)
         (λ d later.
         walk_one code formed addresses globals_length (words_per_call * calls) x 1 (here + length is) (here + length is) (here + count) c.output c.input _ q (after_w is r w) d later x_stands safe_here (omega arith)
@@ -768,7 +773,7 @@ module _ (program : Program) (well : IsWellFormed program) (frames : List Frame)
       → holds_of (after_r is r w) condition ≡ taken → performed program zeros c i ≡ states.Running (at c (if taken then target else c.active.next + 1))
       → ((slot : ℕ) → writes program i slot ≡ false) → leads i c.active.next (if taken then target else c.active.next + 1) ≡ true
       → length is + hoisted_count first + 1 ≡ count → count_of program frames c.active.function c.active.next i ≡ count
-      → Stands code here (ordinary (with_hoisted is first) ++ lines.Branch condition (behind_hoisted first (instruction_line program frames c.active.function target)) ∷ []) → Goes 1 here (here + count) (Running run)
+      → Stands code here (ordinary (with_hoisted is first) ++ lines.Branch condition (behind_hoisted first (instruction_line program frames c.active.function target)) ∷ []) → Goes count here (here + count) (Running run)
   branch_by i at_i free is condition target count taken None known keeps takes does unwritten led long counted stands =
       branch_plain i at_i free is condition target count taken keeps takes does unwritten led (omega (arith, long)) counted stands
   branch_by i at_i free is condition target count taken (Some x) known keeps takes does unwritten led long counted stands =
@@ -783,7 +788,8 @@ module _ (program : Program) (well : IsWellFormed program) (frames : List Frame)
   test_goes_by : (i : Instruction) → IsAt i → IsFree i → (test : Test) (target : ℕ) (taken : Bool) (first : Option Instr) → IsKnownFirst (condition_of frame test) target first → IsTestThere test → test_taken c.active.slots test ≡ taken
       → performed program zeros c i ≡ states.Running (at c (if taken then target else c.active.next + 1))
       → ((slot : ℕ) → writes program i slot ≡ false) → leads i c.active.next (if taken then target else c.active.next + 1) ≡ true → count_of program frames c.active.function c.active.next i ≡ test_count frame test + hoisted_count first + 1
-      → Stands code here (branch_code frame test first (instruction_line program frames c.active.function target)) → Goes 1 here (here + (test_count frame test + hoisted_count first + 1)) (Running run)
+      → Stands code here (branch_code frame test first (instruction_line program frames c.active.function target))
+      → Goes (test_count frame test + hoisted_count first + 1) here (here + (test_count frame test + hoisted_count first + 1)) (Running run)
   test_goes_by i at_i free (tests.Operands op left right) target taken first known (l, t) is does unwritten led counted stands =
       let loaded = operands_put globals_length (words_per_call * calls) frame (r FRAME) w r c.active.slots r w s.zero_is refl refl (λ n low high. refl) FIRST left right l t in
       branch_by i at_i free (operands_code frame left right) (conditions.Registers op (register_of (operand_register frame FIRST left)) (register_of (operand_register frame SECOND right))) target (test_count frame (tests.Operands op left right) + hoisted_count first + 1) taken first known loaded.keeps
@@ -805,7 +811,8 @@ module _ (program : Program) (well : IsWellFormed program) (frames : List Frame)
   pub branch_goes : (comparison : Comparison) (left right : Operand) (target : ℕ) → IsAt (plain.Branch comparison left right target) → IsThere left → IsThere right → IsCounted (plain.Branch comparison left right target)
       → ((j : Instruction) → instruction_at program (record { function = c.active.function; index = target }) ≡ Some j → is_idle (frame_at frames c.active.function) target j ≡ false
       → Stands code (instruction_line program frames c.active.function target) (body program frames c.active.function (instruction_line program frames c.active.function target) j))
-      → Stands code here (body program frames c.active.function here (plain.Branch comparison left right target)) → Goes 1 here (here + body_count program frames c.active.function (plain.Branch comparison left right target)) (Running run)
+      → Stands code here (body program frames c.active.function here (plain.Branch comparison left right target))
+      → Goes (body_count program frames c.active.function (plain.Branch comparison left right target)) here (here + body_count program frames c.active.function (plain.Branch comparison left right target)) (Running run)
   branch_goes comparison left right target at_i l t counted target_stands stands =
       let left_held = held (plain.Branch comparison left right target) at_i left (left_used left right) l in
       let right_held = held (plain.Branch comparison left right target) at_i right (right_used left right) t in
@@ -821,10 +828,12 @@ module _ (program : Program) (well : IsWellFormed program) (frames : List Frame)
       known None is = tt
       known (Some x) is =
           let its = hoists program frames c.active.function target (test_of comparison left right) x is in
-          let begins = its.first (instruction_line program frames c.active.function target) in (
+          let head = first_begins program frames c.active.function its.i x its.line (instruction_line program frames c.active.function target) in (
             its,
-            stands_at_head code (instruction_line program frames c.active.function target) _ begins.0 (lines.Ordinary x) begins.1 (target_stands its.i its.at its.busy),
-            (λ slot n own has live. fit.fills c.active.function s.known c.active.next target its.destination slot n comparison left right its.i at_i its.at its.written its.fills own has live),
+            stands_at_head code (instruction_line program frames c.active.function target) _ head.0 (lines.Ordinary x) head.1 (target_stands its.i its.at its.busy),
+            (λ slot n is has live.
+                let gives = its.gives n is in
+                fit.fills c.active.function s.known c.active.next target gives.destination slot n comparison left right its.i at_i its.at gives.written gives.fills gives.has has live),
           )
 
       either_led : (taken : Bool) → (suc c.active.next == (if taken then target else c.active.next + 1) || target == (if taken then target else c.active.next + 1)) ≡ true

@@ -3,7 +3,7 @@
 --
 -- Frames grow downward from the end of the stack. The return address of the call that starts the program is 0. Which
 -- registers have what is in the module `constants`.
-use Rattle.std.specs.Prelude.{ℕ, zero, suc, ◌+◌, ◌-◌, ◌*◌, ◌/◌, ◌%◌, ◌^◌, ◌==◌, ◌&&◌, ◌||◌, Bool, true, false, not, nat_lt, if◌then◌else◌, List, [], ◌∷◌, ◌++◌, length, map, sum_by, take, Option, Some, None, slice_get}
+use Rattle.std.specs.Prelude.{ℕ, zero, suc, ◌+◌, ◌-◌, ◌*◌, ◌/◌, ◌%◌, ◌^◌, ◌==◌, ◌&&◌, ◌||◌, Bool, true, false, not, nat_lt, nat_le, if◌then◌else◌, List, [], ◌∷◌, ◌++◌, length, map, sum_by, take, Option, Some, None, slice_get}
 use Rattle.cyc_plain.specs.declared.limits.TheConstants.{MOST_FRAME_WORDS}
 use Rattle.cyc_registers.specs.inside.Bars.{is_crossing}
 use Rattle.cyc_isa.specs.Decoding.{register_of, shift_amount_of, trap_code_of}
@@ -674,8 +674,9 @@ is_idle frame index instruction = false
 
 -- ---- what a branch does of its target
 
--- Where the first line of a branch's target makes a word of what is in registers, and the frame says so, a copy of it stands in
--- front of the branch, which leads to the line behind: so the slot of the branch is filled.
+-- Where the first line of a branch's target makes a word of what is in registers, in a register that no value has, or in its
+-- slot's own where the frame says so, a copy of it stands in front of the branch, which leads to the line behind: so the slot
+-- of the branch is filled.
 
 -- the first line of what brings a word into a register
 abbrev pub word_first : (target word : ℕ) → Instr
@@ -694,6 +695,10 @@ operand_first frame register (operands.Slot number) behind = slot_first (value_r
 operand_first frame register (operands.Word word) behind =
     if is_zero_word (operands.Word word) then behind else Some (word_first register word)
 
+-- of two operands
+abbrev pub operands_first : Frame → (left right : Operand) → (behind : Option Instr) → Option Instr
+operands_first frame left right behind = operand_first frame FIRST left (operand_first frame SECOND right behind)
+
 abbrev pub operation_first : Operation → (target left right : ℕ) → Option Instr
 operation_first (operations.Arithmetic op) target left right = Some (arithmetic_of op target left right)
 operation_first (operations.Immediate op half) target left right = Some (immediate_of op target left half)
@@ -701,12 +706,19 @@ operation_first (operations.Shift op) target left right = Some (shift_of op targ
 operation_first (operations.ShiftBy op amount) target left right = Some (shift_by_of op target left amount)
 operation_first (operations.MultiplyDivide op from) target left right = None
 
--- the first line of a plan, and of a copy
-abbrev pub plan_first : Frame → Plan → (destination : ℕ) → Option Instr
-plan_first frame plan destination =
-    operand_first frame FIRST plan.left
-    (operand_first frame SECOND plan.right
-    (operation_first plan.operation (made_in frame destination) (operand_register frame FIRST plan.left) (operand_register frame SECOND plan.right)))
+-- the first line of a plan, of a division that is tested, of a test, and of a copy
+abbrev pub plan_first : Frame → (target : ℕ) → Plan → Option Instr
+plan_first frame target plan =
+    operands_first frame plan.left plan.right
+    (operation_first plan.operation target (operand_register frame FIRST plan.left) (operand_register frame SECOND plan.right))
+
+abbrev pub divided_first : Frame → (left right : Operand) → Option Instr
+divided_first frame left right = operands_first frame left right (Some (add_immediate THIRD ZERO (minus 1)))
+
+abbrev pub test_first : Frame → Test → Option Instr
+test_first frame (tests.Operands op left right) = operands_first frame left right None
+test_first frame (tests.Sign op operand) = operand_first frame FIRST operand None
+test_first frame (tests.Computed plan) = plan_first frame FIRST plan
 
 abbrev pub copy_first : Option ℕ → (register : ℕ) → Option Instr
 copy_first None register = None
@@ -719,6 +731,33 @@ load_first frame register (operands.Word word) = Some (word_first register word)
 abbrev pub move_first : Option ℕ → Frame → Operand → Option Instr
 move_first None frame source = operand_first frame FIRST source None
 move_first (Some register) frame source = load_first frame register source
+
+-- The first line of an instruction, where it has one that makes a word of what is in registers, and behind it the instruction
+-- has more lines or leads to the next one alone.
+abbrev pub first_line : Frame → Instruction → Option Instr
+first_line frame (plain.Move destination source) = move_first (value_register frame destination) frame source
+first_line frame (plain.Unary operator destination operand) =
+    plan_first frame (made_in frame destination) (unary_plan operator operand)
+first_line frame (plain.Binary operator destination left right) =
+    if is_tested operator right
+    then divided_first frame left right
+    else plan_first frame (made_in frame destination) (binary_plan operator left right)
+first_line frame (plain.Branch comparison left right target) = test_first frame (test_of comparison left right)
+first_line frame (plain.ReadByte destination) = Some (small SERVICE GET_BYTE)
+first_line frame (plain.WriteByte source) = load_first frame ARGUMENT source
+first_line frame (plain.StoreGlobal global source) = operand_first frame FIRST source None
+first_line frame instruction = None
+
+-- the register that an instruction computes a slot's word in, if the slot has one
+abbrev pub given_register : Frame → Instruction → Option ℕ
+given_register frame (plain.Move destination source) = value_register frame destination
+given_register frame (plain.Unary operator destination operand) = value_register frame destination
+given_register frame (plain.Binary operator destination left right) = value_register frame destination
+given_register frame instruction = None
+
+-- and of a place, where the frame says that it fills slots
+abbrev pub own_register : Frame → (target : ℕ) → Instruction → Option ℕ
+own_register frame target instruction = if fills_at frame.fills target then given_register frame instruction else None
 
 -- the register that an instruction makes a word in, of what is in registers alone
 abbrev pub target_of : Instr → Option ℕ
@@ -733,35 +772,26 @@ abbrev pub tests_register : Condition → (register : ℕ) → Bool
 tests_register (conditions.Registers op left right) register = left.number == register || right.number == register
 tests_register (conditions.Sign op source) register = source.number == register
 
--- A line may stand in front of the branch where it makes a word that no value has or the slot's own, and none that is tested.
-abbrev pub may_write : Frame → Condition → (destination : ℕ) → Option ℕ → Bool
-may_write frame condition destination None = false
-may_write frame condition destination (Some register) =
-    (register == FIRST || register == SECOND || register == made_in frame destination)
-    && not (tests_register condition register)
+-- no value has the register, and nothing keeps its word
+abbrev pub is_spare : (register : ℕ) → Bool
+is_spare register = register == FIRST || (nat_lt ZERO register && nat_le register THIRD_RESULT)
 
-abbrev pub copied_if : Frame → Condition → (destination : ℕ) → Option Instr → Option Instr
-copied_if frame condition destination None = None
-copied_if frame condition destination (Some first) =
-    if may_write frame condition destination (target_of first) then Some first else None
+-- A line may stand in front of the branch where it makes a word in such a register or in this one, and none that is tested.
+abbrev pub may_write : Condition → (own : Option ℕ) → Option ℕ → Bool
+may_write condition own None = false
+may_write condition own (Some register) =
+    (is_spare register || is_own own register) && not (tests_register condition register)
 
-abbrev pub copied : Frame → Condition → Instruction → Option Instr
-copied frame condition (plain.Move destination source) =
-    copied_if frame condition destination (move_first (value_register frame destination) frame source)
-copied frame condition (plain.Unary operator destination operand) =
-    copied_if frame condition destination (plan_first frame (unary_plan operator operand) destination)
-copied frame condition (plain.Binary operator destination left right) =
-    if is_tested operator right
-    then None
-    else copied_if frame condition destination (plan_first frame (binary_plan operator left right) destination)
-copied frame condition instruction = None
+abbrev pub copied_if : Condition → (own : Option ℕ) → Option Instr → Option Instr
+copied_if condition own None = None
+copied_if condition own (Some first) = if may_write condition own (target_of first) then Some first else None
 
 abbrev pub hoisted_at : Frame → Condition → (target : ℕ) → Option Instruction → Option Instr
 hoisted_at frame condition target None = None
 hoisted_at frame condition target (Some instruction) =
-    if fills_at frame.fills target && not (is_idle frame target instruction)
-    then copied frame condition instruction
-    else None
+    if is_idle frame target instruction
+    then None
+    else copied_if condition (own_register frame target instruction) (first_line frame instruction)
 
 -- what stands in front of a branch by this test to this place of the code
 abbrev pub hoisted : Frame → List Instruction → Test → (target : ℕ) → Option Instr
