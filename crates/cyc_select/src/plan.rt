@@ -2,7 +2,7 @@
 ghost use Rattle.std.specs.Prelude.{◌≡◌};
 ghost use Rattle.cyc_select.specs.inside.Selection.{far_plan};
 ghost use Rattle.cyc_select.specs.inside.Plans.{arithmetic_plan, immediate_plan, immediate_or, shift_plan, multiply_divide_plan, product_plan, mirrored, zero_plan, equal_plan, less_plan, less_unsigned_plan, at_most_plan};
-ghost use Rattle.cyc_select.specs.inside.Plans.{compared_plan, is_mirrored, comparison_plan, unary_plan, sum_plan, difference_plan, bits_plan, operator_plan, is_swapped, binary_plan, sign_of, order_test, test_of};
+ghost use Rattle.cyc_select.specs.inside.Plans.{compared_plan, is_mirrored, comparison_plan, unary_plan, sum_plan, difference_plan, bits_plan, operator_plan, is_swapped, binary_plan, sign_of, sign_or, order_test, test_of};
 
 use crate::numbers::{
     is_word, is_zero_word, low_half, negated_half, next_half, power_of, shift_amount, signed_half,
@@ -429,17 +429,29 @@ fn sign_of(comparison: Comparison) -> Option<BranchZeroOp>
     }
 }
 
+/// By this branch on a sign, or else another test.
+fn sign_or(sign: Option<BranchZeroOp>, operand: Operand, other: Test) -> Test
+    ensures { result ≡ sign_or sign operand other }
+{
+    match sign {
+        Some(op) => Test::Sign { op, operand },
+        None => other,
+    }
+}
+
 /// A test for order: with 0 by the sign.
 fn order_test(comparison: Comparison, left: Operand, right: Operand) -> Test
     ensures { result ≡ order_test comparison left right }
 {
-    if is_zero_word(right) {
-        if let Some(op) = sign_of(comparison) {
-            return Test::Sign { op, operand: left };
-        }
-    }
-    Test::Computed {
+    let computed = Test::Computed {
         plan: comparison_plan(comparison, left, right),
+    };
+    if is_zero_word(right) {
+        sign_or(sign_of(comparison), left, computed)
+    } else if is_zero_word(left) {
+        sign_or(sign_of(mirrored(comparison)), right, computed)
+    } else {
+        computed
     }
 }
 

@@ -3,6 +3,7 @@ use Rattle.std.proofs.Common.{◌≡◌, ◌≢◌, ℕ, suc, ◌-◌, ◌*◌, 
 use Rattle.std.specs.Prelude.{◌==◌, nat_le, int_le, int_lt, if◌then◌else◌, bit_and, bit_or, bit_xor}
 use Rattle.std.specs.Int.{w32, bit_not}
 use Rattle.std.proofs.lemmas.Bool.{le-leb}
+use Rattle.std.proofs.lemmas.Option.{same_Some, none-some}
 use Rattle.std.proofs.lemmas.Nat.{and_comm, or_comm, xor_comm}
 use Rattle.std.proofs.Math.Nat.{mul_comm}
 use Rattle.std.proofs.lemmas.Int.{ints}
@@ -327,6 +328,21 @@ branches_on outcomes.AsItIs word t is = ap (λ (n : ℕ). not (n == 0)) is ∙ n
 branches_on outcomes.WhetherZero word t is = truth_injective (word == 0) t is
 branches_on outcomes.WhetherNotZero word t is = truth_injective (not (word == 0)) t is
 
+-- a branch on a sign compares with 0
+sign_taken : (comparison : Comparison) (op : BranchZeroOp) (word : ℕ) → sign_of comparison ≡ Some op → branch_zero_taken op word ≡ compares comparison word 0
+sign_taken comparisons.Less op word is = ap (λ (o : BranchZeroOp). branch_zero_taken o word) (sym (same_Some signs.Less op is))
+sign_taken comparisons.LessOrEqual op word is = ap (λ (o : BranchZeroOp). branch_zero_taken o word) (sym (same_Some signs.LessOrEqual op is))
+sign_taken comparisons.Greater op word is = ap (λ (o : BranchZeroOp). branch_zero_taken o word) (sym (same_Some signs.Greater op is))
+sign_taken comparisons.GreaterOrEqual op word is = ap (λ (o : BranchZeroOp). branch_zero_taken o word) (sym (same_Some signs.GreaterOrEqual op is))
+sign_taken comparison op word is = absurd (none-some op is)
+
+sign_turned : (comparison : Comparison) (op : BranchZeroOp) (word : ℕ) → sign_of (mirrored comparison) ≡ Some op → compares (mirrored comparison) word 0 ≡ compares comparison 0 word
+sign_turned comparisons.Less op word is = refl
+sign_turned comparisons.LessOrEqual op word is = refl
+sign_turned comparisons.Greater op word is = refl
+sign_turned comparisons.GreaterOrEqual op word is = refl
+sign_turned comparison op word is = absurd (none-some op is)
+
 module _ (slots : Words) (left right : Operand) (left_fits : IsWord (operand_word slots left)) (right_fits : IsWord (operand_word slots right)) where
   computed_taken : (comparison : Comparison) → test_taken slots (tests.Computed (comparison_plan comparison left right)) ≡ compares comparison (operand_word slots left) (operand_word slots right)
   computed_taken comparison =
@@ -334,31 +350,26 @@ module _ (slots : Words) (left right : Operand) (left_fits : IsWord (operand_wor
       branches_on plan.outcome (operation_word slots plan) (compares comparison (operand_word slots left) (operand_word slots right))
       (comparison_word slots left right left_fits right_fits comparison)
 
-  sign_taken : (comparison : Comparison) (op : BranchZeroOp) → sign_of comparison ≡ Some op → operand_word slots right ≡ 0 → branch_zero_taken op (operand_word slots left) ≡ compares comparison (operand_word slots left) (operand_word slots right)
-  sign_taken comparison op is zero = by_sign comparison op is ∙ ap (compares comparison (operand_word slots left)) (sym zero)
-    where
-      same_op : (given op : BranchZeroOp) → Some given ≡ Some op → op ≡ given
-      same_op given op is = cc
-
-      by_sign : (comparison : Comparison) (op : BranchZeroOp) → sign_of comparison ≡ Some op → branch_zero_taken op (operand_word slots left) ≡ compares comparison (operand_word slots left) 0
-      by_sign comparisons.Less op is = ap (λ (o : BranchZeroOp). branch_zero_taken o (operand_word slots left)) (same_op signs.Less op is)
-      by_sign comparisons.LessOrEqual op is = ap (λ (o : BranchZeroOp). branch_zero_taken o (operand_word slots left)) (same_op signs.LessOrEqual op is)
-      by_sign comparisons.Greater op is = ap (λ (o : BranchZeroOp). branch_zero_taken o (operand_word slots left)) (same_op signs.Greater op is)
-      by_sign comparisons.GreaterOrEqual op is = ap (λ (o : BranchZeroOp). branch_zero_taken o (operand_word slots left)) (same_op signs.GreaterOrEqual op is)
-      by_sign comparison op is = absurd (let e : None ≡ Some op = is in cc)
-
   order_taken : (comparison : Comparison) → test_taken slots (order_test comparison left right) ≡ compares comparison (operand_word slots left) (operand_word slots right)
-  order_taken comparison = go (is_zero_word right) refl
+  order_taken comparison = go (is_zero_word right) (is_zero_word left) refl refl
     where
+      -- 0 is on the right, or on the left
       with_sign : (o : Option BranchZeroOp) → sign_of comparison ≡ o → operand_word slots right ≡ 0 → test_taken slots (sign_or o left (tests.Computed (comparison_plan comparison left right))) ≡ compares comparison (operand_word slots left) (operand_word slots right)
-      with_sign (Some op) is zero = sign_taken comparison op is zero
+      with_sign (Some op) is zero = sign_taken comparison op (operand_word slots left) is ∙ ap (compares comparison (operand_word slots left)) (sym zero)
       with_sign None is zero = computed_taken comparison
 
-      go : (b : Bool) → is_zero_word right ≡ b
-          → test_taken slots (if b then sign_or (sign_of comparison) left (tests.Computed (comparison_plan comparison left right)) else tests.Computed (comparison_plan comparison left right))
+      with_turned : (o : Option BranchZeroOp) → sign_of (mirrored comparison) ≡ o → operand_word slots left ≡ 0 → test_taken slots (sign_or o right (tests.Computed (comparison_plan comparison left right))) ≡ compares comparison (operand_word slots left) (operand_word slots right)
+      with_turned (Some op) is zero =
+          sign_taken (mirrored comparison) op (operand_word slots right) is
+          ∙ (sign_turned comparison op (operand_word slots right) is ∙ ap (λ (n : ℕ). compares comparison n (operand_word slots right)) (sym zero))
+      with_turned None is zero = computed_taken comparison
+
+      go : (a b : Bool) → is_zero_word right ≡ a → is_zero_word left ≡ b
+          → test_taken slots (if a then sign_or (sign_of comparison) left (tests.Computed (comparison_plan comparison left right)) else (if b then sign_or (sign_of (mirrored comparison)) right (tests.Computed (comparison_plan comparison left right)) else tests.Computed (comparison_plan comparison left right)))
           ≡ compares comparison (operand_word slots left) (operand_word slots right)
-      go true is = with_sign (sign_of comparison) refl (zero_is slots right is)
-      go false is = computed_taken comparison
+      go true b is other = with_sign (sign_of comparison) refl (zero_is slots right is)
+      go false true not_right is = with_turned (sign_of (mirrored comparison)) refl (zero_is slots left is)
+      go false false not_right not_left = computed_taken comparison
 
   pub test_goes : (comparison : Comparison) → test_taken slots (test_of comparison left right) ≡ compares comparison (operand_word slots left) (operand_word slots right)
   test_goes comparisons.Equal = refl
@@ -434,14 +445,16 @@ module _ (P : Operand → Type 0) (zero : P (operands.Word 0)) (Q : Plan → Typ
   all_sign None operand other o all = all
 
   all_order : (comparison : Comparison) (left right : Operand) → P left → P right → AllOfTest (order_test comparison left right)
-  all_order comparison left right l r = go (is_zero_word right)
+  all_order comparison left right l r = go (is_zero_word right) (is_zero_word left)
     where
       computed : AllOfTest (tests.Computed (comparison_plan comparison left right))
       computed = all_comparison comparison left right l r
 
-      go : (b : Bool) → AllOfTest (if b then sign_or (sign_of comparison) left (tests.Computed (comparison_plan comparison left right)) else tests.Computed (comparison_plan comparison left right))
-      go true = all_sign (sign_of comparison) left (tests.Computed (comparison_plan comparison left right)) l computed
-      go false = computed
+      go : (a b : Bool)
+          → AllOfTest (if a then sign_or (sign_of comparison) left (tests.Computed (comparison_plan comparison left right)) else (if b then sign_or (sign_of (mirrored comparison)) right (tests.Computed (comparison_plan comparison left right)) else tests.Computed (comparison_plan comparison left right)))
+      go true b = all_sign (sign_of comparison) left (tests.Computed (comparison_plan comparison left right)) l computed
+      go false true = all_sign (sign_of (mirrored comparison)) right (tests.Computed (comparison_plan comparison left right)) r computed
+      go false false = computed
 
   pub all_test : (comparison : Comparison) (left right : Operand) → P left → P right → AllOfTest (test_of comparison left right)
   all_test comparisons.Equal left right l r = (l, r)

@@ -213,7 +213,9 @@ abbrev pub order_test : Comparison → (left right : Operand) → Test
 order_test comparison left right =
     if is_zero_word right
     then sign_or (sign_of comparison) left (tests.Computed (comparison_plan comparison left right))
-    else tests.Computed (comparison_plan comparison left right)
+    else (if is_zero_word left
+    then sign_or (sign_of (mirrored comparison)) right (tests.Computed (comparison_plan comparison left right))
+    else tests.Computed (comparison_plan comparison left right))
 
 -- what a branch tests
 abbrev pub test_of : Comparison → (left right : Operand) → Test
