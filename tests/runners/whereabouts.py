@@ -16,7 +16,6 @@ import re
 import tempfile
 
 import suite  # first: it says where the references and the generators are
-import machine
 import reference
 import texts
 from language import placed, runs
@@ -32,9 +31,6 @@ MISTAKES = (
     "{ int ?planted = new {for planted_at < 0 - 1 : 0}; }",
     "throw new Array_bounds;",
 )
-# What brings an exception to its handler: lw $31, 8($25); lw $29, 4($25); jr $31; lw $25, 0($25). Behind the first three of these the way
-# back, and then the frame, are the handler's, and the run stands in the function that it leaves.
-WAY_OUT = [0x8F3F0008, 0x8F3D0004, 0x03E00008, 0x8F390000]
 CALL = re.compile(r"main\.cyc:(\d+):(\d+): called here, in (\w+)")
 STOP = re.compile(r"main\.cyc:(\d+):(\d+): .*, in (\w+)")
 
@@ -148,21 +144,9 @@ class Tried:
         wanted = end.lines(), end.line
         return None if got == wanted else suite.difference(f"{end.text}\non {end.given}, {end.calls} calls", wanted, got)
 
-    def has_left(self, subject, steps):
-        """Whether the last of so many instructions is one of these three."""
-        with open(self.at("main.elf"), "rb") as file:
-            run = machine.Run(machine.Image(file.read()), subject.given, steps=steps - 1)
-        try:
-            run.end()
-        except machine.Open:
-            return False
-        text = run.segment(run.at)
-        begins = [run.at - 4 * behind for behind in range(len(WAY_OUT) - 1) if text.address <= run.at - 4 * behind]
-        return any([text.word(begin + 4 * number) for number in range(len(WAY_OUT))] == WAY_OUT for begin in begins)
-
     def spent(self, subject):
-        """What is wrong with what is told of a budget that is spent: each call stands at its place, by the name of the function inside. Where
-        an exception has left its calls for the handler, they are told up to the one that it left."""
+        """What is wrong with what is told of a budget that is spent: each call stands at its place, by the name of the function inside, up to
+        that of main."""
         if self.compile(subject.text) != (b"", "done", 0):
             return f"{subject.text}\nis not compiled"
         steps = self.numbers.randint(1, 2000)
@@ -178,7 +162,7 @@ class Tried:
             if number and not re.match(rf"{inside}\s*\(", text[row - 1][column - 1 :]):
                 return f"{subject.text}\nhas no call of {inside} at {row}:{column}"
             inside = function
-        if not lines or inside == "main" or self.has_left(subject, steps):
+        if not lines or inside == "main":
             return None
         return f"{subject.text}\nis told up to {inside}"
 

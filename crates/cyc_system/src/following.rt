@@ -31,14 +31,11 @@ const PUSH_FRAME: u32 = 0x27bd_fc00;
 /// `addiu $29, $29, 1024`, by which a function gives its frame back.
 const POP_FRAME: u32 = 0x27bd_0400;
 
-/// `lw $31, 8($25)`, by which a throw that a handler takes begins: register 31 has then where that handler is.
+/// `lw $31, 8($25)`, by which a throw that a handler takes begins: from there on register 31, and then 29, are the handler's.
 const THROW: u32 = 0x8f3f_0008;
 
-/// `lw $29, 4($25)`, by which it then gives back the frames of the calls that it leaves.
-const UNWIND: u32 = 0x8f3d_0004;
-
-/// The register with the address of the newest handler's record.
-const HANDLERS: u8 = 25;
+/// How many words such a throw has: `lw $29, 4($25)`, `jr $31` and `lw $25, 0($25)` stand behind this one.
+const THROW_WORDS: u32 = 4;
 
 /// The first half of `sw $31, ..($29)`, by which a function keeps where it returns to.
 const SAVE: u32 = 0xafbf_0000;
@@ -53,7 +50,7 @@ const MOST_BETWEEN: u32 = 1024;
 #[derive(Drop)]
 pub struct Trail {
     /// The address of the instruction that says where: the one at the stop; the test or the throw that led there; or, where an exception
-    /// was passed on, that of its first throw.
+    /// was passed on, or is on its way to a handler, that of its first throw.
     pub address: u32,
     /// The addresses of the jumps by which the calls under way began there, the innermost first, but for that of `main`; at most 32.
     pub calls: Vec<u32>,
@@ -115,10 +112,6 @@ enum Change {
     Made,
     /// The function's own was given back.
     Given,
-    /// A throw is about to leave it.
-    Leaving,
-    /// A throw left it.
-    Left,
 }
 
 /// What one word does to the frame.
@@ -126,10 +119,18 @@ fn change_by(word: u32) -> Option<Change> {
     match word {
         PUSH_FRAME => Some(Change::Made),
         POP_FRAME => Some(Change::Given),
-        THROW => Some(Change::Leaving),
-        UNWIND => Some(Change::Left),
         _ => None,
     }
+}
+
+/// Whether the instruction at an address is one of a throw, behind its first: those bring the exception to its handler.
+fn is_leaving<S: Store + Drop>(machine: &Machine<S>, address: u32) -> bool {
+    for back in 1..THROW_WORDS {
+        if machine.word(address.wrapping_sub(4 * back)) == Ok(THROW) {
+            return true;
+        }
+    }
+    false
 }
 
 /// A run as it is followed: the text's stretches, and where its functions begin.
@@ -195,12 +196,6 @@ impl Map<'_> {
         let link = machine.reg(RETURN_ADDRESS);
         match self.change(machine, address) {
             Change::Given => Some((frame.wrapping_sub(FRAME_BYTES), link)),
-            Change::Leaving => {
-                let record = machine.reg(HANDLERS);
-                let target = machine.word(record.wrapping_add(4)).ok()?;
-                Some((target, self.kept(machine, link, target)?))
-            }
-            Change::Left => Some((frame, self.kept(machine, link, frame)?)),
             Change::Made => {
                 let own = frame.wrapping_add(FRAME_BYTES);
                 Some((own, self.kept(machine, address, own)?))
@@ -306,7 +301,8 @@ impl Watch {
         Ok(())
     }
 
-    /// Where the run stopped. None where an exception is passed on whose first throw was not seen.
+    /// Where the run stopped: where its exception was thrown first, if one is passed on, or is on its way to a handler. None where that
+    /// was not seen.
     fn end<S: Store + Drop>(
         self,
         alloc: Global,
@@ -317,6 +313,7 @@ impl Watch {
         let address = self.told(map, counter);
         match source_at(map.stretches, counter) {
             Some(Source::PassOn { .. }) => Ok(self.thrown),
+            _ if is_leaving(machine, counter) => Ok(self.thrown),
             _ => Ok(Some(map.trail(alloc, machine, address)?)),
         }
     }
