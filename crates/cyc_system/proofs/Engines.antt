@@ -1,9 +1,10 @@
 -- The loop of the engine: what it has done so far is a run of the machine on every input that goes on from what was
 -- read.
-use Rattle.std.proofs.Common.{◌≡◌, ℕ, zero, suc, ◌+◌, ◌<◌, ◌≤◌, List, [], ◌∷◌, ◌++◌, drop, Bool, true, false, Option, None, Some, Result, Ok, Err, refl, sym, ap, subst, ◌∙◌, arith, append_assoc, append-nil, inl, inr}
+use Rattle.std.proofs.Common.{◌≡◌, ℕ, zero, suc, ◌+◌, ◌<◌, ◌≤◌, List, [], ◌∷◌, ◌++◌, drop, take, Bool, true, false, Option, None, Some, Result, Ok, Err, refl, sym, ap, subst, ◌∙◌, arith, append_assoc, append-nil, inl, inr}
 use Rattle.std.specs.Prelude.{unwrap_or, slice_get, MatchBool, length, IfSome}
 use Rattle.std.specs.Io.KnownBytes.{Keeps, Appends, Consumes, IsAtEnd}
-use Rattle.std.proofs.lemmas.List.{length-append}
+use Rattle.std.proofs.lemmas.Bool.{cases_lt}
+use Rattle.std.proofs.lemmas.List.{length-append, take-append-le, take_at}
 use Rattle.std.proofs.KnownBytes.{Appends-kept, Consumes-kept}
 use Rattle.cyc_words.proofs.DeviceLemmas.{Keeps-refl, Appends-nil, Appends-append, Consumes-append}
 use Rattle.cyc_words.proofs.Booleans.{MatchBool-false}
@@ -14,7 +15,7 @@ use Rattle.cyc_machine.specs.declared.event.Event.TheVariants.{Ran, WantsByte, P
 use Rattle.cyc_machine.specs.declared.phase.Phase.TheVariants.{Running, Waiting}
 use Rattle.cyc_machine.specs.State.{State}
 use Rattle.cyc_machine.specs.Step.{Step, StepOver, given, given_in}
-use Rattle.cyc_machine.specs.Run.{World, told, Goes, Run, RunsQuietly, end_in}
+use Rattle.cyc_machine.specs.Run.{World, told, Goes, Run, Prints, RunsPrinting, end_in}
 use Rattle.cyc_elf.specs.declared.fault.ElfFault.{ElfFault}
 use Rattle.cyc_elf.specs.Image.{ImageContents}
 use Rattle.cyc_machine.specs.declared.fault.LoadFault.TheVariants as load
@@ -34,7 +35,7 @@ use Rattle.cyc_system.specs.declared.report.RunFault.TheVariants.{Elf, Load, Rea
 use Rattle.cyc_system.specs.Engine.{Devices, Rests, Tells, Leaves, Counted, HasPeaks, Executes, Runs, uses_in, higher, Refuses, Starts, Answers, AnswersAnew, IsReported, limit_at}
 use Rattle.cyc_system.specs.Faults.{is_read, is_write}
 use Rattle.cyc_system.specs.inside.Loading.{Declines, Loads}
-use Rattle.cyc_system.specs.inside.Turn.{Asked, Turned, TurnedOver, after_byte, counted_at}
+use Rattle.cyc_system.specs.inside.Turn.{Asked, HandsOn, Turned, TurnedOver, after_byte, counted_at}
 
 -- one more instruction at the end of a run
 pub Run-more : (count : ℕ) (u v w : World) → Run count u v → Goes v w → Run (suc count) u w
@@ -195,16 +196,59 @@ Progress-turn start old now new count x x' peaks machine machine' p (Puts byte, 
 Progress-turn start old now new count x x' peaks machine machine' p (Ended end, s, step, none) = absurd none
 Progress-turn start old now new count x x' peaks machine machine' p (NoMemory, s, step, none) = absurd none
 
--- instructions that only ran, where nothing is counted
-pub Progress-quiet : (start : List ℕ → World) (old now : Devices) (count more : ℕ) (x : Exchanged) (machine machine' : State)
-    → Progress start old now count x None machine → RunsQuietly more machine machine' → Progress start old now (count + more) x None machine'
-Progress-quiet start old now count zero x machine machine' p run =
-    subst (λ (k : ℕ). Progress start old now k x None machine') (let same : count ≡ count + zero = omega arith in same)
-    (subst (λ (m : State). Progress start old now count x None m) (sym run) p)
-Progress-quiet start old now count (suc more) x machine machine' p (mid, run, step) =
-    subst (λ (k : ℕ). Progress start old now k x None machine') (let same : count + more + 1 ≡ count + suc more = omega arith in same)
-    (Progress-turn start old now now (count + more) x x None mid machine' (Progress-quiet start old now count more x machine mid p run)
-    (Ran, machine', step, (refl, refl, (Keeps-refl now.remaining, Keeps-refl now.written))))
+-- Instructions that only ran or printed a byte, where nothing is counted.
+
+printing_step : (count : ℕ) (u : World) (output rest : List ℕ) (machine machine' : State) (event : Event) (before after : List ℕ) → machine.phase ≡ Running
+    → Counted count u (record { machine = machine; output = output ++ before; input = rest }) → Step machine event machine' → Prints event before after
+    → (machine'.phase ≡ Running) × Counted (count + 1) u (record { machine = machine'; output = output ++ after; input = rest })
+printing_step count u output rest machine machine' Ran before after on counted step same = (
+  Step-phase machine Ran machine' step,
+  counted_more count u (record { machine = machine; output = output ++ before; input = rest }) (record { machine = machine'; output = output ++ after; input = rest }) counted on
+      (Ran, machine', step, ap (λ (bytes : List ℕ). record { machine = machine'; output = output ++ bytes; input = rest }) same),
+)
+printing_step count u output rest machine machine' WantsByte before after on counted step none = absurd none
+printing_step count u output rest machine machine' (Puts byte) before after on counted step longer = (
+  Step-phase machine (Puts byte) machine' step,
+  counted_more count u (record { machine = machine; output = output ++ before; input = rest }) (record { machine = machine'; output = output ++ after; input = rest }) counted on
+      (Puts byte, machine', step, ap (λ (bytes : List ℕ). record { machine = machine'; output = bytes; input = rest }) (ap (λ (bytes : List ℕ). output ++ bytes) longer ∙ sym (append_assoc output before (byte ∷ [])))),
+)
+printing_step count u output rest machine machine' (Ended end) before after on counted step none = absurd none
+printing_step count u output rest machine machine' NoMemory before after on counted step none = absurd none
+
+printing_way : (more count : ℕ) (u : World) (output rest : List ℕ) (machine machine' : State) (before after : List ℕ) → machine.phase ≡ Running
+    → Counted count u (record { machine = machine; output = output ++ before; input = rest }) → RunsPrinting more machine before machine' after
+    → (machine'.phase ≡ Running) × Counted (count + more) u (record { machine = machine'; output = output ++ after; input = rest })
+printing_way zero count u output rest machine machine' before after on counted (same, none) =
+    let there : World = record { machine = machine'; output = output ++ after; input = rest } in
+    let is : there ≡ record { machine = machine; output = output ++ before; input = rest } =
+    ap (λ (s : State). record { machine = s; output = output ++ after; input = rest }) same ∙ ap (λ (bytes : List ℕ). record { machine = machine; output = output ++ bytes; input = rest }) none in (
+      ap (λ (s : State). s.phase) same ∙ on,
+      subst (λ (k : ℕ). Counted k u there) (let all : count ≡ count + zero = omega arith in all) (subst (λ (w : World). Counted count u w) (sym is) counted),
+    )
+printing_way (suc more) count u output rest machine machine' before after on counted (mid, between, run, event, step, prints) =
+    let so_far = printing_way more count u output rest machine mid before between on counted run in
+    let behind = printing_step (count + more) u output rest mid machine' event between after so_far.0 so_far.1 step prints in
+    (behind.0, subst (λ (k : ℕ). Counted k u (record { machine = machine'; output = output ++ after; input = rest })) (let all : count + more + 1 ≡ count + suc more = omega arith in all) behind.1)
+
+pub Progress-printing : (start : List ℕ → World) (old now new : Devices) (count more : ℕ) (x x' : Exchanged) (machine machine' : State) (bytes : List ℕ)
+    → Progress start old now count x None machine → RunsPrinting more machine [] machine' bytes → x' ≡ record x { written = x.written + length bytes } → Keeps now.remaining new.remaining → Appends now.written new.written bytes
+    → Progress start old new (count + more) x' None machine'
+Progress-printing start old now new count more x x' machine machine' bytes p run is kept appends =
+    let ways : (rest : List ℕ) → (x.ended ≡ true → rest ≡ []) → (machine'.phase ≡ Running) × Counted (count + more) (start (p.read ++ rest)) (record { machine = machine'; output = p.output ++ bytes; input = rest }) =
+    λ rest ended. printing_way more count (start (p.read ++ rest)) p.output rest machine machine' [] bytes p.running
+    (subst (λ (o : List ℕ). Counted count (start (p.read ++ rest)) (record { machine = machine; output = o; input = rest })) (sym (append-nil p.output)) (p.runs rest ended).0) run in
+    let all : Progress start old new (count + more) (record x { written = x.written + length bytes }) None machine' = record {
+      read = p.read;
+      output = p.output ++ bytes;
+      consumed = Consumes-kept old.remaining now.remaining new.remaining p.read p.consumed kept;
+      printed = Appends-append old.written now.written new.written p.output bytes p.printed appends;
+      reads = p.reads;
+      writes = ap (λ n. n + length bytes) p.writes ∙ sym (length-append p.output bytes);
+      at_end = λ end. leaves_kept old.remaining now.remaining new.remaining [] (p.at_end end) kept;
+      running = (ways [] (λ ended. refl)).0;
+      runs = λ rest ended. ((ways rest ended).1, tt);
+    } in
+    subst (λ (y : Exchanged). Progress start old new (count + more) y None machine') (sym is) all
 
 -- What the loop answers.
 
@@ -331,6 +375,63 @@ fails_at grows start old now new count budget x x' peaks machine machine' Write 
 fails_at grows start old now new count budget x x' peaks machine machine' (Elf f) p below none = absurd none
 fails_at grows start old now new count budget x x' peaks machine machine' (Load f) p below none = absurd none
 fails_at grows start old now new count budget x x' peaks machine machine' Memory p below none = absurd none
+
+-- where a byte was printed, there was an instruction that printed it
+record PrintsAt (most number : ℕ) (machine : State) (bytes : List ℕ) : Type 0 where
+  pub count : ℕ
+  pub few : count < most
+  pub mid : State
+  pub run : RunsPrinting count machine [] mid (take number bytes)
+  pub byte : ℕ
+  pub next : State
+  pub step : Step mid (Puts byte) next
+
+more_of : (most number : ℕ) (machine : State) (bytes longer : List ℕ) → take number longer ≡ take number bytes → PrintsAt most number machine bytes → PrintsAt (suc most) number machine longer
+more_of most number machine bytes longer same at = record {
+  count = at.count;
+  few = omega (arith, at.few);
+  mid = at.mid;
+  run = subst (λ (taken : List ℕ). RunsPrinting at.count machine [] at.mid taken) (sym same) at.run;
+  byte = at.byte;
+  next = at.next;
+  step = at.step;
+}
+
+prints_at : (most number : ℕ) (machine machine' : State) (bytes : List ℕ) → RunsPrinting most machine [] machine' bytes → number < length bytes → PrintsAt most number machine bytes
+prints_at zero number machine machine' bytes (same, none) inside = absurd (let empty : length bytes ≡ 0 = ap (λ (xs : List ℕ). length xs) none in omega (arith, empty, inside))
+prints_at (suc most) number machine machine' bytes (mid, between, run, Ran, step, same) inside =
+    more_of most number machine between bytes (ap (λ (xs : List ℕ). take number xs) same) (prints_at most number machine mid between run (subst (λ (xs : List ℕ). number < length xs) same inside))
+prints_at (suc most) number machine machine' bytes (mid, between, run, WantsByte, step, none) inside = absurd none
+prints_at (suc most) number machine machine' bytes (mid, between, run, Puts byte, step, longer) inside = elim (cases_lt number (length between)) [
+  | inl below ↦
+      more_of most number machine between bytes (ap (λ (xs : List ℕ). take number xs) longer ∙ take-append-le number between (byte ∷ []) (omega (arith, below))) (prints_at most number machine mid between run below)
+  | inr enough ↦
+      let long : length bytes ≡ length between + 1 = ap (λ (xs : List ℕ). length xs) longer ∙ length-append between (byte ∷ []) in
+      let here : length between ≡ number = omega (arith, long, inside, enough) in
+      let taken : take number bytes ≡ between = ap (λ (xs : List ℕ). take number xs) longer ∙ take_at between (byte ∷ []) number here in record {
+        count = most;
+        few = omega arith;
+        mid = mid;
+        run = subst (λ (xs : List ℕ). RunsPrinting most machine [] mid xs) (sym taken) run;
+        byte = byte;
+        next = machine';
+        step = step;
+      }
+]
+prints_at (suc most) number machine machine' bytes (mid, between, run, Ended end, step, none) inside = absurd none
+prints_at (suc most) number machine machine' bytes (mid, between, run, NoMemory, step, none) inside = absurd none
+
+-- the writer fails at a byte that was printed
+pub fails_printing : (grows : Bool) (start : List ℕ → World) (old now new : Devices) (count more budget : ℕ) (x x' : Exchanged) (machine machine' : State) (bytes : List ℕ) (e : RunFault) → Progress start old now count x None machine → RunsPrinting more machine [] machine' bytes
+    → count + more < budget → Keeps now.remaining new.remaining → HandsOn {A = Unit} bytes x x' now.written new.written (Err e) → Runs grows start budget old new (Err e)
+fails_printing grows start old now new count more budget x x' machine machine' bytes Read p run below kept none = absurd none
+fails_printing grows start old now new count more budget x x' machine machine' bytes Write p run below kept (number, inside, appends) =
+    let at = prints_at more number machine machine' bytes run inside in
+    let so_far = Progress-printing start old now new count at.count x (record x { written = x.written + length (take number bytes) }) machine at.mid (take number bytes) p at.run refl kept appends in
+    fails_at grows start old new new (count + at.count) budget (record x { written = x.written + length (take number bytes) }) x None at.mid at.mid Write so_far (omega (arith, below, at.few)) (at.byte, at.next, at.step, (Keeps-refl new.remaining, Keeps-refl new.written))
+fails_printing grows start old now new count more budget x x' machine machine' bytes (Elf f) p run below kept none = absurd none
+fails_printing grows start old now new count more budget x x' machine machine' bytes (Load f) p run below kept none = absurd none
+fails_printing grows start old now new count more budget x x' machine machine' bytes Memory p run below kept none = absurd none
 
 -- or the store wanted memory, and no device was used
 pub fails_turn : (grows : Bool) (start : List ℕ → World) (old now new : Devices) (count budget : ℕ) (x x' : Exchanged) (peaks : Option Peaks) (machine machine' : State) (e : RunFault) → Progress start old now count x peaks machine → count < budget

@@ -1,5 +1,5 @@
 -- One instruction of a machine that stands between two devices, as the code executes it.
-use Rattle.std.specs.Prelude.{◌≡◌, ℕ, ◌+◌, List, [], ◌∷◌, Bool, true, false, Option, None, Some, Result, Ok, Err}
+use Rattle.std.specs.Prelude.{◌≡◌, ℕ, ◌+◌, ◌<◌, List, [], ◌∷◌, length, take, Bool, true, false, Option, None, Some, Result, Ok, Err}
 use Rattle.std.specs.Io.KnownBytes.{Keeps, Appends}
 use Rattle.cyc_words.specs.Device.{Gives}
 use Rattle.cyc_words.specs.declared.device.Failed.{Failed}
@@ -47,6 +47,12 @@ Turned machine machine' x x' old new (Err e) = ⊥
 abbrev pub TurnedOver : (grows : Bool) (machine machine' : State) (x x' : Exchanged) (old new : Devices) → Result (Option End) RunFault → Type 0
 TurnedOver grows machine machine' x x' old new (Err Memory) = WantsMemory grows machine × Rests old new
 TurnedOver grows machine machine' x x' old new result = Turned machine machine' x x' old new result
+
+-- what is answered where these bytes are handed on: they are written; or the writer fails at one of them, and those before it are
+abbrev pub HandsOn : {A : Type 0} → List ℕ → (x x' : Exchanged) → (old new : Option (List ℕ)) → Result A RunFault → Type 0
+HandsOn bytes x x' old new (Ok done) = (x' ≡ record x { written = x.written + length bytes }) × Appends old new bytes
+HandsOn bytes x x' old new (Err Write) = (count : ℕ) × (count < length bytes) × Appends old new (take count bytes)
+HandsOn bytes x x' old new (Err e) = ⊥
 
 -- the peaks after one instruction more, where they are counted
 abbrev pub counted_at : Option Peaks → State → Option Peaks
