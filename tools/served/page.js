@@ -468,9 +468,10 @@ function listingInWords(answer) {
   return `${count(answer.all, "instruction")}${cut}.${placed}`;
 }
 
-// A row for each run of instructions that are made from one line.
+// A row for each run of instructions that are made from one line. The first one of a line leads there: no two buttons have one name.
 function rowsOf(answer, lines) {
   const rows = [];
+  const led = new Set();
   for (const it of answer.lines) {
     const before = rows[rows.length - 1];
     if (before && before.line === it.line && before.function === it.function) before.texts.push(`${it.address}  ${it.text}`);
@@ -479,8 +480,9 @@ function rowsOf(answer, lines) {
   return rows.map(({ line, function: name, texts }) => {
     const place = { line, column: 1 };
     const words = line === null ? (name ? `(what ${name} raises)` : answer.placed ? "(before main)" : "") : lines[line - 1] || "";
-    const first = line === null ? make("td", {}) : make("td", {}, placeButton(place, String(line)));
-    return make("tr", {}, first, make("td", {}, words), make("td", {}, texts.join("\n")));
+    const first = line === null ? "" : led.has(line) ? String(line) : placeButton(place, String(line));
+    led.add(line);
+    return make("tr", {}, make("td", {}, first), make("td", {}, words), make("td", {}, texts.join("\n")));
   });
 }
 
