@@ -19,6 +19,7 @@ fn room_for(plain: &Plain, function: usize) -> usize
 {
     if function < plain.functions().len() {
         let callee = plain.function(function);
+        // A frame has more words than slots, and their number fits: so does one slot more.
         let _words = callee.frame_count;
         callee.slots + 1
     } else {
