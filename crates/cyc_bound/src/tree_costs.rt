@@ -7,7 +7,7 @@ ghost use Rattle.cyc_bound.specs.inside.ItemCosts.{operation_cost, clauses_then}
 
 use crate::costs::{
     Measure, Site, array_cost, bytes_behind, caught_cost, fields_made_cost, greater, known_cost,
-    lasting_cost, loop_cost, opening_cost, plain_cost, plus, step_cost, with_steps,
+    lasting_cost, loop_cost, opening_cost, plain_cost, plus, with_steps,
 };
 use cyc_types::typed::{
     Body, Callee, Clause, Converted, Dereference, Expr, Function, Initial, Item, Operation,

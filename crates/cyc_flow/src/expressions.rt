@@ -20,7 +20,7 @@ use crate::stop::Stop;
 use cyc_types::typed::{
     Converted, Dereference, Expr, Initial, Lvalue, Operation, Placement, ValueType,
 };
-use cyc_words::{Code, Fault, Span};
+use cyc_words::{Code, Span};
 use std::alloc::{AllocError, Global};
 use std::mem;
 

@@ -17,7 +17,7 @@ use crate::expressions::{Tracked, and_peeked, peek_behind};
 use crate::settled::{Settled, check_head};
 use crate::state::{Fullness, State, meet};
 use crate::stop::Stop;
-use cyc_types::typed::{Body, Clause, Converted, Expr, Item, Lvalue, Side, Stmt};
+use cyc_types::typed::{Clause, Converted, Expr, Item, Lvalue, Side, Stmt};
 use cyc_words::Span;
 use std::alloc::Global;
 use std::mem;

@@ -2,7 +2,7 @@
 use crate::breaks::BreakKind;
 use crate::frames::FrameKind;
 use crate::layout::{At, Layout};
-use crate::roles::{Role, are_apart, is_called, is_name, is_region, is_sign, is_word};
+use crate::roles::{Role, are_apart, is_called, is_region, is_sign, is_word};
 use cyc_syntax::{Keyword, Sign};
 
 impl<'t> Layout<'t> {

@@ -15,7 +15,7 @@ use crate::operands::{bytes_of_kind, kind_of};
 use crate::starts::Starts;
 use cyc_frame_count::words_of;
 use cyc_types::Ty;
-use cyc_types::typed::{Function, Kind, StructType};
+use cyc_types::typed::{Function, Kind};
 use std::alloc::{AllocError, Global};
 
 /// The first slot of the local of this number.

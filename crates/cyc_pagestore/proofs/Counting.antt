@@ -1,5 +1,5 @@
 -- The pages in use are counted, call by call.
-use Rattle.std.proofs.Common.{◌≡◌, ℕ, suc, ◌+◌, ◌-◌, ◌<◌, ◌≤◌, List, [], ◌∷◌, ◌++◌, length, length-append, length-set, set, replicate, Option, None, Some, refl, sym, ap, subst, ◌∙◌, inl, inr, arith}
+use Rattle.std.proofs.Common.{◌≡◌, ℕ, suc, ◌+◌, ◌-◌, ◌<◌, ◌≤◌, List, [], ◌∷◌, ◌++◌, length, length-append, length-set, set, replicate, None, Some, refl, sym, ap, subst, ◌∙◌, inl, inr, arith}
 use Rattle.std.specs.Prelude.{slice_index}
 use Rattle.std.proofs.lemmas.Bool.{cases_eq}
 use Rattle.std.proofs.lemmas.List.{get_or-set_same, get_or-set_other, length-replicate}
@@ -8,14 +8,13 @@ use Rattle.cyc_words.proofs.Numbers.{same_from_odd}
 use Rattle.cyc_words.proofs.Options.{never_none_and_some, same_from_some}
 use Rattle.cyc_store.specs.Ledger.{Blocks, no_blocks, after, store_of, plain_store, blocks_of}
 use Rattle.cyc_store.specs.Pages.{Mark, next_mark, mark_of, HasChain}
-use Rattle.cyc_store.specs.Slots.{Fills}
-use Rattle.cyc_store.specs.State.{lookup, without, changed, AreDistinct, Sort, Block, Home, handle_of, empty_home, StoreState, sizes_of, demand, opened, with_block, made_in}
+use Rattle.cyc_store.specs.State.{lookup, without, AreDistinct, Sort, Block, Home, handle_of, empty_home, StoreState, sizes_of, demand, opened, with_block, made_in}
 use Rattle.cyc_store.specs.Table.{row_at}
 use Rattle.cyc_store.specs.declared.change.Change.TheVariants.{Stocked}
 use Rattle.cyc_store.specs.declared.row.ClassSlots.{ClassSlots}
 use Rattle.cyc_store.specs.inside.Kept.{handle_of_page}
 use Rattle.cyc_store.proofs.KeptMaking.{newest-is, filled-is}
-use Rattle.cyc_store.proofs.LookupLemmas.{IsPart-without, lookup-key, lookup-there, lookup-part, lookup-append_cases, lookup-append_new, lookup-append_other, lookup-changed_same, lookup-changed_other}
+use Rattle.cyc_store.proofs.LookupLemmas.{IsPart-without, lookup-there, lookup-part, lookup-append_new, lookup-append_other, lookup-changed_same, lookup-changed_other}
 use Rattle.cyc_store.proofs.PagedClosing.{paged-closed}
 use Rattle.cyc_store.proofs.PagedOpening.{demand-more}
 use Rattle.cyc_store.proofs.PageServices.{pages-mark, mark-made, mark-stays, mark-goes, demand-stays, demand-grows}

@@ -1,7 +1,7 @@
 -- How far a page's words are live by serials, after a field of one page was written.
 use Rattle.std.proofs.Common.{◌≡◌, ℕ, ◌<◌, ◌≤◌, true, false, ap, sym, ◌∙◌, inl, inr, arith}
 use Rattle.std.specs.Prelude.{◌==◌, if◌then◌else◌, nat_lt}
-use Rattle.std.proofs.lemmas.Bool.{cases_eq, cond-true, cond-false, eq-eqb, ne_eqb, lt-ltb, le-ltb, false≢true}
+use Rattle.std.proofs.lemmas.Bool.{cases_eq, cond-true, cond-false, eq-eqb, ne_eqb, lt-ltb, le-ltb}
 use Rattle.cyc_pagestore.specs.inside.Live.{reach_by}
 
 pub reach-by_serial : (serial owner fill : ℕ → ℕ) (page : ℕ) → serial page ≡ serial (owner page) → reach_by serial owner fill page ≡ fill page

@@ -6,7 +6,7 @@ use Rattle.cyc_syntax.specs.declared.tokens.Sign.TheVariants as signs
 use Rattle.cyc_syntax.specs.Symbols.{Terminal, Mark, Symbol}
 use Rattle.cyc_syntax.specs.Yields.{Leaf, Yield, item_number, each, more, separated}
 use Rattle.cyc_syntax.specs.Grammar.{max_nesting, max_items}
-use Rattle.cyc_parse.specs.inside.Parsing.{Parser, TooLong, refuse_item, pure, sign, sees, starts, if_starts, next, more_items}
+use Rattle.cyc_parse.specs.inside.Parsing.{Parser, TooLong, refuse_item, pure, sees, starts, if_starts, next, more_items}
 use Rattle.cyc_parse.specs.inside.Parsing as parsing
 use Rattle.cyc_parse.specs.inside.Declarations.{more_of, some_of}
 use Rattle.cyc_parse.proofs.Rules.{Front, judge, Reads, Fits, Starts, Always, leaf_of, front-next, refuse_item-is, then_reads, last_reads, pure_reads, sign_reads, sees_reads, unseen_reads, starts_reads, unstarted_reads, number_reads}

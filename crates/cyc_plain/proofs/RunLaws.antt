@@ -16,7 +16,7 @@ use Rattle.cyc_plain.specs.declared.instruction.Instruction.TheVariants as instr
 use Rattle.cyc_plain.specs.inside.Operators.{has_no_result, binary_result}
 use Rattle.cyc_plain.specs.inside.Requests.{destination_of}
 use Rattle.cyc_words.specs.Simulation as simulation
-use Rattle.cyc_words.specs.Simulation.{Status, Run}
+use Rattle.cyc_words.specs.Simulation.{Run}
 use Rattle.cyc_words.specs.inside.Following.{IsLawful}
 use Rattle.cyc_plain.specs.inside.Program.{Program, routine_at}
 use Rattle.cyc_plain.specs.inside.State.{Words, AreWords, put, Handler, Open, Caught, Activation, Frame, Configuration, State, Running, Ended, Stuck, output_of, input_of, status_of, place_of, demand, depth}

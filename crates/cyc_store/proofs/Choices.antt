@@ -1,6 +1,6 @@
 -- A store whose blocks lie page by page has a choice for each call that is not refused, by which they lie page by page still.
 use Rattle.std.proofs.Common.{◌≡◌, ℕ, zero, suc, ◌+◌, ◌*◌, ◌^◌, ◌<◌, ◌≤◌, Bool, true, false, List, [], ◌∷◌, length, Option, None, Some, refl, sym, ap, subst, ◌∙◌, inl, inr, arith}
-use Rattle.std.specs.Prelude.{◌⊎◌, ◌-◌, ◌==◌, nat_le, is_some, slice_index, if◌then◌else◌}
+use Rattle.std.specs.Prelude.{◌⊎◌, ◌-◌, nat_le, is_some, slice_index, if◌then◌else◌}
 use Rattle.std.proofs.lemmas.Bool.{cases_lt, cases_eq, and_parts, leb-true}
 use Rattle.cyc_words.specs.Word.{IsWord}
 use Rattle.cyc_words.specs.Demand.{greatest_class, class_of, blocks_in_page, demand_of}
@@ -9,10 +9,10 @@ use Rattle.cyc_words.proofs.Numbers.{none_below, one_less, when_equal}
 use Rattle.cyc_words.proofs.Options.{never_none_and_some}
 use Rattle.cyc_store.specs.State.{lookup, without, Memory, AreWords, Block, address_of, Sort, Heap, Lexical, Dynamic, Uniques, Home, handle_of, StoreState, homes, sizes_in, start, word_at, has_saved, saved, demand, live_in, raised, opened, down_to, made_in, made_unique, room}
 use Rattle.cyc_store.specs.Services.{Call, OpenLexical, CloseTo, OpenDynamic, CloseDynamic, Allocate, Free, Refusal, BadHandle, BadSize, NotABlock, Refused, Choice, block_of}
-use Rattle.cyc_store.specs.Services.{served, answer, any_choice, is_full, full_at, is_dynamic, names_dynamic, is_size, refusal, IsPlaced, IsApart, IsFresh, IsAllowed}
+use Rattle.cyc_store.specs.Services.{served, answer, any_choice, is_full, full_at, names_dynamic, is_size, refusal, IsPlaced, IsApart, IsFresh, IsAllowed}
 use Rattle.cyc_store.specs.Soundness.{IsSound}
 use Rattle.cyc_store.specs.Run.{Service}
-use Rattle.cyc_store.specs.Pages.{page_start, Pages, mark_of, HasChain, IsPaged}
+use Rattle.cyc_store.specs.Pages.{page_start, mark_of, HasChain, IsPaged}
 use Rattle.cyc_store.specs.Slots.{place_of, slots_from, slot_block, Layout, IsLiveSlot, IsLaidOut, with_page}
 use Rattle.cyc_store.specs.Ordered.{IsOrdered, HasChoice, Answers}
 use Rattle.cyc_store.specs.Ledger.{store_of}
@@ -26,7 +26,7 @@ use Rattle.cyc_store.proofs.ServiceLemmas.{made-in, made-unique, then-none, fits
 use Rattle.cyc_store.proofs.PageServices.{stays-placed, drawn-placed, full-without}
 use Rattle.cyc_store.proofs.PagedOpening.{full-opening}
 use Rattle.cyc_store.proofs.PagedRegions.{block_in_page}
-use Rattle.cyc_store.proofs.PagedUnwinding.{shorter_without, LeavesOut, part-step}
+use Rattle.cyc_store.proofs.PagedUnwinding.{shorter_without, part-step}
 use Rattle.cyc_store.proofs.RegionServices.{paged-memory, opened-laid, stays-laid, draws-laid, closed-laid}
 use Rattle.cyc_store.proofs.SlotCounts.{class-power, raised-past}
 use Rattle.cyc_store.proofs.SlotServices.{dead-placed, dead-apart, dead-classes, dead-laid, freed-laid}

@@ -1,5 +1,5 @@
 -- A store on a table of pages stays one, and answers as the relation says, call by call.
-use Rattle.std.proofs.Common.{◌≡◌, ◌≢◌, ℕ, zero, suc, ◌+◌, ◌-◌, ◌*◌, ◌/◌, ◌%◌, ◌^◌, ◌<◌, ◌≤◌, Bool, true, false, List, [], ◌∷◌, ◌++◌, length, None, refl, sym, ap, subst, ◌∙◌, inl, inr, arith, get_or-set_same, get_or-set_other, length-set}
+use Rattle.std.proofs.Common.{◌≡◌, ◌≢◌, ℕ, suc, ◌+◌, ◌-◌, ◌*◌, ◌/◌, ◌%◌, ◌^◌, ◌<◌, ◌≤◌, Bool, true, false, List, [], ◌∷◌, ◌++◌, length, None, refl, sym, ap, subst, ◌∙◌, inl, inr, arith, get_or-set_same, get_or-set_other, length-set}
 use Rattle.std.specs.Prelude.{◌==◌, ◌⊎◌, ◌&&◌, nat_le, if◌then◌else◌, slice_index, slice_index_or, set}
 use Rattle.std.specs.List.{AllByRecursion}
 use Rattle.std.proofs.lemmas.Bool.{cases_eq, cases_lt, cond_both}
@@ -13,7 +13,7 @@ use Rattle.cyc_store.specs.Ledger.{Blocks, memory_of, store_of, plain_store, blo
 use Rattle.cyc_store.specs.Pages.{IsPaged, drawn}
 use Rattle.cyc_store.specs.Slots.{IsLaidOut}
 use Rattle.cyc_store.specs.Table.{IsWhole, IsSame, Draws, free_row, row_at}
-use Rattle.cyc_store.specs.inside.Kept.{numbers_from, handle_of_page, lexical_handles, IsTied, IsKept, table_of, no_slots}
+use Rattle.cyc_store.specs.inside.Kept.{handle_of_page, lexical_handles, IsTied, IsKept, table_of, no_slots}
 use Rattle.cyc_store.specs.declared.row.PageTable.{PageTable}
 use Rattle.cyc_store.specs.declared.row.Row.{Row}
 use Rattle.cyc_store.specs.declared.row.TheConstants.{NONE}

@@ -1,7 +1,7 @@
 -- Lists that are looked up by number: what is found after an element was added at the end, changed, or taken out.
 use Rattle.std.proofs.Common.{◌≡◌, ℕ, List, [], ◌∷◌, ◌++◌, None, Some, refl, sym, ap, subst, ◌∙◌, inl, inr}
 use Rattle.std.specs.Prelude.{◌==◌, ◌⊎◌, if◌then◌else◌}
-use Rattle.std.proofs.lemmas.Bool.{cases_eq, cond-true, cond-false, eq-eqb, ne_eqb}
+use Rattle.std.proofs.lemmas.Bool.{cases_eq, cond-false, ne_eqb}
 use Rattle.cyc_words.proofs.Numbers.{when_equal}
 use Rattle.cyc_words.proofs.Options.{never_none_and_some, same_from_some}
 use Rattle.cyc_store.specs.State.{lookup, without, changed, AreDistinct}

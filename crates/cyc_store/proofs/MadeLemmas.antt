@@ -1,5 +1,5 @@
 -- Lists of calls, one call at a time.
-use Rattle.std.proofs.Common.{◌≡◌, ℕ, Bool, true, List, [], ◌∷◌, Option, Some, None, refl, subst, inl, inr}
+use Rattle.std.proofs.Common.{◌≡◌, ℕ, Bool, List, [], ◌∷◌, Option, Some, None, refl, subst, inl, inr}
 use Rattle.std.specs.Prelude.{is_some}
 use Rattle.cyc_words.specs.Word.{IsWord}
 use Rattle.cyc_store.specs.State.{StoreState, word_at, saved}

@@ -1,6 +1,6 @@
 -- What a list of calls of a store comes to: a run of the store relation over them, in order. (This project's own
 -- choice.)
-use Rattle.std.specs.Prelude.{◌≡◌, ℕ, ◌⊎◌, Bool, true, List, [], ◌∷◌, Option, Some, None}
+use Rattle.std.specs.Prelude.{◌≡◌, ◌⊎◌, Bool, true, List, [], ◌∷◌, Option, Some, None}
 use Rattle.cyc_store.specs.State.{StoreState}
 use Rattle.cyc_store.specs.Services as services
 use Rattle.cyc_store.specs.Services.{Call}

@@ -1,6 +1,6 @@
 -- Stores whose blocks lie page by page. Where demand allows a call of such a store there is a place for what it makes, and a choice by
 -- which its blocks lie page by page still. (This project's own choice.)
-use Rattle.std.specs.Prelude.{◌≡◌, ℕ, ◌≤◌, List, [], ◌∷◌}
+use Rattle.std.specs.Prelude.{◌≡◌, ◌≤◌, List, [], ◌∷◌}
 use Rattle.cyc_store.specs.State.{StoreState}
 use Rattle.cyc_store.specs.Services.{Call, Choice, served, IsAllowed}
 use Rattle.cyc_store.specs.Run.{Exchange, Service, Load, Save, Run}

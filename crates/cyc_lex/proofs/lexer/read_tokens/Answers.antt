@@ -1,4 +1,4 @@
-use Rattle.std.proofs.Common.{◌++◌, [], ◌∷◌, Some, None, ◌≡◌, ◌∙◌, ◌+◌, ◌-◌, ◌≤◌, ◌<◌, true, get_or, length, take, drop, inr, refl, sym, ap, subst, arith}
+use Rattle.std.proofs.Common.{◌++◌, Some, None, ◌≡◌, ◌∙◌, ◌+◌, ◌-◌, ◌≤◌, ◌<◌, true, get_or, length, take, drop, inr, refl, sym, ap, subst, arith}
 use Rattle.std.proofs.lemmas.List.{take_rest, length-drop, length-take-le, get_or-drop}
 use Rattle.cyc_words.specs.declared.fault.Code.TheVariants as codes
 use Rattle.cyc_words.specs.declared.span.Span.{Span}
@@ -9,7 +9,7 @@ use Rattle.cyc_syntax.specs.inside.Place.{IsBehind}
 use Rattle.cyc_lex.specs.inside.Found.{IsFound, IsReadAs}
 use Rattle.cyc_lex.specs.Refusals.{FailsHere, IsFirstFault}
 use Rattle.cyc_lex.proofs.FaultLemmas.{fails_first, too_many_first}
-use Rattle.cyc_lex.proofs.LexLemmas.{IsReadUpTo, token_at, tokens_within, found_some, found_space, blank_read, token_read}
+use Rattle.cyc_lex.proofs.LexLemmas.{IsReadUpTo, tokens_within, found_some, found_space, blank_read, token_read}
 use Rattle.cyc_lex.proofs.LineLemmas.{token_stays, behind_one_line}
 use Rattle.cyc_lex.proofs.lexer.read_tokens.Goals as goal
 use Rattle.cyc_lex.proofs.lexer.read_tokens.Goals.{In-Ok}
